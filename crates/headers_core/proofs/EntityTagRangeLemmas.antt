@@ -1,0 +1,59 @@
+-- What a list of tags has beside a tag.
+use Rattle.std.proofs.Common.{◌≡◌, ℕ, zero, suc, ◌<◌, false, true, List, [], ◌∷◌, get_or, ◌↔◌, refl, sym, subst, arith}
+use Rattle.std.specs.Prelude.{Any}
+use Rattle.headers_core.specs.Places.{is_text, items}
+use Rattle.headers_core.specs.EntityTag.{TagParts, IsTag, AreTags}
+use Rattle.headers_core.specs.EntityTagRange.{HasItem, IsRangeOf, range_text}
+use Rattle.headers_core.specs.declared.entity_tag.EntityTagRange.{EntityTagRange}
+use Rattle.headers_core.specs.declared.entity_tag.EntityTagRange.TheVariants.{Any as AnyTag, Tags}
+use Rattle.headers_core.proofs.EntityTagLemmas.{items_tag, parts_unique}
+use Rattle.headers_core.proofs.TextLemmas.{items-no_text}
+
+-- what holds of some element of a list of one, holds of it
+one_any : (P : List ℕ → Type 0) (y : List ℕ) → Any P (y ∷ []) ↔ P y
+one_any P y = (forth, back)
+  where
+    at : (k : ℕ) (x : List ℕ) → k < 1 → get_or (y ∷ []) k x ≡ x → y ≡ x
+    at zero x l e = e
+    at (suc k) x l e = absurd (omega (arith, l))
+
+    forth : Any P (y ∷ []) → P y
+    forth h = subst P (sym (at h.0 h.1 h.2 h.3)) h.4
+
+    back : P y → Any P (y ∷ [])
+    back p = (0, y, omega arith, refl, p)
+
+-- a tag that is text has an item of which R holds beside it exactly if R holds of its parts
+pub HasItem-self : (R : TagParts → TagParts → Type 0) (bytes : List ℕ) (parts : TagParts) → IsTag bytes parts → is_text bytes ≡ true
+    → (HasItem R bytes bytes ↔ R parts parts)
+HasItem-self R bytes parts h t = (forth, back)
+  where
+    one : Any (λ item. AreTags R item bytes) (bytes ∷ []) ↔ AreTags R bytes bytes
+    one = one_any (λ item. AreTags R item bytes) bytes
+
+    whole : items 44 bytes ≡ bytes ∷ []
+    whole = items_tag bytes parts h t
+
+    forth : HasItem R bytes bytes → R parts parts
+    forth has =
+        let both : AreTags R bytes bytes = one.0 (subst (λ (xs : List (List ℕ)). Any (λ item. AreTags R item bytes) xs) whole has) in
+        subst (λ (q : TagParts). R q parts) (parts_unique bytes both.0 parts both.2 h)
+        (subst (λ (q : TagParts). R both.0 q) (parts_unique bytes both.1 parts both.3 h) both.4)
+
+    back : R parts parts → HasItem R bytes bytes
+    back r = subst (λ (xs : List (List ℕ)). Any (λ item. AreTags R item bytes) xs) (sym whole) (one.1 (parts, parts, h, h, r))
+
+-- a value that is no text has no item
+pub HasItem-no_text : (R : TagParts → TagParts → Type 0) (value tag : List ℕ) → is_text value ≡ false → ¬ (HasItem R value tag)
+HasItem-no_text R value tag t has =
+    let none : Any (λ item. AreTags R item tag) [] = subst (λ (xs : List (List ℕ)). Any (λ item. AreTags R item tag) xs) (items-no_text 44 value t) has in
+    absurd (omega (arith, none.2))
+
+-- a range that a value stands for is written as that value
+pub range_text_of : (value : List ℕ) (range : EntityTagRange) → IsRangeOf value range → range_text range ≡ value
+range_text_of value AnyTag h = sym h
+range_text_of value (Tags tags) h = h.1
+
+-- and so stands for what is written of it
+pub IsRangeOf-text : (value : List ℕ) (range : EntityTagRange) → IsRangeOf value range → IsRangeOf (range_text range) range
+IsRangeOf-text value range h = subst (λ (text : List ℕ). IsRangeOf text range) (sym (range_text_of value range h)) h

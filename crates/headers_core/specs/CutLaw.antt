@@ -1,0 +1,43 @@
+-- Lines that are joined and cut keep their items.
+use Rattle.std.specs.Prelude.{◌≡◌, ℕ, ◌+◌, ◌<◌, ◌≤◌, length, true, List, [], ◌∷◌, ◌++◌, count_by, Option}
+use Rattle.std.specs.List.{list_all, flat_map}
+use Rattle.std.specs.Iterator.{Drains}
+use Rattle.http_header.specs.FieldValue.{FieldValue}
+use Rattle.headers_core.specs.Lines.{Line, lines_of}
+use Rattle.headers_core.specs.Merge.{merge}
+use Rattle.headers_core.specs.Places.{is_quote, is_even, is_text, items, counts}
+
+-- every line but the last has an even number of quotes
+abbrev pub EvenButLast : List (List ℕ) → Type 0
+EvenButLast [] = Unit {0}
+EvenButLast (x ∷ []) = Unit {0}
+EvenButLast (x ∷ y ∷ ys) = (is_even (count_by is_quote x) ≡ true) × EvenButLast (y ∷ ys)
+
+-- the items of a value are those of the lines, one line after the other, where there is a line, all are text and each but the last has an even number of quotes
+abbrev pub HasItemsOf : ℕ → List (List ℕ) → List ℕ → Type 0
+HasItemsOf sep [] value = Unit {0}
+HasItemsOf sep (x ∷ xs) value = list_all is_text (x ∷ xs) ≡ true → EvenButLast (x ∷ xs) → items sep value ≡ flat_map (items sep) (x ∷ xs)
+
+-- a value is the lines, merged, and so has their items
+pub record IsMerged (sep : ℕ) (lines : List (List ℕ)) (value : List ℕ) : Type 0 where
+  pub bytes : value ≡ merge sep lines
+  pub items_kept : HasItemsOf sep lines value
+
+-- the iterator gave values from s on until it ended, and they are merged
+abbrev pub MergesItems : {S : Type 0} → (S → Option FieldValue → S → Type 0) → S → ℕ → List ℕ → Type 0
+MergesItems steps s sep value = (given : List FieldValue) × Drains steps s given × IsMerged sep (lines_of given) value
+
+-- the same of an iterator over lines
+abbrev pub MergesLines : {S : Type 0} → (S → Option Line → S → Type 0) → S → ℕ → List ℕ → Type 0
+MergesLines steps s sep value = (lines : List Line) × Drains steps s lines × IsMerged sep lines value
+
+-- lines that a value was cut into, each time at a separator with an even number of quotes before it, which is left out
+abbrev pub IsCutInto : ℕ → List ℕ → List (List ℕ) → Type 0
+IsCutInto sep s [] = ⊥
+IsCutInto sep s (x ∷ []) = s ≡ x
+IsCutInto sep s (x ∷ y ∷ ys) = (rest : List ℕ) × (s ≡ x ++ sep ∷ rest) × (is_even (count_by is_quote x) ≡ true) × IsCutInto sep rest (y ∷ ys)
+
+-- ps increase from place i on and are counting places of s
+abbrev pub AreCuts : ℕ → List ℕ → ℕ → List ℕ → Type 0
+AreCuts sep s i [] = Unit {0}
+AreCuts sep s i (p ∷ ps) = (i ≤ p) × (p < length s) × (counts sep s p ≡ true) × AreCuts sep s (p + 1) ps

@@ -1,0 +1,12 @@
+-- Durations of whole seconds.
+use Rattle.std.specs.Prelude.{◌≡◌, ℕ, ◌*◌, ◌%◌}
+use Rattle.std.specs.Duration.{as_nanos}
+use Rattle.std.specs.declared.time.Duration.{Duration}
+
+-- it has no part of a second
+abbrev pub IsWholeSeconds : Duration → Type 0
+IsWholeSeconds d = as_nanos d % 1_000_000_000 ≡ 0
+
+-- it lasts so many seconds, and no part of another
+abbrev pub LastsSeconds : Duration → ℕ → Type 0
+LastsSeconds d secs = as_nanos d ≡ secs * 1_000_000_000
