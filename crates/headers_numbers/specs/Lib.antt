@@ -1,0 +1,4 @@
+pub mod AccessControlMaxAge
+pub mod Age
+pub mod ContentLength
+pub mod ContentLengthLaws
