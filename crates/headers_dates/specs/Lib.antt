@@ -1,0 +1,9 @@
+pub mod Date
+pub mod Expires
+pub mod IfModifiedSince
+pub mod IfUnmodifiedSince
+pub mod LastModified
+pub mod RetryAfter
+pub mod RetryAfterLaws
+pub mod RetryTime
+pub mod RetryView
