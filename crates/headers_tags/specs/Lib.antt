@@ -1,0 +1,5 @@
+pub mod ETag
+pub mod IfRange
+pub mod IfRangeLaws
+pub mod Validator
+pub mod ValidatorView
