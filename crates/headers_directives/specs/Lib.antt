@@ -1,0 +1,12 @@
+pub mod CacheControl
+pub mod CacheControlGrammar
+pub mod CacheControlLaws
+pub mod Parts
+pub mod PrintedLaws
+pub mod Printing
+pub mod ReferrerPolicy
+pub mod ReferrerPolicyLaws
+pub mod SecuritySoFar
+pub mod StrictTransportSecurity
+pub mod StrictTransportSecurityGrammar
+pub mod StrictTransportSecurityLaws
