@@ -1,0 +1,15 @@
+-- The header `connection`.
+use Rattle.std.specs.Prelude.{ℕ, List, Any}
+use Rattle.headers_core.specs.AsciiCase.{SameButForCase}
+use Rattle.headers_core.specs.Lines.{Line}
+use Rattle.headers_core.specs.HeaderLaws.{Grammar}
+use Rattle.headers_core.specs.Shapes.{merged}
+use Rattle.headers_lists.specs.declared.connection.Connection.{Connection}
+
+-- all lines, joined by commas
+abbrev pub connection_grammar : Grammar Connection Line
+connection_grammar = merged 44 (λ v. v)
+
+-- some item is the option, but for the case of ASCII letters
+abbrev pub HasOption : List (List ℕ) → List ℕ → Type 0
+HasOption items option = Any (λ item. SameButForCase item option) items

@@ -1,0 +1,16 @@
+pub mod AcceptRanges
+pub mod Connection
+pub mod ContentEncoding
+pub mod Cookie
+pub mod Te
+pub mod TransferEncoding
+pub mod Vary
+pub use Rattle.headers_conditions.specs.Condition
+pub use Rattle.headers_conditions.specs.IfMatch
+pub use Rattle.headers_conditions.specs.IfNoneMatch
+pub use Rattle.headers_directives.specs.CacheControl
+pub use Rattle.headers_directives.specs.CacheControlGrammar
+pub use Rattle.headers_directives.specs.Parts
+pub use Rattle.headers_directives.specs.ReferrerPolicy
+pub use Rattle.headers_directives.specs.StrictTransportSecurity
+pub use Rattle.headers_directives.specs.StrictTransportSecurityGrammar

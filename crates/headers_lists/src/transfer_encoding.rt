@@ -1,0 +1,116 @@
+//! The header `transfer-encoding`.
+ghost use Rattle.std.specs.Prelude.{◌≡◌, ◌↔◌, IsTrue, IfOk, codes};
+ghost use Rattle.std.specs.List.{after_last};
+ghost use Rattle.headers_core.specs.Places.{items, trim};
+ghost use Rattle.headers_core.specs.Chunked.{IsChunked, is_comma};
+
+use headers_core::{AsHeaderValue, Comma, Error, FlatCsv, Header, Refused, trim};
+use http_header::{HeaderName, HeaderValue, TRANSFER_ENCODING};
+use memchr::memrchr;
+use std::alloc::{AllocError, Global};
+use std::marker::Model;
+
+/// The codings that frame a message, in order (RFC 9112, section 6.1).
+#[derive(Debug, Drop)]
+pub struct TransferEncoding {
+    codings: FlatCsv<Comma>,
+}
+
+impl Model for TransferEncoding {
+    ghost use Rattle.std.specs.Prelude.{List, ℕ};
+
+    ghost Value = { List ℕ };
+
+    ghost view = { λ v. v.codings };
+
+    ghost inverse = { λ bytes. record { codings = bytes } };
+}
+
+// What follows the last comma, quoted or not, or the whole text if it has none.
+fn after_last_comma(text: &[u8]) -> &[u8]
+    ensures { result.now ≡ after_last is_comma text.now }
+{
+    match memrchr(b',', text) {
+        Some(comma) => &text[comma + 1..],
+        None => text,
+    }
+}
+
+// Whether what follows the last comma is the word, trimmed.
+fn ends_in_chunked(text: &str) -> bool
+    ensures { IsTrue result ↔ (trim (after_last is_comma text.now) ≡ codes "chunked") }
+{
+    trim(after_last_comma(text.as_bytes())) == b"chunked".as_slice()
+}
+
+impl TransferEncoding {
+    /// The chunked coding.
+    pub fn chunked() -> TransferEncoding
+        ensures { result ≡ codes "chunked" }
+    {
+        TransferEncoding {
+            codings: FlatCsv::from_word("chunked"),
+        }
+    }
+
+    /// Whether the list ends in `chunked`: what follows the last comma of the last item, or the whole
+    /// item if it has none, is that word when trimmed.
+    pub fn is_chunked(&self) -> bool
+        ensures { IsTrue result ↔ IsChunked (items 44 self.now) }
+    {
+        match self.codings.as_text() {
+            Some(text) => ends_in_chunked(text),
+            None => false,
+        }
+    }
+
+    /// The same value.
+    pub fn clone(&self, alloc: Global) -> Result<TransferEncoding, AllocError>
+        ensures { IfOk result (λ copy. copy ≡ self.now) }
+    {
+        Ok(TransferEncoding {
+            codings: self.codings.clone(alloc)?,
+        })
+    }
+}
+
+impl Header for TransferEncoding {
+    ghost use Rattle.std.specs.Prelude.{false, codes};
+    ghost use Rattle.headers_core.specs.HeaderLaws.{SameBy, ReadsBy, written_by};
+    ghost use Rattle.headers_core.proofs.ShapeLemmas.{merged_laws};
+    ghost use Rattle.headers_lists.specs.TransferEncoding.{transfer_encoding_grammar};
+
+    ghost field_name = { codes "transfer-encoding" };
+
+    ghost free = { false };
+
+    ghost same = { SameBy transfer_encoding_grammar };
+
+    ghost reads = { ReadsBy transfer_encoding_grammar };
+
+    ghost writes = { written_by transfer_encoding_grammar };
+
+    ghost laws = { merged_laws 44 transfer_encoding_grammar.kept };
+
+    fn name() -> HeaderName {
+        TRANSFER_ENCODING
+    }
+
+    fn decode<I: Iterator>(
+        alloc: Global,
+        values: &mut I,
+    ) -> Result<TransferEncoding, Refused<Error>>
+    where
+        I::Item: AsHeaderValue,
+    {
+        Ok(TransferEncoding {
+            codings: FlatCsv::from_lines(alloc, values)?,
+        })
+    }
+
+    fn encode(&self, alloc: Global, values: &mut Vec<HeaderValue>) -> Result<(), AllocError> {
+        let value = self.codings.to_value(alloc)?;
+        values.push(value)?;
+        Ok(())
+    }
+}
