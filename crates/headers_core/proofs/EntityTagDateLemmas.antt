@@ -1,5 +1,5 @@
 -- A printed date is no entity tag.
-use Rattle.std.proofs.Common.{◌≡◌, ◌≢◌, ℕ, zero, suc, Bool, true, false, List, ◌∷◌, ◌++◌, Some, get_or, refl, sym, ◌∙◌, ap, arith}
+use Rattle.std.proofs.Common.{◌≡◌, ◌≢◌, ℕ, zero, suc, Bool, true, false, ◌∷◌, ◌++◌, Some, get_or, sym, ◌∙◌, ap, arith}
 use Rattle.std.specs.Int.{IsInRange}
 use Rattle.httpdate.specs.Text.{day_name}
 use Rattle.httpdate.specs.Valid.{IsValid}

@@ -2,7 +2,7 @@ pub mod ChunkedLemmas
 pub mod CutAtLemmas
 pub mod CutLemmas
 pub mod DateLemmas
-pub mod EntriesLemmas
+pub mod PassingLemmas
 pub mod EntityTagDateLemmas
 pub mod EntityTagLemmas
 pub mod EntityTagRangeLemmas

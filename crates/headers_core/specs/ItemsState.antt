@@ -98,19 +98,19 @@ entries_left s = filter is_entry (items_left s)
 abbrev pub BeginsPiece : ℕ → List ℕ → ℕ → ℕ → Type 0
 BeginsPiece sep s i j = (j ≡ i) ⊎ ((q : ℕ) × (i ≤ q) × (q < length s) × (counts sep s q ≡ true) × (j ≡ q + 1))
 
--- item is what the piece from place `begin` gives, p stands just past that piece, and each piece of the walk s before it is empty
-pub record GivesEntry (s : ItemsState) (item : List ℕ) (p : ℕ) : Type 0 where
+-- item is what the piece from place `begin` gives, p stands just past that piece, and no item of the walk s before it is wanted
+pub record GivesWanted (wanted : List ℕ → Bool) (s : ItemsState) (item : List ℕ) (p : ℕ) : Type 0 where
   pub begin : ℕ
   pub begins : BeginsPiece s.separator s.text s.start begin
   pub skipped : List (List ℕ)
   pub split : items_left s ≡ skipped ++ items_from s.separator s.text begin
-  pub empty : filter is_entry skipped ≡ []
+  pub passed : filter wanted skipped ≡ []
   pub gives : GivesPiece s.separator s.text begin item p
 
 -- a call of a walk over entries from s gave r and left t: the scan stands just past the piece of the entry, or at the end of the text where none was left; so far it made one search for each hit before its place, and one more for the end, and a walk that was done makes none
 pub record ScansEntry (s : ItemsState) (r : Option (Bor (List ℕ))) (t : ItemsState) : Type 0 where
   pub text : t.text ≡ s.text
   pub separator : t.separator ≡ s.separator
-  pub place : MatchOption r ((t.is_done ≡ true) × (t.place ≡ length s.text)) (λ item. GivesEntry s item.now t.place)
+  pub place : MatchOption r ((t.is_done ≡ true) × (t.place ≡ length s.text)) (λ item. GivesWanted is_entry s item.now t.place)
   pub searches : t.searches ≡ hits t.separator t.text t.place + end_search t.is_ended
   pub stays : s.is_done ≡ true → (t.is_done ≡ true) × (t.searches ≡ s.searches)

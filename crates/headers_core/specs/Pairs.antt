@@ -1,10 +1,10 @@
 -- The pairs of a list, as the cookies of a request are (RFC 6265, section 4.2.1).
-use Rattle.std.specs.Prelude.{◌≡◌, ℕ, ◌+◌, Bool, true, List, length, take, drop, find, position, ◌==◌, Option, Some, MatchOption, option_map, bytes_eq}
+use Rattle.std.specs.Prelude.{◌≡◌, ℕ, ◌+◌, Bool, true, List, length, take, drop, find, position, ◌==◌, Option, Some, is_some, MatchOption, option_map, bytes_eq}
 use Rattle.std.specs.List.{filter_map}
 use denote.Ref.{Bor}
 use Rattle.headers_core.specs.Places.{hits, trim}
 use Rattle.headers_core.specs.ScanState.{end_search}
-use Rattle.headers_core.specs.ItemsState.{ItemsState, items_left, GivesPiece}
+use Rattle.headers_core.specs.ItemsState.{ItemsState, items_left, GivesWanted}
 
 -- a name and its value
 abbrev pub Pair : Type 0
@@ -22,6 +22,10 @@ halves_at item place = (trim (take place item), trim (drop (place + 1) item))
 unfoldable pub pair_of : List ℕ → Option Pair
 pair_of item = option_map (halves_at item) (position is_equals item)
 
+-- an item that has a `=`
+abbrev pub has_pair : List ℕ → Bool
+has_pair item = is_some (pair_of item)
+
 -- the pairs of the items that have a `=`, in order
 abbrev pub pairs : List (List ℕ) → List Pair
 pairs items = filter_map pair_of items
@@ -38,9 +42,10 @@ pairs_left s = pairs (items_left s)
 abbrev pub pair_shown : Bor (List ℕ) × Bor (List ℕ) → Pair
 pair_shown pair = (pair.0.now, pair.1.now)
 
--- a call from s that gave r and left t: the scan stands just past the piece of the pair, and at the end of the text where none is left; so far it made one search for each hit before its place, and one more for the end
+-- a call from s that gave r and left t: the scan stands just past the piece of the pair, or at the end of the text where none was left; so far it made one search for each hit before its place, and one more for the end, and a walk that was done makes none
 pub record ScansPair (s : ItemsState) (r : Option (Bor (List ℕ) × Bor (List ℕ))) (t : ItemsState) : Type 0 where
   pub text : t.text ≡ s.text
   pub separator : t.separator ≡ s.separator
-  pub place : MatchOption r ((t.is_done ≡ true) × (t.place ≡ length s.text)) (λ pair. (i : ℕ) × (item : List ℕ) × GivesPiece s.separator s.text i item t.place × (pair_of item ≡ Some (pair_shown pair)))
+  pub place : MatchOption r ((t.is_done ≡ true) × (t.place ≡ length s.text)) (λ pair. (item : List ℕ) × GivesWanted has_pair s item t.place × (pair_of item ≡ Some (pair_shown pair)))
   pub searches : t.searches ≡ hits t.separator t.text t.place + end_search t.is_ended
+  pub stays : s.is_done ≡ true → (t.is_done ≡ true) × (t.searches ≡ s.searches)

@@ -1,7 +1,7 @@
 //! The pairs of a value: what stands on both sides of the first `=` of an item.
-ghost use Rattle.std.specs.Prelude.{◌≡◌, ◌<◌, ◌^◌, ℕ, true, length, option_map};
+ghost use Rattle.std.specs.Prelude.{◌≡◌, ◌+◌, ◌≤◌, ◌<◌, ◌^◌, ℕ, true, length, option_map};
 ghost use Rattle.std.specs.Iterator.{YieldsFirstBy, item_count};
-ghost use Rattle.headers_core.specs.Places.{is_text, items};
+ghost use Rattle.headers_core.specs.Places.{is_text, items, marks};
 ghost use Rattle.headers_core.specs.ItemsState.{walk_over};
 ghost use Rattle.headers_core.specs.Pairs.{pair_of, pairs, pairs_left, pair_shown, ScansPair};
 
@@ -47,6 +47,7 @@ fn halves(item: &str) -> Option<(&str, &str)>
 fn next_pair<'a>(items: &mut Items<'a, SemiColon>) -> Option<(&'a str, &'a str)>
     ensures steps { YieldsFirstBy pair_shown pairs_left items.old result items.new }
     ensures scanned { ScansPair items.old result items.new }
+    ensures bound { items.new.searches ≤ marks items.new.separator items.new.text + 1 }
 {
     while let Some(item) = items.next() {
         if let Some(pair) = halves(item) {
@@ -72,6 +73,7 @@ impl<'a> Pairs<'a> {
     pub fn next(&mut self) -> Option<(&'a str, &'a str)>
         ensures steps { YieldsFirstBy pair_shown pairs_left self.old result self.new }
         ensures scanned { ScansPair self.old result self.new }
+        ensures bound { self.new.searches ≤ marks self.new.separator self.new.text + 1 }
     {
         next_pair(&mut self.items)
     }

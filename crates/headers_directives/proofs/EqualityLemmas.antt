@@ -1,5 +1,5 @@
 -- Values of `cache-control` are equal exactly if what is written of them is.
-use Rattle.std.proofs.Common.{◌≡◌, ℕ, nat_eq, Bool, true, ◌&&◌, ◌↔◌, IsTrue, Option, Some, None, refl, sym, ◌∙◌, ap}
+use Rattle.std.proofs.Common.{◌≡◌, ℕ, nat_eq, Bool, ◌&&◌, ◌↔◌, IsTrue, Option, Some, None, refl, sym, ◌∙◌, ap}
 use mathlib.Core.Bool.{beq}
 use Rattle.std.specs.Bool.{Decides}
 use Rattle.std.specs.Cmp.{booleans_Decides}

@@ -1,6 +1,6 @@
 -- The laws of the header `if-range`.
 use Rattle.std.specs.Prelude.{◌≡◌, ℕ, Bool, true, false, Option, Some, None, option_map, if◌then◌else◌, refl}
-use Rattle.http_header.specs.FieldValue.{FieldValue, plain_value}
+use Rattle.http_header.specs.FieldValue.{plain_value}
 use Rattle.headers_core.specs.Date.{date}
 use Rattle.headers_core.specs.EntityTag.{is_tag}
 use Rattle.headers_core.specs.HeaderLaws.{HeaderLaws, SameBy, ReadsBy, written_by}

@@ -1,5 +1,5 @@
 -- What the header `if-range` names (RFC 9110, section 13.1.5), and how a line says it.
-use Rattle.std.specs.Prelude.{◌≡◌, ℕ, ◌<◌, ⊤, Option, Some, None, option_map, if◌then◌else◌}
+use Rattle.std.specs.Prelude.{ℕ, ◌<◌, ⊤, Option, Some, None, option_map, if◌then◌else◌}
 use denote.Ref.{Bor}
 use Rattle.http_header.specs.FieldValue.{FieldValue, plain_value}
 use Rattle.headers_core.specs.Date.{date, fixdate}

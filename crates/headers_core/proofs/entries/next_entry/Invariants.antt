@@ -1,10 +1,10 @@
 use Rattle.std.proofs.Common.{length}
-use Rattle.headers_core.specs.ItemsState.{items_left}
-use Rattle.headers_core.proofs.EntriesLemmas.{PassesEmpty}
+use Rattle.headers_core.specs.ItemsState.{items_left, is_entry}
+use Rattle.headers_core.proofs.PassingLemmas.{PassesUnwanted}
 use Rattle.headers_core.proofs.entries.next_entry.Given as goal
 
 abbrev pub invariant-loop-item : goal.invariant-loop-item
-invariant-loop-item l = PassesEmpty l.initial.items l.items
+invariant-loop-item l = PassesUnwanted is_entry l.initial.items l.items
 
 abbrev pub decreases-loop-item : goal.decreases-loop-item
 decreases-loop-item l = length (items_left l.items)

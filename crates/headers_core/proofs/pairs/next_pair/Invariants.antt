@@ -1,13 +1,13 @@
 use Rattle.std.proofs.Common.{◌≡◌, length}
 use Rattle.headers_core.specs.ItemsState.{items_left}
-use Rattle.headers_core.specs.Pairs.{pairs_left}
+use Rattle.headers_core.specs.Pairs.{has_pair, pairs_left}
+use Rattle.headers_core.proofs.PassingLemmas.{PassesUnwanted}
 use Rattle.headers_core.proofs.pairs.next_pair.Given as goal
 
 abbrev pub invariant-loop-item : goal.invariant-loop-item
 invariant-loop-item l = record {
   pairs : pairs_left l.items ≡ pairs_left l.initial.items;
-  text : l.items.text ≡ l.initial.items.text;
-  separator : l.items.separator ≡ l.initial.items.separator;
+  passes : PassesUnwanted has_pair l.initial.items l.items;
 }
 
 abbrev pub decreases-loop-item : goal.decreases-loop-item

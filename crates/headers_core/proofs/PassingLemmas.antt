@@ -1,27 +1,27 @@
--- A walk over entries: the empty items that it passes over.
+-- A walk that hands out only some of the items: those that it passes over.
 use Rattle.std.proofs.Common.{◌≡◌, ℕ, ◌≤◌, ◌-◌, Bool, true, false, List, [], ◌∷◌, ◌++◌, length, drop, map, ◌≢◌, Some, refl, sym, ◌∙◌, ap, arith, inl, inr, ⊎_elim, append_assoc}
 use denote.Ref.{Bor}
 use Rattle.headers_core.specs.Places.{items_from}
-use Rattle.headers_core.specs.ItemsState.{ItemsState, items_left, is_entry, BeginsPiece, NoCut, ScansPiece, GivesPiece}
+use Rattle.headers_core.specs.ItemsState.{ItemsState, items_left, BeginsPiece, NoCut, ScansPiece, GivesPiece}
 use Rattle.std.specs.List.{filter}
 use Rattle.headers_core.proofs.WalkLemmas.{items_left_open, items_left_done}
 use Rattle.std.proofs.lemmas.List.Elements.{filter-append}
 use Rattle.headers_core.specs.Places.{trim, pieces, counting_from, counts}
 use Rattle.headers_core.proofs.ItemsLemmas.{filter_places_none}
 
--- a walk went from s to t over empty items alone
-pub record PassesEmpty (s t : ItemsState) : Type 0 where
+-- a walk went from s to t over items that are not wanted
+pub record PassesUnwanted (wanted : List ℕ → Bool) (s t : ItemsState) : Type 0 where
   pub text : t.text ≡ s.text
   pub separator : t.separator ≡ s.separator
   pub begins : t.is_done ≡ false → BeginsPiece s.separator s.text s.start t.start
   pub skipped : List (List ℕ)
   pub split : items_left s ≡ skipped ++ items_left t
-  pub empty : filter is_entry skipped ≡ []
+  pub passed : filter wanted skipped ≡ []
   pub stays : s.is_done ≡ true → t ≡ s
 
-pub PassesEmpty-none : (s : ItemsState) → PassesEmpty s s
-PassesEmpty-none s =
-    record { text = refl; separator = refl; begins = λ _. inl refl; skipped = []; split = refl; empty = refl; stays = λ _. refl }
+pub PassesUnwanted-none : (wanted : List ℕ → Bool) (s : ItemsState) → PassesUnwanted wanted s s
+PassesUnwanted-none wanted s =
+    record { text = refl; separator = refl; begins = λ _. inl refl; skipped = []; split = refl; passed = refl; stays = λ _. refl }
 
 -- one that gave an item was not done
 gave_open : (s t : ItemsState) (item : List ℕ) → items_left s ≡ item ∷ items_left t → s.is_done ≡ false
@@ -60,21 +60,21 @@ begins_after sep s i j p item rest b g e some =
     (λ w. absurd (some (last_item sep s j item rest w.0 e)))
     g
 
-begins_next : (s t u : ItemsState) (item : Bor (List ℕ)) → PassesEmpty s t → ScansPiece t (Some item) u → items_left t ≡ item.now ∷ items_left u → t.is_done ≡ false → u.is_done ≡ false → u.start ≡ u.place → BeginsPiece s.separator s.text s.start u.start
-begins_next s t u item h f e opn opn' at =
+begins_next : (wanted : List ℕ → Bool) (s t u : ItemsState) (item : Bor (List ℕ)) → PassesUnwanted wanted s t → ScansPiece t (Some item) u → items_left t ≡ item.now ∷ items_left u → t.is_done ≡ false → u.is_done ≡ false → u.start ≡ u.place → BeginsPiece s.separator s.text s.start u.start
+begins_next wanted s t u item h f e opn opn' at =
     let some : items_left u ≢ [] = λ z. some_item u.separator u.text u.start (sym (items_left_open u opn') ∙ z) in
     let left : items_from s.separator s.text t.start ≡ item.now ∷ items_left u = rw (← h.text, ← h.separator) (sym (items_left_open t opn) ∙ e) in
     let gives : GivesPiece s.separator s.text t.start item.now u.place = rw (← h.text, ← h.separator) f.place in
     rw at (begins_after s.separator s.text s.start t.start u.place item.now (items_left u) (h.begins opn) gives left some)
 
-pub PassesEmpty-more : (s t u : ItemsState) (item : Bor (List ℕ)) → PassesEmpty s t → ScansPiece t (Some item) u → items_left t ≡ item.now ∷ items_left u → (u.is_done ≡ false → u.start ≡ u.place) → is_entry item.now ≡ false → PassesEmpty s u
-PassesEmpty-more s t u item h f e at none =
+pub PassesUnwanted-more : (wanted : List ℕ → Bool) (s t u : ItemsState) (item : Bor (List ℕ)) → PassesUnwanted wanted s t → ScansPiece t (Some item) u → items_left t ≡ item.now ∷ items_left u → (u.is_done ≡ false → u.start ≡ u.place) → wanted item.now ≡ false → PassesUnwanted wanted s u
+PassesUnwanted-more wanted s t u item h f e at none =
     record {
       text = f.text ∙ h.text;
       separator = f.separator ∙ h.separator;
-      begins = λ opn. begins_next s t u item h f e (gave_open t u item.now e) opn (at opn);
+      begins = λ opn. begins_next wanted s t u item h f e (gave_open t u item.now e) opn (at opn);
       skipped = h.skipped ++ item.now ∷ [];
       split = h.split ∙ ap (λ r. h.skipped ++ r) e ∙ sym (append_assoc h.skipped (item.now ∷ []) (items_left u));
-      empty = filter-append is_entry h.skipped (item.now ∷ []) ∙ rw (h.empty, none) refl;
+      passed = filter-append wanted h.skipped (item.now ∷ []) ∙ rw (h.passed, none) refl;
       stays = λ d. absurd (cc (e, items_left_done t (ap (λ (v : ItemsState). v.is_done) (h.stays d) ∙ d)));
     }
