@@ -1,31 +1,19 @@
 -- Where a field is cut, and what that makes of a line.
-use Rattle.std.proofs.Common.{◌≡◌, ℕ, suc, ◌+◌, ◌<◌, Bool, true, false, IsTrue, List, [], ◌∷◌, ◌++◌, length, take, drop, get_or, nat_lt, nat_le, refl, sym, ◌∙◌, ap, subst, inl, inr, arith}
+use Rattle.std.proofs.Common.{◌≡◌, ℕ, suc, ◌+◌, ◌<◌, true, false, IsTrue, List, [], ◌∷◌, ◌++◌, length, take, drop, get_or, nat_lt, nat_le, refl, sym, ◌∙◌, ap, subst, inl, inr, arith}
 use Rattle.std.specs.List.{list_all}
 use Rattle.std.proofs.lemmas.Bool.{cases_Bool, cases_lt}
 use Rattle.std.proofs.lemmas.List.{get_or_at, get_or_append_left, take_at, drop_at, length-append}
-use Rattle.std.proofs.lemmas.List.Elements.{All-head, All-tail, All-get_or}
+use Rattle.std.proofs.lemmas.List.Sums.{list_all-from_AllPass}
+use Rattle.std.proofs.lemmas.List.Elements.{All-get_or}
 use Rattle.memchr.specs.Find.{NoneBefore, Nowhere, Passes, is_byte}
-use Rattle.http_header.specs.Token.{AllPass, token_test, is_token_byte, is_value_byte, lowercase}
+use Rattle.http_header.specs.Token.{token_test, is_token_byte, lowercase}
 use Rattle.http_header.specs.FieldName.{IsFieldName, is_field_name}
 use Rattle.http_header.specs.FieldValue.{IsFieldValue, plain_value}
-use Rattle.http_header.proofs.TokenLemmas.{AllPass-from_test, IsFieldName-from_test}
+use Rattle.http_header.proofs.TokenLemmas.{IsFieldName-from_test}
 use Rattle.headers_core.specs.Lines.{Line}
 use Rattle.headers_core.specs.Places.{trim}
 use Rattle.headers_canon.specs.Section.{Field, IsField, IsNoField}
 use Rattle.headers_canon.proofs.SectionLemmas.{split_at_place}
-
-test-from_AllPass : (test : ℕ → Bool) (bytes : List ℕ) → AllPass test bytes → list_all test bytes ≡ true
-test-from_AllPass test [] h = refl
-test-from_AllPass test (b ∷ bytes) h =
-    rw (All-head (λ (x : ℕ). IsTrue (test x)) b bytes h, test-from_AllPass test bytes (All-tail (λ (x : ℕ). IsTrue (test x)) b bytes h)) refl
-
--- a value that is not refused is one
-pub IsFieldValue-from_kept : (bytes : List ℕ) → ¬ (¬ (IsFieldValue bytes)) → IsFieldValue bytes
-IsFieldValue-from_kept bytes kept =
-    elim (cases_Bool (list_all is_value_byte bytes)) [
-      | inl t ↦ AllPass-from_test is_value_byte bytes t
-      | inr f ↦ absurd (kept (λ valid. let t = test-from_AllPass is_value_byte bytes valid in absurd (cc (t, f))))
-    ]
 
 token_same : (b : ℕ) → is_token_byte b ≡ token_test b
 unfolding is_token_byte
@@ -39,7 +27,7 @@ test-from_IsFieldName : (bytes : List ℕ) → IsFieldName bytes → is_field_na
 test-from_IsFieldName bytes h =
     let some : nat_lt 0 (length bytes) ≡ true = grind (arith, h.0.0) in
     let fits : nat_le (length bytes) 65535 ≡ true = grind (arith, h.1) in
-    let tokens : list_all token_test bytes ≡ true = sym (tokens_same bytes) ∙ test-from_AllPass is_token_byte bytes h.0.1 in
+    let tokens : list_all token_test bytes ≡ true = sym (tokens_same bytes) ∙ list_all-from_AllPass is_token_byte bytes h.0.1 in
     rw (some, fits, tokens) refl
 
 -- a name that is not refused is one

@@ -1,6 +1,5 @@
 pub mod BlockLemmas
 pub mod FieldLemmas
-pub mod KnownLemmas
 pub mod NameLemmas
 pub mod SectionLemmas
 pub mod TypedLemmas

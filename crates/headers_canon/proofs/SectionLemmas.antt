@@ -47,10 +47,6 @@ filled_line : (line : Line) → 0 < length line → is_filled line ≡ true
 filled_line [] e = absurd (omega (arith, e))
 filled_line (b ∷ line) e = refl
 
--- the first line is empty
-pub section-empty : (input : List ℕ) (line : Line) (lines : List Line) → input_lines input ≡ line ∷ lines → length line ≡ 0 → section input ≡ []
-section-empty input line lines e h = rw (e, empty_line line h) refl
-
 -- the lines before the first empty one, where the first is not empty
 pub section-filled : (input : List ℕ) (line : Line) (lines : List Line) → input_lines input ≡ line ∷ lines → 0 < length line
     → section input ≡ line ∷ take (prefix_len is_filled lines) lines

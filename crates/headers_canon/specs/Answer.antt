@@ -34,10 +34,11 @@ module _ (had left held holds : Option (List ℕ)) where
       × IfSome had (λ input. (length input ≤ input_limit)
       × ((begun : List ℕ) × (rest : List ℕ) × (some_refused : Bool) × IsCanonicalText input (begun ++ rest) some_refused × Appends held holds begun)))
 
--- the input is within the limit, and a line before the first empty one is no field
-abbrev pub HasBadLine : Option (List ℕ) → Type 0
-HasBadLine had = IfSome had (λ input. (length input ≤ input_limit) × HasNoField (section input))
+-- the whole input was read, it is within the limit, and a line before the first empty one is no field
+abbrev pub HasBadLine : Option (List ℕ) → Option (List ℕ) → Type 0
+HasBadLine had left = IsAtEnd left × IfSome had (λ input. (length input ≤ input_limit) × HasNoField (section input))
 
--- the input is too long, or its fields fill a map
-abbrev pub HasNoRoom : Option (List ℕ) → Type 0
-HasNoRoom had = IfSome had (λ input. (input_limit < length input) ⊎ HasTooManyFields input)
+-- the input is too long, or it was read whole and a map that holds the fields before one of them has no room for it
+abbrev pub HasNoRoom : Option (List ℕ) → Option (List ℕ) → Type 0
+HasNoRoom had left =
+    IfSome had (λ input. (input_limit < length input) ⊎ ((length input ≤ input_limit) × IsAtEnd left × HasTooManyFields input))

@@ -4,7 +4,7 @@ use Rattle.std.specs.List.{list_any}
 use Rattle.headers_core.specs.Lines.{Line}
 use Rattle.headers_core.specs.HeaderLaws.{ReadsBy, written_by}
 use Rattle.headers_values.specs.Age.{age_grammar}
-use Rattle.headers_values.specs.ContentLength.{length_reads, length_writes}
+use Rattle.headers_values.specs.ContentLength.{content_length_reads, content_length_writes}
 use Rattle.headers_canon.specs.Section.{Field, AreFields, section}
 
 -- the names of the fields, in order
@@ -32,7 +32,7 @@ IsTypedBlock {V} reads writes lines (Some written) = (v : V) × reads lines v ×
 -- The block of a name that has these lines. The lines of a name that is not known stay as they came.
 pub record IsBlock (name : List ℕ) (lines : List Line) (block : Block) : Type 0 where
   pub age : name ≡ codes "age" → IsTypedBlock (ReadsBy age_grammar) (written_by age_grammar) lines block
-  pub content_length : name ≡ codes "content-length" → IsTypedBlock length_reads length_writes lines block
+  pub content_length : name ≡ codes "content-length" → IsTypedBlock content_length_reads content_length_writes lines block
   pub unknown : name ≢ codes "age" → name ≢ codes "content-length" → block ≡ Some lines
 
 -- the name, a colon, a space, the line and a byte 10

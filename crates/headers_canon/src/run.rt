@@ -10,9 +10,10 @@ use crate::text::canonical_text;
 use std::alloc::Global;
 use std::io::{Read, Write};
 
-/// Reads a header section (RFC 9112, section 2.1) of at most 8,388,608 bytes, and writes its
-/// canonical text: each name at its first appearance, with its lines. The text is made whole before
-/// the first write, and no failing call is tried again.
+/// Reads an input of at most 8,388,608 bytes, which begins with a header section (RFC 9112, section
+/// 2.1), and writes its canonical text: each name at its first appearance, with its lines. The text is
+/// made whole before the first write, and no failing call is tried again. After `Memory`, `Io` and too
+/// long an input, what the reader has left is open.
 pub fn run<R: Read, W: Write>(
     alloc: Global,
     reader: &mut R,
@@ -22,8 +23,10 @@ pub fn run<R: Read, W: Write>(
         (W.contents writer.old) (W.contents writer.new) false }
     ensures some_refused { result ≡ Ok Outcome.SomeRefused → WroteText (R.remaining reader.old)
         (R.remaining reader.new) (W.contents writer.old) (W.contents writer.new) true }
-    ensures not_a_field { result ≡ Ok Outcome.NotAField → HasBadLine (R.remaining reader.old) }
-    ensures room { result ≡ Err RunError.Room → HasNoRoom (R.remaining reader.old) }
+    ensures not_a_field { result ≡ Ok Outcome.NotAField → HasBadLine (R.remaining reader.old)
+        (R.remaining reader.new) }
+    ensures room { result ≡ Err RunError.Room → HasNoRoom (R.remaining reader.old)
+        (R.remaining reader.new) }
     ensures nothing_written { (result ≡ Ok Outcome.NotAField) ⊎ (result ≡ Err RunError.Memory) ⊎ (result ≡ Err RunError.Room)
         → Keeps (W.contents writer.old) (W.contents writer.new) }
     ensures io { result ≡ Err RunError.Io → BeganText (R.remaining reader.old) (R.remaining reader.new)

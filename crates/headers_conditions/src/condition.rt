@@ -2,10 +2,11 @@
 ghost use Rattle.std.specs.Prelude.{◌≡◌, ◌↔◌, IsTrue, IfOk};
 ghost use Rattle.std.specs.Iterator.{IsFinite};
 ghost use Rattle.headers_core.specs.EntityTag.{StronglyEqual, WeaklyEqual};
-ghost use Rattle.headers_core.specs.EntityTagRange.{MatchesValue, star};
+ghost use Rattle.headers_core.specs.EntityTagRange.{star};
 ghost use Rattle.headers_core.specs.Given.{Given};
 ghost use Rattle.headers_core.specs.Merge.{merge};
-ghost use Rattle.headers_conditions.specs.Condition.{IsAny};
+ghost use Rattle.headers_conditions.specs.Condition.{IsAny, MatchesValue};
+ghost use Rattle.headers_core.specs.Places.{comma};
 
 use headers_core::{AsHeaderValue, EntityTagRange, FlatCsv};
 use headers_tags::{ETag, into_tag, tag_of};
@@ -58,7 +59,7 @@ impl Condition {
         requires can { I.can_next lines.old }
         requires ends { IsFinite (I.remaining lines.old) }
         ensures { Given I.Item.shown I.next_gives lines.old lines.new
-            (λ ls. IfOk result (λ condition. condition ≡ merge 44 ls)) }
+            (λ ls. IfOk result (λ condition. condition ≡ merge comma ls)) }
     {
         Ok(Condition {
             range: EntityTagRange::from_lines(alloc, lines)?,

@@ -1,8 +1,8 @@
 //! The header `if-match`.
 ghost use Rattle.std.specs.Prelude.{◌≡◌, ◌↔◌, List, ℕ, true, false, IsTrue, IfOk};
-ghost use Rattle.headers_core.specs.EntityTag.{IsTag, TagParts};
+ghost use Rattle.headers_core.specs.EntityTag.{IsTag, StronglyEqual, TagParts};
 ghost use Rattle.headers_core.specs.EntityTagRange.{star};
-ghost use Rattle.headers_core.specs.Places.{is_text};
+ghost use Rattle.headers_core.specs.Places.{comma, is_text};
 ghost use Rattle.headers_conditions.specs.Condition.{IsAny};
 ghost use Rattle.headers_conditions.specs.IfMatch.{MatchPasses};
 
@@ -94,7 +94,7 @@ impl Header for IfMatch {
 
     ghost writes = { written_by if_match_grammar };
 
-    ghost laws = { merged_laws 44 if_match_grammar.kept };
+    ghost laws = { merged_laws comma if_match_grammar.kept };
 
     fn name() -> HeaderName {
         IF_MATCH
@@ -116,11 +116,15 @@ impl Header for IfMatch {
     }
 }
 
-/// The condition that is made from a tag passes for that tag exactly if the tag isn't weak, where it
-/// is text; a tag with a byte past ASCII makes one that passes for no tag.
+/// The condition that is made from a tag that is text passes for the tags that are strongly equal, and
+/// so for that tag exactly if it isn't weak; a tag with a byte past ASCII makes one that passes for no
+/// tag.
 pub fn if_match_of_own_tag()
     ensures text { (bytes : List ℕ) (parts : TagParts) → IsTag bytes parts → is_text bytes ≡ true
         → (MatchPasses bytes bytes ↔ (parts.is_weak ≡ false)) }
+    ensures others { (bytes tag : List ℕ) (parts others : TagParts) → IsTag bytes parts
+        → IsTag tag others → is_text bytes ≡ true
+        → (MatchPasses bytes tag ↔ StronglyEqual parts others) }
     ensures no_text { (bytes tag : List ℕ) (parts : TagParts) → IsTag bytes parts
         → is_text bytes ≡ false → ¬ (MatchPasses bytes tag) }
 {}

@@ -1,8 +1,8 @@
 //! The header `if-none-match`.
 ghost use Rattle.std.specs.Prelude.{◌≡◌, ◌↔◌, List, ℕ, true, false, IsTrue, IfOk};
-ghost use Rattle.headers_core.specs.EntityTag.{IsTag, TagParts};
+ghost use Rattle.headers_core.specs.EntityTag.{IsTag, TagParts, WeaklyEqual};
 ghost use Rattle.headers_core.specs.EntityTagRange.{star};
-ghost use Rattle.headers_core.specs.Places.{is_text};
+ghost use Rattle.headers_core.specs.Places.{comma, is_text};
 ghost use Rattle.headers_conditions.specs.IfNoneMatch.{NoneMatchPasses};
 
 use crate::condition::Condition;
@@ -86,7 +86,7 @@ impl Header for IfNoneMatch {
 
     ghost writes = { written_by if_none_match_grammar };
 
-    ghost laws = { merged_laws 44 if_none_match_grammar.kept };
+    ghost laws = { merged_laws comma if_none_match_grammar.kept };
 
     fn name() -> HeaderName {
         IF_NONE_MATCH
@@ -108,11 +108,14 @@ impl Header for IfNoneMatch {
     }
 }
 
-/// The condition that is made from a tag doesn't pass for that tag, where it is text; a tag with a
-/// byte past ASCII makes one that passes for every tag.
+/// The condition that is made from a tag that is text passes for the tags that aren't weakly equal, and
+/// so never for that tag; a tag with a byte past ASCII makes one that passes for every tag.
 pub fn if_none_match_of_own_tag()
     ensures text { (bytes : List ℕ) (parts : TagParts) → IsTag bytes parts → is_text bytes ≡ true
         → ¬ (NoneMatchPasses bytes bytes) }
+    ensures others { (bytes tag : List ℕ) (parts others : TagParts) → IsTag bytes parts
+        → IsTag tag others → is_text bytes ≡ true
+        → (NoneMatchPasses bytes tag ↔ (¬ (WeaklyEqual parts others))) }
     ensures no_text { (bytes tag : List ℕ) (parts : TagParts) → IsTag bytes parts
         → is_text bytes ≡ false → NoneMatchPasses bytes tag }
 {}

@@ -9,7 +9,7 @@ use Rattle.http_header.specs.Token.{is_visible_or_blank}
 use Rattle.std.proofs.lemmas.List.Sums.{sum_by-cons, sum_by-append}
 use Rattle.headers_core.specs.Separator.{IsSeparator}
 use Rattle.headers_core.specs.Merge.{merge}
-use Rattle.headers_core.specs.CutLaw.{HasItemsOf, IsMerged, IsCutInto, AreCuts}
+use Rattle.headers_core.specs.CutLaw.{HasItemsOf, IsMerged, AreCuts}
 use Rattle.headers_core.proofs.TextLemmas.{list_all-parts}
 use Rattle.headers_core.proofs.PlacesLemmas.{is_even-more, counts_parts, parity_quote, parity_other}
 
@@ -233,15 +233,14 @@ items_apart sep a b f t p =
     ∙ ap (λ r. r ++ map trim (cuts sep true b)) (sym (items_cuts sep a ne parts.0))
     ∙ ap (λ r. items sep a ++ r) (sym (items_cuts sep b ne tb))
 
--- joined again, it keeps them
-pub items_rejoined : (sep : ℕ) (a b : List ℕ) → IsSeparator sep → is_text (a ++ sep ∷ b) ≡ true → is_even (count_by is_quote a) ≡ true → items sep (a ++ sep ∷ 32 ∷ b) ≡ items sep (a ++ sep ∷ b)
-items_rejoined sep a b f t p =
-    let parts = list_all-parts is_visible_or_blank a (sep ∷ b) t in
-    let tb = (and_parts (is_visible_or_blank sep) (list_all is_visible_or_blank b) parts.1).1 in
-    items_joined sep a b f parts.0 tb p ∙ sym (items_apart sep a b f t p)
-
 pub IsMerged-from : (sep : ℕ) (lines : List (List ℕ)) (value : List ℕ) → IsSeparator sep → value ≡ merge sep lines → IsMerged sep lines value
 IsMerged-from sep lines value f e = record { bytes = e; items_kept = subst (HasItemsOf sep lines) (sym e) (HasItemsOf-merge sep lines f) }
+
+-- lines that a value was cut into, each time at a separator with an even number of quotes before it, which is left out
+abbrev pub IsCutInto : ℕ → List ℕ → List (List ℕ) → Type 0
+IsCutInto sep s [] = ⊥
+IsCutInto sep s (x ∷ []) = s ≡ x
+IsCutInto sep s (x ∷ y ∷ ys) = (rest : List ℕ) × (s ≡ x ++ sep ∷ rest) × (is_even (count_by is_quote x) ≡ true) × IsCutInto sep rest (y ∷ ys)
 
 -- and they are text when they are merged
 is_text_recut : (sep : ℕ) (s : List ℕ) (lines : List (List ℕ)) → IsSeparator sep → is_text s ≡ true → IsCutInto sep s lines → is_text (merge sep lines) ≡ true

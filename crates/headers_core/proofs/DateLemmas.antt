@@ -17,7 +17,7 @@ use Rattle.httpdate.specs.Date.{parse_secs, valid_secs}
 use Rattle.httpdate.specs.Reader.{parse}
 use Rattle.httpdate.specs.Text.{day_name, month_name, two_digits, four_digits, imf_fixdate}
 use Rattle.httpdate.specs.Valid.{IsValid, is_valid, parts_secs}
-use Rattle.httpdate.proofs.CalendarLemmas.{days_of_months_more, days_of_months_all}
+use Rattle.httpdate.proofs.CalendarLemmas.{days_of_months_more, days_of_months_all, days_from_civil_bound}
 use Rattle.httpdate.proofs.FormatLemmas.{parse_complete, parse_sound, imf_fixdate_grouped}
 use Rattle.httpdate.proofs.OptionLemmas.{cond_some, and_then_some}
 use Rattle.httpdate.proofs.ReaderLemmas.{clock}
@@ -26,7 +26,7 @@ use Rattle.headers_core.specs.Lines.{Line}
 use Rattle.headers_core.specs.Places.{is_blank, is_text, trim, trim_start, trim_end}
 use Rattle.headers_core.specs.Number.{after_plus, number}
 use Rattle.std.specs.Str.{all_ascii_digits}
-use Rattle.headers_core.specs.Date.{date, year_of, month_of, parts_at, fixdate, ShowsDate}
+use Rattle.headers_core.specs.Date.{date, year_of, month_of, parts_at, fixdate, IsDated, ShowsDate}
 
 -- ---- the calendar
 
@@ -308,6 +308,17 @@ date_parts line n e =
     cond_some_of : (b : Bool) (o : Option ℕ) (m : ℕ) → cond b o None ≡ Some m → o ≡ Some m
     cond_some_of true o m h = h
     cond_some_of false o m h = absurd (none-some m h)
+
+-- which lies before the year 10000
+pub date_bound : (line : Line) (n : ℕ) → date line ≡ Some n → IsDated n
+date_bound line n e =
+    let shown = date_parts line n e in
+    let p = shown.0 in
+    let days = days_from_civil_bound p.year p.mon p.day shown.1.0 in
+    let hour : p.hour < 24 = shown.1.1.0 in
+    let min : p.min < 60 = shown.1.1.1 in
+    let sec : p.sec < 60 = shown.1.1.2 in
+    omega (arith, shown.2, days, hour, min, sec)
 
 pub date_back : (line : Line) (n : ℕ) → date line ≡ Some n → date (fixdate n) ≡ Some n
 date_back line n e =

@@ -23,25 +23,25 @@ one_any P y = (forth, back)
     back : P y → Any P (y ∷ [])
     back p = (0, y, omega arith, refl, p)
 
--- a tag that is text has an item of which R holds beside it exactly if R holds of its parts
-pub HasItem-self : (R : TagParts → TagParts → Type 0) (bytes : List ℕ) (parts : TagParts) → IsTag bytes parts → is_text bytes ≡ true
-    → (HasItem R bytes bytes ↔ R parts parts)
-HasItem-self R bytes parts h t = (forth, back)
+-- a tag that is text has an item of which R holds beside another tag exactly if R holds of their parts
+pub HasItem-tags : (R : TagParts → TagParts → Type 0) (bytes other : List ℕ) (parts others : TagParts) → IsTag bytes parts → IsTag other others → is_text bytes ≡ true
+    → (HasItem R bytes other ↔ R parts others)
+HasItem-tags R bytes other parts others h k t = (forth, back)
   where
-    one : Any (λ item. AreTags R item bytes) (bytes ∷ []) ↔ AreTags R bytes bytes
-    one = one_any (λ item. AreTags R item bytes) bytes
+    one : Any (λ item. AreTags R item other) (bytes ∷ []) ↔ AreTags R bytes other
+    one = one_any (λ item. AreTags R item other) bytes
 
     whole : items 44 bytes ≡ bytes ∷ []
     whole = items_tag bytes parts h t
 
-    forth : HasItem R bytes bytes → R parts parts
+    forth : HasItem R bytes other → R parts others
     forth has =
-        let both : AreTags R bytes bytes = one.0 (subst (λ (xs : List (List ℕ)). Any (λ item. AreTags R item bytes) xs) whole has) in
-        subst (λ (q : TagParts). R q parts) (parts_unique bytes both.0 parts both.2 h)
-        (subst (λ (q : TagParts). R both.0 q) (parts_unique bytes both.1 parts both.3 h) both.4)
+        let both : AreTags R bytes other = one.0 (subst (λ (xs : List (List ℕ)). Any (λ item. AreTags R item other) xs) whole has) in
+        subst (λ (q : TagParts). R q others) (parts_unique bytes both.0 parts both.2 h)
+        (subst (λ (q : TagParts). R both.0 q) (parts_unique other both.1 others both.3 k) both.4)
 
-    back : R parts parts → HasItem R bytes bytes
-    back r = subst (λ (xs : List (List ℕ)). Any (λ item. AreTags R item bytes) xs) (sym whole) (one.1 (parts, parts, h, h, r))
+    back : R parts others → HasItem R bytes other
+    back r = subst (λ (xs : List (List ℕ)). Any (λ item. AreTags R item other) xs) (sym whole) (one.1 (parts, others, h, k, r))
 
 -- a value that is no text has no item
 pub HasItem-no_text : (R : TagParts → TagParts → Type 0) (value tag : List ℕ) → is_text value ≡ false → ¬ (HasItem R value tag)

@@ -1,6 +1,6 @@
 -- How `Given` is built call by call, and what a caller reads of it.
 use Rattle.std.proofs.Common.{◌≡◌, Bool, true, false, IsTrue, List, [], ◌∷◌, ◌++◌, map, length, Option, Some, None, refl, sym, ◌∙◌, ap, subst, arith}
-use Rattle.std.specs.Iterator.{Yields, YieldsThen, YieldsFirstBy, AlwaysYields}
+use Rattle.std.specs.Iterator.{Yields, YieldsThen, YieldsFirstBy}
 use Rattle.std.specs.Slice.Iter.{iter_rest, iter_steps}
 use Rattle.std.specs.declared.slice.Iter.{Iter}
 use denote.Ref.{Bor}
@@ -8,7 +8,7 @@ use Rattle.std.proofs.lemmas.List.{append-nil, append_assoc, map-append}
 use Rattle.std.specs.Bool.{MatchBool}
 use Rattle.http_header.specs.FieldValue.{FieldValue}
 use Rattle.headers_core.specs.Lines.{Line, lines_of}
-use Rattle.headers_core.specs.Given.{Given, Told}
+use Rattle.headers_core.specs.Given.{Given}
 
 module _ {S A : Type 0} (shown : A → FieldValue) (steps : S → Option A → S → Type 0) where
   -- no call was made
@@ -33,12 +33,6 @@ module _ {S A : Type 0} (shown : A → FieldValue) (steps : S → Option A → S
       by false calls holds =
           record { items = x ∷ g.items; ended = false; calls = (j, call, calls); holds = holds }
 
-  -- P says more than Q
-  pub Given-weaker : (s t : S) (P Q : List Line → Type 0) → Given shown steps s t P
-      → ((lines : List Line) → P lines → Q lines) → Given shown steps s t Q
-  Given-weaker s t P Q g h =
-      record { items = g.items; ended = g.ended; calls = g.calls; holds = λ rest e. h _ (g.holds rest e) }
-
   -- one call was made, and P ties its answer to the lines
   pub Given-next : (P : Option A → List Line → Type 0) → P None [] → ((x : A) (lines : List Line) → P (Some x) ((shown x).bytes ∷ lines))
       → (s t : S) (r : Option A) → steps s r t → Given shown steps s t (P r)
@@ -51,11 +45,17 @@ module _ {S A : Type 0} (shown : A → FieldValue) (steps : S → Option A → S
   yields_more s t u [] x e call = (u, subst (λ (j : S). steps j (Some x) u) (sym e) call, refl)
   yields_more s t u (y ∷ items) x calls call = (calls.0, calls.1, yields_more calls.0 t u items x calls.2 call)
 
-  pub Told-start : (s : S) (P : List Line → Type 0) → P [] → Told shown steps s s P
+  -- calls led from s to t and gave items, and P holds of their lines
+  pub record Told (s t : S) (P : List Line → Type 0) : Type 0 where
+    pub items : List A
+    pub calls : Yields steps s items t
+    pub holds : P (map (λ item. (shown item).bytes) items)
+
+  pub Told-start : (s : S) (P : List Line → Type 0) → P [] → Told s s P
   Told-start s P h = record { items = []; calls = refl; holds = h }
 
-  pub Told-more : (s t u : S) (x : A) (P Q : List Line → Type 0) → Told shown steps s t P → steps t (Some x) u
-      → ((lines : List Line) → P lines → Q (lines ++ (shown x).bytes ∷ [])) → Told shown steps s u Q
+  pub Told-more : (s t u : S) (x : A) (P Q : List Line → Type 0) → Told s t P → steps t (Some x) u
+      → ((lines : List Line) → P lines → Q (lines ++ (shown x).bytes ∷ [])) → Told s u Q
   Told-more s t u x P Q told call more =
       record {
         items = told.items ++ x ∷ [];
@@ -64,7 +64,7 @@ module _ {S A : Type 0} (shown : A → FieldValue) (steps : S → Option A → S
       }
 
   -- the last call gave `None`
-  pub Given-told_none : (s t u : S) (P Q : List Line → Type 0) → Told shown steps s t P → steps t None u
+  pub Given-told_none : (s t u : S) (P Q : List Line → Type 0) → Told s t P → steps t None u
       → ((lines : List Line) → P lines → Q lines) → Given shown steps s u Q
   Given-told_none s t u P Q told call h =
       record {
@@ -75,7 +75,7 @@ module _ {S A : Type 0} (shown : A → FieldValue) (steps : S → Option A → S
       }
 
   -- the last call gave an item, and no other was made
-  pub Given-told_some : (s t u : S) (x : A) (P Q : List Line → Type 0) → Told shown steps s t P → steps t (Some x) u
+  pub Given-told_some : (s t u : S) (x : A) (P Q : List Line → Type 0) → Told s t P → steps t (Some x) u
       → ((lines rest : List Line) → P lines → Q (lines ++ (shown x).bytes ∷ rest)) → Given shown steps s u Q
   Given-told_some s t u x P Q told call h =
       let more = Told-more s t u x P (λ lines. (rest : List Line) → Q (lines ++ rest)) told call
@@ -101,35 +101,6 @@ module _ {S A : Type 0} (shown : A → FieldValue) (steps : S → Option A → S
             subst P (sym (left_after s calls.0 g.items calls.1)) (holds (lines_of (rest calls.0)) (λ _. ap lines_of none))
         by false calls holds =
             subst P (sym (left_after s t g.items calls)) (holds (lines_of (rest t)) (λ e. absurd (cc e)))
-
-  -- an iterator of which every run gives exactly the lines
-  module _ where
-    runs_left : (s t : S) (items : List A) (lines : List Line) → Yields steps s items t → AlwaysYields steps (λ item. (shown item).bytes) s lines
-        → (rest : List Line) × (map (λ item. (shown item).bytes) items ++ rest ≡ lines) × AlwaysYields steps (λ item. (shown item).bytes) t rest
-    runs_left s t [] lines e all =
-        (lines, refl, subst (λ (j : S). AlwaysYields steps (λ item. (shown item).bytes) j lines) e all)
-    runs_left s t (x ∷ items) [] calls all = absurd (all x calls.0 calls.1)
-    runs_left s t (x ∷ items) (line ∷ lines) calls all =
-        let first = all.1 x calls.0 calls.1 in
-        let more = runs_left calls.0 t items lines calls.2 first.1 in
-        (more.0, ap (λ (ls : List Line). (shown x).bytes ∷ ls) more.1 ∙ ap (λ (l : Line). l ∷ lines) first.0, more.2)
-
-    none_left : (s t : S) (rest : List Line) → steps s None t → AlwaysYields steps (λ item. (shown item).bytes) s rest → rest ≡ []
-    none_left s t [] call all = refl
-    none_left s t (line ∷ rest) call all = absurd (all.0 t call)
-
-    pub Given-always : (s t : S) (P : List Line → Type 0) (lines : List Line) → AlwaysYields steps (λ item. (shown item).bytes) s lines
-        → Given shown steps s t P → P lines
-    Given-always s t P lines all g = by g.ended g.calls g.holds
-      where
-        by : (ended : Bool) → MatchBool ended (YieldsThen steps s g.items None t) (Yields steps s g.items t)
-            → ((more : List Line) → (IsTrue ended → more ≡ []) → P (map (λ item. (shown item).bytes) g.items ++ more)) → P lines
-        by true calls holds =
-            let left = runs_left s calls.0 g.items lines calls.1 all in
-            subst P left.1 (holds left.0 (λ _. none_left calls.0 t left.0 calls.2 left.2))
-        by false calls holds =
-            let left = runs_left s t g.items lines calls all in
-            subst P left.1 (holds left.0 (λ e. absurd (cc e)))
 
 -- what an iterator over references shows
 abbrev pub shown_value : Bor FieldValue → FieldValue

@@ -1,8 +1,8 @@
 -- Facts on the counting places and the pieces that are left.
 use Rattle.std.proofs.Common.{◌≡◌, ◌≢◌, ⊎_elim, ℕ, zero, suc, ◌+◌, ◌-◌, ◌<◌, ◌≤◌, Bool, true, false, List, [], ◌∷◌, map, length, drop, refl, sym, ◌∙◌, ap, arith}
 use Rattle.std.specs.List.{filter, slice_range}
-use Rattle.headers_core.specs.Places.{quote, NoHit, counts, places, pieces, counting_from, items_from, trim}
-use Rattle.headers_core.specs.ItemsState.{NoCut, IsNextCut, PassesCuts}
+use Rattle.headers_core.specs.Places.{quote, counts, places, pieces, counting_from, items_from, trim}
+use Rattle.headers_core.specs.ItemsState.{NoCut, IsNextCut}
 use Rattle.headers_core.specs.ScanState.{ScanState, IsNextMark}
 use Rattle.headers_core.specs.declared.scan.Mark.{Mark}
 use Rattle.headers_core.proofs.PlacesLemmas.{counts_other}
@@ -60,10 +60,13 @@ NoCut-more_quote sep s i p m ne h f y k low high =
     (cases_lt k m.place))
     (cases_lt k p)
 
--- up to a mark nothing counts
-pub NoCut-upto : (sep : ℕ) (s : List ℕ) (i p j : ℕ) → NoCut sep s i p → NoHit sep s p j → NoCut sep s i j
-NoCut-upto sep s i p j h f k low high =
-    ⊎_elim (λ a. h k low a) (λ a. (or_parts _ _ (f k a high)).1) (cases_lt k p)
+-- a scan went from s to t, and passed no place that counts
+pub record PassesCuts (s t : ScanState) : Type 0 where
+  pub bytes : t.bytes ≡ s.bytes
+  pub separator : t.separator ≡ s.separator
+  pub low : s.place ≤ t.place
+  pub high : t.place ≤ length s.bytes
+  pub before : NoCut s.separator s.bytes s.place t.place
 
 pub passes_quote : (s t u : ScanState) (m : Mark) → s.separator ≢ quote → PassesCuts s t → IsNextMark t.separator t.bytes t.place m → m.quote ≡ true → u.place ≡ m.place + 1 → u.bytes ≡ t.bytes → u.separator ≡ t.separator → PassesCuts s u
 passes_quote s t u m ne h f y p b c =

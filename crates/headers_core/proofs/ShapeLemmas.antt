@@ -1,5 +1,5 @@
 -- The laws of the grammars that many headers share.
-use Rattle.std.proofs.Common.{◌≡◌, ℕ, ◌<◌, List, [], ◌∷◌, length, Option, Some, None, refl, arith, inl, inr}
+use Rattle.std.proofs.Common.{◌≡◌, ℕ, Bool, List, [], ◌∷◌, Option, Some, None, refl, inl, inr}
 use Rattle.std.specs.Option.{option_and_then}
 use Rattle.std.proofs.lemmas.Bool.{cases_Bool}
 use Rattle.std.proofs.lemmas.Slice.Eq.{bytes_eq-Decides}
@@ -10,7 +10,7 @@ use Rattle.headers_core.specs.Number.{number}
 use Rattle.headers_core.specs.EntityTag.{is_tag}
 use Rattle.headers_core.specs.Places.{is_text}
 use Rattle.headers_core.specs.HeaderLaws.{HeaderLaws, SameBy, ReadsBy, written_by, ReadsBack, laws_by}
-use Rattle.headers_core.specs.Shapes.{text_line, word_line, one_line, first_kept, only_number, only_text, only_word, first_word, merged, all_kept, only_date, tag_line, only_tag}
+use Rattle.headers_core.specs.Shapes.{line_if, text_line, word_line, one_line, first_kept, only_number, only_text, only_word, first_word, merged, all_kept, only_date, tag_line, only_tag}
 use Rattle.headers_core.proofs.DateLemmas.{date_back}
 use Rattle.headers_core.proofs.NumberLemmas.{number-decimal, number-lt}
 
@@ -26,12 +26,16 @@ read_of_some read (Some line) a e = (line, e)
 pub number_back : ReadsBackLine number decimal
 number_back line n e = number-decimal n (number-lt line n e)
 
-pub text_back : ReadsBackLine text_line (λ line. line)
-text_back line text e =
-    elim (cases_Bool (is_text line)) [
-      | inl t ↦ let some : Some line ≡ Some text = rw t at e in let same : line ≡ text = cc some in rw (← same, t) refl
-      | inr f ↦ let none : None ≡ Some text = rw f at e in absurd (cc none)
+-- a line that passes a test, kept and written
+line_if_back : (test : Line → Bool) → ReadsBackLine (line_if test) (λ line. line)
+line_if_back test line kept e =
+    elim (cases_Bool (test line)) [
+      | inl t ↦ let some : Some line ≡ Some kept = rw t at e in let same : line ≡ kept = cc some in rw (← same, t) refl
+      | inr f ↦ let none : None ≡ Some kept = rw f at e in absurd (cc none)
     ]
+
+pub text_back : ReadsBackLine text_line (λ line. line)
+text_back = line_if_back is_text
 
 pub word_back : (word : Line) → ReadsBackLine (word_line word) (λ line. line)
 word_back word line w e =
@@ -41,21 +45,12 @@ word_back word line w e =
     ]
 
 pub tag_back : ReadsBackLine tag_line (λ line. line)
-tag_back line tag e =
-    elim (cases_Bool (is_tag line)) [
-      | inl t ↦ let some : Some line ≡ Some tag = rw t at e in let same : line ≡ tag = cc some in rw (← same, t) refl
-      | inr f ↦ let none : None ≡ Some tag = rw f at e in absurd (cc none)
-    ]
+tag_back = line_if_back is_tag
 
 kept_again : (lines kept : List Line) → some_lines lines ≡ Some kept → some_lines kept ≡ Some kept
 kept_again [] kept h = absurd (cc h)
 kept_again (line ∷ lines) [] h = absurd (cc h)
 kept_again (line ∷ lines) (other ∷ kept) h = refl
-
--- lines of which there is one are kept
-pub some_lines-some : (lines : List Line) → 0 < length lines → some_lines lines ≡ Some lines
-some_lines-some [] h = absurd (omega (arith, h))
-some_lines-some (line ∷ lines) h = refl
 
 module _ {V A : Type 0} where
   -- a shape of one line rests on its reader and its writer alone

@@ -15,10 +15,6 @@ use Rattle.headers_core.proofs.ItemsLemmas.{items_next, items_last}
 pub walk_over-no_text : (sep : ℕ) (s : List ℕ) → is_text s ≡ false → walk_over sep s ≡ record { text = []; separator = sep; start = 0; is_done = true; place = 0; is_ended = false; searches = 0 }
 walk_over-no_text sep s h = rw h refl
 
--- over a text
-pub walk_over-text : (sep : ℕ) (s : List ℕ) → is_text s ≡ true → walk_over sep s ≡ record { text = s; separator = sep; start = 0; is_done = false; place = 0; is_ended = false; searches = 0 }
-walk_over-text sep s h = rw h refl
-
 pub items_left_open : (s : ItemsState) → s.is_done ≡ false → items_left s ≡ items_from s.separator s.text s.start
 items_left_open s h = rw h refl
 

@@ -1,5 +1,5 @@
 -- Lines that are joined and cut keep their items.
-use Rattle.std.specs.Prelude.{◌≡◌, ℕ, ◌+◌, ◌<◌, ◌≤◌, length, true, List, [], ◌∷◌, ◌++◌, count_by, Option}
+use Rattle.std.specs.Prelude.{◌≡◌, ℕ, ◌+◌, ◌<◌, ◌≤◌, length, true, List, [], ◌∷◌, count_by, Option}
 use Rattle.std.specs.List.{list_all, flat_map}
 use Rattle.std.specs.Iterator.{Drains}
 use Rattle.http_header.specs.FieldValue.{FieldValue}
@@ -30,12 +30,6 @@ MergesItems steps s sep value = (given : List FieldValue) × Drains steps s give
 -- the same of an iterator over lines
 abbrev pub MergesLines : {S : Type 0} → (S → Option Line → S → Type 0) → S → ℕ → List ℕ → Type 0
 MergesLines steps s sep value = (lines : List Line) × Drains steps s lines × IsMerged sep lines value
-
--- lines that a value was cut into, each time at a separator with an even number of quotes before it, which is left out
-abbrev pub IsCutInto : ℕ → List ℕ → List (List ℕ) → Type 0
-IsCutInto sep s [] = ⊥
-IsCutInto sep s (x ∷ []) = s ≡ x
-IsCutInto sep s (x ∷ y ∷ ys) = (rest : List ℕ) × (s ≡ x ++ sep ∷ rest) × (is_even (count_by is_quote x) ≡ true) × IsCutInto sep rest (y ∷ ys)
 
 -- ps increase from place i on and are counting places of s
 abbrev pub AreCuts : ℕ → List ℕ → ℕ → List ℕ → Type 0

@@ -1,5 +1,5 @@
 -- Dates in field lines, as seconds since 1970, and the date that a number of seconds is printed as.
-use Rattle.std.specs.Prelude.{ℕ, zero, suc, ◌+◌, ◌-◌, ◌/◌, ◌%◌, Option, None, if◌then◌else◌, nat_lt, ◌≡◌, IsTrue}
+use Rattle.std.specs.Prelude.{ℕ, zero, suc, ◌+◌, ◌-◌, ◌/◌, ◌%◌, ◌<◌, Option, None, if◌then◌else◌, nat_lt, ◌≡◌, IsTrue}
 use Rattle.httpdate.specs.declared.parts.Parts.{Parts}
 use Rattle.httpdate.specs.Calendar.{days_in_year, days_in_month, weekday}
 use Rattle.httpdate.specs.Date.{IsPartsText, parse_secs}
@@ -11,6 +11,10 @@ use Rattle.headers_core.specs.Places.{is_text, trim}
 -- the second that a line shows: text, and without the spaces and tabs at its ends a date in one of the three formats
 unfoldable pub date : Line → Option ℕ
 date line = if is_text line then parse_secs (trim line) else None
+
+-- the second lies before the year 10000
+abbrev pub IsDated : ℕ → Type 0
+IsDated secs = secs < 253_402_300_800
 
 -- The year in which a day lies, and how many days of it have passed, where `days` have passed of the years from `year` on.
 -- At most n years are counted off.
@@ -24,7 +28,7 @@ month_of zero year month days = (month, days)
 month_of (suc n) year month days =
     if nat_lt days (days_in_month year month) then (month, days) else month_of n year (month + 1) (days - days_in_month year month)
 
--- the date and the time of day that lie so many seconds after the start of 1970
+-- the date and the time of day that lie so many seconds after the start of 1970, up to 8029 years and 11 months later
 abbrev pub parts_at : ℕ → Parts
 parts_at secs =
     let days = secs / 86400 in

@@ -36,6 +36,7 @@ IsSomeTag bytes = (parts : TagParts) × IsTag bytes parts
 abbrev pub between_quotes : List ℕ → List ℕ
 between_quotes bytes = take (length bytes - 2) (drop 1 bytes)
 
+-- 87 is b'W'
 abbrev pub parts_of : List ℕ → TagParts
 parts_of bytes =
     if slice_index bytes 0 == 87

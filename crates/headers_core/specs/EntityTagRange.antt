@@ -1,7 +1,7 @@
 -- The tags of a condition, or any (RFC 9110, sections 13.1.1 and 13.1.2).
-use Rattle.std.specs.Prelude.{◌≡◌, ◌≢◌, ◌⊎◌, ⊤, ℕ, List, codes, Any}
+use Rattle.std.specs.Prelude.{◌≡◌, ◌≢◌, ⊤, ℕ, List, codes, Any}
 use Rattle.headers_core.specs.EntityTag.{TagParts, AreTags}
-use Rattle.headers_core.specs.Places.{items}
+use Rattle.headers_core.specs.Places.{comma, items}
 use Rattle.headers_core.specs.declared.entity_tag.EntityTagRange.{EntityTagRange}
 use Rattle.headers_core.specs.declared.entity_tag.EntityTagRange.TheVariants as range
 
@@ -11,7 +11,7 @@ star = codes "*"
 
 -- some item of the value is a tag of which R holds beside the other tag; other items are ignored
 abbrev pub HasItem : (TagParts → TagParts → Type 0) → List ℕ → List ℕ → Type 0
-HasItem R value tag = Any (λ item. AreTags R item tag) (items 44 value)
+HasItem R value tag = Any (λ item. AreTags R item tag) (items comma value)
 
 -- what a range says for a value: any where the value is the one byte `*`, and else the tags that the value lists
 abbrev pub IsRangeOf : List ℕ → EntityTagRange → Type 0
@@ -27,7 +27,3 @@ range_text (range.Tags tags) = tags
 abbrev pub Matches : (TagParts → TagParts → Type 0) → EntityTagRange → List ℕ → Type 0
 Matches R range.Any tag = ⊤
 Matches R (range.Tags tags) tag = HasItem R tags tag
-
--- the same of the value itself
-abbrev pub MatchesValue : (TagParts → TagParts → Type 0) → List ℕ → List ℕ → Type 0
-MatchesValue R value tag = (value ≡ star) ⊎ HasItem R value tag

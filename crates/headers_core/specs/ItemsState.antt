@@ -1,6 +1,5 @@
 -- What a contract sees of a walk over the items of a value.
-use Rattle.std.specs.Prelude.{◌≡◌, ℕ, ◌+◌, ◌<◌, ◌≤◌, Bool, true, false, List, [], length, drop, not, ◌==◌, filter, Option, None, Some, MatchOption, ⊤, if◌then◌else◌}
-use Rattle.std.specs.Prelude.{◌⊎◌, ◌++◌}
+use Rattle.std.specs.Prelude.{◌≡◌, ◌⊎◌, ℕ, ◌+◌, ◌<◌, ◌≤◌, Bool, true, false, List, [], ◌++◌, length, drop, not, ◌==◌, filter, Option, None, Some, MatchOption, ⊤, if◌then◌else◌}
 use Rattle.std.specs.List.{slice_range}
 use denote.Ref.{Bor}
 use Rattle.headers_core.specs.Places.{is_text, counts, hits, trim, items_from}
@@ -78,14 +77,6 @@ pub record ItemsInvariant (sep : ℕ) (text : List ℕ) (scan : ScanState) (star
   pub at_end : is_done ≡ true → scan.place ≡ length text
   pub searches : scan.searches ≡ hits sep text scan.place + end_search scan.is_ended
 
--- a scan went from s to t, and passed no place that counts
-pub record PassesCuts (s t : ScanState) : Type 0 where
-  pub bytes : t.bytes ≡ s.bytes
-  pub separator : t.separator ≡ s.separator
-  pub low : s.place ≤ t.place
-  pub high : t.place ≤ length s.bytes
-  pub before : NoCut s.separator s.bytes s.place t.place
-
 -- an item that is not empty
 abbrev pub is_entry : List ℕ → Bool
 is_entry x = not (length x == 0)
@@ -107,10 +98,14 @@ pub record GivesWanted (wanted : List ℕ → Bool) (s : ItemsState) (item : Lis
   pub passed : filter wanted skipped ≡ []
   pub gives : GivesPiece s.separator s.text begin item p
 
--- a call of a walk over entries from s gave r and left t: the scan stands just past the piece of the entry, or at the end of the text where none was left; so far it made one search for each hit before its place, and one more for the end, and a walk that was done makes none
-pub record ScansEntry (s : ItemsState) (r : Option (Bor (List ℕ))) (t : ItemsState) : Type 0 where
+-- a call of a walk that hands out only the wanted items, from s to t, gave r, which shows an item: the scan stands just past its piece, or at the end of the text where none was left; so far it made one search for each hit before its place, and one more for the end, and a walk that was done makes none
+pub record ScansWanted {A : Type 0} (wanted : List ℕ → Bool) (Shows : A → List ℕ → Type 0) (s : ItemsState) (r : Option A) (t : ItemsState) : Type 0 where
   pub text : t.text ≡ s.text
   pub separator : t.separator ≡ s.separator
-  pub place : MatchOption r ((t.is_done ≡ true) × (t.place ≡ length s.text)) (λ item. GivesWanted is_entry s item.now t.place)
+  pub place : MatchOption r ((t.is_done ≡ true) × (t.place ≡ length s.text)) (λ shown. (item : List ℕ) × GivesWanted wanted s item t.place × Shows shown item)
   pub searches : t.searches ≡ hits t.separator t.text t.place + end_search t.is_ended
   pub stays : s.is_done ≡ true → (t.is_done ≡ true) × (t.searches ≡ s.searches)
+
+-- such a call of a walk over entries
+abbrev pub ScansEntry : ItemsState → Option (Bor (List ℕ)) → ItemsState → Type 0
+ScansEntry = ScansWanted is_entry (λ entry item. item ≡ entry.now)

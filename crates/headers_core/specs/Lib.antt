@@ -18,4 +18,3 @@ pub mod Places
 pub mod ScanState
 pub mod Separator
 pub mod Shapes
-pub mod ValueString

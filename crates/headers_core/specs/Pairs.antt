@@ -1,10 +1,9 @@
 -- The pairs of a list, as the cookies of a request are (RFC 6265, section 4.2.1).
-use Rattle.std.specs.Prelude.{◌≡◌, ℕ, ◌+◌, Bool, true, List, length, take, drop, find, position, ◌==◌, Option, Some, is_some, MatchOption, option_map, bytes_eq}
+use Rattle.std.specs.Prelude.{◌≡◌, ℕ, ◌+◌, Bool, List, take, drop, find, position, ◌==◌, Option, Some, is_some, option_map, bytes_eq}
 use Rattle.std.specs.List.{filter_map}
 use denote.Ref.{Bor}
-use Rattle.headers_core.specs.Places.{hits, trim}
-use Rattle.headers_core.specs.ScanState.{end_search}
-use Rattle.headers_core.specs.ItemsState.{ItemsState, items_left, GivesWanted}
+use Rattle.headers_core.specs.Places.{trim}
+use Rattle.headers_core.specs.ItemsState.{ItemsState, items_left, ScansWanted}
 
 -- a name and its value
 abbrev pub Pair : Type 0
@@ -42,10 +41,6 @@ pairs_left s = pairs (items_left s)
 abbrev pub pair_shown : Bor (List ℕ) × Bor (List ℕ) → Pair
 pair_shown pair = (pair.0.now, pair.1.now)
 
--- a call from s that gave r and left t: the scan stands just past the piece of the pair, or at the end of the text where none was left; so far it made one search for each hit before its place, and one more for the end, and a walk that was done makes none
-pub record ScansPair (s : ItemsState) (r : Option (Bor (List ℕ) × Bor (List ℕ))) (t : ItemsState) : Type 0 where
-  pub text : t.text ≡ s.text
-  pub separator : t.separator ≡ s.separator
-  pub place : MatchOption r ((t.is_done ≡ true) × (t.place ≡ length s.text)) (λ pair. (item : List ℕ) × GivesWanted has_pair s item t.place × (pair_of item ≡ Some (pair_shown pair)))
-  pub searches : t.searches ≡ hits t.separator t.text t.place + end_search t.is_ended
-  pub stays : s.is_done ≡ true → (t.is_done ≡ true) × (t.searches ≡ s.searches)
+-- a call of a walk over pairs
+abbrev pub ScansPair : ItemsState → Option (Bor (List ℕ) × Bor (List ℕ)) → ItemsState → Type 0
+ScansPair = ScansWanted has_pair (λ pair item. pair_of item ≡ Some (pair_shown pair))

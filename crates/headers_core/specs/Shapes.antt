@@ -1,5 +1,5 @@
 -- Grammars that many headers share, each by what a value keeps. Their laws are in proofs/ShapeLemmas.
-use Rattle.std.specs.Prelude.{ℕ, List, [], ◌∷◌, Option, Some, None, decimal, bytes_eq, if◌then◌else◌}
+use Rattle.std.specs.Prelude.{ℕ, Bool, List, [], ◌∷◌, Option, Some, None, decimal, bytes_eq, if◌then◌else◌}
 use Rattle.std.specs.Option.{option_and_then}
 use Rattle.headers_core.specs.Date.{date, fixdate}
 use Rattle.headers_core.specs.Lines.{Line, first_line, only_line, some_lines}
@@ -9,9 +9,13 @@ use Rattle.headers_core.specs.EntityTag.{is_tag}
 use Rattle.headers_core.specs.Places.{is_text}
 use Rattle.headers_core.specs.HeaderLaws.{Grammar}
 
+-- the line, where it passes a test
+abbrev pub line_if : (Line → Bool) → Line → Option Line
+line_if test line = if test line then Some line else None
+
 -- the line, where it is text
 abbrev pub text_line : Line → Option Line
-text_line line = if is_text line then Some line else None
+text_line line = line_if is_text line
 
 -- the word, where the line is it, byte for byte
 abbrev pub word_line : Line → Line → Option Line
@@ -19,7 +23,7 @@ word_line word line = if bytes_eq line word then Some word else None
 
 -- the line, where it is an entity tag
 abbrev pub tag_line : Line → Option Line
-tag_line line = if is_tag line then Some line else None
+tag_line line = line_if is_tag line
 
 module _ {V A : Type 0} where
   -- one of the lines, picked by `pick`, is read by `read` and written by `write`

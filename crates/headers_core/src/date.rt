@@ -1,11 +1,11 @@
 //! Dates of header fields.
-ghost use Rattle.std.specs.Prelude.{◌≡◌, ◌<◌, ◌↔◌, ℕ, Some, IfOk};
+ghost use Rattle.std.specs.Prelude.{◌≡◌, ◌↔◌, ℕ, Some, IfOk};
 ghost use Rattle.std.specs.Option.{option_and_then};
 ghost use Rattle.http_header.specs.FieldValue.{plain_value};
 ghost use Rattle.httpdate.specs.declared.parts.Parts.{Parts};
 ghost use Rattle.httpdate.specs.Text.{imf_fixdate};
 ghost use Rattle.httpdate.specs.Valid.{IsValid, parts_secs};
-ghost use Rattle.headers_core.specs.Date.{date, fixdate, ShowsDate};
+ghost use Rattle.headers_core.specs.Date.{date, fixdate, IsDated, ShowsDate};
 ghost use Rattle.headers_core.specs.Given.{Given};
 ghost use Rattle.headers_core.specs.Lines.{Line, only_line};
 
@@ -24,13 +24,14 @@ pub struct Date1 {
 }
 
 impl Model for Date1 {
-    ghost use Rattle.std.specs.Prelude.{ℕ, ◌<◌};
+    ghost use Rattle.std.specs.Prelude.{ℕ};
+    ghost use Rattle.headers_core.specs.Date.{IsDated};
 
     ghost Value = { ℕ };
 
     ghost view = { λ d. d.seconds };
 
-    ghost invariant = { λ d. d.seconds < 253_402_300_800 };
+    ghost invariant = { λ d. IsDated d.seconds };
 
     ghost inverse = { λ n. record { seconds = n } };
 }
@@ -54,7 +55,7 @@ impl Date1 {
 
     /// The date so many seconds after the start of 1970, before the year 10000.
     pub fn from_unix_secs(seconds: u64) -> Date1
-        requires { seconds < 253_402_300_800 }
+        requires { IsDated seconds }
         ensures { result ≡ seconds }
     {
         Date1 { seconds }
@@ -63,7 +64,7 @@ impl Date1 {
     /// The seconds since the start of 1970.
     pub fn unix_secs(&self) -> u64
         ensures value { result ≡ self.now }
-        ensures bound { result < 253_402_300_800 }
+        ensures bound { IsDated result }
     {
         self.seconds
     }
@@ -103,5 +104,6 @@ where
 /// What dates are, by the calendar alone: which lines show a second, and how a date is printed.
 pub fn dates_by_the_calendar()
     ensures read { (line : Line) (secs : ℕ) → (date line ≡ Some secs) ↔ ShowsDate line secs }
+    ensures bound { (line : Line) (secs : ℕ) → date line ≡ Some secs → IsDated secs }
     ensures printed { (p : Parts) → IsValid p → fixdate (parts_secs p) ≡ imf_fixdate p }
 {}

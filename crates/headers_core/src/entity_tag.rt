@@ -1,10 +1,11 @@
 //! Entity tags, which tell one representation of a resource from another.
-ghost use Rattle.std.specs.Prelude.{◌≡◌, ◌↔◌, ℕ, List, false, IsTrue, IfOk, Some, None, is_some, if◌then◌else◌};
+ghost use Rattle.std.specs.Prelude.{◌≡◌, ◌↔◌, ℕ, List, false, IsTrue, IfOk, Some, None, if◌then◌else◌};
 ghost use Rattle.std.specs.Iterator.{IsFinite};
 ghost use Rattle.headers_core.specs.Given.{Given};
 ghost use Rattle.headers_core.specs.Merge.{merge};
 ghost use Rattle.headers_core.specs.EntityTagRange.{IsRangeOf, Matches, range_text};
 ghost use Rattle.headers_core.specs.EntityTag.{TagParts, IsTag, IsSomeTag, is_tag, is_tag_byte, FindsTag, FindsQuoted, StronglyEqual, WeaklyEqual, AreTags};
+ghost use Rattle.headers_core.specs.Places.{comma};
 
 use crate::flat_csv::FlatCsv;
 use crate::item::AsHeaderValue;
@@ -212,7 +213,7 @@ impl EntityTagRange {
         requires can { I.can_next lines.old }
         requires ends { IsFinite (I.remaining lines.old) }
         ensures { Given I.Item.shown I.next_gives lines.old lines.new
-            (λ ls. IfOk result (IsRangeOf (merge 44 ls))) }
+            (λ ls. IfOk result (IsRangeOf (merge comma ls))) }
     {
         let tags: FlatCsv<Comma> = FlatCsv::from_lines(alloc, lines)?;
         if tags.as_bytes() == b"*".as_slice() {

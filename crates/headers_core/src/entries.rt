@@ -1,9 +1,9 @@
 //! The entries of one line.
-ghost use Rattle.std.specs.Prelude.{◌≡◌, ◌+◌, ◌≤◌, true, false};
+ghost use Rattle.std.specs.Prelude.{◌≡◌, ◌+◌, ◌≤◌};
 ghost use Rattle.std.specs.Iterator.{YieldsFirstBy, item_count};
-ghost use Rattle.headers_core.specs.Places.{is_text, marks};
+ghost use Rattle.headers_core.specs.Places.{comma, marks};
 ghost use Rattle.headers_core.specs.Entries.{line_entries};
-ghost use Rattle.headers_core.specs.ItemsState.{entries_left, ScansEntry};
+ghost use Rattle.headers_core.specs.ItemsState.{entries_left, walk_over, ScansEntry};
 
 use crate::flat_csv::text_items;
 use crate::items::Items;
@@ -44,15 +44,15 @@ impl<'a> Entries<'a> {
     /// The entries of a line, from the first on.
     pub fn new(line: &'a HeaderValue) -> Entries<'a>
         ensures entries { entries_left result ≡ line_entries line.now.bytes }
-        ensures text { is_text line.now.bytes ≡ true → result ≡ record { text = line.now.bytes; separator = 44; start = 0; is_done = false; place = 0; is_ended = false; searches = 0 } }
-        ensures no_text { is_text line.now.bytes ≡ false → (result.is_done ≡ true) × (result.searches ≡ 0) }
+        ensures fresh { result ≡ walk_over comma line.now.bytes }
     {
         Entries {
             items: text_items(line),
         }
     }
 
-    /// The next entry, if one is left; the scan stands just past its piece.
+    /// The next entry, if one is left. The scan stands just past its piece, or at the end of the line
+    /// where no separator ends it or none was left.
     pub fn next(&mut self) -> Option<&'a str>
         ensures steps { YieldsFirstBy (λ item. item.now) entries_left self.old result self.new }
         ensures scanned { ScansEntry self.old result self.new }

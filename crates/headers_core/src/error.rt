@@ -36,6 +36,21 @@ pub enum Refused<E> {
     Memory(AllocError),
 }
 
+impl<E: fmt::Display + Drop> fmt::Display for Refused<E> {
+    ghost use Rattle.headers_core.specs.Answers.{refusal_output};
+
+    ghost output = { refusal_output E.output };
+
+    fn fmt<W: fmt::Write>(&self, f: &mut fmt::Formatter<W>) -> fmt::Result {
+        match self {
+            Refused::Invalid(invalid) => fmt::Display::fmt(invalid, f),
+            Refused::Memory(refused) => fmt::Display::fmt(refused, f),
+        }
+    }
+}
+
+impl<E: fmt::Debug + fmt::Display + Drop> std::error::Error for Refused<E> {}
+
 impl From<Error> for Refused<Error> {
     ghost use Rattle.std.specs.Prelude.{◌≡◌};
     ghost use Rattle.headers_core.specs.declared.error.Refused.TheVariants.{Invalid};

@@ -1,5 +1,5 @@
 //! The lines of a list field, kept as one value.
-ghost use Rattle.std.specs.Prelude.{◌≡◌, ◌≤◌, ◌<◌, ◌^◌, length, ◌∷◌, ◌++◌, [], true, false, IfOk, OnOk, IsTrue, MatchOption};
+ghost use Rattle.std.specs.Prelude.{◌≡◌, ◌≤◌, ◌<◌, ◌^◌, length, ◌∷◌, ◌++◌, true, false, IfOk, OnOk, IsTrue, MatchOption};
 ghost use Rattle.std.specs.Iterator.{IsFinite};
 ghost use Rattle.headers_core.specs.Given.{Given};
 ghost use Rattle.headers_core.specs.Places.{is_text, items, pieces};
@@ -7,18 +7,21 @@ ghost use Rattle.headers_core.specs.ItemsState.{items_left, walk_over};
 ghost use Rattle.std.specs.List.{slice_range};
 ghost use Rattle.http_header.specs.FieldValue.{IsFieldValue};
 ghost use Rattle.headers_core.specs.CutLaw.{IsMerged, MergesItems, MergesLines, AreCuts};
-ghost use Rattle.headers_core.specs.Merge.{merge, value_bytes};
+ghost use Rattle.headers_core.specs.Lines.{lines_of};
+ghost use Rattle.headers_core.specs.Merge.{merge};
 
 use crate::item::AsHeaderValue;
 use crate::items::Items;
 use crate::separator::Separator;
+use crate::text::read_text;
 use bytes::{Bytes, BytesMut};
 use http_header::{HeaderName, HeaderValue};
 use std::alloc::{AllocError, Global};
 use std::fmt;
 use std::marker::{Model, PhantomData};
 
-/// The lines of a list field, joined by the separator and one space.
+/// The lines of a list field, joined by the separator and one space (RFC 9110, section 5.3; of
+/// cookies RFC 9113, section 8.2.3).
 ///
 /// A contract sees its bytes.
 #[derive(Drop)]
@@ -54,24 +57,13 @@ fn copy_of(alloc: Global, bytes: &[u8], start: usize, end: usize) -> Result<Head
     Ok(HeaderValue::from_known_valid(Bytes::copy_from_slice(alloc, &bytes[start..end])?))
 }
 
-// The text of a value, where it is text.
-fn text_of(value: &HeaderValue) -> Option<&str>
-    ensures { MatchOption result (is_text value.now.bytes ≡ false)
-        (λ text. (is_text value.now.bytes ≡ true) × (text.now ≡ value.now.bytes)) }
-{
-    match value.to_str() {
-        Ok(text) => Some(text),
-        Err(_) => None,
-    }
-}
-
 // The items of a value that is text, and else none.
 pub(crate) fn text_items<S: Separator>(value: &HeaderValue) -> Items<'_, S>
     ensures items { items_left result ≡ items S.BYTE value.now.bytes }
     ensures fresh { result ≡ walk_over S.BYTE value.now.bytes }
     ensures count { length (items_left result) < 2 ^ 64 }
 {
-    match text_of(value) {
+    match read_text(value) {
         Some(text) => Items::new(text),
         None => Items::none(),
     }
@@ -88,7 +80,9 @@ impl<S: Separator> FlatCsv<S> {
         }
     }
 
-    /// The lines in one value; no line gives the empty value, and one line is itself.
+    /// The lines in one value; no line gives the empty value, and one line is itself. No size hint is
+    /// read. Where all are text and each but the last has an even number of quotes, the value has the
+    /// items of the lines.
     pub fn from_lines<I: Iterator>(alloc: Global, lines: &mut I) -> Result<FlatCsv<S>, AllocError>
     where
         I::Item: AsHeaderValue,
@@ -156,7 +150,7 @@ impl<S: Separator> FlatCsv<S> {
         ensures { MatchOption result (is_text self.now ≡ false)
             (λ text. (is_text self.now ≡ true) × (text.now ≡ self.now)) }
     {
-        text_of(&self.value)
+        read_text(&self.value)
     }
 
     /// The bytes of the value.
@@ -183,13 +177,15 @@ impl<S: Separator> FlatCsv<S> {
         text_items(&self.value)
     }
 
-    /// The pieces between separators that count, without those separators.
+    /// The value cut at these places, counted in bytes from 0, which are left out; the pieces are not
+    /// trimmed, and no place gives the one value. The places increase and are separators that count,
+    /// as a `Scan` gives them. Joined again, the pieces have the items of the value.
     pub fn cut_at(&self, alloc: Global, places: &[usize]) -> Result<Vec<HeaderValue>, AllocError>
         requires text { is_text self.now ≡ true }
         requires cuts { AreCuts S.BYTE self.now 0 places.now }
-        ensures pieces { IfOk result (λ v. value_bytes v.items ≡ pieces self.now 0 places.now) }
+        ensures pieces { IfOk result (λ v. lines_of v.items ≡ pieces self.now 0 places.now) }
         ensures items_kept { IfOk result
-            (λ v. items S.BYTE (merge S.BYTE (value_bytes v.items)) ≡ items S.BYTE self.now) }
+            (λ v. items S.BYTE (merge S.BYTE (lines_of v.items)) ≡ items S.BYTE self.now) }
     {
         let bytes = self.as_bytes();
         let mut lines = Vec::new(alloc);

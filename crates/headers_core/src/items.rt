@@ -1,7 +1,7 @@
 //! The items of a value, as slices of it.
-ghost use Rattle.std.specs.Prelude.{◌≡◌, ◌≢◌, ◌+◌, ◌≤◌, ◌<◌, ◌^◌, ℕ, [], IsTrue, length, true, false, is_none, IfSome};
+ghost use Rattle.std.specs.Prelude.{◌≡◌, ◌≢◌, ◌+◌, ◌≤◌, ◌<◌, ◌^◌, [], IsTrue, length, true, false, is_none, IfSome};
 ghost use Rattle.std.specs.Iterator.{YieldsFirstBy, item_count};
-ghost use Rattle.headers_core.specs.Places.{is_text, hits, items, items_from, marks, quote};
+ghost use Rattle.headers_core.specs.Places.{is_text, hits, items, marks, quote};
 ghost use Rattle.headers_core.specs.ScanState.{end_search};
 ghost use Rattle.headers_core.specs.ItemsState.{ItemsState, items_left, walk_over, FindsCut, ScansPiece, after_cut};
 
@@ -21,9 +21,6 @@ pub struct Items<'a, S: Separator> {
 }
 
 impl<'a, S: Separator> Model for Items<'a, S> {
-    ghost use Rattle.std.specs.Prelude.{◌≡◌, ◌+◌, ◌≤◌, length, true, false};
-    ghost use Rattle.headers_core.specs.Places.{is_text, hits};
-    ghost use Rattle.headers_core.specs.ScanState.{end_search};
     ghost use Rattle.headers_core.specs.ItemsState.{ItemsState, ItemsInvariant};
 
     ghost Value = { ItemsState };
@@ -82,7 +79,8 @@ impl<'a, S: Separator> Items<'a, S> {
         }
     }
 
-    /// The next item; the scan stands just past its piece.
+    /// The next item, if one is left. The scan stands just past its piece, or at the end of the text
+    /// where no separator ends it or none was left.
     pub fn next(&mut self) -> Option<&'a str>
         ensures steps { YieldsFirstBy (λ item. item.now) items_left self.old result self.new }
         ensures scanned { ScansPiece self.old result self.new }

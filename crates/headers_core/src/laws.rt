@@ -8,7 +8,7 @@ use crate::header::Header;
 use http_header::HeaderValue;
 use std::alloc::Global;
 
-/// The value that the lines of some values read.
+/// The value that the lines of some values read; `Invalid` where they read none.
 pub fn decode_values<H: Header>(alloc: Global, values: &[HeaderValue]) -> Result<H, Refused<Error>>
     ensures value { Answers H.reads (lines_of values.now) result }
     ensures memory { IsTrue H.free → NeverMemory result }

@@ -34,7 +34,7 @@ pub use crate::header::Header;
 pub use crate::item::AsHeaderValue;
 pub use crate::items::Items;
 pub use crate::laws::{decode_values, encodes_as_before, same_by_writes};
-pub use crate::lines::{first, just_one};
+pub use crate::lines::{first, just_one, push_clone};
 pub use crate::number::{parse_number, read_number};
 pub use crate::pairs::Pairs;
 pub use crate::scan::{Mark, Scan};

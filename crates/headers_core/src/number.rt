@@ -9,7 +9,7 @@ pub fn read_number(value: &HeaderValue) -> Option<u64>
     ensures { result ≡ number value.now.bytes }
 {
     match value.to_str() {
-        Ok(text) => text.parse::<u64>().ok(),
+        Ok(text) => parse_number(text),
         Err(_) => None,
     }
 }

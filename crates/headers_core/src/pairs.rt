@@ -1,7 +1,7 @@
 //! The pairs of a value: what stands on both sides of the first `=` of an item.
-ghost use Rattle.std.specs.Prelude.{◌≡◌, ◌+◌, ◌≤◌, ◌<◌, ◌^◌, ℕ, true, length, option_map};
+ghost use Rattle.std.specs.Prelude.{◌≡◌, ◌+◌, ◌≤◌, ◌<◌, ◌^◌, true, length, option_map};
 ghost use Rattle.std.specs.Iterator.{YieldsFirstBy, item_count};
-ghost use Rattle.headers_core.specs.Places.{is_text, items, marks};
+ghost use Rattle.headers_core.specs.Places.{semicolon, is_text, items, marks};
 ghost use Rattle.headers_core.specs.ItemsState.{walk_over};
 ghost use Rattle.headers_core.specs.Pairs.{pair_of, pairs, pairs_left, pair_shown, ScansPair};
 
@@ -60,8 +60,8 @@ fn next_pair<'a>(items: &mut Items<'a, SemiColon>) -> Option<(&'a str, &'a str)>
 impl<'a> Pairs<'a> {
     /// The pairs of a value; a value that is no text has none.
     pub fn new(value: &'a FlatCsv<SemiColon>) -> Pairs<'a>
-        ensures pairs { pairs_left result ≡ pairs (items 59 value.now) }
-        ensures fresh { result ≡ walk_over 59 value.now }
+        ensures pairs { pairs_left result ≡ pairs (items semicolon value.now) }
+        ensures fresh { result ≡ walk_over semicolon value.now }
         ensures count { length (pairs_left result) < 2 ^ 64 }
     {
         Pairs {
@@ -69,7 +69,8 @@ impl<'a> Pairs<'a> {
         }
     }
 
-    /// The next pair; the scan stands just past its piece.
+    /// The next pair, if one is left. The scan stands just past its piece, or at the end of the value
+    /// where no separator ends it or none was left.
     pub fn next(&mut self) -> Option<(&'a str, &'a str)>
         ensures steps { YieldsFirstBy pair_shown pairs_left self.old result self.new }
         ensures scanned { ScansPair self.old result self.new }

@@ -30,7 +30,7 @@ pub struct Scan<'a> {
 }
 
 impl<'a> Model for Scan<'a> {
-    ghost use Rattle.std.specs.Prelude.{◌≡◌, ◌≢◌, ◌+◌, ◌≤◌, length, not, true, MatchBool, ⊤};
+    ghost use Rattle.std.specs.Prelude.{◌≡◌, ◌≢◌, ◌+◌, ◌≤◌, length, not, true};
     ghost use Rattle.headers_core.specs.Places.{quote, is_even, quotes_before, hits};
     ghost use Rattle.headers_core.specs.ScanState.{ScanState, end_search};
 

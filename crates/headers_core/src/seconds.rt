@@ -32,7 +32,8 @@ impl Model for Seconds {
 }
 
 impl Seconds {
-    /// The number that the value writes: an optional plus and decimal digits.
+    /// The number that the value writes: an optional plus and decimal digits, below 2^64; nothing is
+    /// trimmed.
     pub fn from_val(value: &HeaderValue) -> Option<Seconds>
         ensures { result ≡ number value.now.bytes }
     {
@@ -49,7 +50,7 @@ impl Seconds {
         Seconds { seconds }
     }
 
-    /// The seconds of a duration that has no part of one.
+    /// The seconds of a duration of whole seconds.
     pub fn from_duration(duration: Duration) -> Seconds
         requires { IsWholeSeconds duration }
         ensures { LastsSeconds duration result }

@@ -29,21 +29,23 @@ pub struct Comma;
 pub struct SemiColon;
 
 impl Separator for Comma {
+    ghost use Rattle.headers_core.specs.Places.{comma};
     ghost use Rattle.headers_core.specs.Separator.{comma_is_separator};
 
     const BYTE: u8 = b',';
 
-    ghost BYTE = { 44 };
+    ghost BYTE = { comma };
 
     ghost lawful = { comma_is_separator };
 }
 
 impl Separator for SemiColon {
+    ghost use Rattle.headers_core.specs.Places.{semicolon};
     ghost use Rattle.headers_core.specs.Separator.{semicolon_is_separator};
 
     const BYTE: u8 = b';';
 
-    ghost BYTE = { 59 };
+    ghost BYTE = { semicolon };
 
     ghost lawful = { semicolon_is_separator };
 }

@@ -1,4 +1,4 @@
-use crate::{Comma, FlatCsv, Items, Mark, Pairs, Scan, SemiColon, Separator, trim};
+use crate::{Comma, Error, FlatCsv, Items, Mark, Pairs, Refused, Scan, SemiColon, Separator, trim};
 use http_header::{HOST, HeaderValue, VARY};
 use std::alloc::Global;
 use std::process::Abort;
@@ -56,7 +56,8 @@ fn comma_lines(rt: HostRuntime) -> Result<(), Fail> {
 // An odd number of quotes in a line that isn't the last takes the next line into the item.
 #[test]
 fn odd_quotes(rt: HostRuntime) -> Result<(), Fail> {
-    row::<Comma>(&rt, &["\"a", "b, c\""], &["\"a, b, c\""])
+    row::<Comma>(&rt, &["\"a", "b, c\""], &["\"a, b, c\""])?;
+    row::<Comma>(&rt, &["\"a, chunked"], &["\"a, chunked"])
 }
 
 #[test]
@@ -66,7 +67,13 @@ fn semicolon_items(rt: HostRuntime) -> Result<(), Fail> {
 
 #[test]
 fn no_text(rt: HostRuntime) -> Result<(), Fail> {
-    row::<Comma>(&rt, &["a", "\u{e9}", "b"], &[])
+    let mut values = Vec::new(rt.alloc());
+    values.push(HeaderValue::from_static("a"))?;
+    values.push(HeaderValue::from_bytes(rt.alloc(), b"\xe9")?)?;
+    values.push(HeaderValue::from_static("b"))?;
+    let value: FlatCsv<Comma> = FlatCsv::from_lines(rt.alloc(), &mut values.iter())?;
+    gives(&rt, value.iter(), &[]);
+    Ok(())
 }
 
 fn finds(rt: &impl Abort, text: &str, marks: &[(usize, bool)]) {
@@ -170,4 +177,14 @@ fn walks_over_pairs(rt: HostRuntime) {
     assert_eq!(rt; pairs.next(), Some(("", "d")));
     assert_eq!(rt; pairs.next(), None);
     assert_eq!(rt; trim(b" \t a b\t"), b"a b".as_slice());
+}
+
+#[test]
+fn refusals(rt: HostRuntime) -> Result<(), Fail> {
+    let refused: Refused<Error> = Refused::from(Error::invalid());
+    assert_eq!(rt;
+        format!(in rt.alloc(); "{refused}")?.as_str(),
+        "invalid HTTP header"
+    );
+    Ok(())
 }

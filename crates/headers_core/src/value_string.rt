@@ -2,7 +2,7 @@
 ghost use Rattle.std.specs.Prelude.{◌≡◌, ◌↔◌, IsTrue, IfOk, IsUtf8};
 ghost use Rattle.http_header.specs.FieldValue.{IsFieldValue, plain_value};
 ghost use Rattle.headers_core.specs.Places.{is_text};
-ghost use Rattle.headers_core.specs.ValueString.{IsInvalid};
+ghost use Rattle.headers_core.specs.Answers.{IsInvalid};
 
 use crate::error::{Error, Refused};
 use crate::text::read_text;
@@ -53,6 +53,7 @@ impl HeaderValueString {
     /// A copy of the text. It may hold what a header value may, also characters past ASCII.
     pub fn from_str(alloc: Global, text: &str) -> Result<HeaderValueString, Refused<Error>>
         ensures ok { IfOk result (λ copy. copy ≡ plain_value text.now) }
+        ensures valid { IfOk result (λ _. IsFieldValue text.now) }
         ensures invalid { IsInvalid result ↔ ¬ (IsFieldValue text.now) }
     {
         match HeaderValue::from_str(alloc, text) {

@@ -1,12 +1,14 @@
 //! The header `expires`.
-ghost use Rattle.std.specs.Prelude.{◌≡◌, ◌<◌};
+ghost use Rattle.std.specs.Prelude.{◌≡◌};
+ghost use Rattle.headers_core.specs.Date.{IsDated};
 
 use headers_core::{AsHeaderValue, Date1, Error, Header, Refused, only_date};
 use http_header::{EXPIRES, HeaderName, HeaderValue};
 use std::alloc::{AllocError, Global};
 use std::marker::Model;
 
-/// When a response becomes stale (RFC 9111, section 5.3).
+/// When a response becomes stale: the only line, a date from 1970 to 9999 in one of the three formats
+/// (RFC 9111, section 5.3). A value such as `0` is refused.
 #[derive(Clone, Copy, Debug, PartialEq, Eq, PartialOrd, Ord, Hash)]
 pub struct Expires {
     date: Date1,
@@ -25,7 +27,7 @@ impl Model for Expires {
 impl Expires {
     /// The second, counted from the start of 1970, before the year 10000.
     pub fn from_unix_secs(secs: u64) -> Expires
-        requires { secs < 253_402_300_800 }
+        requires { IsDated secs }
         ensures { result ≡ secs }
     {
         Expires {
@@ -36,7 +38,7 @@ impl Expires {
     /// The seconds since the start of 1970.
     pub fn unix_secs(&self) -> u64
         ensures value { result ≡ self.now }
-        ensures bound { result < 253_402_300_800 }
+        ensures bound { IsDated result }
     {
         self.date.unix_secs()
     }

@@ -1,12 +1,14 @@
 //! The header `if-modified-since`.
 ghost use Rattle.std.specs.Prelude.{◌≡◌, ◌<◌, ◌↔◌, IsTrue};
+ghost use Rattle.headers_core.specs.Date.{IsDated};
 
 use headers_core::{AsHeaderValue, Date1, Error, Header, Refused, only_date};
 use http_header::{HeaderName, HeaderValue, IF_MODIFIED_SINCE};
 use std::alloc::{AllocError, Global};
 use std::marker::Model;
 
-/// Asks for a resource only if it has changed since (RFC 9110, section 13.1.3).
+/// Asks for a resource only if it has changed since: the only line, a date from 1970 to 9999 in one of
+/// the three formats (RFC 9110, section 13.1.3).
 #[derive(Clone, Copy, Debug, PartialEq, Eq, PartialOrd, Ord, Hash)]
 pub struct IfModifiedSince {
     date: Date1,
@@ -25,7 +27,7 @@ impl Model for IfModifiedSince {
 impl IfModifiedSince {
     /// The second, counted from the start of 1970, before the year 10000.
     pub fn from_unix_secs(secs: u64) -> IfModifiedSince
-        requires { secs < 253_402_300_800 }
+        requires { IsDated secs }
         ensures { result ≡ secs }
     {
         IfModifiedSince {
@@ -36,7 +38,7 @@ impl IfModifiedSince {
     /// The seconds since the start of 1970.
     pub fn unix_secs(&self) -> u64
         ensures value { result ≡ self.now }
-        ensures bound { result < 253_402_300_800 }
+        ensures bound { IsDated result }
     {
         self.date.unix_secs()
     }

@@ -1,12 +1,14 @@
 //! The header `if-unmodified-since`.
-ghost use Rattle.std.specs.Prelude.{◌≡◌, ◌<◌, ◌≤◌, ◌↔◌, IsTrue};
+ghost use Rattle.std.specs.Prelude.{◌≡◌, ◌≤◌, ◌↔◌, IsTrue};
+ghost use Rattle.headers_core.specs.Date.{IsDated};
 
 use headers_core::{AsHeaderValue, Date1, Error, Header, Refused, only_date};
 use http_header::{HeaderName, HeaderValue, IF_UNMODIFIED_SINCE};
 use std::alloc::{AllocError, Global};
 use std::marker::Model;
 
-/// Asks for something only if a resource has not changed since (RFC 9110, section 13.1.4).
+/// Asks for something only if a resource has not changed since: the only line, a date from 1970 to
+/// 9999 in one of the three formats (RFC 9110, section 13.1.4).
 #[derive(Clone, Copy, Debug, PartialEq, Eq, PartialOrd, Ord, Hash)]
 pub struct IfUnmodifiedSince {
     date: Date1,
@@ -25,7 +27,7 @@ impl Model for IfUnmodifiedSince {
 impl IfUnmodifiedSince {
     /// The second, counted from the start of 1970, before the year 10000.
     pub fn from_unix_secs(secs: u64) -> IfUnmodifiedSince
-        requires { secs < 253_402_300_800 }
+        requires { IsDated secs }
         ensures { result ≡ secs }
     {
         IfUnmodifiedSince {
@@ -36,12 +38,13 @@ impl IfUnmodifiedSince {
     /// The seconds since the start of 1970.
     pub fn unix_secs(&self) -> u64
         ensures value { result ≡ self.now }
-        ensures bound { result < 253_402_300_800 }
+        ensures bound { IsDated result }
     {
         self.date.unix_secs()
     }
 
-    /// Whether a change at that second, in seconds since the start of 1970, is no later than the date.
+    /// Whether a change at that second, in seconds since the start of 1970, is no later than the
+    /// date.
     pub fn precondition_passes(&self, last_modified: u64) -> bool
         ensures { IsTrue result ↔ (last_modified ≤ self.now) }
     {

@@ -1,7 +1,8 @@
 //! The header `retry-after`.
-ghost use Rattle.std.specs.Prelude.{◌≡◌, ◌<◌, ◌*◌, ℕ, IfOk};
+ghost use Rattle.std.specs.Prelude.{◌≡◌, IfOk};
+ghost use Rattle.headers_core.specs.Date.{IsDated};
 ghost use Rattle.http_header.specs.FieldValue.{plain_value};
-ghost use Rattle.headers_core.specs.Durations.{IsWholeSeconds, LastsSeconds};
+ghost use Rattle.headers_core.specs.Durations.{IsWholeSeconds};
 ghost use Rattle.headers_dates.specs.RetryTime.{Delay, Until, IsDelay, retry_time, retry_line};
 
 use headers_core::{AsHeaderValue, Date1, Error, Header, Refused, Seconds, first};
@@ -10,7 +11,8 @@ use std::alloc::{AllocError, Global};
 use std::marker::Model;
 use std::time::Duration;
 
-/// When to ask again: after a delay, or from a date on (RFC 9110, section 10.2.3).
+/// When to ask again, after a delay or from a date on: the first line, a number of seconds below 2^64
+/// or else a date (RFC 9110, section 10.2.3).
 #[derive(Clone, Debug, Drop, PartialEq, Eq)]
 pub struct RetryAfter {
     after: After,
@@ -39,7 +41,7 @@ impl Model for RetryAfter {
 impl RetryAfter {
     /// From that second on, counted from the start of 1970, before the year 10000.
     pub fn date(secs: u64) -> RetryAfter
-        requires { secs < 253_402_300_800 }
+        requires { IsDated secs }
         ensures { result ≡ Until secs }
     {
         RetryAfter {

@@ -1,9 +1,14 @@
-ghost use Rattle.std.specs.Prelude.{◌≡◌, ◌↔◌, IsTrue, IfOk};
+ghost use Rattle.std.specs.Prelude.{◌≡◌, ◌↔◌, IsTrue, IfOk, fold};
+ghost use Rattle.std.specs.Hash as fed;
+ghost use Rattle.std.specs.Hash.DefaultHasher as sip;
+ghost use Rattle.std.specs.Ordering.{nat_cmp};
 
 use crate::{Date, Expires, IfModifiedSince, IfUnmodifiedSince, LastModified, RetryAfter};
 use headers_core::{Header, Refused, decode_values};
 use http_header::HeaderValue;
 use std::alloc::{AllocError, Global};
+use std::cmp::Ordering;
+use std::hash::{DefaultHasher, Hash, Hasher};
 use std::process::Abort;
 use std::test::Fail;
 use std::time::Duration;
@@ -45,6 +50,35 @@ fn twin(retry_after: &RetryAfter) -> Result<RetryAfter, AllocError>
     ensures { IfOk result (λ twin. twin ≡ retry_after.now) }
 {
     retry_after.clone()
+}
+
+// Equality, order and hash of a date go by its second.
+fn same_date(date: &Date, other: &Date) -> bool
+    ensures { IsTrue result ↔ (date.now ≡ other.now) }
+{
+    date == other
+}
+
+fn order(date: &Date, other: &Date) -> Ordering
+    ensures { result ≡ nat_cmp date.now other.now }
+{
+    date.cmp(other)
+}
+
+fn hash_of(date: &Date) -> u64
+    ensures { result ≡ sip.finish (fold sip.write sip.initial (fed.u64 date.now)) }
+{
+    let mut state = DefaultHasher::new();
+    date.hash(&mut state);
+    state.finish()
+}
+
+#[test]
+fn dates_compared(rt: HostRuntime) {
+    let date = Date::from_unix_secs(5);
+    assert!(rt; same_date(&date, &Date::from_unix_secs(5)));
+    assert_eq!(rt; order(&date, &Date::from_unix_secs(6)), Ordering::Less);
+    assert_eq!(rt; hash_of(&date), hash_of(&Date::from_unix_secs(5)));
 }
 
 #[test]

@@ -9,7 +9,8 @@ use Rattle.std.proofs.lemmas.List.Folds.{list_any-append}
 use Rattle.std.proofs.lemmas.List.Elements.{filter-append}
 use Rattle.std.proofs.lemmas.Slice.Eq.{bytes_eq-Decides}
 use Rattle.headers_core.specs.AsciiCase.{SameButForCase}
-use Rattle.headers_directives.specs.CacheControl.{same_name, carries, number_in, is_bad_for, is_bad, is_set, last_number}
+use Rattle.headers_directives.specs.Parts.{same_name}
+use Rattle.headers_directives.specs.CacheControl.{carries, number_in, is_bad_for, is_bad, is_set, last_number}
 use Rattle.headers_directives.proofs.PartsLemmas.{last_or-append}
 
 -- the test of names decides whether they are the same

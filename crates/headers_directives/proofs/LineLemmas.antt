@@ -31,19 +31,6 @@ ReadSoFar-more before after next all left rest entry h e adds good =
       adds = λ es b. adds (es ++ h.seen) (h.adds es b) ∙ ap directives (append_assoc es h.seen (entry ∷ []));
     }
 
-pub ReadSoFar-all : (before after : Directives) (all left : List (List ℕ)) → ReadSoFar before after all left → left ≡ [] → (es : List (List ℕ)) → before ≡ directives es → after ≡ directives (es ++ all)
-ReadSoFar-all before after all left h e es b =
-    h.adds es b ∙ ap (λ r. directives (es ++ r)) (sym (append-nil h.seen) ∙ ap (λ r. h.seen ++ r) (sym e) ∙ sym h.split)
-
-pub ReadSoFar-good : (before after : Directives) (all left : List (List ℕ)) → ReadSoFar before after all left → left ≡ [] → list_any is_bad all ≡ false
-ReadSoFar-good before after all left h e =
-    ap (list_any is_bad) (h.split ∙ ap (λ r. h.seen ++ r) e ∙ append-nil h.seen) ∙ h.good
-
-pub ReadSoFar-bad : (before after : Directives) (all left rest : List (List ℕ)) (entry : List ℕ) → ReadSoFar before after all left → left ≡ entry ∷ rest → is_bad entry ≡ true → list_any is_bad all ≡ true
-ReadSoFar-bad before after all left rest entry h e bad =
-    ap (list_any is_bad) (h.split ∙ ap (λ r. h.seen ++ r) e) ∙ list_any-append is_bad h.seen (entry ∷ rest)
-    ∙ or_right (list_any is_bad h.seen) (list_any is_bad (entry ∷ rest)) (rw bad refl)
-
 -- the lines so far have no bad entry, and direct this
 abbrev pub DirectSoFar : Directives → List Line → Type 0
 DirectSoFar d lines = (d ≡ directives (entries lines)) × (list_any is_bad (entries lines) ≡ false)

@@ -16,7 +16,7 @@ use Rattle.headers_core.specs.Lines.{Line, only_line}
 use Rattle.headers_core.specs.Places.{is_text, trim}
 use Rattle.headers_directives.specs.StrictTransportSecurity.{TransportSecurity, is_mark, carries_age, age_in, security_of, read_security, print_security}
 use Rattle.headers_directives.specs.StrictTransportSecurityLaws.{printed_text}
-use Rattle.headers_directives.specs.CacheControl.{is_equals}
+use Rattle.headers_core.specs.Pairs.{is_equals}
 use Rattle.headers_core.proofs.TextLemmas.{visible-from_is_text}
 use Rattle.headers_directives.specs.SecuritySoFar.{are_two, told_of}
 use Rattle.headers_directives.specs.declared.strict_transport_security.Told.{Told}

@@ -1,15 +1,16 @@
 -- The header `cache-control`: flags and numbers, each by the entries of all lines.
-use Rattle.std.specs.Prelude.{◌≡◌, ℕ, ◌*◌, option_map, Bool, ◌&&◌, not, ◌==◌, List, [], ◌∷◌, ◌++◌, length, filter, Option, Some, None, is_none, codes, bytes_eq, decimal, if◌then◌else◌}
+use Rattle.std.specs.Prelude.{◌≡◌, ℕ, ◌*◌, option_map, Bool, ◌&&◌, not, ◌==◌, List, [], ◌∷◌, ◌++◌, length, filter, Option, Some, None, is_none, codes, decimal, if◌then◌else◌}
 use Rattle.std.specs.List.{list_any, last_or, flat_map, before_first, after_first}
 use Rattle.std.specs.Option.{option_and_then}
 use Rattle.std.specs.Duration.{as_nanos}
 use Rattle.std.specs.declared.time.Duration.{Duration}
-use Rattle.http_header.specs.Token.{lowercase}
 use Rattle.headers_core.specs.Lines.{Line}
 use Rattle.headers_core.specs.Merge.{merge}
 use Rattle.headers_core.specs.Number.{number}
 use Rattle.headers_core.specs.Entries.{entries}
-use Rattle.headers_directives.specs.Parts.{without_quotes}
+use Rattle.headers_core.specs.Pairs.{is_equals}
+use Rattle.headers_directives.specs.Parts.{same_name, without_quotes}
+use Rattle.headers_core.specs.Places.{comma}
 
 -- the flags that are set, and the numbers that are given (RFC 9111, section 5.2, and RFC 8246)
 pub record Directives : Type 0 where
@@ -29,16 +30,8 @@ pub record Directives : Type 0 where
   pub s_max_age : Option ℕ
 
 -- a duration of so many seconds, where a number is given
-abbrev pub LastSeconds : Option Duration → Option ℕ → Type 0
-LastSeconds duration number = option_map as_nanos duration ≡ option_map (λ seconds. seconds * 1_000_000_000) number
-
--- two names that are the same but for the case of ASCII letters
-abbrev pub same_name : List ℕ → List ℕ → Bool
-same_name a b = bytes_eq (lowercase a) (lowercase b)
-
--- b'='
-abbrev pub is_equals : ℕ → Bool
-is_equals b = b == 61
+abbrev pub GivesSeconds : Option Duration → Option ℕ → Type 0
+GivesSeconds duration number = option_map as_nanos duration ≡ option_map (λ seconds. seconds * 1_000_000_000) number
 
 -- an entry carries a directive where the slice before its first `=` is the directive's name, and the slice after it is not empty
 abbrev pub carries : List ℕ → List ℕ → Bool
@@ -131,4 +124,4 @@ printed d = flat_map (λ row. print_flag row.0 (row.1 d)) flag_rows ++ flat_map 
 
 -- they are joined by a comma and a space; the line is empty where nothing is printed
 abbrev pub lines_of_directives : Directives → List Line
-lines_of_directives d = merge 44 (printed d) ∷ []
+lines_of_directives d = merge comma (printed d) ∷ []

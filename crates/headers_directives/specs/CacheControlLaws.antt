@@ -19,7 +19,9 @@ use Rattle.headers_core.specs.Entries.{entries}
 use Rattle.headers_core.specs.Number.{number}
 use Rattle.headers_core.proofs.NumberLemmas.{number-decimal, number-lt}
 use Rattle.headers_directives.specs.Parts.{without_quotes}
-use Rattle.headers_directives.specs.CacheControl.{Directives, same_name, is_equals, carries, number_in, is_bad_for, is_bad, number_names, is_set, last_number, directives, directives_of, lines_of_directives, flag_rows, number_rows, print_flag, print_number, printed}
+use Rattle.headers_directives.specs.Parts.{same_name}
+use Rattle.headers_core.specs.Pairs.{is_equals}
+use Rattle.headers_directives.specs.CacheControl.{Directives, carries, number_in, is_bad_for, is_bad, number_names, is_set, last_number, directives, directives_of, lines_of_directives, flag_rows, number_rows, print_flag, print_number, printed}
 use Rattle.headers_directives.specs.PrintedLaws.{is_plain, is_piece, unquoted_piece, entries_joined}
 
 -- equal fields

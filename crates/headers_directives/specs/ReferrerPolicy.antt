@@ -7,6 +7,7 @@ use Rattle.headers_directives.specs.Parts.{parts_of_lines}
 use Rattle.headers_directives.specs.declared.referrer_policy.ReferrerPolicy.{ReferrerPolicy}
 use Rattle.headers_directives.specs.declared.referrer_policy.Policy.{Policy}
 use Rattle.headers_directives.specs.declared.referrer_policy.Policy.TheVariants.{NoReferrer, NoReferrerWhenDowngrade, SameOrigin, Origin, OriginWhenCrossOrigin, UnsafeUrl, StrictOrigin, StrictOriginWhenCrossOrigin}
+use Rattle.headers_core.specs.Places.{comma}
 
 -- the word of a policy (W3C Referrer Policy, section 3)
 abbrev pub word_of : Policy → List ℕ
@@ -51,7 +52,7 @@ policy_named word = option_map (λ row. row.1) (find (λ row. bytes_eq word row.
 
 -- the policies of the known words among the parts by comma of all lines, in order
 abbrev pub policies : List Line → List Policy
-policies lines = filter_map policy_named (parts_of_lines 44 lines)
+policies lines = filter_map policy_named (parts_of_lines comma lines)
 
 -- the last of them counts, and its word is written
 abbrev pub referrer_grammar : Grammar ReferrerPolicy Policy

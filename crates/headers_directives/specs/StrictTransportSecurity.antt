@@ -4,9 +4,9 @@ use Rattle.std.specs.List.{list_any, before_first, after_first}
 use Rattle.std.specs.Option.{option_and_then}
 use Rattle.headers_core.specs.Lines.{Line, only_line}
 use Rattle.headers_core.specs.Number.{number}
-use Rattle.headers_core.specs.Places.{trim}
-use Rattle.headers_directives.specs.Parts.{parts, without_quotes}
-use Rattle.headers_directives.specs.CacheControl.{same_name, is_equals}
+use Rattle.headers_core.specs.Pairs.{is_equals}
+use Rattle.headers_core.specs.Places.{semicolon, trim}
+use Rattle.headers_directives.specs.Parts.{parts, same_name, without_quotes}
 
 -- for how many seconds a host is to be reached by secure transport alone, and whether its subdomains are too (RFC 6797, section 6.1)
 pub record TransportSecurity : Type 0 where
@@ -34,7 +34,7 @@ security_of ps =
 
 -- a line is cut at every semicolon, in quotes or not
 abbrev pub read_security : Line → Option TransportSecurity
-read_security line = security_of (parts 59 line)
+read_security line = security_of (parts semicolon line)
 
 -- the age, and then the mark where it is set
 abbrev pub print_security : TransportSecurity → Line

@@ -7,10 +7,11 @@ ghost use Rattle.headers_core.specs.Durations.{IsWholeSeconds};
 ghost use Rattle.headers_core.specs.Entries.{line_entries};
 ghost use Rattle.headers_core.specs.HeaderLaws.{written_by};
 ghost use Rattle.headers_core.specs.Merge.{merge};
-ghost use Rattle.headers_directives.specs.CacheControl.{LastSeconds, directives, last_number, is_bad, is_bad_for, number_rows, print_flag, print_number, printed};
+ghost use Rattle.headers_directives.specs.CacheControl.{GivesSeconds, directives, last_number, is_bad, is_bad_for, number_rows, print_flag, print_number, printed};
 ghost use Rattle.headers_directives.specs.CacheControlGrammar.{cache_grammar};
 ghost use Rattle.headers_directives.specs.CacheControlLaws.{FitRows, FitsOption};
 ghost use Rattle.headers_directives.specs.Printing.{separated, append_all};
+ghost use Rattle.headers_core.specs.Places.{comma};
 
 use crate::texts::unquoted;
 use bytes::Bytes;
@@ -24,6 +25,10 @@ use std::marker::Model;
 use std::time::Duration;
 
 /// How a message may be stored and used again (RFC 9111, section 5.2, with `immutable` of RFC 8246).
+///
+/// The entries of all lines that are text are read; no line is the empty value. An entry that carries
+/// `max-age`, `max-stale`, `min-fresh` or `s-maxage` without a number below 2^64 refuses them all.
+/// `proxy-revalidate` is read and written, but no call reads or sets it.
 #[derive(Clone, Debug, PartialEq, Eq, Drop)]
 pub struct CacheControl {
     no_cache: bool,
@@ -157,28 +162,28 @@ impl CacheControl {
 
     /// The time of `max-age`, in whole seconds.
     pub fn max_age(&self) -> Option<Duration>
-        ensures { LastSeconds result self.now.max_age }
+        ensures { GivesSeconds result self.now.max_age }
     {
         self.max_age.map(Duration::from_secs)
     }
 
     /// The time of `max-stale`, in whole seconds.
     pub fn max_stale(&self) -> Option<Duration>
-        ensures { LastSeconds result self.now.max_stale }
+        ensures { GivesSeconds result self.now.max_stale }
     {
         self.max_stale.map(Duration::from_secs)
     }
 
     /// The time of `min-fresh`, in whole seconds.
     pub fn min_fresh(&self) -> Option<Duration>
-        ensures { LastSeconds result self.now.min_fresh }
+        ensures { GivesSeconds result self.now.min_fresh }
     {
         self.min_fresh.map(Duration::from_secs)
     }
 
     /// The time of `s-maxage`, in whole seconds.
     pub fn s_max_age(&self) -> Option<Duration>
-        ensures { LastSeconds result self.now.s_max_age }
+        ensures { GivesSeconds result self.now.s_max_age }
     {
         self.s_max_age.map(Duration::from_secs)
     }
@@ -273,7 +278,7 @@ impl CacheControl {
         }
     }
 
-    /// Puts `max-age` in place of an old one.
+    /// Puts `max-age`, in whole seconds, in place of an old one.
     pub fn with_max_age(self, dur: Duration) -> CacheControl
         requires { IsWholeSeconds dur }
         ensures { result ≡ record self { max_age = Some (as_nanos dur / 1_000_000_000) } }
@@ -284,7 +289,7 @@ impl CacheControl {
         }
     }
 
-    /// Puts `max-stale` in place of an old one.
+    /// Puts `max-stale`, in whole seconds, in place of an old one.
     pub fn with_max_stale(self, dur: Duration) -> CacheControl
         requires { IsWholeSeconds dur }
         ensures { result ≡ record self { max_stale = Some (as_nanos dur / 1_000_000_000) } }
@@ -295,7 +300,7 @@ impl CacheControl {
         }
     }
 
-    /// Puts `min-fresh` in place of an old one.
+    /// Puts `min-fresh`, in whole seconds, in place of an old one.
     pub fn with_min_fresh(self, dur: Duration) -> CacheControl
         requires { IsWholeSeconds dur }
         ensures { result ≡ record self { min_fresh = Some (as_nanos dur / 1_000_000_000) } }
@@ -306,7 +311,7 @@ impl CacheControl {
         }
     }
 
-    /// Puts `s-maxage` in place of an old one.
+    /// Puts `s-maxage`, in whole seconds, in place of an old one.
     pub fn with_s_max_age(self, dur: Duration) -> CacheControl
         requires { IsWholeSeconds dur }
         ensures { result ≡ record self { s_max_age = Some (as_nanos dur / 1_000_000_000) } }
@@ -368,7 +373,7 @@ impl CacheControl {
 
     // The directives that are set, joined by a comma and a space.
     fn print(&self, alloc: Global) -> Result<String, AllocError>
-        ensures text { IfOk result (λ text. string_bytes text ≡ merge 44 (printed self.now)) }
+        ensures text { IfOk result (λ text. string_bytes text ≡ merge comma (printed self.now)) }
         ensures valid { IfOk result (λ text. IsFieldValue (string_bytes text)) }
     {
         let mut text = String::new(alloc);

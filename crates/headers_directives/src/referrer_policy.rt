@@ -3,6 +3,7 @@ ghost use Rattle.std.specs.Prelude.{◌≡◌, map};
 ghost use Rattle.std.specs.List.{filter_map, last_or};
 ghost use Rattle.headers_directives.specs.Parts.{parts};
 ghost use Rattle.headers_directives.specs.ReferrerPolicy.{policy_named, word_of, words};
+ghost use Rattle.headers_core.specs.Places.{comma};
 
 use crate::texts::trimmed;
 use headers_core::{AsHeaderValue, Error, Header, Refused};
@@ -133,7 +134,7 @@ impl Policy {
 
 // The last policy that the line names, or else the one before.
 fn last_policy(line: &HeaderValue, before: Option<Policy>) -> Option<Policy>
-    ensures { result ≡ last_or before (filter_map policy_named (parts 44 line.now.bytes)) }
+    ensures { result ≡ last_or before (filter_map policy_named (parts comma line.now.bytes)) }
 {
     let mut last = before;
     if let Ok(text) = line.to_str() {

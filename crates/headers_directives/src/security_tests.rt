@@ -1,7 +1,9 @@
+ghost use Rattle.std.specs.Prelude.{◌≡◌, ◌↔◌, IsTrue, IfOk};
+
 use crate::StrictTransportSecurity;
 use headers_core::{Error, Header, Refused, decode_values};
 use http_header::HeaderValue;
-use std::alloc::Global;
+use std::alloc::{AllocError, Global};
 use std::process::Abort;
 use std::test::Fail;
 use std::time::Duration;
@@ -79,6 +81,19 @@ fn one_line_alone(rt: HostRuntime) -> Result<(), Fail> {
     refused(&rt, &["max-age=1; \u{e9}"])
 }
 
+// What the derives promise to a caller.
+fn twin(security: &StrictTransportSecurity) -> Result<StrictTransportSecurity, AllocError>
+    ensures { IfOk result (λ twin. twin ≡ security.now) }
+{
+    security.clone()
+}
+
+fn same(security: &StrictTransportSecurity, other: &StrictTransportSecurity) -> bool
+    ensures { IsTrue result ↔ (security.now ≡ other.now) }
+{
+    security == other
+}
+
 #[test]
 fn parts_of_a_value(rt: HostRuntime) -> Result<(), Fail> {
     let year = Duration::from_secs(31_536_000);
@@ -86,8 +101,8 @@ fn parts_of_a_value(rt: HostRuntime) -> Result<(), Fail> {
     assert!(rt; host.max_age() == year && !host.include_subdomains());
     let read = decoded(rt.alloc(), &["max-age = 31536000"])??;
     assert!(rt; host == read);
-    let copy = host.clone()?;
-    assert!(rt; copy == host);
+    let copy = twin(&host)?;
+    assert!(rt; same(&copy, &host));
     let all = StrictTransportSecurity::including_subdomains(year);
     assert!(rt; all.max_age() == year && all.include_subdomains() && all != host);
     Ok(())

@@ -1,7 +1,9 @@
+ghost use Rattle.std.specs.Prelude.{◌≡◌, ◌↔◌, IsTrue, IfOk};
+
 use crate::{CacheControl, ReferrerPolicy, equal_by_encoding};
 use headers_core::{Header, Refused, decode_values};
 use http_header::HeaderValue;
-use std::alloc::Global;
+use std::alloc::{AllocError, Global};
 use std::process::Abort;
 use std::test::Fail;
 use std::time::Duration;
@@ -212,6 +214,34 @@ fn numbers_that_are_set(rt: HostRuntime) -> Result<(), Fail> {
     )
 }
 
+// What the derives promise to a caller.
+fn twin(directives: &CacheControl) -> Result<CacheControl, AllocError>
+    ensures { IfOk result (λ twin. twin ≡ directives.now) }
+{
+    directives.clone()
+}
+
+fn policy_twin(policy: &ReferrerPolicy) -> Result<ReferrerPolicy, AllocError>
+    ensures { IfOk result (λ twin. twin ≡ policy.now) }
+{
+    policy.clone()
+}
+
+fn same_policy(policy: &ReferrerPolicy, other: &ReferrerPolicy) -> bool
+    ensures { IsTrue result ↔ (policy.now ≡ other.now) }
+{
+    policy == other
+}
+
+#[test]
+fn twins(rt: HostRuntime) -> Result<(), Fail> {
+    let directives = CacheControl::new().with_public();
+    assert!(rt; twin(&directives)? == directives);
+    let policy = ReferrerPolicy::ORIGIN;
+    assert!(rt; same_policy(&policy_twin(&policy)?, &policy));
+    Ok(())
+}
+
 #[test]
 fn equal_directives(rt: HostRuntime) {
     let age = Duration::from_secs(5);
@@ -235,6 +265,11 @@ fn policies(rt: HostRuntime) -> Result<(), Fail> {
         ),
         (&["nope"][..], None),
         (&["always"][..], Some(ReferrerPolicy::UNSAFE_URL)),
+        (&["never"][..], Some(ReferrerPolicy::NO_REFERRER)),
+        (
+            &["default"][..],
+            Some(ReferrerPolicy::NO_REFERRER_WHEN_DOWNGRADE),
+        ),
         (&["\"origin, same-origin\""][..], None),
         (&["Origin"][..], None),
         (&["same-origin, origin"][..], Some(ReferrerPolicy::ORIGIN)),
@@ -277,5 +312,17 @@ fn words_of_policies(rt: HostRuntime) -> Result<(), Fail> {
 
 #[test]
 fn all_policies(rt: HostRuntime) {
-    assert_eq!(rt; ReferrerPolicy::all()[5], ReferrerPolicy::UNSAFE_URL);
+    let wanted = [
+        ReferrerPolicy::NO_REFERRER,
+        ReferrerPolicy::NO_REFERRER_WHEN_DOWNGRADE,
+        ReferrerPolicy::SAME_ORIGIN,
+        ReferrerPolicy::ORIGIN,
+        ReferrerPolicy::ORIGIN_WHEN_CROSS_ORIGIN,
+        ReferrerPolicy::UNSAFE_URL,
+        ReferrerPolicy::STRICT_ORIGIN,
+        ReferrerPolicy::STRICT_ORIGIN_WHEN_CROSS_ORIGIN,
+    ];
+    for (policy, other) in ReferrerPolicy::all().iter().zip(&wanted) {
+        assert!(rt; policy == other);
+    }
 }

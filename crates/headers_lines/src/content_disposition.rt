@@ -2,10 +2,10 @@
 ghost use Rattle.std.specs.Prelude.{◌≡◌, ◌↔◌, ◌==◌, Some, codes, IsTrue, IfOk};
 ghost use Rattle.std.specs.List.{before_first};
 ghost use Rattle.http_header.specs.FieldValue.{plain_value};
+ghost use Rattle.headers_core.specs.Places.{semicolon};
 ghost use Rattle.headers_lines.specs.Disposition.{disposition_of};
 
-use crate::kept::push_clone;
-use headers_core::{AsHeaderValue, Error, Header, Refused, first, read_text};
+use headers_core::{AsHeaderValue, Error, Header, Refused, first, push_clone, read_text};
 use http_header::{CONTENT_DISPOSITION, HeaderName, HeaderValue};
 use std::alloc::{AllocError, Global};
 use std::marker::Model;
@@ -118,7 +118,7 @@ impl Header for ContentDisposition {
 
 // What stands before the first semicolon, or all where there is none.
 fn before_semicolon(text: &str) -> &str
-    ensures { result.now ≡ before_first (λ b. b == 59) text.now }
+    ensures { result.now ≡ before_first (λ b. b == semicolon) text.now }
 {
     text.split_once(';').map_or(text, |(before, _)| before)
 }

@@ -1,14 +1,13 @@
 //! The header `content-location`.
 ghost use Rattle.std.specs.Prelude.{◌≡◌, IfOk};
 
-use crate::kept::push_clone;
-use headers_core::{AsHeaderValue, Error, Header, Refused, first};
+use headers_core::{AsHeaderValue, Error, Header, Refused, first, push_clone};
 use http_header::{CONTENT_LOCATION, HeaderName, HeaderValue};
 use std::alloc::{AllocError, Global};
 use std::marker::Model;
 
 /// Where the resource of a message's content is: the first line, whatever it is, as it came
-/// (RFC 9110, section 8.7).
+/// (RFC 9110, section 8.7). Equality goes by the bytes.
 #[derive(Debug, Drop, PartialEq)]
 pub struct ContentLocation {
     value: HeaderValue,

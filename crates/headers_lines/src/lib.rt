@@ -3,7 +3,6 @@
 
 mod content_disposition;
 mod content_location;
-mod kept;
 mod location;
 mod pragma;
 mod set_cookie;

@@ -2,14 +2,13 @@
 ghost use Rattle.std.specs.Prelude.{◌≡◌, ◌↔◌, codes, IsTrue, IfOk};
 ghost use Rattle.http_header.specs.FieldValue.{plain_value};
 
-use crate::kept::push_clone;
-use headers_core::{AsHeaderValue, Error, Header, Refused, first};
+use headers_core::{AsHeaderValue, Error, Header, Refused, first, push_clone};
 use http_header::{HeaderName, HeaderValue, PRAGMA};
 use std::alloc::{AllocError, Global};
 use std::marker::Model;
 
 /// A directive to the caches of HTTP/1.0: the first line, whatever it is, as it came (RFC 9111,
-/// section 5.4).
+/// section 5.4). Equality goes by the bytes.
 #[derive(Debug, Drop, PartialEq)]
 pub struct Pragma {
     value: HeaderValue,

@@ -1,8 +1,7 @@
 //! The header `set-cookie`.
 ghost use Rattle.std.specs.Prelude.{◌≡◌, IfOk};
 
-use crate::kept::push_clone;
-use headers_core::{AsHeaderValue, Error, Header, Refused};
+use headers_core::{AsHeaderValue, Error, Header, Refused, push_clone};
 use http_header::{HeaderName, HeaderValue, SET_COOKIE};
 use std::alloc::{AllocError, Global};
 use std::marker::Model;

@@ -2,13 +2,13 @@
 ghost use Rattle.std.specs.Prelude.{◌≡◌, codes, IfOk};
 ghost use Rattle.http_header.specs.FieldValue.{plain_value};
 
-use crate::kept::push_clone;
-use headers_core::{AsHeaderValue, Error, Header, Refused, first};
+use headers_core::{AsHeaderValue, Error, Header, Refused, first, push_clone};
 use http_header::{HeaderName, HeaderValue, UPGRADE};
 use std::alloc::{AllocError, Global};
 use std::marker::Model;
 
 /// The protocols to change to: the first line, whatever it is, as it came (RFC 9110, section 7.8).
+/// Equality goes by the bytes.
 #[derive(Debug, Drop, PartialEq)]
 pub struct Upgrade {
     value: HeaderValue,

@@ -1,5 +1,6 @@
 //! The header `accept-ranges`.
 ghost use Rattle.std.specs.Prelude.{◌≡◌, ◌↔◌, IsTrue, IfOk, codes};
+ghost use Rattle.headers_core.specs.Places.{comma};
 
 use headers_core::{AsHeaderValue, Comma, Error, FlatCsv, Header, Refused};
 use http_header::{ACCEPT_RANGES, HeaderName, HeaderValue};
@@ -23,7 +24,7 @@ impl Model for AcceptRanges {
 }
 
 impl AcceptRanges {
-    /// Ranges of bytes.
+    /// `bytes`: ranges of bytes.
     pub fn bytes() -> AcceptRanges
         ensures { result ≡ codes "bytes" }
     {
@@ -32,7 +33,7 @@ impl AcceptRanges {
         }
     }
 
-    /// No ranges.
+    /// `none`: no ranges.
     pub fn none() -> AcceptRanges
         ensures { result ≡ codes "none" }
     {
@@ -81,7 +82,7 @@ impl Header for AcceptRanges {
 
     ghost writes = { written_by accept_ranges_grammar };
 
-    ghost laws = { merged_laws 44 accept_ranges_grammar.kept };
+    ghost laws = { merged_laws comma accept_ranges_grammar.kept };
 
     fn name() -> HeaderName {
         ACCEPT_RANGES

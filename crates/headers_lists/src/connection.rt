@@ -1,7 +1,7 @@
 //! The header `connection`.
 ghost use Rattle.std.specs.Prelude.{◌≡◌, ◌↔◌, List, ℕ, IsTrue, IfOk, codes};
 ghost use Rattle.std.specs.Iterator.{IsFinite};
-ghost use Rattle.headers_core.specs.Places.{items};
+ghost use Rattle.headers_core.specs.Places.{comma, items};
 ghost use Rattle.headers_core.specs.CutLaw.{MergesLines};
 ghost use Rattle.headers_lists.specs.Connection.{HasOption};
 
@@ -60,7 +60,7 @@ impl AsConnectionOption for &HeaderName {
     ghost option = { λ name. name.now };
 
     fn as_connection_option(&self) -> &str {
-        self.as_str()
+        (*self).as_str()
     }
 }
 
@@ -100,23 +100,23 @@ impl Connection {
         }
     }
 
-    /// The names of an iterator, joined by commas; its size hint is not read.
+    /// The names of an iterator, joined by a comma and a space; its size hint is not read.
     pub fn from_iter<I: Iterator<Item = HeaderName> + Drop>(
         alloc: Global,
         names: I,
     ) -> Result<Connection, AllocError>
         requires can { I.can_next names }
         requires ends { IsFinite (I.remaining names) }
-        ensures { IfOk result (MergesLines I.next_gives names 44) }
+        ensures { IfOk result (MergesLines I.next_gives names comma) }
     {
         Ok(Connection {
             options: FlatCsv::from_names(alloc, names)?,
         })
     }
 
-    /// Whether some item is the option, ignoring the case of ASCII letters.
+    /// Whether some item is the option, ignoring the case of ASCII letters (RFC 9110, section 7.6.1).
     pub fn contains<T: AsConnectionOption>(&self, option: T) -> bool
-        ensures { IsTrue result ↔ HasOption (items 44 self.now) (T.option option) }
+        ensures { IsTrue result ↔ HasOption (items comma self.now) (T.option option) }
     {
         let option = option.as_connection_option();
         self.options
@@ -150,7 +150,7 @@ impl Header for Connection {
 
     ghost writes = { written_by connection_grammar };
 
-    ghost laws = { merged_laws 44 connection_grammar.kept };
+    ghost laws = { merged_laws comma connection_grammar.kept };
 
     fn name() -> HeaderName {
         CONNECTION

@@ -1,6 +1,6 @@
 //! The header `content-encoding`.
 ghost use Rattle.std.specs.Prelude.{◌≡◌, ◌↔◌, Contains, IsTrue, IfOk, codes};
-ghost use Rattle.headers_core.specs.Places.{items};
+ghost use Rattle.headers_core.specs.Places.{comma, items};
 
 use headers_core::{AsHeaderValue, Comma, Error, FlatCsv, Header, Refused};
 use http_header::{CONTENT_ENCODING, HeaderName, HeaderValue};
@@ -53,7 +53,7 @@ impl ContentEncoding {
 
     /// Whether some item is the coding, with case.
     pub fn contains(&self, coding: &str) -> bool
-        ensures { IsTrue result ↔ Contains (items 44 self.now) coding.now }
+        ensures { IsTrue result ↔ Contains (items comma self.now) coding.now }
     {
         self.codings.iter().any(|item| item == coding)
     }
@@ -84,7 +84,7 @@ impl Header for ContentEncoding {
 
     ghost writes = { written_by content_encoding_grammar };
 
-    ghost laws = { merged_laws 44 content_encoding_grammar.kept };
+    ghost laws = { merged_laws comma content_encoding_grammar.kept };
 
     fn name() -> HeaderName {
         CONTENT_ENCODING

@@ -1,6 +1,6 @@
 //! The header `cookie`.
 ghost use Rattle.std.specs.Prelude.{◌≡◌, ◌<◌, ◌^◌, length, option_map, IfOk};
-ghost use Rattle.headers_core.specs.Places.{items};
+ghost use Rattle.headers_core.specs.Places.{semicolon, items};
 ghost use Rattle.headers_core.specs.ItemsState.{walk_over};
 ghost use Rattle.headers_core.specs.Pairs.{pairs, pairs_left, first_value};
 
@@ -26,10 +26,10 @@ impl Model for Cookie {
 }
 
 impl Cookie {
-    /// The pairs of the items, in order.
+    /// The pairs of the items, in order; a value that isn't text has none.
     pub fn iter(&self) -> Pairs<'_>
-        ensures pairs { pairs_left result ≡ pairs (items 59 self.now) }
-        ensures fresh { result ≡ walk_over 59 self.now }
+        ensures pairs { pairs_left result ≡ pairs (items semicolon self.now) }
+        ensures fresh { result ≡ walk_over semicolon self.now }
         ensures count { length (pairs_left result) < 2 ^ 64 }
     {
         Pairs::new(&self.pairs)
@@ -37,7 +37,7 @@ impl Cookie {
 
     /// The value of the first pair of a name, if there is one.
     pub fn get(&self, name: &str) -> Option<&str>
-        ensures { option_map (λ value. value.now) result ≡ first_value name.now (pairs (items 59 self.now)) }
+        ensures { option_map (λ value. value.now) result ≡ first_value name.now (pairs (items semicolon self.now)) }
     {
         for (key, value) in self.iter() {
             if key == name {
@@ -49,7 +49,7 @@ impl Cookie {
 
     /// How many pairs there are.
     pub fn len(&self) -> usize
-        ensures { result ≡ length (pairs (items 59 self.now)) }
+        ensures { result ≡ length (pairs (items semicolon self.now)) }
     {
         self.iter().count()
     }
@@ -80,7 +80,7 @@ impl Header for Cookie {
 
     ghost writes = { written_by cookie_grammar };
 
-    ghost laws = { merged_laws 59 cookie_grammar.kept };
+    ghost laws = { merged_laws semicolon cookie_grammar.kept };
 
     fn name() -> HeaderName {
         COOKIE

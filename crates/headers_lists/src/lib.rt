@@ -17,6 +17,7 @@ pub use crate::te::Te;
 pub use crate::transfer_encoding::TransferEncoding;
 pub use crate::vary::Vary;
 pub use headers_conditions::{IfMatch, IfNoneMatch, if_match_of_own_tag, if_none_match_of_own_tag};
+pub use headers_core::{Comma, Error, Header, Items, Pairs, Refused};
 pub use headers_directives::{
     CacheControl, ReferrerPolicy, StrictTransportSecurity, equal_by_encoding,
 };

@@ -16,7 +16,7 @@ fn decoded<H: Header>(alloc: Global, lines: &[&str]) -> Result<H, Fail> {
     Ok(H::decode(alloc, &mut values.iter())?)
 }
 
-// A list whose one line is the byte E9 behind another line.
+// A list of two lines, of which the second is the byte E9.
 fn not_text<H: Header>(alloc: Global, first: &str) -> Result<H, Fail> {
     let mut values = Vec::new(alloc);
     values.push(HeaderValue::from_str(alloc, first)?)?;
@@ -62,7 +62,8 @@ fn accept_ranges(rt: HostRuntime) -> Result<(), Fail> {
         assert_eq!(rt; value == AcceptRanges::bytes(), bytes);
         assert_eq!(rt; value == AcceptRanges::none(), none);
     }
-    Ok(())
+    let copy = AcceptRanges::bytes().clone(rt.alloc())?;
+    prints(&rt, &copy, "bytes")
 }
 
 fn has(
@@ -111,18 +112,18 @@ fn connection_options(rt: HostRuntime) {
 
 // An iterator that hints at no number of items.
 #[derive(Drop)]
-struct Unhinted(std::vec::IntoIter<HeaderName>);
+struct Unhinted(std::vec::IntoIter<HeaderValue>);
 
 impl Iterator for Unhinted {
-    type Item = HeaderName;
+    type Item = HeaderValue;
 
-    ghost can_next = { λ s. ⟦<std::vec::IntoIter<HeaderName> as Iterator>⟧.can_next s.0 };
+    ghost can_next = { λ s. ⟦<std::vec::IntoIter<HeaderValue> as Iterator>⟧.can_next s.0 };
 
-    ghost next_gives = { λ s r t. ⟦<std::vec::IntoIter<HeaderName> as Iterator>⟧.next_gives s.0 r t.0 };
+    ghost next_gives = { λ s r t. ⟦<std::vec::IntoIter<HeaderValue> as Iterator>⟧.next_gives s.0 r t.0 };
 
-    ghost remaining = { λ s. ⟦<std::vec::IntoIter<HeaderName> as Iterator>⟧.remaining s.0 };
+    ghost remaining = { λ s. ⟦<std::vec::IntoIter<HeaderValue> as Iterator>⟧.remaining s.0 };
 
-    fn next(&mut self) -> Option<HeaderName> {
+    fn next(&mut self) -> Option<HeaderValue> {
         self.0.next()
     }
 
@@ -131,18 +132,37 @@ impl Iterator for Unhinted {
     }
 }
 
-fn names(alloc: Global, texts: &[&str]) -> Result<Unhinted, Fail> {
+fn vary_unhinted(
+    rt: &(impl Abort + AllocGlobal),
+    lines: &[&str],
+    wanted: &str,
+) -> Result<(), Fail> {
+    let mut values = Vec::new(rt.alloc());
+    for line in lines {
+        values.push(HeaderValue::from_str(rt.alloc(), line)?)?;
+    }
+    let vary = Vary::decode(rt.alloc(), &mut Unhinted(values.into_iter()))?;
+    prints(rt, &vary, wanted)
+}
+
+#[test]
+fn vary_of_unhinted_lines(rt: HostRuntime) -> Result<(), Fail> {
+    vary_unhinted(&rt, &["a", "b"], "a, b")?;
+    vary_unhinted(&rt, &[], "")
+}
+
+fn names(alloc: Global, texts: &[&str]) -> Result<std::vec::IntoIter<HeaderName>, Fail> {
     let mut names = Vec::new(alloc);
     for text in texts {
         names.push(HeaderName::from_bytes(alloc, text.as_bytes())?)?;
     }
-    Ok(Unhinted(names.into_iter()))
+    Ok(names.into_iter())
 }
 
 #[test]
 fn connection_of_names(rt: HostRuntime) -> Result<(), Fail> {
     let connection = Connection::from_iter(rt.alloc(), names(rt.alloc(), &["Close", "te"])?)?;
-    assert!(rt; connection.contains(&HOST) == false);
+    assert!(rt; !connection.contains(&HOST));
     let copy = connection.clone(rt.alloc())?;
     prints(&rt, &copy, "close, te")
 }

@@ -1,7 +1,7 @@
 //! The header `transfer-encoding`.
 ghost use Rattle.std.specs.Prelude.{◌≡◌, ◌↔◌, IsTrue, IfOk, codes};
 ghost use Rattle.std.specs.List.{after_last};
-ghost use Rattle.headers_core.specs.Places.{items, trim};
+ghost use Rattle.headers_core.specs.Places.{comma, items, trim};
 ghost use Rattle.headers_core.specs.Chunked.{IsChunked, is_comma};
 
 use headers_core::{AsHeaderValue, Comma, Error, FlatCsv, Header, Refused, trim};
@@ -54,9 +54,9 @@ impl TransferEncoding {
     }
 
     /// Whether the list ends in `chunked`: what follows the last comma of the last item, or the whole
-    /// item if it has none, is that word when trimmed.
+    /// item if it has none, is that word when trimmed. A value that isn't text isn't chunked.
     pub fn is_chunked(&self) -> bool
-        ensures { IsTrue result ↔ IsChunked (items 44 self.now) }
+        ensures { IsTrue result ↔ IsChunked (items comma self.now) }
     {
         match self.codings.as_text() {
             Some(text) => ends_in_chunked(text),
@@ -90,7 +90,7 @@ impl Header for TransferEncoding {
 
     ghost writes = { written_by transfer_encoding_grammar };
 
-    ghost laws = { merged_laws 44 transfer_encoding_grammar.kept };
+    ghost laws = { merged_laws comma transfer_encoding_grammar.kept };
 
     fn name() -> HeaderName {
         TRANSFER_ENCODING

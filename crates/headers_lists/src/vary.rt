@@ -1,7 +1,7 @@
 //! The header `vary`.
-ghost use Rattle.std.specs.Prelude.{◌≡◌, ◌↔◌, Contains, IsTrue, IfOk, codes};
+ghost use Rattle.std.specs.Prelude.{◌≡◌, ◌<◌, ◌^◌, ◌↔◌, length, Contains, IsTrue, IfOk, IsOkAnd, codes};
 ghost use Rattle.std.specs.Iterator.{IsFinite};
-ghost use Rattle.headers_core.specs.Places.{items};
+ghost use Rattle.headers_core.specs.Places.{comma, items};
 ghost use Rattle.headers_core.specs.ItemsState.{items_left, walk_over};
 ghost use Rattle.headers_core.specs.CutLaw.{MergesLines};
 
@@ -27,7 +27,7 @@ impl Model for Vary {
 }
 
 impl Vary {
-    /// More than fields of the request.
+    /// `*`: the response was chosen by more than fields of the request.
     pub fn any() -> Vary
         ensures { result ≡ codes "*" }
     {
@@ -38,21 +38,21 @@ impl Vary {
 
     /// One name.
     pub fn from_name(_alloc: Global, name: HeaderName) -> Result<Vary, AllocError>
-        ensures { IfOk result (λ vary. vary ≡ name) }
+        ensures { IsOkAnd result (λ vary. vary ≡ name) }
     {
         Ok(Vary {
             names: FlatCsv::from_value(HeaderValue::from_name(name)),
         })
     }
 
-    /// The names of an iterator, joined by commas; its size hint is not read.
+    /// The names of an iterator, joined by a comma and a space; its size hint is not read.
     pub fn from_iter<I: Iterator<Item = HeaderName> + Drop>(
         alloc: Global,
         names: I,
     ) -> Result<Vary, AllocError>
         requires can { I.can_next names }
         requires ends { IsFinite (I.remaining names) }
-        ensures { IfOk result (MergesLines I.next_gives names 44) }
+        ensures { IfOk result (MergesLines I.next_gives names comma) }
     {
         Ok(Vary {
             names: FlatCsv::from_names(alloc, names)?,
@@ -61,15 +61,16 @@ impl Vary {
 
     /// Whether some item is `*`.
     pub fn is_any(&self) -> bool
-        ensures { IsTrue result ↔ Contains (items 44 self.now) (codes "*") }
+        ensures { IsTrue result ↔ Contains (items comma self.now) (codes "*") }
     {
         self.names.iter().any(|item| item == "*")
     }
 
     /// The items, as slices of the value; a value that is no text has none.
     pub fn iter_strs(&self) -> Items<'_, Comma>
-        ensures items { items_left result ≡ items 44 self.now }
-        ensures fresh { result ≡ walk_over 44 self.now }
+        ensures items { items_left result ≡ items comma self.now }
+        ensures fresh { result ≡ walk_over comma self.now }
+        ensures count { length (items_left result) < 2 ^ 64 }
     {
         self.names.iter()
     }
@@ -100,7 +101,7 @@ impl Header for Vary {
 
     ghost writes = { written_by vary_grammar };
 
-    ghost laws = { merged_laws 44 vary_grammar.kept };
+    ghost laws = { merged_laws comma vary_grammar.kept };
 
     fn name() -> HeaderName {
         VARY

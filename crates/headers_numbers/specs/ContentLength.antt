@@ -5,15 +5,18 @@ use Rattle.headers_core.specs.Lines.{Line}
 use Rattle.headers_core.specs.Number.{number}
 use Rattle.headers_numbers.specs.declared.content_length.ContentLength.{ContentLength}
 
-abbrev pub length_same : ContentLength → ContentLength → Type 0
-length_same v w = v.0 ≡ w.0
+-- they are the same number
+abbrev pub content_length_same : ContentLength → ContentLength → Type 0
+content_length_same v w = v.0 ≡ w.0
 
 -- each line is text that writes this number, be it with a plus or with zeros before it
-abbrev pub AllNumber : ℕ → List Line → Type 0
-AllNumber n lines = AllByRecursion (λ line. number line ≡ Some n) lines
+abbrev pub AllWrite : ℕ → List Line → Type 0
+AllWrite n lines = AllByRecursion (λ line. number line ≡ Some n) lines
 
-abbrev pub length_reads : List Line → ContentLength → Type 0
-length_reads lines v = (0 < length lines) × AllNumber v.0 lines
+-- there is a line, and each writes the length
+abbrev pub content_length_reads : List Line → ContentLength → Type 0
+content_length_reads lines v = (0 < length lines) × AllWrite v.0 lines
 
-abbrev pub length_writes : ContentLength → List Line
-length_writes v = decimal v.0 ∷ []
+-- the length in decimal
+abbrev pub content_length_writes : ContentLength → List Line
+content_length_writes v = decimal v.0 ∷ []

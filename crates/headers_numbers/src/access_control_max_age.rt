@@ -7,7 +7,8 @@ use std::alloc::{AllocError, Global};
 use std::marker::Model;
 use std::time::Duration;
 
-/// How long the answer to a preflight request may be cached, in seconds below 2^64 (Fetch, section 3.3.3).
+/// How long the answer to a preflight request may be cached: the only line, a number of seconds below
+/// 2^64 (Fetch standard, section 3.3.3).
 #[derive(Clone, Debug, Drop, PartialEq, Eq, PartialOrd, Ord, Hash)]
 pub struct AccessControlMaxAge {
     seconds: Seconds,
@@ -24,7 +25,7 @@ impl Model for AccessControlMaxAge {
 }
 
 impl AccessControlMaxAge {
-    /// The seconds of a duration that has no part of one.
+    /// The seconds of a duration of whole seconds.
     pub fn from_duration(duration: Duration) -> AccessControlMaxAge
         requires { IsWholeSeconds duration }
         ensures { LastsSeconds duration result }

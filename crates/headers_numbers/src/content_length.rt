@@ -4,26 +4,27 @@ use headers_core::{AsHeaderValue, Error, Header, Refused, read_number};
 use http_header::{CONTENT_LENGTH, HeaderName, HeaderValue};
 use std::alloc::{AllocError, Global};
 
-/// The length of a body, in bytes, below 2^64 (RFC 9110, section 8.6).
+/// The length of a body, in bytes below 2^64: all lines, each the same number (RFC 9110, section
+/// 8.6).
 #[derive(Clone, Copy, Debug, PartialEq)]
 pub struct ContentLength(pub u64);
 
 impl Header for ContentLength {
     ghost use Rattle.std.specs.Prelude.{true, codes};
-    ghost use Rattle.headers_numbers.specs.ContentLength.{length_same, length_reads, length_writes};
-    ghost use Rattle.headers_numbers.specs.ContentLengthLaws.{length_laws};
+    ghost use Rattle.headers_numbers.specs.ContentLength.{content_length_same, content_length_reads, content_length_writes};
+    ghost use Rattle.headers_numbers.specs.ContentLengthLaws.{content_length_laws};
 
     ghost field_name = { codes "content-length" };
 
     ghost free = { true };
 
-    ghost same = { length_same };
+    ghost same = { content_length_same };
 
-    ghost reads = { length_reads };
+    ghost reads = { content_length_reads };
 
-    ghost writes = { length_writes };
+    ghost writes = { content_length_writes };
 
-    ghost laws = { length_laws };
+    ghost laws = { content_length_laws };
 
     fn name() -> HeaderName {
         CONTENT_LENGTH

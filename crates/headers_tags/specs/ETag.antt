@@ -1,4 +1,4 @@
--- The header `etag`: the only line is an entity tag.
+-- The header `etag` (RFC 9110, section 8.8.3): the only line is an entity tag.
 use Rattle.std.specs.Prelude.{◌≡◌, ⊤, List, ℕ, Result, Ok, Err}
 use Rattle.http_header.specs.FieldValue.{FieldValue, IsFieldValue, plain_value}
 use Rattle.headers_core.specs.EntityTag.{IsSomeTag}

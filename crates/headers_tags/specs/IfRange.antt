@@ -1,4 +1,4 @@
--- The header `if-range`: the first line is an entity tag or a date.
+-- The header `if-range` (RFC 9110, section 13.1.5): the first line is an entity tag, and else a date.
 use Rattle.headers_core.specs.HeaderLaws.{Grammar}
 use Rattle.headers_core.specs.Lines.{first_line}
 use Rattle.headers_core.specs.Shapes.{one_line}

@@ -1,5 +1,7 @@
 //! The header `etag`.
 ghost use Rattle.std.specs.Prelude.{◌≡◌, List, ℕ, IfOk, Some, codes};
+ghost use Rattle.http_header.specs.FieldValue.{IsFieldValue};
+ghost use Rattle.headers_core.specs.Answers.{IsInvalid};
 ghost use Rattle.headers_core.specs.EntityTag.{IsTag};
 ghost use Rattle.headers_tags.specs.ETag.{ReadsText};
 
@@ -25,11 +27,9 @@ impl Model for ETag {
     ghost inverse = { λ value. record { tag = value } };
 }
 
-/// The text is no entity tag.
+/// The text is no header value or no entity tag.
 #[derive(Clone, Copy, Debug, PartialEq, Eq)]
-pub struct InvalidETag {
-    _priv: (),
-}
+pub struct InvalidETag;
 
 impl fmt::Display for InvalidETag {
     ghost output = { λ _. Some (codes "InvalidETag") };
@@ -45,18 +45,19 @@ impl ETag {
     /// The tag that a text writes, which may have letters past ASCII. `InvalidETag` where the text is
     /// no header value or no entity tag.
     pub fn from_str(alloc: Global, text: &str) -> Result<ETag, Refused<InvalidETag>>
-        ensures { ReadsText text.now result }
+        ensures text { ReadsText text.now result }
+        ensures no_value { ¬ (IsFieldValue text.now) → IsInvalid result }
     {
         let value = match HeaderValue::from_str(alloc, text) {
             Ok(value) => value,
             Err(HeaderValueError::Invalid) => {
-                return Err(Refused::Invalid(InvalidETag { _priv: () }));
+                return Err(Refused::Invalid(InvalidETag));
             }
             Err(HeaderValueError::OutOfMemory) => return Err(Refused::Memory(AllocError)),
         };
         match EntityTag::from_owned(value) {
             Some(tag) => Ok(ETag { tag }),
-            None => Err(Refused::Invalid(InvalidETag { _priv: () })),
+            None => Err(Refused::Invalid(InvalidETag)),
         }
     }
 

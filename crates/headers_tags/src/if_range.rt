@@ -1,5 +1,6 @@
 //! The header `if-range`.
-ghost use Rattle.std.specs.Prelude.{◌≡◌, ◌↔◌, ◌<◌, IsTrue, IfOk, option_map};
+ghost use Rattle.std.specs.Prelude.{◌≡◌, ◌↔◌, IsTrue, IfOk, option_map};
+ghost use Rattle.headers_core.specs.Date.{IsDated};
 ghost use Rattle.headers_tags.specs.Validator.{Tag, Second, unmarked, validator, validator_line, IsModified};
 
 use crate::etag::{ETag, into_tag, tag_of};
@@ -49,7 +50,7 @@ impl IfRange {
     /// The representation that was last modified at that second, counted from the start of 1970, before
     /// the year 10000.
     pub fn date(secs: u64) -> IfRange
-        requires { secs < 253_402_300_800 }
+        requires { IsDated secs }
         ensures { result ≡ Second secs }
     {
         IfRange {

@@ -1,4 +1,4 @@
-use crate::{ETag, IfRange, into_tag, tag_of};
+use crate::{ETag, IfRange, InvalidETag, into_tag, tag_of};
 use headers_core::{Error, Header, Refused};
 use headers_dates::LastModified;
 use http_header::HeaderValue;
@@ -81,6 +81,7 @@ fn no_text(rt: HostRuntime) -> Result<(), Fail> {
     for text in ["\"a\"b\"", "", "\"a\nb\""] {
         match ETag::from_str(rt.alloc(), text) {
             Err(Refused::Invalid(refused)) => {
+                assert_eq!(rt; refused, InvalidETag);
                 assert_eq!(rt;
                     format!(in rt.alloc(); "{refused}")?.as_str(),
                     "InvalidETag"

@@ -24,4 +24,3 @@ pub use Rattle.headers_numbers.specs.ContentLength
 pub use Rattle.headers_tags.specs.ETag
 pub use Rattle.headers_tags.specs.IfRange
 pub use Rattle.headers_tags.specs.Validator
-pub use Rattle.headers_tags.specs.ValidatorView

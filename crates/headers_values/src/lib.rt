@@ -1,4 +1,5 @@
-//! Headers of one value: texts and words here, and whole the crates of dates, lines, numbers and tags.
+//! Headers of one value: texts and words here, and whole the crates of dates, lines, numbers and
+//! tags.
 #![tactic(auto)]
 
 mod access_control_allow_credentials;
@@ -14,6 +15,7 @@ pub use crate::referer::{InvalidReferer, Referer};
 pub use crate::sec_websocket_version::SecWebsocketVersion;
 pub use crate::server::{InvalidServer, Server};
 pub use crate::user_agent::{InvalidUserAgent, UserAgent};
+pub use headers_core::{Error, Header, Refused};
 pub use headers_dates::{
     Date, Expires, IfModifiedSince, IfUnmodifiedSince, LastModified, RetryAfter,
 };

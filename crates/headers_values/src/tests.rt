@@ -1,4 +1,8 @@
-ghost use Rattle.std.specs.Prelude.{◌≡◌, ◌↔◌, IsTrue};
+ghost use Rattle.std.specs.Prelude.{◌≡◌, ◌↔◌, IsTrue, fold};
+ghost use Rattle.std.specs.Cmp.Lexicographic.{slice_cmp};
+ghost use Rattle.std.specs.Hash as fed;
+ghost use Rattle.std.specs.Hash.DefaultHasher as sip;
+ghost use Rattle.std.specs.Ordering.{nat_cmp};
 
 use crate::{
     AccessControlAllowCredentials, Expect, InvalidReferer, InvalidServer, InvalidUserAgent,
@@ -7,7 +11,9 @@ use crate::{
 use headers_core::{Header, Refused, decode_values};
 use http_header::HeaderValue;
 use std::alloc::Global;
+use std::cmp::Ordering;
 use std::error::Error;
+use std::hash::{DefaultHasher, Hash, Hasher};
 use std::process::Abort;
 use std::test::Fail;
 
@@ -169,19 +175,50 @@ fn clones(rt: HostRuntime) -> Result<(), Fail> {
     Ok(())
 }
 
+// Order goes by the bytes, and so does the hash.
+fn order(one: &Server, other: &Server) -> Ordering
+    ensures { result ≡ slice_cmp nat_cmp one.now.bytes other.now.bytes }
+{
+    one.cmp(other)
+}
+
+fn hash_of(server: &Server) -> u64
+    ensures { result ≡ sip.finish (fold sip.write sip.initial (fed.slice fed.u8 server.now.bytes)) }
+{
+    let mut state = DefaultHasher::new();
+    server.hash(&mut state);
+    state.finish()
+}
+
 #[test]
 fn order_of_bytes(rt: HostRuntime) {
+    let server = Server::from_static("a");
+    assert_eq!(rt; order(&server, &Server::from_static("b")), Ordering::Less);
+    assert_eq!(rt; hash_of(&server), hash_of(&Server::from_static("a")));
     assert!(rt; Server::from_static("Z") < Server::from_static("a"));
     assert!(rt; UserAgent::from_static("a") < UserAgent::from_static("a "));
 }
 
-#[test]
-fn sensitive_marks(rt: HostRuntime) -> Result<(), Fail> {
+fn marked<H: Header>(alloc: Global) -> Result<H, Fail> {
     let mut secret = HeaderValue::from_static("a");
     secret.set_sensitive(true);
-    let agent: UserAgent = decode_values(rt.alloc(), &[secret])?;
+    Ok(decode_values(alloc, &[secret])?)
+}
+
+fn writes_the_mark<H: Header>(rt: &(impl Abort + AllocGlobal), header: &H) -> Result<(), Fail> {
     let mut values = Vec::new(rt.alloc());
-    agent.clone(rt.alloc())?.encode(rt.alloc(), &mut values)?;
-    assert!(rt; values.iter().all(|value| value.is_sensitive()));
+    header.encode(rt.alloc(), &mut values)?;
+    assert_eq!(rt; values.len(), 1);
+    assert!(rt; values[0].is_sensitive());
     Ok(())
+}
+
+#[test]
+fn sensitive_marks(rt: HostRuntime) -> Result<(), Fail> {
+    let referer: Referer = marked(rt.alloc())?;
+    writes_the_mark(&rt, &referer)?;
+    let server: Server = marked(rt.alloc())?;
+    writes_the_mark(&rt, &server)?;
+    let agent: UserAgent = marked(rt.alloc())?;
+    writes_the_mark(&rt, &agent.clone(rt.alloc())?)
 }

@@ -3,9 +3,11 @@ ghost use Rattle.std.specs.Prelude.{◌≡◌, ◌↔◌, Some, codes, IsTrue, I
 ghost use Rattle.std.specs.Fmt.{padded};
 ghost use Rattle.http_header.specs.FieldValue.{IsFieldValue, plain_value};
 ghost use Rattle.headers_core.specs.Places.{is_text};
-ghost use Rattle.headers_core.specs.ValueString.{IsInvalid};
+ghost use Rattle.headers_core.specs.Answers.{IsInvalid};
 
-use headers_core::{AsHeaderValue, Error, Header, HeaderValueString, Refused, just_one};
+use headers_core::{
+    AsHeaderValue, Error, Header, HeaderValueString, Refused, just_one, push_clone,
+};
 use http_header::{HeaderName, HeaderValue, USER_AGENT};
 use std::alloc::{AllocError, Global};
 use std::fmt;
@@ -55,10 +57,11 @@ impl UserAgent {
         }
     }
 
-    /// The user agent of text that a header value may be, which may also hold characters past ASCII. A
-    /// text with a control other than tab is refused (RFC 9110, section 5.5).
+    /// The user agent of text that a header value may be, which may also hold characters past ASCII.
+    /// A text with a control other than tab is refused (RFC 9110, section 5.5).
     pub fn from_str(alloc: Global, text: &str) -> Result<UserAgent, Refused<InvalidUserAgent>>
         ensures ok { IfOk result (λ header. header ≡ plain_value text.now) }
+        ensures valid { IfOk result (λ _. IsFieldValue text.now) }
         ensures invalid { IsInvalid result ↔ ¬ (IsFieldValue text.now) }
     {
         match HeaderValueString::from_str(alloc, text) {
@@ -128,8 +131,6 @@ impl Header for UserAgent {
     }
 
     fn encode(&self, _alloc: Global, values: &mut Vec<HeaderValue>) -> Result<(), AllocError> {
-        let value = self.text.as_value().clone()?;
-        values.push(value)?;
-        Ok(())
+        push_clone(values, self.text.as_value())
     }
 }

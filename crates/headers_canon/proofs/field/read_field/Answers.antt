@@ -5,7 +5,8 @@ use Rattle.http_header.specs.declared.value.HeaderValueError.{HeaderValueError}
 use Rattle.http_header.specs.Token.{lowercase}
 use Rattle.http_header.specs.FieldValue.{FieldValue, IsFieldValue, plain_value}
 use Rattle.headers_core.specs.Places.{trim}
-use Rattle.headers_canon.proofs.FieldLemmas.{IsFieldValue-from_kept, IsFieldName-from_kept, IsNoField-without_colon, parts_of_field, IsField-from_parts}
+use Rattle.headers_core.proofs.TextLemmas.{IsFieldValue-from_kept}
+use Rattle.headers_canon.proofs.FieldLemmas.{IsFieldName-from_kept, IsNoField-without_colon, parts_of_field, IsField-from_parts}
 use Rattle.headers_canon.proofs.field.read_field.Goals as goal
 
 pub returns-in_default-clause-none : goal.returns-in_default-clause-none

@@ -6,11 +6,11 @@ use Rattle.headers_core.proofs.WalkLemmas.{walk_over-no_text}
 use Rattle.headers_core.proofs.flat_csv.text_items.Goals as goal
 
 pub new-requires : goal.new-requires
-new-requires g c = ap is_text c.in-Some.ensures.1 ∙ c.in-Some.ensures.0
+new-requires g c = ap is_text c.in-Some.ensures.cases.1 ∙ c.in-Some.ensures.cases.0
 
 pub returns-in-None-clause-items : goal.returns-in-None-clause-items
 returns-in-None-clause-items g c =
-    ap items_left c.none.ensures ∙ sym (items-no_text g.S.Separator.BYTE c.args.value.now.bytes c.in-None.ensures)
+    ap items_left c.none.ensures ∙ sym (items-no_text g.S.Separator.BYTE c.args.value.now.bytes c.in-None.ensures.cases)
 
 pub returns-in-None-clause-fresh : goal.returns-in-None-clause-fresh
-returns-in-None-clause-fresh g c = c.none.ensures ∙ sym (walk_over-no_text g.S.Separator.BYTE c.args.value.now.bytes c.in-None.ensures)
+returns-in-None-clause-fresh g c = c.none.ensures ∙ sym (walk_over-no_text g.S.Separator.BYTE c.args.value.now.bytes c.in-None.ensures.cases)

@@ -4,7 +4,6 @@ use Rattle.headers_core.specs.Pairs.{pair_of, has_pair, pairs, pairs_left}
 use Rattle.headers_core.proofs.PassingLemmas.{PassesUnwanted-more}
 use Rattle.headers_core.proofs.pairs.next_pair.Goals as goal
 
--- src/pairs.rt:52:5
 pub loop-item-preserved : goal.loop-item-preserved
 loop-item-preserved c =
     let none : None ≡ pair_of c.in-Some.item.now = c.in_default-halves.ensures in

@@ -1,4 +1,4 @@
-use Rattle.headers_core.specs.Given.{Told}
+use Rattle.headers_core.proofs.GivenLemmas.{Told}
 use Rattle.headers_directives.proofs.LineLemmas.{DirectSoFar}
 use Rattle.headers_directives.proofs.cache_control.CacheControlHeader.decode.Given as goal
 

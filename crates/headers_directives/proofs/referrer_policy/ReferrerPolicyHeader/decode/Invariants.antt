@@ -1,6 +1,6 @@
 use Rattle.std.proofs.Common.{◌≡◌, None}
 use Rattle.std.specs.List.{last_or}
-use Rattle.headers_core.specs.Given.{Told}
+use Rattle.headers_core.proofs.GivenLemmas.{Told}
 use Rattle.headers_directives.specs.ReferrerPolicy.{policies}
 use Rattle.headers_directives.proofs.referrer_policy.ReferrerPolicyHeader.decode.Given as goal
 

@@ -2,7 +2,7 @@ use Rattle.std.proofs.Common.{◌≡◌, List, [], ◌∷◌, ◌++◌, ◌∙�
 use Rattle.std.proofs.lemmas.Result.{err_from_is_err_and}
 use Rattle.http_header.specs.FieldValue.{FieldValue}
 use Rattle.headers_core.specs.Lines.{Line, lines_of}
-use Rattle.headers_core.proofs.CutAtLemmas.{value_bytes_push}
+use Rattle.headers_core.proofs.CutAtLemmas.{lines_of_push}
 use Rattle.headers_core.proofs.GivenLemmas.{Given-told_some, Told-more}
 use Rattle.headers_lines.proofs.set_cookie.SetCookieHeader.decode.Goals as goal
 
@@ -22,6 +22,6 @@ loop-line-preserved g c =
           Told-more g.I.Item.AsHeaderValue.shown g.I.Iterator.next_gives _ _ _ _ (λ lines. lines_of c.loop-line.lines.items ≡ lines) _
           c.loop-line.invariant.told c.in-Some.ensures.steps
           (λ lines e.
-          value_bytes_push _ _ _ _ c.in_ok-push_clone.ensures.ok (ap (λ (v : FieldValue). v.bytes) c.as_header_value.ensures)
+          lines_of_push _ _ _ _ c.in_ok-push_clone.ensures.ok (ap (λ (v : FieldValue). v.bytes) c.as_header_value.ensures)
           ∙ ap (λ (ls : List Line). ls ++ (g.I.Item.AsHeaderValue.shown c.in-Some.line).bytes ∷ []) e);
     }

@@ -1,6 +1,6 @@
 use Rattle.std.proofs.Common.{◌≡◌}
 use Rattle.headers_core.specs.Lines.{lines_of}
-use Rattle.headers_core.specs.Given.{Told}
+use Rattle.headers_core.proofs.GivenLemmas.{Told}
 use Rattle.headers_lines.proofs.set_cookie.SetCookieHeader.decode.Given as goal
 
 abbrev pub invariant-loop-line : goal.invariant-loop-line

@@ -1,4 +1,4 @@
-use Rattle.headers_core.specs.Given.{Told}
+use Rattle.headers_core.proofs.GivenLemmas.{Told}
 use Rattle.headers_numbers.proofs.ContentLengthLemmas.{NumberSoFar}
 use Rattle.headers_numbers.proofs.content_length.ContentLengthHeader.decode.Given as goal
 
