@@ -39,7 +39,7 @@ IsFieldName-from_kept bytes kept =
     ]
 
 -- a colon is no byte of a name
-colon_is_no_token : is_token_byte 58 ≡ false
+pub colon_is_no_token : is_token_byte 58 ≡ false
 unfolding is_token_byte
 colon_is_no_token = refl
 

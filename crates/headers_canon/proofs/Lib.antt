@@ -1,5 +1,7 @@
 pub mod BlockLemmas
 pub mod FieldLemmas
 pub mod NameLemmas
+pub mod RoomLemmas
+pub mod RunLemmas
 pub mod SectionLemmas
 pub mod TypedLemmas

@@ -1,6 +1,7 @@
 //! A run of the program over a reader and a writer.
-ghost use Rattle.std.specs.Prelude.{◌≡◌, ◌⊎◌, Ok, Err, true, false};
+ghost use Rattle.std.specs.Prelude.{◌≡◌, ◌⊎◌, Ok, Err, IfSome, true, false};
 ghost use Rattle.std.specs.Io.KnownBytes.{Keeps};
+ghost use Rattle.headers_canon.specs.Section.{HasTooManyFields};
 ghost use Rattle.headers_canon.specs.Answer.{WroteText, BeganText, HasBadLine, HasNoRoom};
 
 use crate::input::read_input;
@@ -23,6 +24,8 @@ pub fn run<R: Read, W: Write>(
         (W.contents writer.old) (W.contents writer.new) false }
     ensures some_refused { result ≡ Ok Outcome.SomeRefused → WroteText (R.remaining reader.old)
         (R.remaining reader.new) (W.contents writer.old) (W.contents writer.new) true }
+    ensures fits { (result ≡ Ok Outcome.Clean) ⊎ (result ≡ Ok Outcome.SomeRefused)
+        → IfSome (R.remaining reader.old) (λ input. ¬ (HasTooManyFields input)) }
     ensures not_a_field { result ≡ Ok Outcome.NotAField → HasBadLine (R.remaining reader.old)
         (R.remaining reader.new) }
     ensures room { result ≡ Err RunError.Room → HasNoRoom (R.remaining reader.old)

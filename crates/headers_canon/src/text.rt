@@ -24,6 +24,7 @@ pub struct CanonicalText {
 fn collect_fields(alloc: Global, fields: &[Field]) -> Result<(HeaderMap, Vec<HeaderName>), RunError>
     ensures held { IfOk result (λ all. all.0 ≡ append_all [] fields.now) }
     ensures order { IfOk result (λ all. all.1.items ≡ first_appearances (names fields.now)) }
+    ensures fits { IfOk result (λ _. ¬ (FillsMap fields.now)) }
     ensures room { result ≡ Err RunError.Room → FillsMap fields.now }
     ensures never_io { result ≢ Err RunError.Io }
 {
@@ -157,6 +158,7 @@ fn print_blocks(
 // The canonical text of the fields.
 fn print_fields(alloc: Global, fields: &[Field]) -> Result<CanonicalText, RunError>
     ensures text { IfOk result (λ text. IsTextOf fields.now text.bytes.items text.some_refused) }
+    ensures fits { IfOk result (λ _. ¬ (FillsMap fields.now)) }
     ensures room { result ≡ Err RunError.Room → FillsMap fields.now }
     ensures never_io { result ≢ Err RunError.Io }
 {
@@ -169,6 +171,7 @@ fn print_fields(alloc: Global, fields: &[Field]) -> Result<CanonicalText, RunErr
 pub fn canonical_text(alloc: Global, input: &[u8]) -> Result<Option<CanonicalText>, RunError>
     ensures text { IfOk result (λ found. IfSome found
         (λ text. IsCanonicalText input.now text.bytes.items text.some_refused)) }
+    ensures fits { IfOk result (λ found. IfSome found (λ _. ¬ (HasTooManyFields input.now))) }
     ensures no_field { IfOk result (λ found. IfNone found (HasNoField (section input.now))) }
     ensures room { result ≡ Err RunError.Room
         → HasTooManyFields input.now }

@@ -6,6 +6,7 @@ use Rattle.headers_canon.specs.MapErrors.{run_error_of}
 use Rattle.http_header.specs.FieldValue.{FieldValue}
 use Rattle.http_header.specs.HeaderMap.{Entries, append, append_all, keys}
 use Rattle.headers_canon.proofs.NameLemmas.{keys-append, with_name, with_name-found, with_name-new, append_all-push, fields_more, names_more, FillsMap-from_refusal, full_from_room, never_io}
+use Rattle.headers_canon.proofs.RoomLemmas.{fits_more}
 use Rattle.headers_canon.proofs.text.collect_fields.Goals as goal
 use Rattle.headers_canon.proofs.text.collect_fields.Goals.{then-not-found+in_ok-clone-2+in_ok-push, else-not-found}
 
@@ -50,4 +51,5 @@ loop-name-preserved c =
           ∙ ap (append_all []) (sym (fields_more fields i c.loop-name-item.result c.loop-name-test.true c.loop-name-item.is));
       order = more ∙ ap (λ (ns : List (List ℕ)). with_name ns name) kept.order ∙ sym (names_more fields i c.loop-name-item.result c.loop-name-test.true c.loop-name-item.is);
       same = more ∙ ap (λ (ns : List (List ℕ)). with_name ns name) kept.same ∙ sym (keys-append c.loop-name.map name c.in_ok-clone.field-0) ∙ ap (λ (m : Entries FieldValue). keys m) (sym c.in_ok-found.ensures.ok);
+      fits = fits_more fields i c.loop-name-item.result c.loop-name.map c.loop-name-test.true c.loop-name-item.is kept.held (λ refused. let none = c.in_ok-found.ensures.full.1 refused in absurd (cc none)) kept.fits;
     }
