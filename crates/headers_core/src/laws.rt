@@ -1,16 +1,17 @@
 //! What follows for every header from the laws of `Header` alone.
 ghost use Rattle.std.specs.Prelude.{◌≡◌, ◌↔◌, List, IsTrue};
-ghost use Rattle.headers_core.specs.Lines.{Line, lines_of};
-ghost use Rattle.headers_core.specs.Answers.{Answers, NeverMemory};
+ghost use Rattle.headers_syntax.specs.Lines.{Line, lines_of};
+ghost use Rattle.headers_syntax.specs.DecodesTo.{DecodesTo};
+ghost use Rattle.headers_syntax.specs.Refusal.{NeverMemory};
 
-use crate::error::{Error, Refused};
 use crate::header::Header;
+use headers_syntax::{Error, Refused};
 use http_header::HeaderValue;
 use std::alloc::Global;
 
-/// The value that the lines of some values read; `Invalid` where they read none.
+/// The value that the lines of some values read; `Invalid` if they read none.
 pub fn decode_values<H: Header>(alloc: Global, values: &[HeaderValue]) -> Result<H, Refused<Error>>
-    ensures value { Answers H.reads (lines_of values.now) result }
+    ensures value { DecodesTo H.reads (lines_of values.now) result }
     ensures memory { IsTrue H.free → NeverMemory result }
 {
     H::decode(alloc, &mut values.iter())

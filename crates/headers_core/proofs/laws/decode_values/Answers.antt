@@ -1,11 +1,11 @@
 use Rattle.std.proofs.Common.{List, subst}
 use Rattle.http_header.specs.FieldValue.{FieldValue}
-use Rattle.headers_core.specs.Lines.{lines_of}
-use Rattle.headers_core.specs.Answers.{Answers}
-use Rattle.headers_core.proofs.GivenLemmas.{Given-slice}
+use Rattle.headers_syntax.specs.Lines.{lines_of}
+use Rattle.headers_syntax.specs.DecodesTo.{DecodesTo}
+use Rattle.headers_syntax.proofs.OfLinesLemmas.{OfLines-slice}
 use Rattle.headers_core.proofs.laws.decode_values.Goals as goal
 
 pub returns-clause-value : goal.returns-clause-value
 returns-clause-value g c =
-    subst (λ (vs : List FieldValue). Answers g.H.Header.reads (lines_of vs) c.decode.result) c.iter.ensures.rest
-    (Given-slice c.iter.result c.decode.new.values _ c.decode.ensures.value)
+    subst (λ (vs : List FieldValue). DecodesTo g.H.Header.reads (lines_of vs) c.decode.result) c.iter.ensures.rest
+    (OfLines-slice c.iter.result c.decode.new.values _ c.decode.ensures.value)

@@ -1,3 +1,0 @@
-mod rows;
-mod streams;
-mod values;

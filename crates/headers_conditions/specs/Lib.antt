@@ -1,3 +1,0 @@
-pub mod Condition
-pub mod IfMatch
-pub mod IfNoneMatch

@@ -1,6 +1,0 @@
-use Rattle.std.proofs.Common.{arith}
-use Rattle.headers_core.proofs.ItemsLemmas.{items_from-le}
-use Rattle.headers_core.proofs.items.Items.new.Goals as goal
-
-pub returns-clause-count : goal.returns-clause-count
-returns-clause-count g c = omega (arith, items_from-le g.S.Separator.BYTE c.args.text.now 0)

@@ -1,7 +1,0 @@
-use Rattle.std.proofs.Common.{arith}
-use Rattle.headers_core.specs.ItemsState.{items_left}
-use Rattle.headers_core.proofs.PairLemmas.{length-pairs}
-use Rattle.headers_core.proofs.pairs.Pairs.new.Goals as goal
-
-pub returns-clause-count : goal.returns-clause-count
-returns-clause-count c = let few = c.iter.ensures.count in omega (arith, length-pairs (items_left c.iter.result))

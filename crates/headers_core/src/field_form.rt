@@ -1,0 +1,44 @@
+//! What headers keep of the lines of a field.
+ghost use Rattle.std.specs.Prelude.{◌≡◌, Bool, IsTrue, OnOk, OnErr};
+ghost use Rattle.std.specs.Iterator.{IsFinite};
+ghost use Rattle.headers_syntax.specs.Lines.{Appends};
+ghost use Rattle.headers_syntax.specs.OfLines.{OfLines};
+ghost use Rattle.headers_syntax.specs.DecodesTo.{DecodesTo};
+ghost use Rattle.headers_syntax.specs.Refusal.{NeverMemory};
+ghost use Rattle.headers_syntax.specs.HeaderLaws.{Grammar, ReadsBy, written_by, ReadsBack};
+
+use headers_syntax::{AsHeaderValue, Error, Refused};
+use http_header::HeaderValue;
+use std::alloc::{AllocError, Global};
+
+/// What is kept of the lines of a field, whatever its name: how it is read and how it is written.
+pub trait FieldForm: Drop {
+    // Whether `read_lines` never answers for want of memory.
+    ghost free: { Bool };
+
+    // What a value is, once its representation is set aside.
+    ghost Kept: { Type 0 };
+
+    // Which value the lines of a field read, if any, and which lines are written of a value.
+    ghost grammar: { Grammar Self Kept };
+
+    /// The value that the lines read: `Invalid` if they read none, `Memory` if the allocator had
+    /// none.
+    fn read_lines<I: Iterator>(alloc: Global, lines: &mut I) -> Result<Self, Refused<Error>>
+    where
+        I::Item: AsHeaderValue,
+        requires can { I.can_next lines.old }
+        requires ends { IsFinite (I.remaining lines.old) }
+        ensures value { OfLines I.Item.shown I.next_gives lines.old lines.new
+            (λ ls. DecodesTo (ReadsBy grammar) ls result) }
+        ensures memory { IsTrue free → NeverMemory result };
+
+    /// Appends the lines that are written of the value. If the call is refused, the list is as it
+    /// was.
+    fn write_lines(&self, alloc: Global, values: &mut Vec<HeaderValue>) -> Result<(), AllocError>
+        ensures ok { OnOk result (Appends values.old.items values.new.items (written_by grammar self.now)) }
+        ensures err { OnErr result (values.new.items ≡ values.old.items) };
+
+    // What is written of a value that lines read, reads as that value.
+    ghost reads_back: { ReadsBack grammar };
+}

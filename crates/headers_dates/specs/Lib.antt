@@ -1,9 +1,0 @@
-pub mod Date
-pub mod Expires
-pub mod IfModifiedSince
-pub mod IfUnmodifiedSince
-pub mod LastModified
-pub mod RetryAfter
-pub mod RetryAfterLaws
-pub mod RetryTime
-pub mod RetryView

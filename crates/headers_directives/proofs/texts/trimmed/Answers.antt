@@ -1,8 +1,0 @@
-use Rattle.std.proofs.Common.{[], ◌∷◌}
-use Rattle.headers_core.specs.Places.{is_blank}
-use Rattle.headers_directives.proofs.StripLemmas.{strip_set, blank_ascii, is_blank_set}
-use Rattle.headers_directives.proofs.texts.trimmed.Goals as goal
-
-pub returns : goal.returns
-returns c =
-    strip_set is_blank (9 ∷ 32 ∷ []) blank_ascii is_blank_set _ _ _ c.trim_start_matches.ensures.matches c.trim_end_matches.ensures.matches

@@ -1,0 +1,11 @@
+pub mod CutAtLemmas
+pub mod CutLemmas
+pub mod ItemsLemmas
+pub mod JoinedLemmas
+pub mod JumpLemmas
+pub mod MarkLemmas
+pub mod MergeLemmas
+pub mod PairLemmas
+pub mod PassingLemmas
+pub mod PlacesLemmas
+pub mod WalkLemmas

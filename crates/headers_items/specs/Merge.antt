@@ -1,0 +1,19 @@
+-- Lines of a field as one value.
+use Rattle.std.specs.Prelude.{ℕ, List, [], ◌∷◌, ◌++◌, Some}
+use Rattle.headers_syntax.specs.Lines.{Line}
+use Rattle.headers_syntax.specs.HeaderLaws.{Grammar}
+
+-- the lines, joined by the separator and one space
+abbrev pub merge : ℕ → List (List ℕ) → List ℕ
+merge sep [] = []
+merge sep (x ∷ []) = x
+merge sep (x ∷ y ∷ ys) = x ++ (sep ∷ 32 ∷ merge sep (y ∷ ys))
+
+-- the lines joined by a separator and a space, kept and written; it never refuses
+abbrev pub merged : {V : Type 0} → ℕ → (V → Line) → Grammar V Line
+merged separator kept =
+    record {
+      kept = kept;
+      value_of = λ lines. Some (merge separator lines);
+      lines_of_value = λ line. line ∷ [];
+    }

@@ -1,0 +1,46 @@
+-- The pairs of a list, as the cookies of a request are (RFC 6265, section 4.2.1).
+use Rattle.std.specs.Prelude.{◌≡◌, ℕ, ◌+◌, Bool, List, take, drop, find, position, ◌==◌, Option, Some, is_some, option_map, bytes_eq}
+use Rattle.std.specs.List.{filter_map}
+use denote.Ref.{Bor}
+use Rattle.headers_syntax.specs.Text.{trim}
+use Rattle.headers_items.specs.ItemsState.{ItemsState, items_left, ScansWanted}
+
+-- a name and its value
+abbrev pub Pair : Type 0
+Pair = List ℕ × List ℕ
+
+-- b'='
+abbrev pub is_equals : ℕ → Bool
+is_equals b = b == 61
+
+-- the trimmed halves of an item round one of its places
+abbrev pub halves_at : List ℕ → ℕ → Pair
+halves_at item place = (trim (take place item), trim (drop (place + 1) item))
+
+-- the trimmed halves round the first `=`, where there is one
+unfoldable pub pair_of : List ℕ → Option Pair
+pair_of item = option_map (halves_at item) (position is_equals item)
+
+-- an item that has a `=`
+abbrev pub has_pair : List ℕ → Bool
+has_pair item = is_some (pair_of item)
+
+-- the pairs of the items that have a `=`, in order
+abbrev pub pairs : List (List ℕ) → List Pair
+pairs items = filter_map pair_of items
+
+-- the value of the first pair of that name
+abbrev pub first_value : List ℕ → List Pair → Option (List ℕ)
+first_value name all = option_map (λ (pair : Pair). pair.1) (find (λ (pair : Pair). bytes_eq pair.0 name) all)
+
+-- the pairs that are left
+abbrev pub pairs_left : ItemsState → List Pair
+pairs_left s = pairs (items_left s)
+
+-- what a pair of texts reads
+abbrev pub pair_shown : Bor (List ℕ) × Bor (List ℕ) → Pair
+pair_shown pair = (pair.0.now, pair.1.now)
+
+-- a call of a walk over pairs
+abbrev pub ScansPair : ItemsState → Option (Bor (List ℕ) × Bor (List ℕ)) → ItemsState → Type 0
+ScansPair = ScansWanted has_pair (λ pair item. pair_of item ≡ Some (pair_shown pair))

@@ -1,0 +1,75 @@
+//! The entries of one line.
+ghost use Rattle.std.specs.Prelude.{◌≡◌, ◌+◌, ◌≤◌};
+ghost use Rattle.std.specs.Iterator.{YieldsFirstBy, item_count};
+ghost use Rattle.headers_items.specs.Places.{comma, marks};
+ghost use Rattle.headers_items.specs.Entries.{line_entries};
+ghost use Rattle.headers_items.specs.ItemsState.{entries_left, walk_over, ScansEntry};
+
+use crate::flat_csv::text_items;
+use crate::items::Items;
+use crate::separator::Comma;
+use http_header::HeaderValue;
+use std::marker::Model;
+
+/// The entries of one line: its items by comma that are not empty, each a slice of the line. A line
+/// that is no text has none (RFC 9110, section 5.6.1.2).
+#[derive(Drop)]
+pub struct Entries<'a> {
+    items: Items<'a, Comma>,
+}
+
+impl<'a> Model for Entries<'a> {
+    ghost use Rattle.headers_items.specs.ItemsState.{ItemsState};
+
+    ghost Value = { ItemsState };
+
+    ghost view = { λ e. e.items };
+}
+
+// The next item that is not empty.
+fn next_entry<'a>(items: &mut Items<'a, Comma>) -> Option<&'a str>
+    ensures steps { YieldsFirstBy (λ item. item.now) entries_left items.old result items.new }
+    ensures scanned { ScansEntry items.old result items.new }
+    ensures bound { items.new.searches ≤ marks items.new.separator items.new.text + 1 }
+{
+    while let Some(item) = items.next() {
+        if !item.is_empty() {
+            return Some(item);
+        }
+    }
+    None
+}
+
+impl<'a> Entries<'a> {
+    /// The entries of a line, from the first on.
+    pub fn new(line: &'a HeaderValue) -> Entries<'a>
+        ensures entries { entries_left result ≡ line_entries line.now.bytes }
+        ensures fresh { result ≡ walk_over comma line.now.bytes }
+    {
+        Entries {
+            items: text_items(line),
+        }
+    }
+
+    /// The next entry, if one is left. The scan stands just past its piece, or at the end of the line
+    /// where no separator ends it or none was left.
+    pub fn next(&mut self) -> Option<&'a str>
+        ensures steps { YieldsFirstBy (λ item. item.now) entries_left self.old result self.new }
+        ensures scanned { ScansEntry self.old result self.new }
+        ensures bound { self.new.searches ≤ marks self.new.separator self.new.text + 1 }
+    {
+        next_entry(&mut self.items)
+    }
+}
+
+impl<'a> Iterator for Entries<'a> {
+    type Item = &'a str;
+
+    ghost next_gives = { YieldsFirstBy (λ item. item.now) entries_left };
+
+    ghost remaining = { item_count entries_left };
+
+    fn next(&mut self) -> Option<&'a str> {
+        self.next()
+    }
+}

@@ -1,0 +1,227 @@
+//! The lines of a list field, kept as one value.
+ghost use Rattle.std.specs.Prelude.{◌≡◌, ◌≤◌, ◌<◌, ◌^◌, length, ◌∷◌, ◌++◌, true, false, IfOk, OnOk, IsTrue, MatchOption};
+ghost use Rattle.std.specs.Iterator.{IsFinite};
+ghost use Rattle.headers_syntax.specs.OfLines.{OfLines};
+ghost use Rattle.headers_syntax.specs.Text.{is_text};
+ghost use Rattle.headers_items.specs.Places.{items, pieces};
+ghost use Rattle.headers_items.specs.ItemsState.{items_left, walk_over};
+ghost use Rattle.std.specs.List.{slice_range};
+ghost use Rattle.http_header.specs.FieldValue.{IsFieldValue};
+ghost use Rattle.headers_items.specs.CutLaw.{IsMerged, MergesItems, MergesLines, AreCuts};
+ghost use Rattle.headers_syntax.specs.Lines.{lines_of};
+ghost use Rattle.headers_items.specs.Merge.{merge};
+
+use crate::items::Items;
+use crate::separator::Separator;
+use bytes::{Bytes, BytesMut};
+use headers_syntax::{AsHeaderValue, read_text};
+use http_header::{HeaderName, HeaderValue};
+use std::alloc::{AllocError, Global};
+use std::fmt;
+use std::marker::{Model, PhantomData};
+
+/// The lines of a list field, joined by the separator and one space (RFC 9110, section 5.3; of
+/// cookies RFC 9113, section 8.2.3).
+///
+/// A contract sees its bytes.
+#[derive(Drop)]
+pub struct FlatCsv<S: Separator> {
+    value: HeaderValue,
+    of: PhantomData<S>,
+}
+
+impl<S: Separator> Model for FlatCsv<S> {
+    ghost use Rattle.std.specs.Prelude.{List, ℕ};
+
+    ghost Value = { List ℕ };
+
+    ghost view = { λ c. c.value.bytes };
+}
+
+// Adds a line behind the others.
+fn append(buffer: &mut BytesMut, separator: u8, line: &HeaderValue) -> Result<(), AllocError>
+    ensures items { OnOk result (buffer.new.items ≡ buffer.old.items ++ separator ∷ 32 ∷ line.now.bytes) }
+    ensures valid { OnOk result (IsFieldValue line.now.bytes) }
+{
+    buffer.extend_from_slice(&[separator, b' '])?;
+    buffer.extend_from_slice(line.as_bytes())
+}
+
+// A part of a value.
+fn copy_of(alloc: Global, bytes: &[u8], start: usize, end: usize) -> Result<HeaderValue, AllocError>
+    requires valid { IsFieldValue bytes.now }
+    requires order { start ≤ end }
+    requires within { end ≤ length bytes.now }
+    ensures { IfOk result (λ v. v.bytes ≡ slice_range bytes.now start end) }
+{
+    Ok(HeaderValue::from_known_valid(Bytes::copy_from_slice(alloc, &bytes[start..end])?))
+}
+
+// The items of a value that is text, and else none.
+pub(crate) fn text_items<S: Separator>(value: &HeaderValue) -> Items<'_, S>
+    ensures items { items_left result ≡ items S.BYTE value.now.bytes }
+    ensures fresh { result ≡ walk_over S.BYTE value.now.bytes }
+    ensures count { length (items_left result) < 2 ^ 64 }
+{
+    match read_text(value) {
+        Some(text) => Items::new(text),
+        None => Items::none(),
+    }
+}
+
+impl<S: Separator> FlatCsv<S> {
+    /// One value as it is.
+    pub fn from_value(value: HeaderValue) -> FlatCsv<S>
+        ensures { result ≡ value.bytes }
+    {
+        FlatCsv {
+            value,
+            of: PhantomData,
+        }
+    }
+
+    /// The lines in one value; no line gives the empty value, and one line is itself. No size hint is
+    /// read. Where all are text and each but the last has an even number of quotes, the value has the
+    /// items of the lines.
+    pub fn from_lines<I: Iterator>(alloc: Global, lines: &mut I) -> Result<FlatCsv<S>, AllocError>
+    where
+        I::Item: AsHeaderValue,
+        requires can { I.can_next lines.old }
+        requires ends { IsFinite (I.remaining lines.old) }
+        ensures { OfLines I.Item.shown I.next_gives lines.old lines.new
+            (λ ls. IfOk result (λ c. IsMerged S.BYTE ls c)) }
+    {
+        let Some(first) = lines.next() else {
+            return Ok(FlatCsv::from_value(HeaderValue::from_static("")));
+        };
+        let Some(second) = lines.next() else {
+            return Ok(FlatCsv::from_value(first.as_header_value().clone()?));
+        };
+        let mut buffer = BytesMut::copy_from_slice(alloc, first.as_header_value().as_bytes())?;
+        append(&mut buffer, S::separator_byte(), second.as_header_value())?;
+        while let Some(line) = lines.next() {
+            append(&mut buffer, S::separator_byte(), line.as_header_value())?;
+        }
+        Ok(FlatCsv::from_value(HeaderValue::from_known_valid(buffer.freeze()?)))
+    }
+
+    /// The values of an iterator in one, as `from_lines` joins them; its size hint is not read.
+    pub fn from_items<I: Iterator<Item = HeaderValue> + Drop>(
+        alloc: Global,
+        items: I,
+    ) -> Result<FlatCsv<S>, AllocError>
+        requires can { I.can_next items }
+        requires ends { IsFinite (I.remaining items) }
+        ensures { IfOk result (λ c. MergesItems I.next_gives items S.BYTE c) }
+    {
+        let mut items = items;
+        FlatCsv::from_lines(alloc, &mut items)
+    }
+
+    /// The names of an iterator, as `from_items` joins them.
+    pub fn from_names<I: Iterator<Item = HeaderName> + Drop>(
+        alloc: Global,
+        names: I,
+    ) -> Result<FlatCsv<S>, AllocError>
+        requires can { I.can_next names }
+        requires ends { IsFinite (I.remaining names) }
+        ensures { IfOk result (λ c. MergesLines I.next_gives names S.BYTE c) }
+    {
+        FlatCsv::from_items(alloc, names.map(HeaderValue::from_name))
+    }
+
+    /// One word as it is; it must be visible ASCII, spaces and tabs.
+    pub fn from_word(word: &'static str) -> FlatCsv<S>
+        requires { IsTrue (is_text word.now) }
+        ensures { result ≡ word.now }
+    {
+        FlatCsv::from_value(HeaderValue::from_static(word))
+    }
+
+    /// The same value.
+    pub fn clone(&self, alloc: Global) -> Result<FlatCsv<S>, AllocError>
+        ensures { IfOk result (λ c. c ≡ self.now) }
+    {
+        Ok(FlatCsv::from_value(self.to_value(alloc)?))
+    }
+
+    /// The value where it is text.
+    pub fn as_text(&self) -> Option<&str>
+        ensures { MatchOption result (is_text self.now ≡ false)
+            (λ text. (is_text self.now ≡ true) × (text.now ≡ self.now)) }
+    {
+        read_text(&self.value)
+    }
+
+    /// The bytes of the value.
+    pub fn as_bytes(&self) -> &[u8]
+        ensures value { result.now ≡ self.now }
+        ensures valid { IsFieldValue self.now }
+    {
+        self.value.as_bytes()
+    }
+
+    /// The value itself.
+    pub fn to_value(&self, _alloc: Global) -> Result<HeaderValue, AllocError>
+        ensures { IfOk result (λ v. v.bytes ≡ self.now) }
+    {
+        self.value.clone()
+    }
+
+    /// The items, as slices of the value; a value that is no text has none.
+    pub fn iter(&self) -> Items<'_, S>
+        ensures items { items_left result ≡ items S.BYTE self.now }
+        ensures fresh { result ≡ walk_over S.BYTE self.now }
+        ensures count { length (items_left result) < 2 ^ 64 }
+    {
+        text_items(&self.value)
+    }
+
+    /// The value cut at these places, counted in bytes from 0, which are left out; the pieces are not
+    /// trimmed, and no place gives the one value. The places increase and are separators that count,
+    /// as a `Scan` gives them. Joined again, the pieces have the items of the value.
+    pub fn cut_at(&self, alloc: Global, places: &[usize]) -> Result<Vec<HeaderValue>, AllocError>
+        requires text { is_text self.now ≡ true }
+        requires cuts { AreCuts S.BYTE self.now 0 places.now }
+        ensures pieces { IfOk result (λ v. lines_of v.items ≡ pieces self.now 0 places.now) }
+        ensures items_kept { IfOk result
+            (λ v. items S.BYTE (merge S.BYTE (lines_of v.items)) ≡ items S.BYTE self.now) }
+    {
+        let bytes = self.as_bytes();
+        let mut lines = Vec::new(alloc);
+        let mut start = 0;
+        for place in places {
+            let end = *place;
+            lines.push(copy_of(alloc, bytes, start, end)?)?;
+            start = end + 1;
+        }
+        lines.push(copy_of(alloc, bytes, start, bytes.len())?)?;
+        Ok(lines)
+    }
+}
+
+impl<S: Separator> PartialEq for FlatCsv<S> {
+    ghost use Rattle.std.specs.Prelude.{nat_eq};
+    ghost use Rattle.std.specs.Cmp.Lexicographic.{pointwise, nat_list_eq_equiv};
+    ghost use Rattle.std.specs.Cmp.{partial_equiv_from_equiv};
+
+    ghost eq = { pointwise nat_eq };
+
+    ghost laws = { partial_equiv_from_equiv nat_list_eq_equiv };
+
+    fn eq(&self, other: &FlatCsv<S>) -> bool {
+        self.value == other.value
+    }
+}
+
+impl<S: Separator> Eq for FlatCsv<S> {
+    ghost use Rattle.std.specs.Cmp.Lexicographic.{nat_list_eq_equiv};
+
+    ghost laws = { nat_list_eq_equiv };
+}
+
+impl<S: Separator> fmt::Debug for FlatCsv<S> {
+    fn fmt<W: fmt::Write>(&self, f: &mut fmt::Formatter<W>) -> fmt::Result {
+        self.value.fmt(f)
+    }
+}

@@ -1,0 +1,114 @@
+//! A scan for the quotes and the separators that count.
+ghost use Rattle.std.specs.Prelude.{◌≡◌, ◌≢◌, ◌+◌, ◌≤◌, length, true, false, not, is_none, if◌then◌else◌};
+ghost use Rattle.headers_items.specs.Places.{is_even, quotes_before, hits};
+ghost use Rattle.headers_items.specs.ScanState.{FindsMark, place_after, end_search};
+
+use memchr::{memchr, memchr2};
+use std::marker::Model;
+
+const QUOTE: u8 = b'"';
+
+/// A quote, or a separator that is_counting_place.
+#[derive(Clone, Copy, Debug, PartialEq, Eq)]
+pub struct Mark {
+    /// Where it stands, counted in bytes from 0.
+    pub place: usize,
+    /// Whether it is a quote.
+    pub quote: bool,
+}
+
+/// Goes over the quotes of some bytes and over the separators outside quotes, one search a call.
+///
+/// A contract sees how many searches were made; no code keeps their number.
+#[derive(Drop)]
+pub struct Scan<'a> {
+    bytes: &'a [u8],
+    separator: u8,
+    place: usize,
+    is_open: bool,
+    is_ended: bool,
+}
+
+impl<'a> Model for Scan<'a> {
+    ghost use Rattle.std.specs.Prelude.{◌≡◌, ◌≢◌, ◌+◌, ◌≤◌, length, not, true};
+    ghost use Rattle.headers_syntax.specs.Text.{quote};
+    ghost use Rattle.headers_items.specs.Places.{is_even, quotes_before, hits};
+    ghost use Rattle.headers_items.specs.ScanState.{ScanState, end_search};
+
+    ghost Value = { ScanState };
+
+    ghost view = { λ s. record { bytes = s.bytes.now; separator = s.separator; place = s.place; is_ended = s.is_ended; searches = hits s.separator s.bytes.now s.place + end_search s.is_ended } };
+
+    ghost invariant = { λ s. (s.separator ≢ quote) × (s.place ≤ length s.bytes.now) × (s.is_open ≡ not (is_even (quotes_before s.bytes.now s.place))) × (s.is_ended ≡ true → s.place ≡ length s.bytes.now) };
+}
+
+// The next quote or separator that is_counting_place, from a place on that stands inside quotes or outside.
+fn find_mark(bytes: &[u8], separator: u8, from: usize, is_open: bool) -> Option<Mark>
+    requires separator { separator ≢ QUOTE }
+    requires from { from ≤ length bytes.now }
+    requires is_open { is_open ≡ not (is_even (quotes_before bytes.now from)) }
+    ensures { FindsMark separator bytes.now from result }
+{
+    let rest = &bytes[from..];
+    let found = if is_open {
+        memchr(QUOTE, rest)
+    } else {
+        memchr2(QUOTE, separator, rest)
+    };
+    match found {
+        Some(ahead) => {
+            let place = from + ahead;
+            Some(Mark {
+                place,
+                quote: bytes[place] == QUOTE,
+            })
+        }
+        None => None,
+    }
+}
+
+impl<'a> Scan<'a> {
+    /// A scan from the first byte on, for a separator that is no quote.
+    pub fn new(bytes: &'a [u8], separator: u8) -> Scan<'a>
+        requires { separator ≢ QUOTE }
+        ensures { result ≡ record { bytes = bytes.now; separator = separator; place = 0; is_ended = false; searches = 0 } }
+    {
+        Scan {
+            bytes,
+            separator,
+            place: 0,
+            is_open: false,
+            is_ended: false,
+        }
+    }
+
+    /// The next quote or counting separator at or after the scan's place, which moves past it. With none
+    /// left the scan moves to the end, and later calls search no more.
+    pub fn next_mark(&mut self) -> Option<Mark>
+        ensures found { FindsMark self.old.separator self.old.bytes self.old.place result }
+        ensures place { self.new.place ≡ place_after self.old.bytes result }
+        ensures is_ended { self.new.is_ended ≡ is_none result }
+        ensures searches { self.new.searches ≡ self.old.searches + (if self.old.is_ended then 0 else 1) }
+        ensures so_far { self.new.searches ≡ hits self.new.separator self.new.bytes self.new.place + end_search self.new.is_ended }
+        ensures bytes { self.new.bytes ≡ self.old.bytes }
+        ensures separator { self.new.separator ≡ self.old.separator }
+    {
+        if self.is_ended {
+            return None;
+        }
+        let found = find_mark(self.bytes, self.separator, self.place, self.is_open);
+        match found {
+            Some(mark) => {
+                self.place = mark.place + 1;
+                if mark.quote {
+                    self.is_open = !self.is_open;
+                }
+            }
+            None => {
+                self.place = self.bytes.len();
+                self.is_ended = true;
+            }
+        }
+        found
+    }
+}

@@ -1,9 +1,0 @@
--- The header `set-cookie`: all its lines, in their order, of which there is one at least.
-use Rattle.std.specs.Prelude.{List}
-use Rattle.headers_core.specs.Lines.{Line, lines_of}
-use Rattle.headers_core.specs.HeaderLaws.{Grammar}
-use Rattle.headers_core.specs.Shapes.{all_kept}
-use Rattle.headers_lines.specs.declared.set_cookie.SetCookie.{SetCookie}
-
-abbrev pub set_cookie_grammar : Grammar SetCookie (List Line)
-set_cookie_grammar = all_kept lines_of

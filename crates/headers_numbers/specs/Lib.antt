@@ -1,4 +1,0 @@
-pub mod AccessControlMaxAge
-pub mod Age
-pub mod ContentLength
-pub mod ContentLengthLaws

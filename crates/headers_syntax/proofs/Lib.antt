@@ -1,0 +1,12 @@
+pub mod AsciiCaseLemmas
+pub mod DateLemmas
+pub mod EntityTagDateLemmas
+pub mod EntityTagLemmas
+pub mod NumberLemmas
+pub mod OfLinesLemmas
+pub mod PartsLemmas
+pub mod PlainLemmas
+pub mod ShapeLemmas
+pub mod StripLemmas
+pub mod TextLemmas
+pub mod TrimLemmas

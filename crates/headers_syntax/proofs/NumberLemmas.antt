@@ -1,0 +1,105 @@
+-- What `parse` reads of a line is its number, and a printed number is read back.
+use Rattle.std.proofs.Common.{◌≡◌, ℕ, ◌<◌, ◌≤◌, ◌≢◌, ◌^◌, ◌&&◌, true, false, [], ◌∷◌, length, Some, None, Result, Ok, Err, refl, sym, ◌∙◌, ap, subst, inl, inr, arith, rules, nat_lt, nat_le, get_or, ◌==◌}
+use Rattle.std.specs.Str.{all_ascii_digits}
+use Rattle.std.specs.Str.Parse.{ParsesUnsigned}
+use Rattle.std.specs.Result.{OkIff, result_ok}
+use Rattle.std.proofs.lemmas.Str.Parse.{IsNumeralModel, numerals_by_weight, tells_all_ascii_digits, parse_plain, parse_plus, not_in_digits}
+use Rattle.std.proofs.lemmas.Fmt.{digits_decimal, digits_value-decimal, decimal_nonempty}
+use Rattle.std.specs.Fmt.{decimal}
+use Rattle.std.proofs.lemmas.Bool.{cases_Bool, and_from, and_parts, or_right, le-leb, leb-true, lt-ltb, ltb-true, false_from_ne_true, eqb-true, eqb-false}
+use Rattle.std.specs.Char.{is_ascii_digit}
+use Rattle.std.proofs.lemmas.List.Elements.{All-cons}
+use Rattle.http_header.specs.Token.{is_visible_or_blank}
+use Rattle.http_header.specs.FieldValue.{IsVisibleAscii}
+use Rattle.headers_syntax.specs.Lines.{Line}
+use Rattle.headers_syntax.specs.Number.{after_plus, decimal_value, is_numeral, number}
+
+own : IsNumeralModel (λ ds. all_ascii_digits ds ≡ true) decimal_value
+own = numerals_by_weight _ tells_all_ascii_digits decimal_value (search rules)
+
+-- the digits are a numeral
+abbrev IsNumeral64 : Line → Type 0
+IsNumeral64 d = (all_ascii_digits d ≡ true) × (0 < length d) × (decimal_value d < 2 ^ 64)
+
+is_numeral-true : (d : Line) → IsNumeral64 d → is_numeral d ≡ true
+is_numeral-true d h = and_from _ _ (and_from _ _ (lt-ltb _ _ h.1) h.0) (lt-ltb _ _ h.2)
+
+is_numeral-parts : (d : Line) → is_numeral d ≡ true → IsNumeral64 d
+is_numeral-parts d e =
+    let p = and_parts (nat_lt 0 (length d) && all_ascii_digits d) (nat_lt (decimal_value d) (2 ^ 64)) e in
+    let q = and_parts (nat_lt 0 (length d)) (all_ascii_digits d) p.0 in
+    (q.1, ltb-true _ _ q.0, ltb-true _ _ p.1)
+
+is_numeral-false : (d : Line) → ¬ (IsNumeral64 d) → is_numeral d ≡ false
+is_numeral-false d h = false_from_ne_true (is_numeral d) (λ e. h (is_numeral-parts d e))
+
+parse_after_plus : {E : Type 0} (line : Line) (r : Result ℕ E) → ParsesUnsigned 64 10 line r
+    → OkIff r (IsNumeral64 (after_plus line)) (decimal_value (after_plus line))
+parse_after_plus [] r h = parse_plain own 64 [] r h (λ e. omega (arith, e))
+parse_after_plus (c ∷ cs) r h =
+    elim (cases_Bool (c == 43)) [
+      | inl t ↦ rw t (parse_plus own 64 (c ∷ cs) r h (eqb-true _ _ t))
+      | inr f ↦ rw f (parse_plain own 64 (c ∷ cs) r h (eqb-false _ _ f))
+    ]
+
+pub number-parse : {E : Type 0} (line : Line) (r : Result ℕ E) → ParsesUnsigned 64 10 line r → number line ≡ result_ok r
+unfolding number
+number-parse {E} line (Ok n) h =
+    let p = parse_after_plus {E = E} line (Ok n) h in
+    rw (is_numeral-true (after_plus line) p.0) (ap (λ (m : ℕ). Some m) (sym p.1))
+number-parse {E} line (Err e) h = rw (is_numeral-false (after_plus line) (parse_after_plus {E = E} line (Err e) h))
+
+-- a first byte that is no plus stays
+after_plus-same : (line : Line) → get_or line 0 0 ≢ 43 → after_plus line ≡ line
+after_plus-same [] h = refl
+after_plus-same (c ∷ cs) h = elim (cases_Bool (c == 43)) [ inl t ↦ absurd (h (eqb-true _ _ t)) | inr f ↦ rw f ]
+
+pub number-decimal : (n : ℕ) → n < 2 ^ 64 → number (decimal n) ≡ Some n
+unfolding number
+number-decimal n h =
+    let digits = digits_decimal own n h in
+    let some = decimal_nonempty n h in
+    let value = digits_value-decimal own n h in
+    let bare = after_plus-same (decimal n) (not_in_digits own (decimal n) 43 digits (λ r. omega (arith, r)) 0 some) in
+    rw (bare, is_numeral-true (decimal n) (digits, some, subst (λ (m : ℕ). m < 2 ^ 64) (sym value) h), value)
+
+pub number-lt : (line : Line) (n : ℕ) → number line ≡ Some n → n < 2 ^ 64
+unfolding number
+number-lt line n e =
+    elim (cases_Bool (is_numeral (after_plus line))) [
+      | inl t ↦ let same : Some (decimal_value (after_plus line)) ≡ Some n = rw t at e in
+          let value : decimal_value (after_plus line) ≡ n = cc same in
+          subst (λ (m : ℕ). m < 2 ^ 64) value (is_numeral-parts _ t).2
+      | inr f ↦ let no : None ≡ Some n = rw f at e in absurd (cc no)
+    ]
+
+pub visible : (c : ℕ) → 32 ≤ c → c < 127 → is_visible_or_blank c ≡ true
+visible c low high = or_right (c == 9) (nat_le 32 c && nat_lt c 127) (and_from _ _ (le-leb _ _ low) (lt-ltb _ _ high))
+
+digits_visible : (ds : Line) → all_ascii_digits ds ≡ true → IsVisibleAscii ds
+digits_visible [] e = λ k d h. absurd (omega (arith, h))
+digits_visible (c ∷ cs) e =
+    let p = and_parts (is_ascii_digit c) (all_ascii_digits cs) e in
+    let q = and_parts (nat_le 48 c) (nat_le c 57) p.0 in
+    let low : 48 ≤ c = leb-true _ _ q.0 in
+    let high : c ≤ 57 = leb-true _ _ q.1 in
+    All-cons (λ b. is_visible_or_blank b ≡ true) c cs (visible c (omega arith) (omega arith)) (digits_visible cs p.1)
+
+visible_from_digits : (line : Line) → all_ascii_digits (after_plus line) ≡ true → IsVisibleAscii line
+visible_from_digits [] e = digits_visible [] refl
+visible_from_digits (c ∷ cs) e =
+    elim (cases_Bool (c == 43)) [
+      | inl t ↦ let plus : c ≡ 43 = eqb-true _ _ t in
+          All-cons (λ b. is_visible_or_blank b ≡ true) c cs (visible c (omega arith) (omega arith)) (digits_visible cs (rw t at e))
+      | inr f ↦ digits_visible (c ∷ cs) (rw f at e)
+    ]
+
+-- a value that is not visible ASCII writes no number
+pub number-none : (line : Line) → ¬ (IsVisibleAscii line) → number line ≡ None
+unfolding number
+number-none line h =
+    rw (is_numeral-false (after_plus line) (λ n. h (visible_from_digits line n.0)))
+
+pub number-no_digits : (line : Line) → all_ascii_digits (after_plus line) ≡ false → number line ≡ None
+unfolding number
+number-no_digits line h = rw (is_numeral-false (after_plus line) (λ n. let both : true ≡ false = sym n.0 ∙ h in cc both)) refl

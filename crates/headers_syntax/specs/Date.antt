@@ -1,0 +1,53 @@
+-- Dates in field lines, as seconds since 1970, and the date that a number of seconds is printed as.
+use Rattle.std.specs.Prelude.{ℕ, zero, suc, ◌+◌, ◌-◌, ◌/◌, ◌%◌, ◌<◌, Option, None, if◌then◌else◌, nat_lt, ◌≡◌, IsTrue}
+use Rattle.httpdate.specs.declared.parts.Parts.{Parts}
+use Rattle.httpdate.specs.Calendar.{days_in_year, days_in_month, weekday}
+use Rattle.httpdate.specs.Date.{IsPartsText, parse_secs}
+use Rattle.httpdate.specs.Text.{imf_fixdate}
+use Rattle.httpdate.specs.Valid.{IsValid, parts_secs}
+use Rattle.headers_syntax.specs.Lines.{Line}
+use Rattle.headers_syntax.specs.Text.{is_text, trim}
+
+-- the second that a line shows: text, and without the spaces and tabs at its ends a date in one of the three formats
+unfoldable pub date : Line → Option ℕ
+date line = if is_text line then parse_secs (trim line) else None
+
+-- the second lies before the year 10000
+abbrev pub IsDated : ℕ → Type 0
+IsDated secs = secs < 253_402_300_800
+
+-- The year in which a day lies, and how many days of it have passed, where `days` have passed of the years from `year` on.
+-- At most n years are counted off.
+unfoldable pub year_of : ℕ → ℕ → ℕ → ℕ × ℕ
+year_of zero year days = (year, days)
+year_of (suc n) year days = if nat_lt days (days_in_year year) then (year, days) else year_of n (year + 1) (days - days_in_year year)
+
+-- the same for the months of a year
+unfoldable pub month_of : ℕ → ℕ → ℕ → ℕ → ℕ × ℕ
+month_of zero year month days = (month, days)
+month_of (suc n) year month days =
+    if nat_lt days (days_in_month year month) then (month, days) else month_of n year (month + 1) (days - days_in_month year month)
+
+-- the date and the time of day that lie so many seconds after the start of 1970, up to 8029 years and 11 months later
+abbrev pub parts_at : ℕ → Parts
+parts_at secs =
+    let days = secs / 86400 in
+    let year = year_of 8029 1970 days in
+    let month = month_of 11 year.0 1 year.1 in
+    record {
+      year = year.0;
+      mon = month.0;
+      day = month.1 + 1;
+      hour = secs % 86400 / 3600;
+      min = secs % 3600 / 60;
+      sec = secs % 60;
+      wday = weekday days;
+    }
+
+-- that date as IMF-fixdate (RFC 9110, section 5.6.7)
+unfoldable pub fixdate : ℕ → Line
+fixdate secs = imf_fixdate (parts_at secs)
+
+-- the line is text, and without the spaces and tabs at its ends it shows the date of that second in one of the three formats
+abbrev pub ShowsDate : Line → ℕ → Type 0
+ShowsDate line secs = IsTrue (is_text line) × ((p : Parts) × IsValid p × IsPartsText (trim line) p × (parts_secs p ≡ secs))

@@ -1,0 +1,13 @@
+pub mod AsciiCase
+pub mod Date
+pub mod DecodesTo
+pub mod Durations
+pub mod EntityTag
+pub mod HeaderLaws
+pub mod Lines
+pub mod Number
+pub mod OfLines
+pub mod Parts
+pub mod Refusal
+pub mod Shapes
+pub mod Text

@@ -1,0 +1,15 @@
+-- What calls of an iterator over header values have told of its list of lines.
+use Rattle.std.specs.Prelude.{◌≡◌, Bool, IsTrue, List, [], ◌++◌, map, Option, None}
+use Rattle.std.specs.Bool.{MatchBool}
+use Rattle.std.specs.Iterator.{Yields, YieldsThen}
+use Rattle.http_header.specs.FieldValue.{FieldValue}
+use Rattle.headers_syntax.specs.Lines.{Line}
+
+module _ {S A : Type 0} (shown : A → FieldValue) (steps : S → Option A → S → Type 0) where
+  -- Calls led from s to t and gave `items`, and then `None` where `ended`.
+  -- P holds of each list of lines that begins with these, and where `ended` of these alone.
+  pub record OfLines (s t : S) (P : List Line → Type 0) : Type 0 where
+    pub items : List A
+    pub ended : Bool
+    pub calls : MatchBool ended (YieldsThen steps s items None t) (Yields steps s items t)
+    pub holds : (rest : List Line) → (IsTrue ended → rest ≡ []) → P (map (λ item. (shown item).bytes) items ++ rest)

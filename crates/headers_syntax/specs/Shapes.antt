@@ -1,0 +1,78 @@
+-- Grammars that many headers share, each by what a value keeps. Their laws are in proofs/ShapeLemmas.
+use Rattle.std.specs.Prelude.{ℕ, Bool, List, [], ◌∷◌, Option, Some, None, decimal, bytes_eq, if◌then◌else◌}
+use Rattle.std.specs.Option.{option_and_then}
+use Rattle.headers_syntax.specs.Date.{date, fixdate}
+use Rattle.headers_syntax.specs.Lines.{Line, first_line, only_line, some_lines}
+use Rattle.headers_syntax.specs.Number.{number}
+use Rattle.headers_syntax.specs.EntityTag.{is_tag}
+use Rattle.headers_syntax.specs.Text.{is_text}
+use Rattle.headers_syntax.specs.HeaderLaws.{Grammar}
+
+-- the line, where it passes a test
+abbrev pub line_if : (Line → Bool) → Line → Option Line
+line_if test line = if test line then Some line else None
+
+-- the line, where it is text
+abbrev pub text_line : Line → Option Line
+text_line line = line_if is_text line
+
+-- the word, where the line is it, byte for byte
+abbrev pub word_line : Line → Line → Option Line
+word_line word line = if bytes_eq line word then Some word else None
+
+-- the line, where it is an entity tag
+abbrev pub tag_line : Line → Option Line
+tag_line line = line_if is_tag line
+
+module _ {V A : Type 0} where
+  -- one of the lines, picked by `pick`, is read by `read` and written by `write`
+  abbrev pub one_line : (V → A) → (List Line → Option Line) → (Line → Option A) → (A → Line) → Grammar V A
+  one_line kept pick read write =
+      record {
+        kept = kept;
+        value_of = λ lines. option_and_then read (pick lines);
+        lines_of_value = λ a. write a ∷ [];
+      }
+
+module _ {V : Type 0} where
+  -- the first line, whatever it is, kept and written
+  abbrev pub first_kept : (V → Line) → Grammar V Line
+  first_kept kept =
+      record {
+        kept = kept;
+        value_of = first_line;
+        lines_of_value = λ line. line ∷ [];
+      }
+
+  -- the only line is a number, which is written in decimal
+  abbrev pub only_number : (V → ℕ) → Grammar V ℕ
+  only_number kept = one_line kept only_line number decimal
+
+  -- the only line is text, kept and written
+  abbrev pub only_text : (V → Line) → Grammar V Line
+  only_text kept = one_line kept only_line text_line (λ line. line)
+
+  -- the only line is the word, and so is what is written
+  abbrev pub only_word : Line → (V → Line) → Grammar V Line
+  only_word word kept = one_line kept only_line (word_line word) (λ line. line)
+
+  -- the first line is the word, and so is what is written
+  abbrev pub first_word : Line → (V → Line) → Grammar V Line
+  first_word word kept = one_line kept first_line (word_line word) (λ line. line)
+
+  -- all lines, of which there is one at least, kept and written
+  abbrev pub all_kept : (V → List Line) → Grammar V (List Line)
+  all_kept kept =
+      record {
+        kept = kept;
+        value_of = some_lines;
+        lines_of_value = λ lines. lines;
+      }
+
+  -- the only line is a date, which is written as IMF-fixdate
+  abbrev pub only_date : (V → ℕ) → Grammar V ℕ
+  only_date kept = one_line kept only_line date fixdate
+
+  -- the only line is an entity tag, kept and written
+  abbrev pub only_tag : (V → Line) → Grammar V Line
+  only_tag kept = one_line kept only_line tag_line (λ line. line)

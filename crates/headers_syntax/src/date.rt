@@ -1,0 +1,119 @@
+//! Dates of header fields.
+ghost use Rattle.std.specs.Prelude.{◌≡◌, ◌↔◌, ℕ, Some, IfOk};
+ghost use Rattle.std.specs.Option.{option_and_then};
+ghost use Rattle.http_header.specs.FieldValue.{plain_value};
+ghost use Rattle.httpdate.specs.declared.parts.Parts.{Parts};
+ghost use Rattle.httpdate.specs.Text.{imf_fixdate};
+ghost use Rattle.httpdate.specs.Valid.{IsValid, parts_secs};
+ghost use Rattle.headers_syntax.specs.Date.{date, fixdate, IsDated, ShowsDate};
+ghost use Rattle.headers_syntax.specs.OfLines.{OfLines};
+ghost use Rattle.headers_syntax.specs.Lines.{Line, only_line};
+
+use crate::item::AsHeaderValue;
+use crate::lines::just_one;
+use crate::trimming::trim;
+use http_header::{HeaderValue, HeaderValueError};
+use httpdate::HttpDate;
+use std::alloc::{AllocError, Global};
+use std::marker::Model;
+
+/// A second from 1970 to 9999, as header fields date things (RFC 9110, section 5.6.7).
+#[derive(Clone, Copy, Debug, PartialEq, Eq, PartialOrd, Ord, Hash)]
+pub struct Date1 {
+    seconds: u64,
+}
+
+impl Model for Date1 {
+    ghost use Rattle.std.specs.Prelude.{ℕ};
+    ghost use Rattle.headers_syntax.specs.Date.{IsDated};
+
+    ghost Value = { ℕ };
+
+    ghost view = { λ d. d.seconds };
+
+    ghost invariant = { λ d. IsDated d.seconds };
+
+    ghost inverse = { λ n. record { seconds = n } };
+}
+
+impl Date1 {
+    /// The date that the value shows: text, and without the spaces and tabs at its ends one of the
+    /// three formats of RFC 9110, section 5.6.7.
+    pub fn from_val(value: &HeaderValue) -> Option<Date1>
+        ensures { result ≡ date value.now.bytes }
+    {
+        let Ok(text) = value.to_str() else {
+            return None;
+        };
+        let Ok(date) = HttpDate::parse_ascii(trim(text.as_bytes())) else {
+            return None;
+        };
+        Some(Date1 {
+            seconds: date.unix_secs(),
+        })
+    }
+
+    /// The date so many seconds after the start of 1970, before the year 10000.
+    pub fn from_unix_secs(seconds: u64) -> Date1
+        requires { IsDated seconds }
+        ensures { result ≡ seconds }
+    {
+        Date1 { seconds }
+    }
+
+    /// The seconds since the start of 1970.
+    pub fn unix_secs(&self) -> u64
+        ensures value { result ≡ self.now }
+        ensures bound { IsDated result }
+    {
+        self.seconds
+    }
+
+    /// The date as IMF-fixdate (RFC 9110, section 5.6.7).
+    pub fn to_value(&self, alloc: Global) -> Result<HeaderValue, AllocError>
+        ensures value { IfOk result (λ value. value ≡ plain_value (fixdate self.now)) }
+        ensures reads_back { IfOk result (λ value. date value.bytes ≡ Some self.now) }
+    {
+        let date = match HttpDate::from_unix_secs(self.seconds) {
+            Ok(date) => date,
+            Err(_) => unreachable!(),
+        };
+        let text = date.to_bytes();
+        match HeaderValue::from_bytes(alloc, &text) {
+            Ok(value) => Ok(value),
+            Err(HeaderValueError::OutOfMemory) => Err(AllocError),
+            Err(HeaderValueError::Invalid) => unreachable!(),
+        }
+    }
+}
+
+/// The date that the only line shows.
+pub fn only_date<I: Iterator>(values: &mut I) -> Option<Date1>
+where
+    I::Item: AsHeaderValue,
+    requires { I.can_next values.old }
+    ensures { OfLines I.Item.shown I.next_gives values.old values.new
+        (λ lines. option_and_then date (only_line lines) ≡ result) }
+{
+    match just_one(values) {
+        Some(line) => Date1::from_val(line.as_header_value()),
+        None => None,
+    }
+}
+
+/// What is written of a second from 1970 to 9999 reads as that second.
+pub fn date_reads_back(seconds: u64)
+    requires { IsDated seconds }
+    ensures { date (fixdate seconds) ≡ Some seconds }
+{
+    let Ok(_date) = HttpDate::from_unix_secs(seconds) else {
+        unreachable!();
+    };
+}
+
+/// What dates are, by the calendar alone: which lines show a second, and how a date is printed.
+pub fn dates_by_the_calendar()
+    ensures read { (line : Line) (secs : ℕ) → (date line ≡ Some secs) ↔ ShowsDate line secs }
+    ensures bound { (line : Line) (secs : ℕ) → date line ≡ Some secs → IsDated secs }
+    ensures printed { (p : Parts) → IsValid p → fixdate (parts_secs p) ≡ imf_fixdate p }
+{}

@@ -1,0 +1,185 @@
+//! Entity tags, which tell one representation of a resource from another.
+ghost use Rattle.std.specs.Prelude.{◌≡◌, ◌↔◌, ℕ, List, false, IsTrue, IfOk, Some, None, if◌then◌else◌};
+ghost use Rattle.headers_syntax.specs.EntityTag.{TagParts, IsTag, IsSomeTag, is_tag, is_tag_byte, FindsTag, FindsQuoted, StronglyEqual, WeaklyEqual};
+
+use http_header::HeaderValue;
+use std::alloc::{AllocError, Global};
+use std::marker::Model;
+
+/// An entity tag whose bytes are borrowed (RFC 9110, section 8.8.3).
+///
+/// A contract sees whether it is weak, and its opaque part.
+#[derive(Debug, Drop)]
+pub struct EntityTagRef<'a> {
+    is_weak: bool,
+    opaque: &'a [u8],
+}
+
+impl<'a> Model for EntityTagRef<'a> {
+    ghost use Rattle.headers_syntax.specs.EntityTag.{TagParts};
+
+    ghost Value = { TagParts };
+
+    ghost view = { λ tag. record { is_weak = tag.is_weak; opaque = tag.opaque.now } };
+}
+
+fn is_tag_byte(byte: u8) -> bool
+    ensures { result ≡ is_tag_byte byte }
+{
+    byte == 0x21 || (byte >= 0x23 && byte <= 0x7e) || byte >= 0x80
+}
+
+// What stands between the quotes, where the bytes begin and end with one.
+fn quoted(bytes: &[u8]) -> Option<&[u8]>
+    ensures { FindsQuoted bytes.now result }
+{
+    match bytes {
+        [b'"', inner @ .., b'"'] => Some(inner),
+        _ => None,
+    }
+}
+
+impl<'a> EntityTagRef<'a> {
+    /// The entity tag that the bytes are, all of them: `W/` where it is weak, and the opaque part in
+    /// quotes, of bytes 0x21, 0x23 to 0x7E and 0x80 to 0xFF; None where they are no entity tag.
+    pub fn parse(bytes: &'a [u8]) -> Option<EntityTagRef<'a>>
+        ensures { FindsTag bytes.now result }
+    {
+        let (is_weak, rest) = match bytes {
+            [b'W', b'/', rest @ ..] => (true, rest),
+            _ => (false, bytes),
+        };
+        let opaque = quoted(rest)?;
+        if opaque.iter().all(|byte| is_tag_byte(*byte)) {
+            Some(EntityTagRef { is_weak, opaque })
+        } else {
+            None
+        }
+    }
+
+    /// The opaque part, without its quotes.
+    pub fn tag(&self) -> &'a [u8]
+        ensures { result.now ≡ self.now.opaque }
+    {
+        self.opaque
+    }
+
+    /// Whether `W/` stands before the first quote.
+    pub fn is_weak(&self) -> bool
+        ensures { result ≡ self.now.is_weak }
+    {
+        self.is_weak
+    }
+
+    /// Whether neither tag is weak and their opaque parts are equal (RFC 9110, section 8.8.3.2).
+    pub fn strong_eq(&self, other: &EntityTagRef<'_>) -> bool
+        ensures { IsTrue result ↔ StronglyEqual self.now other.now }
+    {
+        !self.is_weak && !other.is_weak && self.opaque == other.opaque
+    }
+
+    /// Whether the opaque parts are equal (RFC 9110, section 8.8.3.2).
+    pub fn weak_eq(&self, other: &EntityTagRef<'_>) -> bool
+        ensures { IsTrue result ↔ WeaklyEqual self.now other.now }
+    {
+        self.tag() == other.tag()
+    }
+}
+
+/// A header value that is an entity tag.
+///
+/// A contract sees the value.
+#[derive(Debug, Drop, PartialEq, Eq)]
+pub struct EntityTag {
+    value: HeaderValue,
+}
+
+impl Model for EntityTag {
+    ghost use Rattle.http_header.specs.FieldValue.{FieldValue};
+    ghost use Rattle.headers_syntax.specs.EntityTag.{IsSomeTag};
+
+    ghost Value = { FieldValue };
+
+    ghost view = { λ tag. tag.value };
+
+    ghost inverse = { λ value. record { value = value } };
+
+    ghost invariant = { λ tag. IsSomeTag tag.value.bytes };
+}
+
+#[tactic(auto, using(crate::proofs::EntityTagLemmas::is_tag_found))]
+fn is_tag(bytes: &[u8]) -> bool
+    ensures { result ≡ is_tag bytes.now }
+{
+    EntityTagRef::parse(bytes).is_some()
+}
+
+#[tactic(auto, using(crate::proofs::EntityTagLemmas::is_tag_iff))]
+impl EntityTag {
+    /// A copy of the value, where it is an entity tag.
+    pub fn from_val(_alloc: Global, value: &HeaderValue) -> Result<Option<EntityTag>, AllocError>
+        ensures { IfOk result (λ found. found ≡ (if is_tag value.now.bytes then Some value.now else None)) }
+    {
+        if is_tag(value.as_bytes()) {
+            Ok(Some(EntityTag {
+                value: value.clone()?,
+            }))
+        } else {
+            Ok(None)
+        }
+    }
+
+    /// The value, where it is an entity tag.
+    pub fn from_owned(value: HeaderValue) -> Option<EntityTag>
+        ensures { result ≡ (if is_tag value.bytes then Some value else None) }
+    {
+        if is_tag(value.as_bytes()) {
+            Some(EntityTag { value })
+        } else {
+            None
+        }
+    }
+
+    /// The tag, by its parts.
+    pub fn view(&self) -> EntityTagRef<'_>
+        ensures { IsTag self.now.bytes result }
+    {
+        EntityTagRef::parse(self.value.as_bytes()).unwrap()
+    }
+
+    /// The value itself.
+    pub fn into_value(self) -> HeaderValue
+        ensures { result ≡ self }
+    {
+        self.value
+    }
+
+    /// The same tag again.
+    pub fn clone(&self, _alloc: Global) -> Result<EntityTag, AllocError>
+        ensures { IfOk result (λ tag. tag ≡ self.now) }
+    {
+        Ok(EntityTag {
+            value: self.value.clone()?,
+        })
+    }
+}
+
+/// The parts of a tag are fixed by its bytes, and the test for a tag is whether it has parts.
+#[tactic(auto, using(crate::proofs::EntityTagLemmas::is_tag_iff))]
+pub fn tag_has_parts_once()
+    ensures once { (bytes : List ℕ) (s t : TagParts) → IsTag bytes s → IsTag bytes t → s ≡ t }
+    ensures test { (bytes : List ℕ) → IsTrue (is_tag bytes) ↔ IsSomeTag bytes }
+{}
+
+/// Tags are strongly equal exactly if neither is weak and their bytes are equal.
+pub fn strong_eq_by_bytes()
+    ensures { (a b : List ℕ) (s t : TagParts) → IsTag a s → IsTag b t
+        → (StronglyEqual s t ↔ ((s.is_weak ≡ false) × (t.is_weak ≡ false) × (a ≡ b))) }
+{}
+
+/// Weak equality is an equivalence.
+pub fn weak_eq_is_equivalence()
+    ensures reflexive { (s : TagParts) → WeaklyEqual s s }
+    ensures symmetric { (s t : TagParts) → WeaklyEqual s t → WeaklyEqual t s }
+    ensures transitive { (s t u : TagParts) → WeaklyEqual s t → WeaklyEqual t u → WeaklyEqual s u }
+{}

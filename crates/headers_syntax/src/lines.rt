@@ -1,0 +1,91 @@
+//! Readers of one line, and how a kept line is written.
+ghost use Rattle.std.specs.Prelude.{◌≡◌, [], ◌∷◌, ◌++◌, None, IfSome, OnOk, OnErr, option_map};
+ghost use Rattle.std.specs.Iterator.{YieldsThen};
+ghost use Rattle.headers_syntax.specs.Lines.{first_line, only_line};
+ghost use Rattle.std.specs.Option.{option_and_then};
+ghost use Rattle.headers_syntax.specs.Shapes.{word_line};
+ghost use Rattle.headers_syntax.specs.OfLines.{OfLines};
+
+use crate::item::AsHeaderValue;
+use http_header::HeaderValue;
+use std::alloc::AllocError;
+
+/// The first value; one call is made.
+pub fn first<I: Iterator>(values: &mut I) -> Option<I::Item>
+where
+    I::Item: AsHeaderValue,
+    requires { I.can_next values.old }
+    ensures call { I.next_gives values.old result values.new }
+    ensures value { OfLines I.Item.shown I.next_gives values.old values.new
+        (λ lines. first_line lines ≡ option_map (λ item. (I.Item.shown item).bytes) result) }
+{
+    values.next()
+}
+
+/// The value, where there is exactly one.
+pub fn just_one<I: Iterator>(values: &mut I) -> Option<I::Item>
+where
+    I::Item: AsHeaderValue,
+    requires { I.can_next values.old }
+    ensures item { IfSome result
+        (λ item. YieldsThen I.next_gives values.old (item ∷ []) None values.new) }
+    ensures value { OfLines I.Item.shown I.next_gives values.old values.new
+        (λ lines. only_line lines ≡ option_map (λ item. (I.Item.shown item).bytes) result) }
+{
+    match values.next() {
+        None => None,
+        Some(only) => match values.next() {
+            None => Some(only),
+            Some(_) => None,
+        },
+    }
+}
+
+// Whether the value is the word, byte for byte.
+fn is_word(value: &HeaderValue, word: &str) -> Option<()>
+    ensures { word_line word.now value.now.bytes ≡ option_map (λ _. word.now) result }
+{
+    if value.as_bytes() == word.as_bytes() {
+        Some(())
+    } else {
+        None
+    }
+}
+
+/// Whether the first value is the word, byte for byte.
+pub fn first_word<I: Iterator>(values: &mut I, word: &str) -> Option<()>
+where
+    I::Item: AsHeaderValue,
+    requires { I.can_next values.old }
+    ensures { OfLines I.Item.shown I.next_gives values.old values.new
+        (λ lines. option_and_then (word_line word.now) (first_line lines) ≡ option_map (λ _. word.now) result) }
+{
+    match first(values) {
+        Some(line) => is_word(line.as_header_value(), word),
+        None => None,
+    }
+}
+
+/// Whether there is exactly one value, and it is the word, byte for byte.
+pub fn only_word<I: Iterator>(values: &mut I, word: &str) -> Option<()>
+where
+    I::Item: AsHeaderValue,
+    requires { I.can_next values.old }
+    ensures { OfLines I.Item.shown I.next_gives values.old values.new
+        (λ lines. option_and_then (word_line word.now) (only_line lines) ≡ option_map (λ _. word.now) result) }
+{
+    match just_one(values) {
+        Some(line) => is_word(line.as_header_value(), word),
+        None => None,
+    }
+}
+
+/// Appends a copy of a value, or leaves the list as it was.
+pub fn push_clone(values: &mut Vec<HeaderValue>, value: &HeaderValue) -> Result<(), AllocError>
+    ensures ok { OnOk result (values.new.items ≡ values.old.items ++ value.now ∷ []) }
+    ensures err { OnErr result (values.new.items ≡ values.old.items) }
+{
+    let copy = value.clone()?;
+    values.push(copy)?;
+    Ok(())
+}

@@ -1,0 +1,98 @@
+//! Whole seconds, as header fields count them.
+ghost use Rattle.std.specs.Prelude.{◌≡◌, IfOk, decimal};
+ghost use Rattle.std.specs.Option.{option_and_then};
+ghost use Rattle.http_header.specs.FieldValue.{plain_value};
+ghost use Rattle.headers_syntax.specs.Durations.{IsWholeSeconds, LastsSeconds};
+ghost use Rattle.headers_syntax.specs.OfLines.{OfLines};
+ghost use Rattle.headers_syntax.specs.Lines.{only_line};
+ghost use Rattle.headers_syntax.specs.Number.{number};
+
+use crate::item::AsHeaderValue;
+use crate::lines::just_one;
+use crate::number::read_number;
+use http_header::HeaderValue;
+use std::alloc::{AllocError, Global};
+use std::marker::Model;
+use std::time::Duration;
+
+/// A number of seconds below 2^64 (RFC 9111, section 1.2.2).
+#[derive(Clone, Copy, Debug, PartialEq, Eq, PartialOrd, Ord, Hash)]
+pub struct Seconds {
+    seconds: u64,
+}
+
+impl Model for Seconds {
+    ghost use Rattle.std.specs.Prelude.{ℕ};
+
+    ghost Value = { ℕ };
+
+    ghost view = { λ s. s.seconds };
+
+    ghost inverse = { λ n. record { seconds = n } };
+}
+
+impl Seconds {
+    /// The number that the value writes: an optional plus and decimal digits, below 2^64; nothing is
+    /// trimmed.
+    pub fn from_val(value: &HeaderValue) -> Option<Seconds>
+        ensures { result ≡ number value.now.bytes }
+    {
+        match read_number(value) {
+            Some(seconds) => Some(Seconds { seconds }),
+            None => None,
+        }
+    }
+
+    /// So many seconds.
+    pub fn from_secs(seconds: u64) -> Seconds
+        ensures { result ≡ seconds }
+    {
+        Seconds { seconds }
+    }
+
+    /// The seconds of a duration of whole seconds.
+    pub fn from_duration(duration: Duration) -> Seconds
+        requires { IsWholeSeconds duration }
+        ensures { LastsSeconds duration result }
+    {
+        Seconds {
+            seconds: duration.as_secs(),
+        }
+    }
+
+    /// How many seconds.
+    pub fn as_u64(&self) -> u64
+        ensures { result ≡ self.now }
+    {
+        self.seconds
+    }
+
+    /// The number in decimal.
+    pub fn to_value(&self, alloc: Global) -> Result<HeaderValue, AllocError>
+        ensures { IfOk result (λ value. value ≡ plain_value (decimal self.now)) }
+    {
+        HeaderValue::from_u64(alloc, self.seconds)
+    }
+}
+
+impl From<Seconds> for Duration {
+    ghost from_gives = { λ seconds duration. LastsSeconds duration seconds };
+
+    fn from(seconds: Seconds) -> Duration {
+        Duration::from_secs(seconds.seconds)
+    }
+}
+
+/// The seconds that the only line writes.
+pub fn only_seconds<I: Iterator>(values: &mut I) -> Option<Seconds>
+where
+    I::Item: AsHeaderValue,
+    requires { I.can_next values.old }
+    ensures { OfLines I.Item.shown I.next_gives values.old values.new
+        (λ lines. option_and_then number (only_line lines) ≡ result) }
+{
+    match just_one(values) {
+        Some(line) => Seconds::from_val(line.as_header_value()),
+        None => None,
+    }
+}

@@ -1,0 +1,38 @@
+//! The reader of text, and texts without what stands at their ends.
+ghost use Rattle.std.specs.Prelude.{◌≡◌, true, false, MatchOption};
+ghost use Rattle.std.specs.Option.{option_copied};
+ghost use Rattle.headers_syntax.specs.Text.{is_text};
+ghost use Rattle.headers_syntax.specs.Text.{trim, without_quotes};
+ghost use Rattle.headers_syntax.specs.Shapes.{text_line};
+
+use http_header::HeaderValue;
+
+const BLANKS: [char; 2] = ['\t', ' '];
+
+const QUOTES: [char; 1] = ['"'];
+
+/// The value as text, if it is: visible ASCII, spaces and tabs alone (RFC 9110, section 5.5).
+pub fn read_text(value: &HeaderValue) -> Option<&str>
+    ensures value { option_copied result ≡ text_line value.now.bytes }
+    ensures cases { MatchOption result (is_text value.now.bytes ≡ false)
+        (λ text. (is_text value.now.bytes ≡ true) × (text.now ≡ value.now.bytes)) }
+{
+    match value.to_str() {
+        Ok(text) => Some(text),
+        Err(_) => None,
+    }
+}
+
+/// The text without the spaces and tabs at its ends (RFC 9110, section 5.6.3).
+pub fn trim_text(text: &str) -> &str
+    ensures { result.now ≡ trim text.now }
+{
+    text.trim_start_matches(BLANKS).trim_end_matches(BLANKS)
+}
+
+/// The text without the quotes at its ends, paired or not.
+pub fn unquoted(text: &str) -> &str
+    ensures { result.now ≡ without_quotes text.now }
+{
+    text.trim_start_matches(QUOTES).trim_end_matches(QUOTES)
+}

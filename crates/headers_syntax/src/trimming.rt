@@ -1,0 +1,57 @@
+//! Spaces and tabs at the ends of a piece.
+ghost use Rattle.std.specs.Prelude.{◌≡◌, ◌-◌, ◌≤◌, length};
+ghost use Rattle.std.specs.List.{prefix_len, suffix_len, slice_range};
+ghost use Rattle.headers_syntax.specs.Text.{is_blank, trim};
+
+fn is_blank(byte: u8) -> bool
+    ensures { result ≡ is_blank byte }
+{
+    byte == b'\t' || byte == b' '
+}
+
+// How many spaces and tabs the bytes begin with.
+fn leading(bytes: &[u8]) -> usize
+    ensures within { result ≤ length bytes.now }
+    ensures value { result ≡ prefix_len is_blank bytes.now }
+{
+    for (i, byte) in bytes.iter().enumerate() {
+        if !is_blank(*byte) {
+            return i;
+        }
+    }
+    bytes.len()
+}
+
+// How many bytes stand before the spaces and tabs at the end.
+fn without_trailing(bytes: &[u8]) -> usize
+    ensures within { result ≤ length bytes.now }
+    ensures value { result ≡ length bytes.now - suffix_len is_blank bytes.now }
+{
+    let mut end = bytes.len();
+    while end > 0 && is_blank(bytes[end - 1]) {
+        end -= 1;
+    }
+    end
+}
+
+/// Where the piece from `start` up to `end` begins and ends without the spaces and tabs at its ends.
+pub fn trimmed(bytes: &[u8], start: usize, end: usize) -> (usize, usize)
+    requires order { start ≤ end }
+    requires within { end ≤ length bytes.now }
+    ensures low { result.0 ≤ result.1 }
+    ensures high { result.1 ≤ end }
+    ensures value { slice_range bytes.now result.0 result.1 ≡ trim (slice_range bytes.now start end) }
+{
+    let piece = &bytes[start..end];
+    let low = leading(piece);
+    let rest = &piece[low..];
+    (start + low, start + low + without_trailing(rest))
+}
+
+/// The bytes without the spaces and tabs at their ends (RFC 9110, section 5.6.3).
+pub fn trim(bytes: &[u8]) -> &[u8]
+    ensures { result.now ≡ trim bytes.now }
+{
+    let (low, high) = trimmed(bytes, 0, bytes.len());
+    &bytes[low..high]
+}

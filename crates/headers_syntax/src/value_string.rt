@@ -1,0 +1,99 @@
+//! A header value that is text.
+ghost use Rattle.std.specs.Prelude.{◌≡◌, ◌↔◌, IsTrue, IfOk, IsUtf8};
+ghost use Rattle.http_header.specs.FieldValue.{IsFieldValue, plain_value};
+ghost use Rattle.headers_syntax.specs.Text.{is_text};
+ghost use Rattle.headers_syntax.specs.Refusal.{IsInvalid};
+
+use crate::error::{Error, Refused};
+use crate::text::read_text;
+use http_header::{HeaderValue, HeaderValueError};
+use std::alloc::{AllocError, Global};
+use std::marker::Model;
+use std::str;
+
+/// A header value whose bytes are UTF-8. Equality, order and hash go by the bytes.
+#[derive(Debug, Drop, PartialEq, Eq, PartialOrd, Ord, Hash)]
+pub struct HeaderValueString {
+    value: HeaderValue,
+}
+
+impl Model for HeaderValueString {
+    ghost use Rattle.std.specs.Prelude.{IsUtf8};
+    ghost use Rattle.http_header.specs.FieldValue.{FieldValue, field_value_code};
+
+    ghost Value = { FieldValue };
+
+    ghost coded = { field_value_code };
+
+    ghost view = { λ s. s.value };
+
+    ghost invariant = { λ s. IsUtf8 s.value.bytes };
+
+    ghost inverse = { λ v. record { value = v } };
+}
+
+impl HeaderValueString {
+    /// A copy of the value, where it is text: a byte past ASCII is refused (RFC 9110, section 5.5).
+    pub fn from_val(
+        _alloc: Global,
+        value: &HeaderValue,
+    ) -> Result<HeaderValueString, Refused<Error>>
+        ensures ok { IfOk result (λ text. text ≡ value.now) }
+        ensures text { IfOk result (λ _. IsTrue (is_text value.now.bytes)) }
+        ensures invalid { IsInvalid result ↔ ¬ (IsTrue (is_text value.now.bytes)) }
+    {
+        if read_text(value).is_none() {
+            return Err(Refused::Invalid(Error::invalid()));
+        }
+        Ok(HeaderValueString {
+            value: value.clone()?,
+        })
+    }
+
+    /// A copy of the text. It may hold what a header value may, also characters past ASCII.
+    pub fn from_str(alloc: Global, text: &str) -> Result<HeaderValueString, Refused<Error>>
+        ensures ok { IfOk result (λ copy. copy ≡ plain_value text.now) }
+        ensures valid { IfOk result (λ _. IsFieldValue text.now) }
+        ensures invalid { IsInvalid result ↔ ¬ (IsFieldValue text.now) }
+    {
+        match HeaderValue::from_str(alloc, text) {
+            Ok(value) => Ok(HeaderValueString { value }),
+            Err(HeaderValueError::Invalid) => Err(Refused::Invalid(Error::invalid())),
+            Err(HeaderValueError::OutOfMemory) => Err(Refused::Memory(AllocError)),
+        }
+    }
+
+    /// The static text with no copy. It must be visible ASCII, spaces and tabs.
+    pub fn from_static(text: &'static str) -> HeaderValueString
+        requires { IsTrue (is_text text.now) }
+        ensures { result ≡ plain_value text.now }
+    {
+        HeaderValueString {
+            value: HeaderValue::from_static(text),
+        }
+    }
+
+    /// The text.
+    pub fn as_str(&self) -> &str
+        ensures { result.now ≡ self.now.bytes }
+    {
+        str::from_utf8(self.value.as_bytes()).unwrap()
+    }
+
+    /// The header value, whose bytes are those of the text.
+    pub fn as_value(&self) -> &HeaderValue
+        ensures value { result.now ≡ self.now }
+        ensures utf8 { IsUtf8 result.now.bytes }
+    {
+        &self.value
+    }
+
+    /// The same text, also as to whether it is kept out of logs.
+    pub fn clone(&self, _alloc: Global) -> Result<HeaderValueString, AllocError>
+        ensures { IfOk result (λ copy. copy ≡ self.now) }
+    {
+        Ok(HeaderValueString {
+            value: self.value.clone()?,
+        })
+    }
+}
