@@ -1,0 +1,37 @@
+//! Header values in base64, padded and in the standard alphabet (RFC 4648, section 4).
+#![tactic(auto)]
+
+ghost use Rattle.std.specs.Prelude.{◌≡◌, ◌++◌, ℕ, List, IfOk, IsTrue, MatchOption};
+ghost use Rattle.http_header.specs.FieldValue.{plain_value, is_visible_text};
+ghost use Rattle.base64.specs.GeneralPurpose.{IsBytes};
+ghost use Rattle.headers_base64.specs.Base64.{base64};
+
+use base64::DecodeAllocError;
+use base64::engine::general_purpose::STANDARD;
+use bytes::Bytes;
+use http_header::HeaderValue;
+use std::alloc::{AllocError, Global};
+
+/// The value of a prefix, which is visible ASCII, spaces and tabs, and the base64 of the bytes.
+pub fn base64_value(alloc: Global, prefix: &str, bytes: &[u8]) -> Result<HeaderValue, AllocError>
+    requires { IsTrue (is_visible_text prefix.now) }
+    ensures { IfOk result (λ value. value ≡ plain_value (prefix.now ++ base64 bytes.now)) }
+{
+    let mut text = String::from_str(alloc, prefix)?;
+    STANDARD.encode_string(bytes, &mut text)?;
+    Ok(HeaderValue::from_known_valid(Bytes::from_string(text)?))
+}
+
+/// The bytes of which the text is the base64, if it is that of some: a text with less padding, with
+/// bits behind the last byte or with any other byte is not.
+pub fn read_base64(alloc: Global, text: &[u8]) -> Result<Option<Vec<u8>>, AllocError>
+    ensures { IfOk result (λ read. MatchOption read
+        ((bytes : List ℕ) → IsBytes bytes → ¬ (text.now ≡ base64 bytes))
+        (λ bytes. IsBytes bytes.items × (text.now ≡ base64 bytes.items))) }
+{
+    match STANDARD.decode(alloc, text) {
+        Ok(bytes) => Ok(Some(bytes)),
+        Err(DecodeAllocError::DecodeError(_)) => Ok(None),
+        Err(DecodeAllocError::OutOfMemory) => Err(AllocError),
+    }
+}

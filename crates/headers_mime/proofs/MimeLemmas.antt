@@ -1,0 +1,129 @@
+-- Canonical texts are text, and what is read of a text.
+use Rattle.std.proofs.Common.{◌≡◌, ◌⊎◌, ℕ, Bool, true, false, List, [], ◌∷◌, ◌++◌, refl, sym, ◌∙◌, ap, subst, arith, Option, Some, None, IsTrue, inl, inr}
+use Rattle.std.specs.Prelude.{option_map, Err, MatchOption, IsSome, bytes_eq}
+use Rattle.std.specs.List.{All, list_all, list_any, flat_map}
+use Rattle.std.proofs.lemmas.Bool.{and_from, and_parts, cases_Bool}
+use Rattle.std.proofs.lemmas.Bool.Decides.{nat_tests}
+use Rattle.std.proofs.lemmas.List.Folds.{list_all-append}
+use Rattle.std.proofs.lemmas.List.Elements.{All-head, All-tail, All-weaker}
+use Rattle.std.proofs.lemmas.List.Sums.{AllPass-from_list_all, list_all-from_AllPass}
+use Rattle.http_header.specs.Token.{IsToken, is_token_byte, is_visible_or_blank, is_value_byte}
+use Rattle.http_header.specs.FieldValue.{IsFieldValue}
+use Rattle.http_header.proofs.TokenLemmas.{token_byte_range}
+use Rattle.headers_syntax.specs.Text.{quote, is_text}
+use Rattle.headers_syntax.specs.declared.error.Refused.{Refused}
+use Rattle.headers_syntax.specs.declared.error.Refused.TheVariants.{Invalid, Memory}
+use Rattle.headers_mime.specs.MediaType.{slash, equals, Parameter, MediaType, IsParameter, QuotedPart, plain, escaped, IsQuotedPart, quoted_part_text, IsQuotedString, parameter_text, parameters_text, media_text, IsMediaType, canonical_parts, canonical, IsCanonical}
+use Rattle.headers_mime.specs.MediaTypeReading.{read_media, canonical_of, GivesRead}
+use Rattle.headers_mime.specs.MimeText.{text_bytes, known_texts, IsMimeText, ReadsMime}
+use Rattle.headers_mime.specs.declared.mime.Text.TheVariants.{Known, Read}
+use Rattle.headers_mime.proofs.KnownLemmas.{known_texts-canonical}
+use Rattle.std.proofs.lemmas.Slice.Eq.{bytes_eq-Decides}
+use Rattle.headers_mime.specs.declared.mime.Text.{Text}
+use Rattle.headers_mime.proofs.TokenLemmas.{map_parts}
+use Rattle.headers_mime.proofs.ReadingLemmas.{read_media-media, media-from_read}
+use Rattle.headers_mime.proofs.CanonicalLemmas.{parameters-valid, canonical-media}
+
+text-append : (s t : List ℕ) → is_text s ≡ true → is_text t ≡ true → is_text (s ++ t) ≡ true
+text-append s t a b = list_all-append is_visible_or_blank s t ∙ and_from _ _ a b
+
+token_byte-text : (b : ℕ) → is_token_byte b ≡ true → is_visible_or_blank b ≡ true
+token_byte-text b t = let range = token_byte_range b t in grind (arith, nat_tests)
+
+text_byte-value : (b : ℕ) → IsTrue (is_visible_or_blank b) → IsTrue (is_value_byte b)
+text_byte-value b t = grind (arith, nat_tests)
+
+token_bytes-text : (s : List ℕ) → list_all is_token_byte s ≡ true → is_text s ≡ true
+token_bytes-text [] h = refl
+token_bytes-text (b ∷ s) h =
+    let parts = and_parts (is_token_byte b) (list_all is_token_byte s) h in
+    and_from _ _ (token_byte-text b parts.0) (token_bytes-text s parts.1)
+
+token-text : (s : List ℕ) → IsToken s → is_text s ≡ true
+token-text s token = token_bytes-text s (list_all-from_AllPass is_token_byte s token.1)
+
+quoted_parts-text : (parts : List QuotedPart) → All IsQuotedPart parts
+    → is_text (flat_map quoted_part_text parts) ≡ true
+quoted_parts-text [] valid = refl
+quoted_parts-text (plain b ∷ parts) valid =
+    and_from _ _ (All-head IsQuotedPart (plain b) parts valid).0
+    (quoted_parts-text parts (All-tail IsQuotedPart (plain b) parts valid))
+quoted_parts-text (escaped b ∷ parts) valid =
+    and_from _ _ (All-head IsQuotedPart (escaped b) parts valid)
+    (quoted_parts-text parts (All-tail IsQuotedPart (escaped b) parts valid))
+
+value-text : (s : List ℕ) → IsToken s ⊎ IsQuotedString s → is_text s ≡ true
+value-text s (inl token) = token-text s token
+value-text s (inr q) = ap is_text q.text ∙ text-append (flat_map quoted_part_text q.parts) (quote ∷ [])
+    (quoted_parts-text q.parts q.valid) refl
+
+parameters-text : (ps : List Parameter) → All IsParameter ps → is_text (parameters_text ps) ≡ true
+parameters-text [] valid = refl
+parameters-text (p ∷ ps) valid =
+    let here = All-head IsParameter p ps valid in
+    let one = text-append p.name (equals ∷ p.value) (token-text p.name here.name) (value-text p.value here.value) in
+    text-append (parameter_text p) (parameters_text ps) one (parameters-text ps (All-tail IsParameter p ps valid))
+
+-- the parts of a media type are text
+media-text : (s : List ℕ) (m : MediaType) → IsMediaType s m → is_text (media_text m) ≡ true
+media-text s m h =
+    let valid : All IsParameter m.parameters = subst (All IsParameter) (sym h.parameters_are)
+    (parameters-valid h.segments h.segments_are) in
+    text-append m.top_level (slash ∷ (m.subtype ++ parameters_text m.parameters))
+    (token-text m.top_level h.top_level_is)
+    (text-append m.subtype (parameters_text m.parameters) (token-text m.subtype h.subtype_is)
+    (parameters-text m.parameters valid))
+
+-- and so is a canonical text
+pub canonical-text : (s : List ℕ) (m : MediaType) → IsMediaType s m → is_text (canonical m) ≡ true
+canonical-text s m h = media-text (canonical m) (canonical_parts m) (canonical-media s m h)
+
+pub is_canonical-text : (t : List ℕ) → IsCanonical t → is_text t ≡ true
+is_canonical-text t h = subst (λ (t : List ℕ). is_text t ≡ true) h.2 (canonical-text t h.0 h.1)
+
+pub is_canonical-value : (t : List ℕ) → IsCanonical t → IsFieldValue t
+is_canonical-value t h =
+    All-weaker (λ b. IsTrue (is_visible_or_blank b)) (λ b. IsTrue (is_value_byte b)) text_byte-value t
+    (AllPass-from_list_all is_visible_or_blank t (is_canonical-text t h))
+
+-- a canonical text is that of a reading
+pub reading-from_canonical_of : (s t : List ℕ) → canonical_of s ≡ Some t
+    → (m : MediaType) × IsMediaType s m × (t ≡ canonical m)
+reading-from_canonical_of s t h =
+    let m = map_parts canonical (read_media s) t h in
+    (m.0, media-from_read s m.0 m.1, sym m.2)
+
+no_reading : (s : List ℕ) → canonical_of s ≡ None → (m : MediaType) → ¬ (IsMediaType s m)
+no_reading s none m h =
+    let some = ap (option_map canonical) (read_media-media s m h) in
+    cc (some, none)
+
+-- what is refused has no reading
+pub refused_reading : {T E : Type 0} (shown : T → List ℕ) (s : List ℕ) (refused : Refused E)
+    → GivesRead shown (canonical_of s) (Err refused) → ReadsMime s (Err refused)
+refused_reading shown s (Invalid e) none = no_reading s none
+refused_reading shown s (Memory e) none = tt
+
+-- a text that is among canonical texts
+among-canonical : (texts : List (List ℕ)) (s : List ℕ) → All IsCanonical texts
+    → list_any (λ (t : List ℕ). bytes_eq t s) texts ≡ true → IsCanonical s
+among-canonical [] s all h = absurd (cc h)
+among-canonical (t ∷ texts) s all h =
+    elim (cases_Bool (bytes_eq t s)) [
+      | inl e ↦ subst IsCanonical ((bytes_eq-Decides t s).0 e) (All-head IsCanonical t texts all)
+      | inr n ↦ let later : list_any (λ (t : List ℕ). bytes_eq t s) texts ≡ true = rw n at h in among-canonical texts
+          s (All-tail IsCanonical t texts all) later
+    ]
+
+-- what a media type holds is canonical, and so it is text
+pub kept-canonical : (text : Text) (t : List ℕ) → IsMimeText text → text_bytes text ≡ t → IsCanonical t
+kept-canonical (Known text) t h e = subst IsCanonical e (among-canonical known_texts text.now known_texts-canonical h)
+kept-canonical (Read value) t h e = subst IsCanonical e h
+
+pub kept-text : (text : Text) (t : List ℕ) → IsMimeText text → text_bytes text ≡ t → is_text t ≡ true
+kept-text text t h e = is_canonical-text t (kept-canonical text t h e)
+
+pub some_of_text : {A : Type 0} (o : Option A) (Q : A → Type 0) (b : Bool) → b ≡ true → MatchOption o (b ≡ false) Q
+    → IsSome o
+some_of_text None Q b t f = absurd (cc (t, f))
+some_of_text (Some x) Q b t q = refl

@@ -1,0 +1,34 @@
+use Rattle.std.proofs.Common.{◌≡◌, ◌<◌, ◌++◌, ℕ, List, length, sym, ◌∙◌, ap, arith}
+use Rattle.std.specs.Prelude.{option_map}
+use Rattle.std.proofs.lemmas.Bool.Decides.{nat_tests}
+use Rattle.headers_mime.specs.MediaTypeReading.{canonical_rest, optional_canonical}
+use Rattle.headers_mime.proofs.WritingLemmas.{segment-shrinks, canonical_rest-none, canonical_rest-some, canonical_rest-end, written_more, none_behind}
+use Rattle.headers_mime.proofs.writing.push_parameters.Goals as goal
+
+pub returns-in_default : goal.returns-in_default
+returns-in_default c =
+    let long : 0 < length c.loop-rest.rest.now = grind (arith, nat_tests) in
+    none_behind c.args.text.now.items c.loop-rest.text.items (canonical_rest c.args.bytes.now)
+    (canonical_rest c.loop-rest.rest.now) c.loop-rest.invariant
+    (canonical_rest-none c.loop-rest.rest.now long (sym c.in_default.ensures))
+
+pub loop-rest-smaller : goal.loop-rest-smaller
+loop-rest-smaller c = segment-shrinks c.loop-rest.rest.now (c.in-Some.parameter, c.in-Some.left.now)
+    (sym c.in-Some.ensures)
+
+pub loop-rest-preserved : goal.loop-rest-preserved
+loop-rest-preserved c =
+    let long : 0 < length c.loop-rest.rest.now = grind (arith, nat_tests) in
+    let old = c.loop-rest.text.items in
+    let later = canonical_rest c.in-Some.left.now in
+    c.loop-rest.invariant
+    ∙ ap (option_map (λ (t : List ℕ). old ++ t))
+    (canonical_rest-some c.loop-rest.rest.now (c.in-Some.parameter, c.in-Some.left.now) long
+    (sym c.in-Some.ensures))
+    ∙ written_more old (optional_canonical c.in-Some.parameter) later
+    ∙ ap (λ (new : List ℕ). option_map (λ (t : List ℕ). new ++ t) later) (sym c.in_ok-push_parameter.ensures)
+
+pub returns : goal.returns
+returns c =
+    let none : length c.loop-rest.rest.now ≡ 0 = grind (arith, nat_tests) in
+    c.loop-rest.invariant ∙ canonical_rest-end c.loop-rest.rest.now c.loop-rest.text.items none

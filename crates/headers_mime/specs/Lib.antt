@@ -1,0 +1,3 @@
+pub mod MediaType
+pub mod MediaTypeReading
+pub mod MimeText

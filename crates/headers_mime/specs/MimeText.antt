@@ -1,0 +1,37 @@
+-- What a `Mime` holds.
+use Rattle.std.specs.Prelude.{◌≡◌, ⊤, ℕ, List, [], ◌∷◌, codes, IsTrue, bytes_eq, Result, Ok, Err}
+use Rattle.headers_syntax.specs.declared.error.Refused.{Refused}
+use Rattle.headers_syntax.specs.declared.error.Refused.TheVariants.{Invalid, Memory}
+use Rattle.headers_mime.specs.MediaType.{MediaType, IsMediaType, canonical, IsCanonical}
+use Rattle.std.specs.List.{list_any}
+use Rattle.headers_mime.specs.declared.mime.Text.{Text}
+use Rattle.headers_mime.specs.declared.mime.Text.TheVariants.{Known, Read}
+
+abbrev pub text_bytes : Text → List ℕ
+text_bytes (Known text) = text.now
+text_bytes (Read value) = value.bytes
+
+-- the texts of the constants, in order
+abbrev pub known_texts : List (List ℕ)
+known_texts =
+    codes "application/json" ∷
+    codes "text/plain" ∷
+    codes "text/plain; charset=utf-8" ∷
+    codes "text/html" ∷
+    codes "text/xml" ∷
+    codes "application/x-www-form-urlencoded" ∷
+    codes "image/jpeg" ∷
+    codes "image/png" ∷
+    codes "application/octet-stream" ∷
+    []
+
+-- what a media type may hold: the text of a constant, or a canonical text
+abbrev pub IsMimeText : Text → Type 0
+IsMimeText (Known text) = IsTrue (list_any (λ (known : List ℕ). bytes_eq known text.now) known_texts)
+IsMimeText (Read value) = IsCanonical value.bytes
+
+-- an answer of a reader of text: the canonical text of its reading, and `Invalid` only where it has none
+abbrev pub ReadsMime : {E : Type 0} → List ℕ → Result (List ℕ) (Refused E) → Type 0
+ReadsMime text (Ok mime) = (m : MediaType) × IsMediaType text m × (mime ≡ canonical m)
+ReadsMime text (Err (Invalid e)) = (m : MediaType) → ¬ (IsMediaType text m)
+ReadsMime text (Err (Memory e)) = ⊤

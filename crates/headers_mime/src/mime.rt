@@ -1,0 +1,196 @@
+//! Media types.
+ghost use Rattle.std.specs.Prelude.{◌≡◌, List, ℕ, IfOk, Some};
+ghost use Rattle.std.specs.Fmt.{padded};
+ghost use Rattle.headers_mime.specs.MediaType.{MediaType, IsMediaType, IsCanonical, canonical, canonical_parts};
+ghost use Rattle.headers_mime.specs.MimeText.{ReadsMime, known_texts};
+
+use crate::writing::canonical_text;
+use bytes::Bytes;
+use headers_syntax::{Error, Refused, read_text};
+use http_header::HeaderValue;
+use std::alloc::{AllocError, Global};
+use std::fmt;
+use std::marker::Model;
+
+#[derive(Drop)]
+enum Text {
+    Known(&'static str),
+    Read(HeaderValue),
+}
+
+/// A media type (RFC 9110, section 8.3.1), by its canonical text: type, subtype and names of
+/// parameters in lower case, and each parameter after a semicolon and a space. Equality goes by it.
+///
+/// A contract sees that text.
+#[derive(Drop)]
+pub struct Mime {
+    text: Text,
+}
+
+impl Model for Mime {
+    ghost use Rattle.std.specs.Prelude.{List, ℕ};
+    ghost use Rattle.headers_mime.specs.MimeText.{text_bytes, IsMimeText};
+
+    ghost Value = { List ℕ };
+
+    ghost view = { λ mime. text_bytes mime.text };
+
+    ghost invariant = { λ mime. IsMimeText mime.text };
+}
+
+impl Mime {
+    /// `application/json`.
+    pub const APPLICATION_JSON: Mime = Mime {
+        text: Text::Known("application/json"),
+    };
+
+    /// `text/plain`.
+    pub const TEXT_PLAIN: Mime = Mime {
+        text: Text::Known("text/plain"),
+    };
+
+    /// `text/plain; charset=utf-8`.
+    pub const TEXT_PLAIN_UTF_8: Mime = Mime {
+        text: Text::Known("text/plain; charset=utf-8"),
+    };
+
+    /// `text/html`.
+    pub const TEXT_HTML: Mime = Mime {
+        text: Text::Known("text/html"),
+    };
+
+    /// `text/xml`.
+    pub const TEXT_XML: Mime = Mime {
+        text: Text::Known("text/xml"),
+    };
+
+    /// `application/x-www-form-urlencoded`.
+    pub const APPLICATION_WWW_FORM_URLENCODED: Mime = Mime {
+        text: Text::Known("application/x-www-form-urlencoded"),
+    };
+
+    /// `image/jpeg`.
+    pub const IMAGE_JPEG: Mime = Mime {
+        text: Text::Known("image/jpeg"),
+    };
+
+    /// `image/png`.
+    pub const IMAGE_PNG: Mime = Mime {
+        text: Text::Known("image/png"),
+    };
+
+    /// `application/octet-stream`.
+    pub const APPLICATION_OCTET_STREAM: Mime = Mime {
+        text: Text::Known("application/octet-stream"),
+    };
+
+    /// The nine constants, each of which has the text that its name says.
+    pub fn all() -> [Mime; 9]
+        ensures { result ≡ known_texts }
+    {
+        [
+            Mime::APPLICATION_JSON,
+            Mime::TEXT_PLAIN,
+            Mime::TEXT_PLAIN_UTF_8,
+            Mime::TEXT_HTML,
+            Mime::TEXT_XML,
+            Mime::APPLICATION_WWW_FORM_URLENCODED,
+            Mime::IMAGE_JPEG,
+            Mime::IMAGE_PNG,
+            Mime::APPLICATION_OCTET_STREAM,
+        ]
+    }
+
+    // The media type of a canonical text.
+    fn from_canonical(text: Vec<u8>) -> Result<Mime, AllocError>
+        requires { IsCanonical text.items }
+        ensures { IfOk result (λ mime. mime ≡ text.items) }
+    {
+        Ok(Mime {
+            text: Text::Read(HeaderValue::from_known_valid(Bytes::from_vec(text)?)),
+        })
+    }
+
+    /// The media type that a text reads as, in canonical form. Spaces and tabs may stand at both ends
+    /// and around a semicolon, and nowhere else outside quotes; a semicolon need have no parameter
+    /// behind it. `Invalid` where the text is no media type.
+    pub fn parse(alloc: Global, text: &str) -> Result<Mime, Refused<Error>>
+        ensures { ReadsMime text.now result }
+    {
+        match canonical_text(alloc, text.as_bytes()) {
+            Ok(text) => Ok(Mime::from_canonical(text)?),
+            Err(refused) => Err(refused),
+        }
+    }
+
+    /// The canonical text.
+    pub fn as_str(&self) -> &str
+        ensures text { result.now ≡ self.now }
+        ensures canonical { IsCanonical self.now }
+    {
+        match &self.text {
+            Text::Known(text) => text,
+            Text::Read(value) => read_text(value).unwrap(),
+        }
+    }
+
+    /// The canonical text as a header value.
+    pub fn to_value(&self, _alloc: Global) -> Result<HeaderValue, AllocError>
+        ensures { IfOk result (λ value. value.bytes ≡ self.now) }
+    {
+        match &self.text {
+            Text::Known(text) => Ok(HeaderValue::from_static(text)),
+            Text::Read(value) => value.clone(),
+        }
+    }
+
+    /// The same media type.
+    pub fn clone(&self, _alloc: Global) -> Result<Mime, AllocError>
+        ensures { IfOk result (λ copy. copy ≡ self.now) }
+    {
+        let text = match &self.text {
+            Text::Known(text) => Text::Known(text),
+            Text::Read(value) => Text::Read(value.clone()?),
+        };
+        Ok(Mime { text })
+    }
+}
+
+impl PartialEq for Mime {
+    ghost use Rattle.std.specs.Prelude.{nat_eq};
+    ghost use Rattle.std.specs.Cmp.Lexicographic.{pointwise, nat_list_eq_equiv};
+    ghost use Rattle.std.specs.Cmp.{partial_equiv_from_equiv};
+
+    ghost eq = { pointwise nat_eq };
+
+    ghost laws = { partial_equiv_from_equiv nat_list_eq_equiv };
+
+    fn eq(&self, other: &Mime) -> bool {
+        self.as_str() == other.as_str()
+    }
+}
+
+impl fmt::Display for Mime {
+    ghost output = { λ mime. Some mime };
+
+    ghost styled_output = { λ mime spec. Some (padded spec mime) };
+
+    fn fmt<W: fmt::Write>(&self, f: &mut fmt::Formatter<W>) -> fmt::Result {
+        f.pad(self.as_str())
+    }
+}
+
+impl fmt::Debug for Mime {
+    fn fmt<W: fmt::Write>(&self, f: &mut fmt::Formatter<W>) -> fmt::Result {
+        self.as_str().fmt(f)
+    }
+}
+
+/// A text has one reading at most. The canonical text of a reading reads as its parts in canonical
+/// form, whose canonical text it is.
+pub fn media_types_are_read_once()
+    ensures once { (text : List ℕ) (m n : MediaType) → IsMediaType text m → IsMediaType text n → m ≡ n }
+    ensures back { (text : List ℕ) (m : MediaType) → IsMediaType text m
+        → IsMediaType (canonical m) (canonical_parts m) }
+    ensures stable { (m : MediaType) → canonical (canonical_parts m) ≡ canonical m }
+{}

@@ -1,0 +1,181 @@
+//! Media types as they are read from the front on.
+ghost use Rattle.std.specs.Prelude.{◌≡◌, ◌+◌, ◌≤◌, length, false, IfSome, option_map};
+ghost use Rattle.std.specs.List.{prefix_len};
+ghost use Rattle.std.specs.Option.{option_copied};
+ghost use Rattle.headers_syntax.specs.Text.{is_blank, trim_start};
+ghost use Rattle.http_header.specs.Token.{is_token_byte, is_visible_or_blank};
+ghost use Rattle.headers_mime.specs.MediaTypeReading.{quoted_len, token_len, value_len, after_byte, read_token, read_value, read_parameter, read_optional, read_segment, read_essence, read_shown, two_pieces, three_pieces};
+
+use http_header::is_token_char;
+use std::marker::Model;
+
+/// A parameter as it is written; a quoted value has its quotes.
+#[derive(Drop)]
+pub struct ParameterRef<'a> {
+    pub name: &'a [u8],
+    pub value: &'a [u8],
+}
+
+impl<'a> Model for ParameterRef<'a> {
+    ghost use Rattle.headers_mime.specs.MediaType.{Parameter};
+
+    ghost Value = { Parameter };
+
+    ghost view = { λ p. record { name = p.name.now; value = p.value.now } };
+}
+
+fn is_blank(byte: u8) -> bool
+    ensures { result ≡ is_blank byte }
+{
+    byte == b'\t' || byte == b' '
+}
+
+fn is_text(byte: u8) -> bool
+    ensures { result ≡ is_visible_or_blank byte }
+{
+    byte == b'\t' || (byte >= b' ' && byte < 0x7f)
+}
+
+// How many spaces and tabs stand at the head.
+fn blanks_len(bytes: &[u8]) -> usize
+    ensures value { result ≡ prefix_len is_blank bytes.now }
+    ensures within { result ≤ length bytes.now }
+{
+    for (i, byte) in bytes.iter().enumerate() {
+        if !is_blank(*byte) {
+            return i;
+        }
+    }
+    bytes.len()
+}
+
+// The bytes without the spaces and tabs at their head.
+fn skip_blanks(bytes: &[u8]) -> &[u8]
+    ensures { result.now ≡ trim_start bytes.now }
+{
+    &bytes[blanks_len(bytes)..]
+}
+
+// How many bytes of a token stand at the head.
+fn token_bytes_len(bytes: &[u8]) -> usize
+    ensures value { result ≡ prefix_len is_token_byte bytes.now }
+    ensures within { result ≤ length bytes.now }
+{
+    for (i, byte) in bytes.iter().enumerate() {
+        if !is_token_char(*byte) {
+            return i;
+        }
+    }
+    bytes.len()
+}
+
+// How many bytes the token at the head has.
+fn token_len(bytes: &[u8]) -> Option<usize>
+    ensures value { result ≡ token_len bytes.now }
+    ensures within { IfSome result (λ n. n ≤ length bytes.now) }
+{
+    match token_bytes_len(bytes) {
+        0 => None,
+        n => Some(n),
+    }
+}
+
+// How many bytes stand up to the closing quote, and with it.
+fn quoted_len(bytes: &[u8]) -> Option<usize>
+    ensures value { result ≡ quoted_len false bytes.now }
+    ensures within { IfSome result (λ n. n ≤ length bytes.now) }
+{
+    let mut is_escaped = false;
+    for (i, byte) in bytes.iter().enumerate() {
+        if *byte == b'"' && !is_escaped {
+            return Some(i + 1);
+        }
+        if !is_text(*byte) {
+            return None;
+        }
+        is_escaped = *byte == b'\\' && !is_escaped;
+    }
+    None
+}
+
+// How many bytes the token or the quoted string at the head has.
+#[tactic(auto, unfolding(crate::specs::MediaTypeReading::value_len))]
+fn value_len(bytes: &[u8]) -> Option<usize>
+    ensures value { result ≡ value_len bytes.now }
+    ensures within { IfSome result (λ n. n ≤ length bytes.now) }
+{
+    match bytes {
+        [b'"', rest @ ..] => Some(quoted_len(rest)? + 1),
+        _ => token_len(bytes),
+    }
+}
+
+// What follows a byte at the head.
+fn after_byte(byte: u8, bytes: &[u8]) -> Option<&[u8]>
+    ensures { option_copied result ≡ after_byte byte bytes.now }
+{
+    match bytes {
+        [first, rest @ ..] if *first == byte => Some(rest),
+        _ => None,
+    }
+}
+
+// The token at the head, and what follows it.
+#[tactic(auto, unfolding(crate::specs::MediaTypeReading::read_token))]
+fn read_token(bytes: &[u8]) -> Option<(&[u8], &[u8])>
+    ensures { option_map two_pieces result ≡ read_token bytes.now }
+{
+    let len = token_len(bytes)?;
+    Some(bytes.split_at(len))
+}
+
+// The value at the head, and what follows it.
+#[tactic(auto, unfolding(crate::specs::MediaTypeReading::read_value))]
+fn read_value(bytes: &[u8]) -> Option<(&[u8], &[u8])>
+    ensures { option_map two_pieces result ≡ read_value bytes.now }
+{
+    let len = value_len(bytes)?;
+    Some(bytes.split_at(len))
+}
+
+// The parameter at the head, and what follows it.
+#[tactic(auto, unfolding(crate::specs::MediaTypeReading::read_parameter))]
+fn read_parameter(bytes: &[u8]) -> Option<(ParameterRef<'_>, &[u8])>
+    ensures { option_map read_shown result ≡ read_parameter bytes.now }
+{
+    let (name, rest) = read_token(bytes)?;
+    let (value, rest) = read_value(after_byte(b'=', rest)?)?;
+    Some((ParameterRef { name, value }, rest))
+}
+
+// The parameter at the head, if one begins there, and what follows it and blanks.
+#[tactic(auto, unfolding(crate::specs::MediaTypeReading::read_optional))]
+fn read_optional(bytes: &[u8]) -> Option<(Option<ParameterRef<'_>>, &[u8])>
+    ensures { option_map read_shown result ≡ read_optional bytes.now }
+{
+    match bytes {
+        [first, ..] if is_token_char(*first) => {
+            let (parameter, rest) = read_parameter(bytes)?;
+            Some((Some(parameter), skip_blanks(rest)))
+        }
+        _ => Some((None, bytes)),
+    }
+}
+
+/// A semicolon at the head and the parameter behind it, if any, and what follows.
+#[tactic(auto, unfolding(crate::specs::MediaTypeReading::read_segment))]
+pub(crate) fn read_segment(bytes: &[u8]) -> Option<(Option<ParameterRef<'_>>, &[u8])>
+    ensures { option_map read_shown result ≡ read_segment bytes.now }
+{
+    read_optional(skip_blanks(after_byte(b';', bytes)?))
+}
+
+/// Type, subtype and what follows them and blanks.
+#[tactic(auto, unfolding(crate::specs::MediaTypeReading::read_essence))]
+pub(crate) fn read_essence(bytes: &[u8]) -> Option<(&[u8], &[u8], &[u8])>
+    ensures { option_map three_pieces result ≡ read_essence bytes.now }
+{
+    let (top_level, rest) = read_token(skip_blanks(bytes))?;
+    let (subtype, rest) = read_token(after_byte(b'/', rest)?)?;
+    Some((top_level, subtype, skip_blanks(rest)))
+}

@@ -1,0 +1,167 @@
+-- Tokens that are joined in a list are its items.
+use Rattle.std.proofs.Common.{◌≡◌, ◌≢◌, ℕ, suc, ◌+◌, ◌-◌, ◌<◌, ◌≤◌, Bool, true, false, cond, List, [], ◌∷◌, ◌++◌, length, map, take, drop, get_or, Option, Some, None, is_some, Result, Ok, Err, IfOk, IsTrue, refl, sym, ◌∙◌, ap, subst, arith}
+use Rattle.std.specs.List.{filter_map, flat_map, take_while, list_all, prefix_len, suffix_len, count_by}
+use Rattle.std.proofs.Math.Seq.{take-length}
+use Rattle.std.proofs.lemmas.Bool.{and_from, ne_eqb}
+use Rattle.std.proofs.lemmas.Bool.Decides.{nat_tests}
+use Rattle.std.proofs.lemmas.List.Sums.{suffix_len_is, sum_by-cons, take_while-cons}
+use Rattle.std.proofs.lemmas.List.Elements.{All-tail}
+use Rattle.std.specs.Iterator.{Drains}
+use Rattle.std.specs.Vec.Iter.{into_iter_items, into_iter_len, into_iter_steps}
+use Rattle.std.specs.declared.vec.IntoIter.{IntoIter}
+use Rattle.std.proofs.lemmas.Iterator.{items_from_drains}
+use Rattle.std.proofs.lemmas.Iterator.Adapters.{YieldsList-from_vec}
+use Rattle.std.proofs.lemmas.List.{map-id}
+use Rattle.http_header.specs.FieldValue.{FieldValue}
+use Rattle.http_header.specs.Token.{IsToken, is_token_byte, AllPass}
+use Rattle.http_header.proofs.TokenLemmas.{token_byte_range, IsVisibleAscii-from_token}
+use Rattle.headers_syntax.specs.Text.{is_blank, is_text, trim}
+use Rattle.headers_syntax.specs.Text.{is_quote}
+use Rattle.headers_items.specs.Places.{is_even, comma, is_counting_place, places, pieces, items}
+use Rattle.headers_items.specs.Separator.{comma_is_separator}
+use Rattle.headers_items.specs.ItemsState.{NoCut}
+use Rattle.headers_items.specs.CutLaw.{EvenButLast, IsMerged, MergesItems}
+use Rattle.headers_syntax.specs.Lines.{lines_of}
+use Rattle.headers_items.proofs.ItemsLemmas.{items_last}
+use Rattle.headers_items.proofs.PlacesLemmas.{counting_place_other}
+use Rattle.headers_syntax.proofs.TextLemmas.{is_text-from_visible}
+use Rattle.headers_names.specs.ListItem.{Reading, values, leading_values, ReadsAsItself, IsListOf, ListsValues, Lists}
+
+-- a byte of a token is no comma
+no_comma : (b : ℕ) → IsTrue (is_token_byte b) → b ≢ comma
+unfolding is_token_byte
+no_comma b t e = let f : IsTrue (is_token_byte comma) = subst (λ (x : ℕ). IsTrue (is_token_byte x)) e t in
+    absurd (cc f)
+
+no_quote : (b : ℕ) → IsTrue (is_token_byte b) → is_quote b ≡ false
+unfolding is_token_byte
+no_quote b t = ne_eqb _ _ (λ e. let f : IsTrue (is_token_byte 34) =
+    subst (λ (x : ℕ). IsTrue (is_token_byte x)) e t in absurd (cc f))
+
+no_blank : (b : ℕ) → IsTrue (is_token_byte b) → is_blank b ≡ false
+no_blank b t = let r = token_byte_range b t in grind (arith, nat_tests)
+
+token_front : (x : List ℕ) → IsToken x → prefix_len is_blank x ≡ 0
+token_front [] t = absurd (omega (arith, t.0))
+token_front (b ∷ bs) t = let no : is_blank b ≡ false = no_blank b (t.1 0 0 t.0) in rw no refl
+
+token_back : (x : List ℕ) → IsToken x → suffix_len is_blank x ≡ 0
+token_back x t =
+    let some = t.0 in
+    suffix_len_is is_blank x (length x) 0 (omega arith) (λ k a b. absurd (omega (arith, a, b)))
+    (λ h. no_blank _ (t.1 (length x - 1) 0 (omega arith)))
+    ∙ (let z : length x - length x ≡ 0 = omega arith in z)
+
+token_trim : (x : List ℕ) → IsToken x → trim x ≡ x
+token_trim x t =
+    let whole : length x - 0 ≡ length x = omega arith in
+    rw (token_front x t) (rw (token_back x t) (rw whole (take-length x)))
+
+-- a token is its own and only item
+items_token : (x : List ℕ) → IsToken x → items comma x ≡ x ∷ []
+items_token x t =
+    let text : is_text x ≡ true = is_text-from_visible x (IsVisibleAscii-from_token x t) in
+    let none : NoCut comma x 0 (length x) = λ k low high. counting_place_other comma x k (no_comma _ (t.1 k 0 high)) in
+    rw text (items_last comma x 0 (omega arith) none ∙ ap (λ i. i ∷ []) (token_trim x t))
+
+token_quotes : (x : List ℕ) → AllPass is_token_byte x → count_by is_quote x ≡ 0
+token_quotes [] t = refl
+token_quotes (b ∷ bs) t =
+    let no : is_quote b ≡ false = no_quote b (t 0 0 (omega arith)) in
+    sum_by-cons (λ y. cond (is_quote y) 1 0) b bs
+    ∙ rw no (let later = token_quotes bs (All-tail (λ y. IsTrue (is_token_byte y)) b bs t) in omega (arith, later))
+
+-- the empty value has the empty item
+items_empty : items comma [] ≡ [] ∷ []
+unfolding pieces places
+items_empty = refl
+
+module _ (value_of : Reading) where
+  -- each is a token that reads as itself
+  abbrev pub EachReads : List (List ℕ) → Type 0
+  EachReads [] = Unit {0}
+  EachReads (x ∷ xs) = ReadsAsItself value_of x × EachReads xs
+
+  pub EachReads-push : (xs : List (List ℕ)) (x : List ℕ) → EachReads xs → ReadsAsItself value_of x
+      → EachReads (xs ++ x ∷ [])
+  EachReads-push [] x h r = (r, tt)
+  EachReads-push (y ∷ ys) x h r = (h.0, EachReads-push ys x h.1 r)
+
+  each_text : (xs : List (List ℕ)) → EachReads xs → list_all is_text xs ≡ true
+  each_text [] h = refl
+  each_text (x ∷ xs) h = and_from _ _ (is_text-from_visible x (IsVisibleAscii-from_token x h.0.0)) (each_text xs h.1)
+
+  each_even : (xs : List (List ℕ)) → EachReads xs → EvenButLast xs
+  each_even [] h = tt
+  each_even (x ∷ []) h = tt
+  each_even (x ∷ y ∷ ys) h = (ap is_even (token_quotes x h.0.0.1), each_even (y ∷ ys) h.1)
+
+  each_item : (xs : List (List ℕ)) → EachReads xs → flat_map (items comma) xs ≡ xs
+  each_item [] h = refl
+  each_item (x ∷ xs) h = rw (items_token x h.0.0) (ap (λ r. x ∷ r) (each_item xs h.1))
+
+  each_value : (xs : List (List ℕ)) → EachReads xs → values value_of xs ≡ xs
+  each_value [] h = refl
+  each_value (x ∷ xs) h = rw (h.0.1) (ap (λ r. x ∷ r) (each_value xs h.1))
+
+  each_leads : (xs : List (List ℕ)) → EachReads xs → take_while (λ item. is_some (value_of item)) xs ≡ xs
+  each_leads [] h = refl
+  each_leads (x ∷ xs) h = take_while-cons (λ item. is_some (value_of item)) x xs
+      ∙ rw (h.0.1) (ap (λ r. x ∷ r) (each_leads xs h.1))
+
+  from_items : (xs : List (List ℕ)) (value : List ℕ) → EachReads xs → IsMerged comma xs value
+      → items comma value ≡ xs → IsListOf value_of xs value
+  from_items xs value h m e = record {
+    bytes = m.bytes;
+    all = ap (values value_of) e ∙ each_value xs h;
+    leading = ap (leading_values value_of) e ∙ ap (values value_of) (each_leads xs h) ∙ each_value xs h;
+  }
+
+  -- such tokens, merged, are a list of themselves
+  pub IsListOf-merged : value_of [] ≡ None → (xs : List (List ℕ)) (value : List ℕ) → EachReads xs
+      → IsMerged comma xs value → IsListOf value_of xs value
+  IsListOf-merged none [] value h m =
+      let e : items comma value ≡ [] ∷ [] = ap (items comma) m.bytes ∙ items_empty in
+      record {
+        bytes = m.bytes;
+        all = ap (values value_of) e ∙ rw none refl;
+        leading = ap (leading_values value_of) e ∙ rw none refl;
+      }
+  IsListOf-merged none (x ∷ xs) value h m =
+      from_items (x ∷ xs) value h m (m.items_kept (each_text (x ∷ xs) h) (each_even (x ∷ xs) h) ∙ each_item (x ∷ xs) h)
+
+-- a vector's iterator gives its elements
+drained : {X Z : Type 0} (s : IntoIter X Z) (xs given : List X) → into_iter_items s ≡ xs
+    → into_iter_len s ≡ length xs → Drains into_iter_steps s given → given ≡ xs
+drained s xs given e l d =
+    sym (map-id given) ∙ items_from_drains given (d.1.0, d.1.1, λ _. (d.0, d.1.2)) (YieldsList-from_vec xs e l)
+
+-- the lines of some values, merged, are the list of the values
+pub ListsValues-merged : {S T Z E : Type 0} (bytes_of : T → List ℕ) (value_of : Reading)
+    (steps : S → Option T → S → Type 0) (s : S) (yielded : List T) (it : IntoIter FieldValue Z)
+    (lines : List FieldValue) (r : Result (List ℕ) E)
+    → value_of [] ≡ None → Drains steps s yielded → lines_of lines ≡ map bytes_of yielded
+    → EachReads value_of (lines_of lines) → into_iter_items it ≡ lines → into_iter_len it ≡ length lines
+    → IfOk r (λ c. MergesItems into_iter_steps it comma c) → IfOk r (ListsValues bytes_of value_of steps s)
+ListsValues-merged bytes_of value_of steps s yielded it lines (Err e) none d same each i l m = tt
+ListsValues-merged bytes_of value_of steps s yielded it lines (Ok c) none d same each i l m =
+    let given = drained it lines m.0 i l m.1 in
+    let merged : IsMerged comma (lines_of lines) c =
+    subst (λ (vs : List FieldValue). IsMerged comma (lines_of vs) c) given m.2 in (
+      yielded,
+      d,
+      subst (λ (ls : List (List ℕ)). IsListOf value_of ls c) same
+          (IsListOf-merged value_of none (lines_of lines) c each merged),
+    )
+
+-- names and methods are seen as their bytes
+pub Lists-bytes : {S E : Type 0} (value_of : Reading) (steps : S → Option (List ℕ) → S → Type 0) (s : S)
+    (r : Result (List ℕ) E)
+    → IfOk r (ListsValues (λ (bytes : List ℕ). bytes) value_of steps s) → IfOk r (Lists value_of steps s)
+Lists-bytes value_of steps s (Err e) h = tt
+Lists-bytes value_of steps s (Ok c) h = (
+  h.0,
+  h.1,
+  subst (λ (ls : List (List ℕ)). IsListOf value_of ls c)
+      (map-id h.0) h.2,
+)

@@ -1,0 +1,7 @@
+use Rattle.std.proofs.Common.{ap}
+use Rattle.http_header.specs.FieldValue.{FieldValue}
+use Rattle.headers_names.proofs.ReadingLemmas.{name-reads}
+use Rattle.headers_names.proofs.list_item.HeaderNameListItem.into_line.Goals as goal
+
+pub returns-clause-reads : goal.returns-clause-reads
+returns-clause-reads c = name-reads _ _ (ap (λ (v : FieldValue). v.bytes) c.from_name.ensures) c.as_str.ensures.valid

@@ -1,0 +1,11 @@
+use Rattle.std.proofs.Common.{◌≡◌, length}
+use Rattle.headers_items.specs.ItemsState.{items_left}
+use Rattle.headers_names.specs.ListItem.{values}
+use Rattle.headers_names.proofs.skip_names.next_value.Given as goal
+
+abbrev pub invariant-loop-item : goal.invariant-loop-item
+invariant-loop-item g l = values g.T.ListItem.value_of (items_left l.items) ≡ values g.T.ListItem.value_of
+    (items_left l.initial.items)
+
+abbrev pub decreases-loop-item : goal.decreases-loop-item
+decreases-loop-item g l = length (items_left l.items)

@@ -1,0 +1,2 @@
+pub mod ListItem
+pub mod ListItemLaws

@@ -1,0 +1,106 @@
+//! What an item of a list by comma may be read as.
+ghost use Rattle.std.specs.Prelude.{◌≡◌, ℕ, List, [], Option, None, IfOk, IfErr, option_map};
+ghost use Rattle.std.specs.Iterator.{IsFinite};
+ghost use Rattle.headers_names.specs.ListItem.{Reading, ItemWants, ReadsAsItself, ListsValues};
+
+use headers_core::{Comma, FlatCsv};
+use http::Method;
+use http::method::MethodError;
+use http_header::{HeaderName, HeaderNameError, HeaderValue, HeaderValueError};
+use std::alloc::{AllocError, Global};
+
+/// A value that stands as an item of a list: a field name or a method.
+pub trait ListItem: Drop {
+    // The bytes of a value.
+    ghost bytes_of: { Self → List ℕ };
+
+    // How an item reads as a value.
+    ghost value_of: { Reading };
+
+    // The values that may want for memory.
+    ghost wants: { List ℕ → Type 0 };
+
+    /// The value that an item is, if it is one.
+    fn from_item(alloc: Global, item: &str) -> Result<Option<Self>, AllocError>
+        ensures ok { IfOk result (λ value. option_map bytes_of value ≡ value_of item.now) }
+        ensures err { IfErr result (λ _. ItemWants value_of wants item.now) };
+
+    /// The value as a line, which is a token and reads as that value.
+    fn into_line(self, alloc: Global) -> Result<HeaderValue, AllocError>
+        ensures bytes { IfOk result (λ line. line.bytes ≡ bytes_of self) }
+        ensures reads { IfOk result (λ line. ReadsAsItself value_of line.bytes) };
+
+    // The empty item is no value.
+    ghost empty_is_none: { value_of [] ≡ None };
+}
+
+impl ListItem for HeaderName {
+    ghost use Rattle.headers_names.specs.ListItem.{name_of, NameWants};
+    ghost use Rattle.headers_names.specs.ListItemLaws.{name_of-empty};
+
+    ghost bytes_of = { λ name. name };
+
+    ghost value_of = { name_of };
+
+    ghost wants = { NameWants };
+
+    ghost empty_is_none = { name_of-empty };
+
+    fn from_item(alloc: Global, item: &str) -> Result<Option<HeaderName>, AllocError> {
+        match HeaderName::from_bytes(alloc, item.as_bytes()) {
+            Ok(name) => Ok(Some(name)),
+            Err(HeaderNameError::Invalid) => Ok(None),
+            Err(HeaderNameError::OutOfMemory) => Err(AllocError),
+        }
+    }
+
+    fn into_line(self, _alloc: Global) -> Result<HeaderValue, AllocError> {
+        prove!(self.as_str().len() > 0);
+        Ok(HeaderValue::from_name(self))
+    }
+}
+
+impl ListItem for Method {
+    ghost use Rattle.headers_names.specs.ListItem.{method_of, MethodWants};
+    ghost use Rattle.headers_names.specs.ListItemLaws.{method_of-empty};
+
+    ghost bytes_of = { λ method. method };
+
+    ghost value_of = { method_of };
+
+    ghost wants = { MethodWants };
+
+    ghost empty_is_none = { method_of-empty };
+
+    fn from_item(alloc: Global, item: &str) -> Result<Option<Method>, AllocError> {
+        match Method::from_bytes(alloc, item.as_bytes()) {
+            Ok(method) => Ok(Some(method)),
+            Err(MethodError::Invalid) => Ok(None),
+            Err(MethodError::OutOfMemory) => Err(AllocError),
+        }
+    }
+
+    fn into_line(self, alloc: Global) -> Result<HeaderValue, AllocError> {
+        match HeaderValue::from_str(alloc, self.as_str()) {
+            Ok(line) => Ok(line),
+            Err(HeaderValueError::Invalid) => unreachable!(),
+            Err(HeaderValueError::OutOfMemory) => Err(AllocError),
+        }
+    }
+}
+
+/// The values of an iterator in one list; its size hint is not read. No value gives the empty list.
+pub(crate) fn list_of<T: ListItem, I: Iterator<Item = T> + Drop>(
+    alloc: Global,
+    values: I,
+) -> Result<FlatCsv<Comma>, AllocError>
+    requires can { I.can_next values }
+    requires ends { IsFinite (I.remaining values) }
+    ensures { IfOk result (ListsValues T.bytes_of T.value_of I.next_gives values) }
+{
+    let mut lines = Vec::new(alloc);
+    for value in values {
+        lines.push(value.into_line(alloc)?)?;
+    }
+    FlatCsv::from_items(alloc, lines.into_iter())
+}
