@@ -1,0 +1,4 @@
+pub mod AppendLemmas
+pub mod CacheLemmas
+pub mod EqualityLemmas
+pub mod LineLemmas

@@ -1,0 +1,4 @@
+pub mod CacheControl
+pub mod CacheControlGrammar
+pub mod CacheControlLaws
+pub mod Printing

@@ -1,0 +1,484 @@
+//! The header `cache-control`.
+ghost use Rattle.std.specs.Prelude.{◌≡◌, ◌↔◌, ◌<◌, ◌^◌, ◌/◌, ◌∷◌, ◌++◌, List, [], ℕ, true, Some, IfOk, OnOk, IsTrue, IsErr, string_bytes};
+ghost use Rattle.std.specs.Duration.{as_nanos};
+ghost use Rattle.std.specs.List.{list_any};
+ghost use Rattle.http_header.specs.FieldValue.{IsFieldValue};
+ghost use Rattle.headers_syntax.specs.Durations.{IsWholeSeconds};
+ghost use Rattle.headers_items.specs.Entries.{line_entries};
+ghost use Rattle.headers_syntax.specs.HeaderLaws.{written_by};
+ghost use Rattle.headers_items.specs.Merge.{merge};
+ghost use Rattle.headers_caching.specs.CacheControl.{GivesSeconds, directives, last_number, is_bad, is_bad_for, number_rows, print_flag, print_number, printed};
+ghost use Rattle.headers_caching.specs.CacheControlGrammar.{cache_grammar};
+ghost use Rattle.headers_caching.specs.CacheControlLaws.{FitRows, FitsOption};
+ghost use Rattle.headers_caching.specs.Printing.{separated, append_all};
+ghost use Rattle.headers_items.specs.Places.{comma};
+
+use bytes::Bytes;
+use headers_core::{
+    AsHeaderValue, Entries, Error, Header, Refused, parse_number, same_but_for_case, unquoted,
+};
+use http_header::{CACHE_CONTROL, HeaderName, HeaderValue};
+use std::alloc::{AllocError, Global};
+use std::fmt::Write;
+use std::marker::Model;
+use std::time::Duration;
+
+/// How a message may be stored and used again (RFC 9111, section 5.2, with `immutable` of RFC 8246).
+///
+/// The entries of all lines that are text are read; no line is the empty value. An entry that carries
+/// `max-age`, `max-stale`, `min-fresh` or `s-maxage` without a number below 2^64 refuses them all.
+/// `proxy-revalidate` is read and written, but no call reads or sets it.
+#[derive(Clone, Debug, PartialEq, Drop)]
+pub struct CacheControl {
+    no_cache: bool,
+    no_store: bool,
+    no_transform: bool,
+    only_if_cached: bool,
+    must_revalidate: bool,
+    public: bool,
+    private: bool,
+    immutable: bool,
+    must_understand: bool,
+    proxy_revalidate: bool,
+    max_age: Option<u64>,
+    max_stale: Option<u64>,
+    min_fresh: Option<u64>,
+    s_max_age: Option<u64>,
+}
+
+impl Model for CacheControl {
+    ghost use Rattle.headers_caching.specs.CacheControl.{Directives};
+
+    ghost Value = { Directives };
+
+    ghost view = { λ c. record { no_cache = c.no_cache; no_store = c.no_store; no_transform = c.no_transform; only_if_cached = c.only_if_cached; must_revalidate = c.must_revalidate; public = c.public; private = c.private; immutable = c.immutable; must_understand = c.must_understand; proxy_revalidate = c.proxy_revalidate; max_age = c.max_age; max_stale = c.max_stale; min_fresh = c.min_fresh; s_max_age = c.s_max_age } };
+
+    ghost inverse = { λ d. record { no_cache = d.no_cache; no_store = d.no_store; no_transform = d.no_transform; only_if_cached = d.only_if_cached; must_revalidate = d.must_revalidate; public = d.public; private = d.private; immutable = d.immutable; must_understand = d.must_understand; proxy_revalidate = d.proxy_revalidate; max_age = d.max_age; max_stale = d.max_stale; min_fresh = d.min_fresh; s_max_age = d.s_max_age } };
+}
+
+// The number that the entry carries for the directive, if it does.
+fn number_for(directive: &str, entry: &str) -> Result<Option<u64>, Error>
+    ensures ok { IfOk result (λ n. n ≡ last_number directive.now (entry.now ∷ [])) }
+    ensures refused { IsErr result ↔ IsTrue (is_bad_for directive.now entry.now) }
+{
+    let Some((name, value)) = entry.split_once('=') else {
+        return Ok(None);
+    };
+    if value.is_empty() || !same_but_for_case(name, directive) {
+        return Ok(None);
+    }
+    match parse_number(unquoted(value)) {
+        Some(number) => Ok(Some(number)),
+        None => Err(Error::invalid()),
+    }
+}
+
+impl CacheControl {
+    /// Nothing set.
+    pub fn new() -> CacheControl
+        ensures { result ≡ directives [] }
+    {
+        CacheControl {
+            no_cache: false,
+            no_store: false,
+            no_transform: false,
+            only_if_cached: false,
+            must_revalidate: false,
+            public: false,
+            private: false,
+            immutable: false,
+            must_understand: false,
+            proxy_revalidate: false,
+            max_age: None,
+            max_stale: None,
+            min_fresh: None,
+            s_max_age: None,
+        }
+    }
+
+    /// Whether `no-cache` is set.
+    pub fn no_cache(&self) -> bool
+        ensures { result ≡ self.now.no_cache }
+    {
+        self.no_cache
+    }
+
+    /// Whether `no-store` is set.
+    pub fn no_store(&self) -> bool
+        ensures { result ≡ self.now.no_store }
+    {
+        self.no_store
+    }
+
+    /// Whether `no-transform` is set.
+    pub fn no_transform(&self) -> bool
+        ensures { result ≡ self.now.no_transform }
+    {
+        self.no_transform
+    }
+
+    /// Whether `only-if-cached` is set.
+    pub fn only_if_cached(&self) -> bool
+        ensures { result ≡ self.now.only_if_cached }
+    {
+        self.only_if_cached
+    }
+
+    /// Whether `public` is set.
+    pub fn public(&self) -> bool
+        ensures { result ≡ self.now.public }
+    {
+        self.public
+    }
+
+    /// Whether `private` is set.
+    pub fn private(&self) -> bool
+        ensures { result ≡ self.now.private }
+    {
+        self.private
+    }
+
+    /// Whether `immutable` is set.
+    pub fn immutable(&self) -> bool
+        ensures { result ≡ self.now.immutable }
+    {
+        self.immutable
+    }
+
+    /// Whether `must-revalidate` is set.
+    pub fn must_revalidate(&self) -> bool
+        ensures { result ≡ self.now.must_revalidate }
+    {
+        self.must_revalidate
+    }
+
+    /// Whether `must-understand` is set.
+    pub fn must_understand(&self) -> bool
+        ensures { result ≡ self.now.must_understand }
+    {
+        self.must_understand
+    }
+
+    /// The time of `max-age`, in whole seconds.
+    pub fn max_age(&self) -> Option<Duration>
+        ensures { GivesSeconds result self.now.max_age }
+    {
+        self.max_age.map(Duration::from_secs)
+    }
+
+    /// The time of `max-stale`, in whole seconds.
+    pub fn max_stale(&self) -> Option<Duration>
+        ensures { GivesSeconds result self.now.max_stale }
+    {
+        self.max_stale.map(Duration::from_secs)
+    }
+
+    /// The time of `min-fresh`, in whole seconds.
+    pub fn min_fresh(&self) -> Option<Duration>
+        ensures { GivesSeconds result self.now.min_fresh }
+    {
+        self.min_fresh.map(Duration::from_secs)
+    }
+
+    /// The time of `s-maxage`, in whole seconds.
+    pub fn s_max_age(&self) -> Option<Duration>
+        ensures { GivesSeconds result self.now.s_max_age }
+    {
+        self.s_max_age.map(Duration::from_secs)
+    }
+
+    /// Sets `no-cache`.
+    pub fn with_no_cache(self) -> CacheControl
+        ensures { result ≡ record self { no_cache = true } }
+    {
+        CacheControl {
+            no_cache: true,
+            ..self
+        }
+    }
+
+    /// Sets `no-store`.
+    pub fn with_no_store(self) -> CacheControl
+        ensures { result ≡ record self { no_store = true } }
+    {
+        CacheControl {
+            no_store: true,
+            ..self
+        }
+    }
+
+    /// Sets `no-transform`.
+    pub fn with_no_transform(self) -> CacheControl
+        ensures { result ≡ record self { no_transform = true } }
+    {
+        CacheControl {
+            no_transform: true,
+            ..self
+        }
+    }
+
+    /// Sets `only-if-cached`.
+    pub fn with_only_if_cached(self) -> CacheControl
+        ensures { result ≡ record self { only_if_cached = true } }
+    {
+        CacheControl {
+            only_if_cached: true,
+            ..self
+        }
+    }
+
+    /// Sets `public`.
+    pub fn with_public(self) -> CacheControl
+        ensures { result ≡ record self { public = true } }
+    {
+        CacheControl {
+            public: true,
+            ..self
+        }
+    }
+
+    /// Sets `private`.
+    pub fn with_private(self) -> CacheControl
+        ensures { result ≡ record self { private = true } }
+    {
+        CacheControl {
+            private: true,
+            ..self
+        }
+    }
+
+    /// Sets `immutable`.
+    pub fn with_immutable(self) -> CacheControl
+        ensures { result ≡ record self { immutable = true } }
+    {
+        CacheControl {
+            immutable: true,
+            ..self
+        }
+    }
+
+    /// Sets `must-revalidate`.
+    pub fn with_must_revalidate(self) -> CacheControl
+        ensures { result ≡ record self { must_revalidate = true } }
+    {
+        CacheControl {
+            must_revalidate: true,
+            ..self
+        }
+    }
+
+    /// Sets `must-understand`.
+    pub fn with_must_understand(self) -> CacheControl
+        ensures { result ≡ record self { must_understand = true } }
+    {
+        CacheControl {
+            must_understand: true,
+            ..self
+        }
+    }
+
+    /// Puts `max-age`, in whole seconds, in place of an old one.
+    pub fn with_max_age(self, dur: Duration) -> CacheControl
+        requires { IsWholeSeconds dur }
+        ensures { result ≡ record self { max_age = Some (as_nanos dur / 1_000_000_000) } }
+    {
+        CacheControl {
+            max_age: Some(dur.as_secs()),
+            ..self
+        }
+    }
+
+    /// Puts `max-stale`, in whole seconds, in place of an old one.
+    pub fn with_max_stale(self, dur: Duration) -> CacheControl
+        requires { IsWholeSeconds dur }
+        ensures { result ≡ record self { max_stale = Some (as_nanos dur / 1_000_000_000) } }
+    {
+        CacheControl {
+            max_stale: Some(dur.as_secs()),
+            ..self
+        }
+    }
+
+    /// Puts `min-fresh`, in whole seconds, in place of an old one.
+    pub fn with_min_fresh(self, dur: Duration) -> CacheControl
+        requires { IsWholeSeconds dur }
+        ensures { result ≡ record self { min_fresh = Some (as_nanos dur / 1_000_000_000) } }
+    {
+        CacheControl {
+            min_fresh: Some(dur.as_secs()),
+            ..self
+        }
+    }
+
+    /// Puts `s-maxage`, in whole seconds, in place of an old one.
+    pub fn with_s_max_age(self, dur: Duration) -> CacheControl
+        requires { IsWholeSeconds dur }
+        ensures { result ≡ record self { s_max_age = Some (as_nanos dur / 1_000_000_000) } }
+    {
+        CacheControl {
+            s_max_age: Some(dur.as_secs()),
+            ..self
+        }
+    }
+
+    // What the entries before direct, and this one.
+    fn with_entry(&self, entry: &str) -> Result<CacheControl, Error>
+        ensures ok { IfOk result (λ after. (es : List (List ℕ)) → self.now ≡ directives es → after ≡ directives (es ++ entry.now ∷ [])) }
+        ensures refused { IsErr result ↔ IsTrue (is_bad entry.now) }
+    {
+        let max_age = number_for("max-age", entry)?;
+        let max_stale = number_for("max-stale", entry)?;
+        let min_fresh = number_for("min-fresh", entry)?;
+        let s_max_age = number_for("s-maxage", entry)?;
+        Ok(CacheControl {
+            no_cache: self.no_cache | same_but_for_case(entry, "no-cache"),
+            no_store: self.no_store | same_but_for_case(entry, "no-store"),
+            no_transform: self.no_transform | same_but_for_case(entry, "no-transform"),
+            only_if_cached: self.only_if_cached | same_but_for_case(entry, "only-if-cached"),
+            must_revalidate: self.must_revalidate | same_but_for_case(entry, "must-revalidate"),
+            public: self.public | same_but_for_case(entry, "public"),
+            private: self.private | same_but_for_case(entry, "private"),
+            immutable: self.immutable | same_but_for_case(entry, "immutable"),
+            must_understand: self.must_understand | same_but_for_case(entry, "must-understand"),
+            proxy_revalidate: self.proxy_revalidate | same_but_for_case(entry, "proxy-revalidate"),
+            max_age: max_age.or(self.max_age),
+            max_stale: max_stale.or(self.max_stale),
+            min_fresh: min_fresh.or(self.min_fresh),
+            s_max_age: s_max_age.or(self.s_max_age),
+        })
+    }
+
+    // What the entries before direct, and those of this line.
+    fn with_line(self, line: &HeaderValue) -> Result<CacheControl, Error>
+        ensures ok { IfOk result (λ after. (es : List (List ℕ)) → self ≡ directives es → after ≡ directives (es ++ line_entries line.now.bytes)) }
+        ensures refused { IsErr result ↔ IsTrue (list_any is_bad (line_entries line.now.bytes)) }
+    {
+        let mut after = self;
+        for entry in Entries::new(line) {
+            after = after.with_entry(entry)?;
+        }
+        Ok(after)
+    }
+
+    // Each number is one of its type.
+    fn numbers_fit(&self)
+        ensures { FitRows self.now number_rows }
+    {
+        number_fits(self.max_age);
+        number_fits(self.max_stale);
+        number_fits(self.min_fresh);
+        number_fits(self.s_max_age);
+    }
+
+    // The directives that are set, joined by a comma and a space.
+    fn print(&self, alloc: Global) -> Result<String, AllocError>
+        ensures text { IfOk result (λ text. string_bytes text ≡ merge comma (printed self.now)) }
+        ensures valid { IfOk result (λ text. IsFieldValue (string_bytes text)) }
+    {
+        let mut text = String::new(alloc);
+        push_flag(&mut text, "no-cache", self.no_cache)?;
+        push_flag(&mut text, "no-store", self.no_store)?;
+        push_flag(&mut text, "no-transform", self.no_transform)?;
+        push_flag(&mut text, "only-if-cached", self.only_if_cached)?;
+        push_flag(&mut text, "must-revalidate", self.must_revalidate)?;
+        push_flag(&mut text, "public", self.public)?;
+        push_flag(&mut text, "private", self.private)?;
+        push_flag(&mut text, "immutable", self.immutable)?;
+        push_flag(&mut text, "must-understand", self.must_understand)?;
+        push_flag(&mut text, "proxy-revalidate", self.proxy_revalidate)?;
+        push_number(&mut text, "max-age", self.max_age)?;
+        push_number(&mut text, "max-stale", self.max_stale)?;
+        push_number(&mut text, "min-fresh", self.min_fresh)?;
+        push_number(&mut text, "s-maxage", self.s_max_age)?;
+        Ok(text)
+    }
+}
+
+/// Whether two values are equal: exactly if the bytes that `encode` writes of them are.
+pub fn equal_by_encoding(a: &CacheControl, b: &CacheControl) -> bool
+    ensures equal { IsTrue result ↔ a.now ≡ b.now }
+    ensures encoded { IsTrue result ↔ written_by cache_grammar a.now ≡ written_by cache_grammar b.now }
+{
+    a.numbers_fit();
+    b.numbers_fit();
+    a == b
+}
+
+// A number that is given is one of its type.
+fn number_fits(number: Option<u64>)
+    ensures { FitsOption number }
+{}
+
+// A comma and a space, where something stands before.
+fn separate(text: &mut String) -> Result<(), AllocError>
+    ensures { OnOk result (string_bytes text.new ≡ separated (string_bytes text.old)) }
+{
+    if text.is_empty() {
+        return Ok(());
+    }
+    text.push_str(", ")
+}
+
+// The flag, where it is set.
+fn push_flag(text: &mut String, flag: &str, set: bool) -> Result<(), AllocError>
+    ensures { OnOk result (string_bytes text.new ≡ append_all (string_bytes text.old) (print_flag flag.now set)) }
+{
+    if set {
+        separate(text)?;
+        text.push_str(flag)?;
+    }
+    Ok(())
+}
+
+// The directive and its number, where there is one.
+fn push_number(text: &mut String, directive: &str, number: Option<u64>) -> Result<(), AllocError>
+    ensures ok { OnOk result (string_bytes text.new ≡ append_all (string_bytes text.old) (print_number directive.now number)) }
+    ensures range { (n : ℕ) → number ≡ Some n → n < 2 ^ 64 }
+{
+    if let Some(number) = number {
+        separate(text)?;
+        write!(text, "{directive}={number}")?;
+    }
+    Ok(())
+}
+
+impl Header for CacheControl {
+    ghost use Rattle.std.specs.Prelude.{true, codes};
+    ghost use Rattle.headers_syntax.specs.HeaderLaws.{SameBy, ReadsBy, written_by, laws_by};
+    ghost use Rattle.headers_caching.specs.CacheControlLaws.{directives_back};
+    ghost use Rattle.headers_caching.specs.CacheControlGrammar.{cache_grammar};
+
+    ghost field_name = { codes "cache-control" };
+
+    ghost free = { true };
+
+    ghost same = { SameBy cache_grammar };
+
+    ghost reads = { ReadsBy cache_grammar };
+
+    ghost writes = { written_by cache_grammar };
+
+    ghost laws = { laws_by cache_grammar directives_back };
+
+    fn name() -> HeaderName {
+        CACHE_CONTROL
+    }
+
+    fn decode<I: Iterator>(_alloc: Global, values: &mut I) -> Result<CacheControl, Refused<Error>>
+    where
+        I::Item: AsHeaderValue,
+    {
+        let mut directives = CacheControl::new();
+        while let Some(line) = values.next() {
+            directives = directives.with_line(line.as_header_value())?;
+        }
+        Ok(directives)
+    }
+
+    fn encode(&self, alloc: Global, values: &mut Vec<HeaderValue>) -> Result<(), AllocError> {
+        let text = self.print(alloc)?;
+        let value = HeaderValue::from_known_valid(Bytes::from_string(text)?);
+        values.push(value)?;
+        Ok(())
+    }
+}

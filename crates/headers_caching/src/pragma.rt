@@ -1,0 +1,74 @@
+//! The header `pragma`.
+ghost use Rattle.std.specs.Prelude.{◌≡◌, ◌↔◌, codes, IsTrue, IfOk};
+ghost use Rattle.http_header.specs.FieldValue.{plain_value};
+
+use headers_core::{FormHeader, first};
+use http_header::{HeaderName, HeaderValue, PRAGMA};
+use std::alloc::{AllocError, Global};
+use std::marker::Model;
+
+/// A directive to the caches of HTTP/1.0: the first line, whatever it is, as it came (RFC 9111,
+/// section 5.4). Equality goes by the bytes.
+#[derive(Debug, Drop, PartialEq)]
+pub struct Pragma {
+    value: HeaderValue,
+}
+
+impl Model for Pragma {
+    ghost use Rattle.http_header.specs.FieldValue.{FieldValue, field_value_code};
+
+    ghost Value = { FieldValue };
+
+    ghost coded = { field_value_code };
+
+    ghost view = { λ header. header.value };
+
+    ghost inverse = { λ value. record { value = value } };
+}
+
+impl Pragma {
+    /// The directive `no-cache`.
+    pub fn no_cache() -> Pragma
+        ensures { result ≡ plain_value (codes "no-cache") }
+    {
+        Pragma {
+            value: HeaderValue::from_static("no-cache"),
+        }
+    }
+
+    /// Whether the whole line is `no-cache`, byte for byte.
+    pub fn is_no_cache(&self) -> bool
+        ensures { IsTrue result ↔ (self.now.bytes ≡ codes "no-cache") }
+    {
+        self.value.as_bytes() == b"no-cache".as_slice()
+    }
+
+    /// The same value, also as to whether it is kept out of logs.
+    pub fn clone(&self, _alloc: Global) -> Result<Pragma, AllocError>
+        ensures { IfOk result (λ copy. copy ≡ self.now) }
+    {
+        Ok(Pragma {
+            value: self.value.clone()?,
+        })
+    }
+}
+
+impl FormHeader for Pragma {
+    ghost use Rattle.std.specs.Prelude.{codes};
+
+    type Form = HeaderValue;
+
+    ghost NAME = { codes "pragma" };
+
+    const NAME: HeaderName = PRAGMA;
+
+    ghost form = { λ header. header };
+
+    fn from_form(value: HeaderValue) -> Pragma {
+        Pragma { value }
+    }
+
+    fn as_form(&self) -> &HeaderValue {
+        &self.value
+    }
+}

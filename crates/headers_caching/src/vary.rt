@@ -1,0 +1,106 @@
+//! The header `vary`.
+ghost use Rattle.std.specs.Prelude.{◌≡◌, ◌<◌, ◌^◌, ◌↔◌, length, Contains, IsTrue, IfOk, IsOkAnd, codes};
+ghost use Rattle.std.specs.Iterator.{IsFinite};
+ghost use Rattle.headers_items.specs.Places.{comma, items};
+ghost use Rattle.headers_items.specs.ItemsState.{items_left, walk_over};
+ghost use Rattle.headers_items.specs.CutLaw.{MergesLines};
+
+use headers_core::{Comma, FlatCsv, FormHeader, Items};
+use http_header::{HeaderName, HeaderValue, VARY};
+use std::alloc::{AllocError, Global};
+use std::marker::Model;
+
+/// The request fields that a response was chosen by (RFC 9110, section 12.5.5).
+#[derive(Debug, PartialEq, Drop)]
+pub struct Vary {
+    names: FlatCsv<Comma>,
+}
+
+impl Model for Vary {
+    ghost use Rattle.std.specs.Prelude.{List, ℕ};
+
+    ghost Value = { List ℕ };
+
+    ghost view = { λ v. v.names };
+
+    ghost inverse = { λ bytes. record { names = bytes } };
+}
+
+impl Vary {
+    /// `*`: the response was chosen by more than fields of the request.
+    pub fn any() -> Vary
+        ensures { result ≡ codes "*" }
+    {
+        Vary {
+            names: FlatCsv::from_word("*"),
+        }
+    }
+
+    /// One name.
+    pub fn from_name(_alloc: Global, name: HeaderName) -> Result<Vary, AllocError>
+        ensures { IsOkAnd result (λ vary. vary ≡ name) }
+    {
+        Ok(Vary {
+            names: FlatCsv::from_value(HeaderValue::from_name(name)),
+        })
+    }
+
+    /// The names of an iterator, joined by a comma and a space; its size hint is not read.
+    pub fn from_iter<I: Iterator<Item = HeaderName> + Drop>(
+        alloc: Global,
+        names: I,
+    ) -> Result<Vary, AllocError>
+        requires can { I.can_next names }
+        requires ends { IsFinite (I.remaining names) }
+        ensures { IfOk result (MergesLines I.next_gives names comma) }
+    {
+        Ok(Vary {
+            names: FlatCsv::from_names(alloc, names)?,
+        })
+    }
+
+    /// Whether some item is `*`.
+    pub fn is_any(&self) -> bool
+        ensures { IsTrue result ↔ Contains (items comma self.now) (codes "*") }
+    {
+        self.names.iter().any(|item| item == "*")
+    }
+
+    /// The items, as slices of the value; a value that is no text has none.
+    pub fn iter_strs(&self) -> Items<'_, Comma>
+        ensures items { items_left result ≡ items comma self.now }
+        ensures fresh { result ≡ walk_over comma self.now }
+        ensures count { length (items_left result) < 2 ^ 64 }
+    {
+        self.names.iter()
+    }
+
+    /// The same value.
+    pub fn clone(&self, alloc: Global) -> Result<Vary, AllocError>
+        ensures { IfOk result (λ copy. copy ≡ self.now) }
+    {
+        Ok(Vary {
+            names: self.names.clone(alloc)?,
+        })
+    }
+}
+
+impl FormHeader for Vary {
+    ghost use Rattle.std.specs.Prelude.{codes};
+
+    type Form = FlatCsv<Comma>;
+
+    ghost NAME = { codes "vary" };
+
+    const NAME: HeaderName = VARY;
+
+    ghost form = { λ header. header };
+
+    fn from_form(names: FlatCsv<Comma>) -> Vary {
+        Vary { names }
+    }
+
+    fn as_form(&self) -> &FlatCsv<Comma> {
+        &self.names
+    }
+}

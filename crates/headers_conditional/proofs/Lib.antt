@@ -1,0 +1,3 @@
+pub mod ConditionLemmas
+pub mod EntityTagRangeLemmas
+pub mod TagItemLemmas

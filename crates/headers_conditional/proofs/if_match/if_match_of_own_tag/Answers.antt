@@ -1,0 +1,11 @@
+use Rattle.headers_conditional.proofs.ConditionLemmas.{match_text, match_own_text, match_own_no_text}
+use Rattle.headers_conditional.proofs.if_match.if_match_of_own_tag.Goals as goal
+
+pub returns-clause-text : goal.returns-clause-text
+returns-clause-text c = match_own_text
+
+pub returns-clause-others : goal.returns-clause-others
+returns-clause-others c = match_text
+
+pub returns-clause-no_text : goal.returns-clause-no_text
+returns-clause-no_text c = match_own_no_text

@@ -1,0 +1,12 @@
+-- Entity tags that are read from texts.
+use Rattle.std.specs.Prelude.{◌≡◌, ⊤, List, ℕ, Result, Ok, Err}
+use Rattle.http_header.specs.FieldValue.{FieldValue, IsFieldValue, plain_value}
+use Rattle.headers_syntax.specs.EntityTag.{IsSomeTag}
+use Rattle.headers_syntax.specs.declared.error.Refused.{Refused}
+use Rattle.headers_syntax.specs.declared.error.Refused.TheVariants.{Invalid, Memory}
+
+-- what a text reads as: itself as a value, if it may be one and is an entity tag, and `Invalid` only if it isn't so
+abbrev pub ReadsText : {E : Type 0} → List ℕ → Result FieldValue (Refused E) → Type 0
+ReadsText text (Ok value) = IsFieldValue text × IsSomeTag text × (value ≡ plain_value text)
+ReadsText text (Err (Invalid e)) = ¬ (IsFieldValue text × IsSomeTag text)
+ReadsText text (Err (Memory e)) = ⊤

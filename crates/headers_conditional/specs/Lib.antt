@@ -1,0 +1,9 @@
+pub mod ETag
+pub mod EntityTagRange
+pub mod EntityTagRangeLaws
+pub mod IfMatch
+pub mod IfNoneMatch
+pub mod IfRange
+pub mod IfRangeLaws
+pub mod Validator
+pub mod ValidatorView

@@ -1,0 +1,34 @@
+-- What the header `if-range` names (RFC 9110, section 13.1.5), and how a line says it.
+use Rattle.std.specs.Prelude.{ℕ, ◌<◌, ⊤, Option, Some, None, option_map, if◌then◌else◌}
+use denote.Ref.{Bor}
+use Rattle.http_header.specs.FieldValue.{FieldValue, plain_value}
+use Rattle.headers_syntax.specs.Date.{date, fixdate}
+use Rattle.headers_syntax.specs.EntityTag.{is_tag, AreTags, StronglyEqual}
+use Rattle.headers_syntax.specs.Lines.{Line}
+
+-- a value that is an entity tag, or a second since 1970
+pub data Validator : Type 0 where
+  Tag : FieldValue → Validator
+  Second : ℕ → Validator
+
+-- the same without the mark that a value is kept out of logs, which is no part of a line
+abbrev pub unmarked : Validator → Validator
+unmarked (Tag value) = Tag (plain_value value.bytes)
+unmarked (Second secs) = Second secs
+
+-- an entity tag, and any other line is to show a date
+abbrev pub validator : Line → Option Validator
+validator line = if is_tag line then Some (Tag (plain_value line)) else option_map Second (date line)
+
+-- a tag is written as it is, and a date as IMF-fixdate
+abbrev pub validator_line : Validator → Line
+validator_line (Tag value) = value.bytes
+validator_line (Second secs) = fixdate secs
+
+-- a representation with this tag, if any, that was last modified at this second, if any, is not the one that is named: by
+-- the second where that is earlier or none is given, and by the tag where the two are not strongly equal or none is given
+abbrev pub IsModified : Validator → Option (Bor FieldValue) → Option (Bor ℕ) → Type 0
+IsModified (Second secs) etag None = ⊤
+IsModified (Second secs) etag (Some modified) = secs < modified.now
+IsModified (Tag value) None modified = ⊤
+IsModified (Tag value) (Some etag) modified = ¬ (AreTags StronglyEqual value.bytes etag.now.bytes)

@@ -1,0 +1,136 @@
+//! The entity tags that a condition names, or any.
+ghost use Rattle.std.specs.Prelude.{◌≡◌, ◌↔◌, IsTrue, IfOk};
+ghost use Rattle.std.specs.Iterator.{IsFinite};
+ghost use Rattle.headers_syntax.specs.OfLines.{OfLines};
+ghost use Rattle.headers_syntax.specs.EntityTag.{AreTags, StronglyEqual, WeaklyEqual};
+ghost use Rattle.headers_items.specs.Merge.{merge};
+ghost use Rattle.headers_items.specs.Places.{comma};
+ghost use Rattle.headers_conditional.specs.EntityTagRange.{Matches, range_of, range_text};
+
+use headers_core::{
+    AsHeaderValue, Comma, EntityTag, EntityTagRef, Error, FieldForm, FlatCsv, Refused,
+};
+use http_header::HeaderValue;
+use std::alloc::{AllocError, Global};
+
+/// The entity tags that a condition names, or any (RFC 9110, sections 13.1.1 and 13.1.2).
+#[derive(Debug, Drop, PartialEq)]
+pub enum EntityTagRange {
+    /// Any tag.
+    Any,
+    /// The tags among the items; other items are ignored.
+    Tags(FlatCsv<Comma>),
+}
+
+// Whether an item of a list is an entity tag that is strongly equal.
+fn is_strongly_equal(item: &str, tag: &EntityTag) -> bool
+    ensures { IsTrue result ↔ AreTags StronglyEqual item.now tag.now.bytes }
+{
+    match EntityTagRef::parse(item.as_bytes()) {
+        Some(other) => other.strong_eq(&tag.view()),
+        None => false,
+    }
+}
+
+// Whether an item of a list is an entity tag that is weakly equal.
+fn is_weakly_equal(item: &str, tag: &EntityTag) -> bool
+    ensures { IsTrue result ↔ AreTags WeaklyEqual item.now tag.now.bytes }
+{
+    match EntityTagRef::parse(item.as_bytes()) {
+        Some(other) => other.weak_eq(&tag.view()),
+        None => false,
+    }
+}
+
+impl EntityTagRange {
+    /// Any, where the lines joined by comma and space are the one byte `*`; else the tags among
+    /// their items.
+    pub fn from_lines<I: Iterator>(
+        alloc: Global,
+        lines: &mut I,
+    ) -> Result<EntityTagRange, AllocError>
+    where
+        I::Item: AsHeaderValue,
+        requires can { I.can_next lines.old }
+        requires ends { IsFinite (I.remaining lines.old) }
+        ensures { OfLines I.Item.shown I.next_gives lines.old lines.new
+            (λ ls. IfOk result (λ range. range ≡ range_of (merge comma ls))) }
+    {
+        let tags: FlatCsv<Comma> = FlatCsv::from_lines(alloc, lines)?;
+        if tags.as_bytes() == b"*".as_slice() {
+            Ok(EntityTagRange::Any)
+        } else {
+            Ok(EntityTagRange::Tags(tags))
+        }
+    }
+
+    /// What is written of it: `*`, or the value that lists its tags.
+    pub fn to_value(&self, alloc: Global) -> Result<HeaderValue, AllocError>
+        ensures { IfOk result (λ value. value.bytes ≡ range_text self.now) }
+    {
+        match self {
+            EntityTagRange::Any => Ok(HeaderValue::from_static("*")),
+            EntityTagRange::Tags(tags) => tags.to_value(alloc),
+        }
+    }
+
+    /// The same range again.
+    pub fn clone(&self, alloc: Global) -> Result<EntityTagRange, AllocError>
+        ensures { IfOk result (λ range. range ≡ self.now) }
+    {
+        match self {
+            EntityTagRange::Any => Ok(EntityTagRange::Any),
+            EntityTagRange::Tags(tags) => Ok(EntityTagRange::Tags(tags.clone(alloc)?)),
+        }
+    }
+
+    /// Whether it is any, or some item is a tag that is strongly equal.
+    pub fn matches_strong(&self, tag: &EntityTag) -> bool
+        ensures { IsTrue result ↔ Matches StronglyEqual self.now tag.now.bytes }
+    {
+        match self {
+            EntityTagRange::Any => true,
+            EntityTagRange::Tags(tags) => tags.iter().any(|item| is_strongly_equal(item, tag)),
+        }
+    }
+
+    /// Whether it is any, or some item is a tag that is weakly equal.
+    pub fn matches_weak(&self, tag: &EntityTag) -> bool
+        ensures { IsTrue result ↔ Matches WeaklyEqual self.now tag.now.bytes }
+    {
+        match self {
+            EntityTagRange::Any => true,
+            EntityTagRange::Tags(tags) => tags.iter().any(|item| is_weakly_equal(item, tag)),
+        }
+    }
+}
+
+impl FieldForm for EntityTagRange {
+    ghost use Rattle.std.specs.Prelude.{false};
+    ghost use Rattle.headers_conditional.specs.EntityTagRange.{tags_grammar};
+    ghost use Rattle.headers_conditional.specs.EntityTagRangeLaws.{range_back};
+    ghost use Rattle.headers_conditional.specs.declared.entity_tag_range.EntityTagRange.{EntityTagRange as Range};
+
+    ghost free = { false };
+
+    ghost Kept = { Range };
+
+    ghost grammar = { tags_grammar };
+
+    ghost reads_back = { range_back };
+
+    fn read_lines<I: Iterator>(
+        alloc: Global,
+        lines: &mut I,
+    ) -> Result<EntityTagRange, Refused<Error>>
+    where
+        I::Item: AsHeaderValue,
+    {
+        Ok(EntityTagRange::from_lines(alloc, lines)?)
+    }
+
+    fn write_lines(&self, alloc: Global, values: &mut Vec<HeaderValue>) -> Result<(), AllocError> {
+        values.push(self.to_value(alloc)?)?;
+        Ok(())
+    }
+}

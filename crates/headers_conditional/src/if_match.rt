@@ -1,0 +1,113 @@
+//! The header `if-match`.
+ghost use Rattle.std.specs.Prelude.{◌≡◌, ◌↔◌, List, ℕ, true, false, IsTrue, IfOk};
+ghost use Rattle.headers_syntax.specs.EntityTag.{IsTag, StronglyEqual, TagParts};
+ghost use Rattle.headers_syntax.specs.Text.{is_text};
+ghost use Rattle.headers_conditional.specs.declared.entity_tag_range.EntityTagRange.TheVariants.{Any, Tags};
+ghost use Rattle.headers_conditional.specs.IfMatch.{MatchPasses};
+
+use crate::entity_tag_range::EntityTagRange;
+use crate::etag::{ETag, into_tag, tag_of};
+use headers_core::{FlatCsv, FormHeader};
+use http_header::{HeaderName, IF_MATCH};
+use std::alloc::{AllocError, Global};
+use std::marker::Model;
+
+/// A request is to be served only if the target has one of these entity tags (RFC 9110, section
+/// 13.1.1).
+///
+/// All lines are read, joined by a comma and a space: `*` alone is any tag, and else the items that
+/// are entity tags are named. Equality goes by what is written.
+#[derive(Debug, Drop, PartialEq)]
+pub struct IfMatch {
+    tags: EntityTagRange,
+}
+
+impl Model for IfMatch {
+    ghost use Rattle.headers_conditional.specs.declared.entity_tag_range.EntityTagRange.{EntityTagRange};
+
+    ghost Value = { EntityTagRange };
+
+    ghost view = { λ header. header.tags };
+
+    ghost inverse = { λ value. record { tags = value } };
+}
+
+impl IfMatch {
+    /// `*`, which any tag meets.
+    pub fn any() -> IfMatch
+        ensures { result ≡ Any }
+    {
+        IfMatch {
+            tags: EntityTagRange::Any,
+        }
+    }
+
+    /// Whether it is `*`.
+    pub fn is_any(&self) -> bool
+        ensures { IsTrue result ↔ (self.now ≡ Any) }
+    {
+        self.tags == EntityTagRange::Any
+    }
+
+    /// Whether it is any, or some item is an entity tag that is strongly equal to this one.
+    pub fn precondition_passes(&self, etag: &ETag) -> bool
+        ensures { IsTrue result ↔ MatchPasses self.now etag.now.bytes }
+    {
+        self.tags.matches_strong(tag_of(etag))
+    }
+
+    /// The same condition.
+    pub fn clone(&self, alloc: Global) -> Result<IfMatch, AllocError>
+        ensures { IfOk result (λ copy. copy ≡ self.now) }
+    {
+        Ok(IfMatch {
+            tags: self.tags.clone(alloc)?,
+        })
+    }
+}
+
+impl From<ETag> for IfMatch {
+    ghost use Rattle.std.specs.Prelude.{◌≡◌};
+    ghost use Rattle.headers_conditional.specs.declared.entity_tag_range.EntityTagRange.TheVariants.{Tags};
+
+    ghost from_gives = { λ etag header. header ≡ Tags etag.bytes };
+
+    fn from(etag: ETag) -> IfMatch {
+        IfMatch {
+            tags: EntityTagRange::Tags(FlatCsv::from_value(into_tag(etag).into_value())),
+        }
+    }
+}
+
+impl FormHeader for IfMatch {
+    ghost use Rattle.std.specs.Prelude.{codes};
+
+    type Form = EntityTagRange;
+
+    ghost NAME = { codes "if-match" };
+
+    const NAME: HeaderName = IF_MATCH;
+
+    ghost form = { λ header. header };
+
+    fn from_form(tags: EntityTagRange) -> IfMatch {
+        IfMatch { tags }
+    }
+
+    fn as_form(&self) -> &EntityTagRange {
+        &self.tags
+    }
+}
+
+/// The condition that is made from a tag that is text passes for the tags that are strongly equal, and
+/// so for that tag exactly if it isn't weak; a tag with a byte past ASCII makes one that passes for no
+/// tag.
+pub fn if_match_of_own_tag()
+    ensures text { (bytes : List ℕ) (parts : TagParts) → IsTag bytes parts → is_text bytes ≡ true
+        → (MatchPasses (Tags bytes) bytes ↔ (parts.is_weak ≡ false)) }
+    ensures others { (bytes tag : List ℕ) (parts others : TagParts) → IsTag bytes parts
+        → IsTag tag others → is_text bytes ≡ true
+        → (MatchPasses (Tags bytes) tag ↔ StronglyEqual parts others) }
+    ensures no_text { (bytes tag : List ℕ) (parts : TagParts) → IsTag bytes parts
+        → is_text bytes ≡ false → ¬ (MatchPasses (Tags bytes) tag) }
+{}

@@ -1,0 +1,154 @@
+//! The header `if-range`.
+ghost use Rattle.std.specs.Prelude.{◌≡◌, ◌↔◌, IsTrue, IfOk, option_map};
+ghost use Rattle.headers_syntax.specs.Date.{IsDated};
+ghost use Rattle.headers_conditional.specs.Validator.{Tag, Second, unmarked, validator, validator_line, IsModified};
+
+use crate::etag::{ETag, into_tag, tag_of};
+use crate::last_modified::LastModified;
+use headers_core::{AsHeaderValue, Date1, EntityTag, Error, Header, Refused, first};
+use http_header::{HeaderName, HeaderValue, IF_RANGE};
+use std::alloc::{AllocError, Global};
+use std::marker::Model;
+
+/// A range is to be sent only of the representation that has this tag or date, and else the whole
+/// (RFC 9110, section 13.1.5).
+#[derive(Debug, Drop, PartialEq)]
+pub struct IfRange {
+    named: Named,
+}
+
+#[derive(Debug, Drop, PartialEq)]
+enum Named {
+    Tag(EntityTag),
+    Date(Date1),
+}
+
+impl Model for IfRange {
+    ghost use Rattle.headers_conditional.specs.Validator.{Validator};
+
+    ghost Value = { Validator };
+
+    ghost use Rattle.headers_conditional.specs.ValidatorView.{validator_of, named_of, named_of-validator_of};
+
+    ghost view = { λ own. validator_of own.named };
+
+    ghost inverse = { λ value. record { named = named_of value } };
+
+    ghost inverse_ok = { λ own _. named_of-validator_of own };
+}
+
+impl IfRange {
+    /// The representation with this tag.
+    pub fn etag(tag: ETag) -> IfRange
+        ensures { result ≡ Tag tag }
+    {
+        IfRange {
+            named: Named::Tag(into_tag(tag)),
+        }
+    }
+
+    /// The representation that was last modified at that second, counted from the start of 1970, before
+    /// the year 10000.
+    pub fn date(secs: u64) -> IfRange
+        requires { IsDated secs }
+        ensures { result ≡ Second secs }
+    {
+        IfRange {
+            named: Named::Date(Date1::from_unix_secs(secs)),
+        }
+    }
+
+    /// Whether the representation with this tag and this time is another than the one that is named.
+    /// For a date: no time is given, or it is later. For a tag: none is given, or the two aren't
+    /// strongly equal.
+    pub fn is_modified(&self, etag: Option<&ETag>, last_modified: Option<&LastModified>) -> bool
+        ensures { IsTrue result ↔ IsModified self.now etag.entry last_modified.entry }
+    {
+        match &self.named {
+            Named::Date(own) => match last_modified {
+                Some(modified) => own.unix_secs() < modified.unix_secs(),
+                None => true,
+            },
+            Named::Tag(own) => match etag {
+                Some(etag) => !own.view().strong_eq(&tag_of(etag).view()),
+                None => true,
+            },
+        }
+    }
+
+    /// The same again.
+    pub fn clone(&self, alloc: Global) -> Result<IfRange, AllocError>
+        ensures { IfOk result (λ copy. copy ≡ self.now) }
+    {
+        match &self.named {
+            Named::Tag(tag) => Ok(IfRange {
+                named: Named::Tag(tag.clone(alloc)?),
+            }),
+            Named::Date(date) => Ok(IfRange {
+                named: Named::Date(*date),
+            }),
+        }
+    }
+
+    // An entity tag, and any other value is to show a date.
+    fn from_val(alloc: Global, value: &HeaderValue) -> Result<Option<IfRange>, AllocError>
+        ensures { IfOk result (λ found. option_map unmarked found ≡ validator value.now.bytes) }
+    {
+        match EntityTag::from_val(alloc, value)? {
+            Some(tag) => Ok(Some(IfRange {
+                named: Named::Tag(tag),
+            })),
+            None => match Date1::from_val(value) {
+                Some(date) => Ok(Some(IfRange {
+                    named: Named::Date(date),
+                })),
+                None => Ok(None),
+            },
+        }
+    }
+
+    fn to_value(&self, alloc: Global) -> Result<HeaderValue, AllocError>
+        ensures { IfOk result (λ value. value.bytes ≡ validator_line (unmarked self.now)) }
+    {
+        match &self.named {
+            Named::Tag(tag) => Ok(tag.clone(alloc)?.into_value()),
+            Named::Date(date) => date.to_value(alloc),
+        }
+    }
+}
+
+impl Header for IfRange {
+    ghost use Rattle.std.specs.Prelude.{false, codes};
+    ghost use Rattle.headers_syntax.specs.HeaderLaws.{SameBy, ReadsBy, written_by};
+    ghost use Rattle.headers_conditional.specs.IfRange.{if_range_grammar};
+    ghost use Rattle.headers_conditional.specs.IfRangeLaws.{if_range_laws};
+
+    ghost field_name = { codes "if-range" };
+
+    ghost free = { false };
+
+    ghost same = { SameBy if_range_grammar };
+
+    ghost reads = { ReadsBy if_range_grammar };
+
+    ghost writes = { written_by if_range_grammar };
+
+    ghost laws = { if_range_laws };
+
+    fn name() -> HeaderName {
+        IF_RANGE
+    }
+
+    fn decode<I: Iterator>(alloc: Global, values: &mut I) -> Result<IfRange, Refused<Error>>
+    where
+        I::Item: AsHeaderValue,
+    {
+        let line = first(values).ok_or(Error::invalid())?;
+        Ok(IfRange::from_val(alloc, line.as_header_value())?.ok_or(Error::invalid())?)
+    }
+
+    fn encode(&self, alloc: Global, values: &mut Vec<HeaderValue>) -> Result<(), AllocError> {
+        values.push(self.to_value(alloc)?)?;
+        Ok(())
+    }
+}

@@ -1,0 +1,72 @@
+//! The header `if-unmodified-since`.
+ghost use Rattle.std.specs.Prelude.{◌≡◌, ◌≤◌, ◌↔◌, IsTrue};
+ghost use Rattle.headers_syntax.specs.Date.{IsDated};
+
+use headers_core::{Date1, FormHeader};
+use http_header::{HeaderName, IF_UNMODIFIED_SINCE};
+use std::marker::Model;
+
+/// Asks for something only if a resource has not changed since: the only line, a date from 1970 to
+/// 9999 in one of the three formats (RFC 9110, section 13.1.4).
+#[derive(Clone, Copy, Debug, PartialEq, Eq, PartialOrd, Ord, Hash)]
+pub struct IfUnmodifiedSince {
+    date: Date1,
+}
+
+impl Model for IfUnmodifiedSince {
+    ghost use Rattle.std.specs.Prelude.{ℕ};
+
+    ghost Value = { ℕ };
+
+    ghost view = { λ d. d.date };
+
+    ghost inverse = { λ n. record { date = n } };
+}
+
+impl IfUnmodifiedSince {
+    /// The second, counted from the start of 1970, before the year 10000.
+    pub fn from_unix_secs(secs: u64) -> IfUnmodifiedSince
+        requires { IsDated secs }
+        ensures { result ≡ secs }
+    {
+        IfUnmodifiedSince {
+            date: Date1::from_unix_secs(secs),
+        }
+    }
+
+    /// The seconds since the start of 1970.
+    pub fn unix_secs(&self) -> u64
+        ensures value { result ≡ self.now }
+        ensures bound { IsDated result }
+    {
+        self.date.unix_secs()
+    }
+
+    /// Whether a change at that second, in seconds since the start of 1970, is no later than the
+    /// date.
+    pub fn precondition_passes(&self, last_modified: u64) -> bool
+        ensures { IsTrue result ↔ (last_modified ≤ self.now) }
+    {
+        self.unix_secs() >= last_modified
+    }
+}
+
+impl FormHeader for IfUnmodifiedSince {
+    ghost use Rattle.std.specs.Prelude.{codes};
+
+    type Form = Date1;
+
+    ghost NAME = { codes "if-unmodified-since" };
+
+    const NAME: HeaderName = IF_UNMODIFIED_SINCE;
+
+    ghost form = { λ header. header };
+
+    fn from_form(date: Date1) -> IfUnmodifiedSince {
+        IfUnmodifiedSince { date }
+    }
+
+    fn as_form(&self) -> &Date1 {
+        &self.date
+    }
+}

@@ -1,0 +1,20 @@
+//! Validators and conditional requests (RFC 9110, sections 8.8 and 13.1).
+#![tactic(auto)]
+
+mod entity_tag_range;
+mod etag;
+mod if_match;
+mod if_modified_since;
+mod if_none_match;
+mod if_range;
+mod if_unmodified_since;
+mod last_modified;
+
+pub use crate::entity_tag_range::EntityTagRange;
+pub use crate::etag::{ETag, InvalidETag, into_tag, tag_of};
+pub use crate::if_match::{IfMatch, if_match_of_own_tag};
+pub use crate::if_modified_since::IfModifiedSince;
+pub use crate::if_none_match::{IfNoneMatch, if_none_match_of_own_tag};
+pub use crate::if_range::IfRange;
+pub use crate::if_unmodified_since::IfUnmodifiedSince;
+pub use crate::last_modified::LastModified;

@@ -1,0 +1,155 @@
+//! The header `connection`.
+ghost use Rattle.std.specs.Prelude.{◌≡◌, ◌↔◌, List, ℕ, IsTrue, IfOk, codes};
+ghost use Rattle.std.specs.Iterator.{IsFinite};
+ghost use Rattle.headers_items.specs.Places.{comma, items};
+ghost use Rattle.headers_items.specs.CutLaw.{MergesLines};
+ghost use Rattle.headers_connection.specs.Connection.{HasOption};
+
+use headers_core::{Comma, FlatCsv, FormHeader, same_but_for_case};
+use http_header::{CONNECTION, HeaderName};
+use std::alloc::{AllocError, Global};
+use std::marker::Model;
+
+/// The options that the sender wants for this connection (RFC 9110, section 7.6.1).
+#[derive(Debug, Drop)]
+pub struct Connection {
+    options: FlatCsv<Comma>,
+}
+
+impl Model for Connection {
+    ghost use Rattle.std.specs.Prelude.{List, ℕ};
+
+    ghost Value = { List ℕ };
+
+    ghost view = { λ v. v.options };
+
+    ghost inverse = { λ bytes. record { options = bytes } };
+}
+
+mod sealed {
+    use http_header::HeaderName;
+
+    pub trait Sealed: Drop {}
+
+    impl Sealed for &str {}
+
+    impl Sealed for &HeaderName {}
+
+    impl Sealed for HeaderName {}
+}
+
+/// The name of a connection option: a text, or the name of a field. No other type can be one.
+pub trait AsConnectionOption: sealed::Sealed {
+    // The text.
+    ghost option: { Self → List ℕ };
+
+    /// The text.
+    fn as_connection_option(&self) -> &str
+        ensures { result.now ≡ option self.now };
+}
+
+impl AsConnectionOption for &str {
+    ghost option = { λ text. text.now };
+
+    fn as_connection_option(&self) -> &str {
+        *self
+    }
+}
+
+impl AsConnectionOption for &HeaderName {
+    ghost option = { λ name. name.now };
+
+    fn as_connection_option(&self) -> &str {
+        (*self).as_str()
+    }
+}
+
+impl AsConnectionOption for HeaderName {
+    ghost option = { λ name. name };
+
+    fn as_connection_option(&self) -> &str {
+        self.as_str()
+    }
+}
+
+impl Connection {
+    /// The connection is closed after the response.
+    pub fn close() -> Connection
+        ensures { result ≡ codes "close" }
+    {
+        Connection {
+            options: FlatCsv::from_word("close"),
+        }
+    }
+
+    /// The connection is kept.
+    pub fn keep_alive() -> Connection
+        ensures { result ≡ codes "keep-alive" }
+    {
+        Connection {
+            options: FlatCsv::from_word("keep-alive"),
+        }
+    }
+
+    /// The sender offers or answers another protocol.
+    pub fn upgrade() -> Connection
+        ensures { result ≡ codes "upgrade" }
+    {
+        Connection {
+            options: FlatCsv::from_word("upgrade"),
+        }
+    }
+
+    /// The names of an iterator, joined by a comma and a space; its size hint is not read.
+    pub fn from_iter<I: Iterator<Item = HeaderName> + Drop>(
+        alloc: Global,
+        names: I,
+    ) -> Result<Connection, AllocError>
+        requires can { I.can_next names }
+        requires ends { IsFinite (I.remaining names) }
+        ensures { IfOk result (MergesLines I.next_gives names comma) }
+    {
+        Ok(Connection {
+            options: FlatCsv::from_names(alloc, names)?,
+        })
+    }
+
+    /// Whether some item is the option, ignoring the case of ASCII letters (RFC 9110, section 7.6.1).
+    pub fn contains<T: AsConnectionOption>(&self, option: T) -> bool
+        ensures { IsTrue result ↔ HasOption (items comma self.now) (T.option option) }
+    {
+        let option = option.as_connection_option();
+        self.options
+            .iter()
+            .any(|item| same_but_for_case(item, option))
+    }
+
+    /// The same value.
+    pub fn clone(&self, alloc: Global) -> Result<Connection, AllocError>
+        ensures { IfOk result (λ copy. copy ≡ self.now) }
+    {
+        Ok(Connection {
+            options: self.options.clone(alloc)?,
+        })
+    }
+}
+
+impl FormHeader for Connection {
+    ghost use Rattle.std.specs.Prelude.{codes};
+
+    type Form = FlatCsv<Comma>;
+
+    ghost NAME = { codes "connection" };
+
+    const NAME: HeaderName = CONNECTION;
+
+    ghost form = { λ header. header };
+
+    fn from_form(options: FlatCsv<Comma>) -> Connection {
+        Connection { options }
+    }
+
+    fn as_form(&self) -> &FlatCsv<Comma> {
+        &self.options
+    }
+}

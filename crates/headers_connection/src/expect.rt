@@ -1,0 +1,52 @@
+//! The header `expect`.
+
+use headers_core::{AsHeaderValue, Error, Header, Refused, only_word};
+use http_header::{EXPECT, HeaderName, HeaderValue};
+use std::alloc::{AllocError, Global};
+
+/// What a request wants of the server: its only line is `100-continue` (RFC 9110, section 10.1.1).
+#[derive(Clone, Debug, Drop, PartialEq)]
+pub struct Expect {
+    _priv: (),
+}
+
+impl Expect {
+    /// An interim response before the content is sent.
+    pub const CONTINUE: Expect = Expect { _priv: () };
+}
+
+impl Header for Expect {
+    ghost use Rattle.std.specs.Prelude.{true, codes};
+    ghost use Rattle.headers_syntax.specs.HeaderLaws.{SameBy, ReadsBy, written_by};
+    ghost use Rattle.headers_syntax.proofs.ShapeLemmas.{only_word_laws};
+    ghost use Rattle.headers_connection.specs.Expect.{expect_grammar};
+
+    ghost field_name = { codes "expect" };
+
+    ghost free = { true };
+
+    ghost same = { SameBy expect_grammar };
+
+    ghost reads = { ReadsBy expect_grammar };
+
+    ghost writes = { written_by expect_grammar };
+
+    ghost laws = { only_word_laws (codes "100-continue") expect_grammar.kept };
+
+    fn name() -> HeaderName {
+        EXPECT
+    }
+
+    fn decode<I: Iterator>(_alloc: Global, values: &mut I) -> Result<Expect, Refused<Error>>
+    where
+        I::Item: AsHeaderValue,
+    {
+        only_word(values, "100-continue").ok_or(Error::invalid())?;
+        Ok(Expect::CONTINUE)
+    }
+
+    fn encode(&self, _alloc: Global, values: &mut Vec<HeaderValue>) -> Result<(), AllocError> {
+        values.push(HeaderValue::from_static("100-continue"))?;
+        Ok(())
+    }
+}

@@ -1,0 +1,64 @@
+//! The header `te`.
+ghost use Rattle.std.specs.Prelude.{◌≡◌, IfOk, codes};
+ghost use Rattle.headers_items.specs.Places.{comma};
+
+use headers_core::{Comma, FlatCsv, FormHeader};
+use http_header::{HeaderName, TE};
+use std::alloc::{AllocError, Global};
+use std::marker::Model;
+
+/// The transfer codings that a client takes (RFC 9110, section 10.1.4).
+#[derive(Debug, PartialEq, Drop)]
+pub struct Te {
+    codings: FlatCsv<Comma>,
+}
+
+impl Model for Te {
+    ghost use Rattle.std.specs.Prelude.{List, ℕ};
+
+    ghost Value = { List ℕ };
+
+    ghost view = { λ v. v.codings };
+
+    ghost inverse = { λ bytes. record { codings = bytes } };
+}
+
+impl Te {
+    /// The client takes trailers.
+    pub fn trailers() -> Te
+        ensures { result ≡ codes "trailers" }
+    {
+        Te {
+            codings: FlatCsv::from_word("trailers"),
+        }
+    }
+
+    /// The same value.
+    pub fn clone(&self, alloc: Global) -> Result<Te, AllocError>
+        ensures { IfOk result (λ copy. copy ≡ self.now) }
+    {
+        Ok(Te {
+            codings: self.codings.clone(alloc)?,
+        })
+    }
+}
+
+impl FormHeader for Te {
+    ghost use Rattle.std.specs.Prelude.{codes};
+
+    type Form = FlatCsv<Comma>;
+
+    ghost NAME = { codes "te" };
+
+    const NAME: HeaderName = TE;
+
+    ghost form = { λ header. header };
+
+    fn from_form(codings: FlatCsv<Comma>) -> Te {
+        Te { codings }
+    }
+
+    fn as_form(&self) -> &FlatCsv<Comma> {
+        &self.codings
+    }
+}

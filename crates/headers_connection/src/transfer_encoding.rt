@@ -1,0 +1,96 @@
+//! The header `transfer-encoding`.
+ghost use Rattle.std.specs.Prelude.{◌≡◌, ◌↔◌, IsTrue, IfOk, codes};
+ghost use Rattle.std.specs.List.{after_last};
+ghost use Rattle.headers_syntax.specs.Text.{trim};
+ghost use Rattle.headers_items.specs.Places.{comma, items};
+ghost use Rattle.headers_connection.specs.Chunked.{IsChunked, is_comma};
+
+use headers_core::{Comma, FlatCsv, FormHeader, trim};
+use http_header::{HeaderName, TRANSFER_ENCODING};
+use memchr::memrchr;
+use std::alloc::{AllocError, Global};
+use std::marker::Model;
+
+/// The codings that frame a message, in order (RFC 9112, section 6.1).
+#[derive(Debug, Drop)]
+pub struct TransferEncoding {
+    codings: FlatCsv<Comma>,
+}
+
+impl Model for TransferEncoding {
+    ghost use Rattle.std.specs.Prelude.{List, ℕ};
+
+    ghost Value = { List ℕ };
+
+    ghost view = { λ v. v.codings };
+
+    ghost inverse = { λ bytes. record { codings = bytes } };
+}
+
+// What follows the last comma, quoted or not, or the whole text if it has none.
+fn after_last_comma(text: &[u8]) -> &[u8]
+    ensures { result.now ≡ after_last is_comma text.now }
+{
+    match memrchr(b',', text) {
+        Some(comma) => &text[comma + 1..],
+        None => text,
+    }
+}
+
+// Whether what follows the last comma is the word, trimmed.
+fn ends_in_chunked(text: &str) -> bool
+    ensures { IsTrue result ↔ (trim (after_last is_comma text.now) ≡ codes "chunked") }
+{
+    trim(after_last_comma(text.as_bytes())) == b"chunked".as_slice()
+}
+
+impl TransferEncoding {
+    /// The chunked coding.
+    pub fn chunked() -> TransferEncoding
+        ensures { result ≡ codes "chunked" }
+    {
+        TransferEncoding {
+            codings: FlatCsv::from_word("chunked"),
+        }
+    }
+
+    /// Whether the list ends in `chunked`: what follows the last comma of the last item, or the whole
+    /// item if it has none, is that word when trimmed. A value that isn't text isn't chunked.
+    pub fn is_chunked(&self) -> bool
+        ensures { IsTrue result ↔ IsChunked (items comma self.now) }
+    {
+        match self.codings.as_text() {
+            Some(text) => ends_in_chunked(text),
+            None => false,
+        }
+    }
+
+    /// The same value.
+    pub fn clone(&self, alloc: Global) -> Result<TransferEncoding, AllocError>
+        ensures { IfOk result (λ copy. copy ≡ self.now) }
+    {
+        Ok(TransferEncoding {
+            codings: self.codings.clone(alloc)?,
+        })
+    }
+}
+
+impl FormHeader for TransferEncoding {
+    ghost use Rattle.std.specs.Prelude.{codes};
+
+    type Form = FlatCsv<Comma>;
+
+    ghost NAME = { codes "transfer-encoding" };
+
+    const NAME: HeaderName = TRANSFER_ENCODING;
+
+    ghost form = { λ header. header };
+
+    fn from_form(codings: FlatCsv<Comma>) -> TransferEncoding {
+        TransferEncoding { codings }
+    }
+
+    fn as_form(&self) -> &FlatCsv<Comma> {
+        &self.codings
+    }
+}

@@ -1,0 +1,2 @@
+pub mod ContentLengthLemmas
+pub mod ContentTypeLemmas

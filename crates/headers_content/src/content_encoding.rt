@@ -1,0 +1,89 @@
+//! The header `content-encoding`.
+ghost use Rattle.std.specs.Prelude.{◌≡◌, ◌↔◌, Contains, IsTrue, IfOk, codes};
+ghost use Rattle.headers_items.specs.Places.{comma, items};
+
+use headers_core::{Comma, FlatCsv, FormHeader};
+use http_header::{CONTENT_ENCODING, HeaderName};
+use std::alloc::{AllocError, Global};
+use std::marker::Model;
+
+/// The codings that were applied to the content, in order (RFC 9110, section 8.4).
+#[derive(Debug, Drop)]
+pub struct ContentEncoding {
+    codings: FlatCsv<Comma>,
+}
+
+impl Model for ContentEncoding {
+    ghost use Rattle.std.specs.Prelude.{List, ℕ};
+
+    ghost Value = { List ℕ };
+
+    ghost view = { λ v. v.codings };
+
+    ghost inverse = { λ bytes. record { codings = bytes } };
+}
+
+impl ContentEncoding {
+    /// The gzip coding.
+    pub fn gzip() -> ContentEncoding
+        ensures { result ≡ codes "gzip" }
+    {
+        ContentEncoding {
+            codings: FlatCsv::from_word("gzip"),
+        }
+    }
+
+    /// The Brotli coding.
+    pub fn brotli() -> ContentEncoding
+        ensures { result ≡ codes "br" }
+    {
+        ContentEncoding {
+            codings: FlatCsv::from_word("br"),
+        }
+    }
+
+    /// The Zstandard coding.
+    pub fn zstd() -> ContentEncoding
+        ensures { result ≡ codes "zstd" }
+    {
+        ContentEncoding {
+            codings: FlatCsv::from_word("zstd"),
+        }
+    }
+
+    /// Whether some item is the coding, with case.
+    pub fn contains(&self, coding: &str) -> bool
+        ensures { IsTrue result ↔ Contains (items comma self.now) coding.now }
+    {
+        self.codings.iter().any(|item| item == coding)
+    }
+
+    /// The same value.
+    pub fn clone(&self, alloc: Global) -> Result<ContentEncoding, AllocError>
+        ensures { IfOk result (λ copy. copy ≡ self.now) }
+    {
+        Ok(ContentEncoding {
+            codings: self.codings.clone(alloc)?,
+        })
+    }
+}
+
+impl FormHeader for ContentEncoding {
+    ghost use Rattle.std.specs.Prelude.{codes};
+
+    type Form = FlatCsv<Comma>;
+
+    ghost NAME = { codes "content-encoding" };
+
+    const NAME: HeaderName = CONTENT_ENCODING;
+
+    ghost form = { λ header. header };
+
+    fn from_form(codings: FlatCsv<Comma>) -> ContentEncoding {
+        ContentEncoding { codings }
+    }
+
+    fn as_form(&self) -> &FlatCsv<Comma> {
+        &self.codings
+    }
+}

@@ -1,0 +1,4 @@
+pub mod RetryAfter
+pub mod RetryAfterLaws
+pub mod RetryTime
+pub mod RetryView

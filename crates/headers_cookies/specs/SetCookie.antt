@@ -1,0 +1,9 @@
+-- The header `set-cookie`: all its lines, in their order, of which there is one at least.
+use Rattle.std.specs.Prelude.{List}
+use Rattle.headers_syntax.specs.Lines.{Line, lines_of}
+use Rattle.headers_syntax.specs.HeaderLaws.{Grammar}
+use Rattle.headers_syntax.specs.Shapes.{all_kept}
+use Rattle.headers_cookies.specs.declared.set_cookie.SetCookie.{SetCookie}
+
+abbrev pub set_cookie_grammar : Grammar SetCookie (List Line)
+set_cookie_grammar = all_kept lines_of

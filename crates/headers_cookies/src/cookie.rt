@@ -1,0 +1,85 @@
+//! The header `cookie`.
+ghost use Rattle.std.specs.Prelude.{◌≡◌, ◌<◌, ◌^◌, length, option_map, IfOk};
+ghost use Rattle.headers_items.specs.Places.{semicolon, items};
+ghost use Rattle.headers_items.specs.ItemsState.{walk_over};
+ghost use Rattle.headers_items.specs.Pairs.{pairs, pairs_left, first_value};
+
+use headers_core::{FlatCsv, FormHeader, Pairs, SemiColon};
+use http_header::{COOKIE, HeaderName};
+use std::alloc::{AllocError, Global};
+use std::marker::Model;
+
+/// The cookies that a user agent sends back (RFC 6265, section 4.2).
+#[derive(Debug, Drop)]
+pub struct Cookie {
+    pairs: FlatCsv<SemiColon>,
+}
+
+impl Model for Cookie {
+    ghost use Rattle.std.specs.Prelude.{List, ℕ};
+
+    ghost Value = { List ℕ };
+
+    ghost view = { λ v. v.pairs };
+
+    ghost inverse = { λ bytes. record { pairs = bytes } };
+}
+
+impl Cookie {
+    /// The pairs of the items, in order; a value that isn't text has none.
+    pub fn iter(&self) -> Pairs<'_>
+        ensures pairs { pairs_left result ≡ pairs (items semicolon self.now) }
+        ensures fresh { result ≡ walk_over semicolon self.now }
+        ensures count { length (pairs_left result) < 2 ^ 64 }
+    {
+        Pairs::new(&self.pairs)
+    }
+
+    /// The value of the first pair of a name, if there is one.
+    pub fn get(&self, name: &str) -> Option<&str>
+        ensures { option_map (λ value. value.now) result ≡ first_value name.now (pairs (items semicolon self.now)) }
+    {
+        for (key, value) in self.iter() {
+            if key == name {
+                return Some(value);
+            }
+        }
+        None
+    }
+
+    /// How many pairs there are.
+    pub fn len(&self) -> usize
+        ensures { result ≡ length (pairs (items semicolon self.now)) }
+    {
+        self.iter().count()
+    }
+
+    /// The same value.
+    pub fn clone(&self, alloc: Global) -> Result<Cookie, AllocError>
+        ensures { IfOk result (λ copy. copy ≡ self.now) }
+    {
+        Ok(Cookie {
+            pairs: self.pairs.clone(alloc)?,
+        })
+    }
+}
+
+impl FormHeader for Cookie {
+    ghost use Rattle.std.specs.Prelude.{codes};
+
+    type Form = FlatCsv<SemiColon>;
+
+    ghost NAME = { codes "cookie" };
+
+    const NAME: HeaderName = COOKIE;
+
+    ghost form = { λ header. header };
+
+    fn from_form(pairs: FlatCsv<SemiColon>) -> Cookie {
+        Cookie { pairs }
+    }
+
+    fn as_form(&self) -> &FlatCsv<SemiColon> {
+        &self.pairs
+    }
+}

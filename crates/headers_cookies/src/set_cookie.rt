@@ -1,0 +1,87 @@
+//! The header `set-cookie`.
+ghost use Rattle.std.specs.Prelude.{◌≡◌, IfOk};
+
+use headers_core::{AsHeaderValue, Error, Header, Refused, push_clone};
+use http_header::{HeaderName, HeaderValue, SET_COOKIE};
+use std::alloc::{AllocError, Global};
+use std::marker::Model;
+
+/// Cookies to keep, each the line of one: all lines, whatever they are, as they came (RFC 6265,
+/// section 4.1). A line is never joined with another, nor cut.
+#[derive(Debug, Drop)]
+pub struct SetCookie {
+    lines: Vec<HeaderValue>,
+}
+
+impl Model for SetCookie {
+    ghost use Rattle.std.specs.Prelude.{List};
+    ghost use Rattle.std.specs.Coded.{coded_list};
+    ghost use Rattle.http_header.specs.FieldValue.{FieldValue, field_value_code};
+
+    ghost Value = { List FieldValue };
+
+    ghost coded = { coded_list field_value_code };
+
+    ghost view = { λ cookies. cookies.lines.items };
+}
+
+impl SetCookie {
+    /// The same lines, also as to which are kept out of logs.
+    pub fn clone(&self, alloc: Global) -> Result<SetCookie, AllocError>
+        ensures { IfOk result (λ copy. copy ≡ self.now) }
+    {
+        let mut lines = Vec::new(alloc);
+        for line in &self.lines {
+            push_clone(&mut lines, line)?;
+        }
+        Ok(SetCookie { lines })
+    }
+}
+
+impl Header for SetCookie {
+    ghost use Rattle.std.specs.Prelude.{false, codes};
+    ghost use Rattle.headers_syntax.specs.HeaderLaws.{SameBy, ReadsBy, written_by};
+    ghost use Rattle.headers_syntax.proofs.ShapeLemmas.{all_kept_laws};
+    ghost use Rattle.headers_cookies.specs.SetCookie.{set_cookie_grammar};
+
+    ghost field_name = { codes "set-cookie" };
+
+    ghost free = { false };
+
+    ghost same = { SameBy set_cookie_grammar };
+
+    ghost reads = { ReadsBy set_cookie_grammar };
+
+    ghost writes = { written_by set_cookie_grammar };
+
+    ghost laws = { all_kept_laws set_cookie_grammar.kept };
+
+    fn name() -> HeaderName {
+        SET_COOKIE
+    }
+
+    fn decode<I: Iterator>(alloc: Global, values: &mut I) -> Result<SetCookie, Refused<Error>>
+    where
+        I::Item: AsHeaderValue,
+    {
+        let mut lines = Vec::new(alloc);
+        while let Some(line) = values.next() {
+            push_clone(&mut lines, line.as_header_value())?;
+        }
+        if lines.is_empty() {
+            return Err(Refused::Invalid(Error::invalid()));
+        }
+        Ok(SetCookie { lines })
+    }
+
+    fn encode(&self, _alloc: Global, values: &mut Vec<HeaderValue>) -> Result<(), AllocError> {
+        let before = values.len();
+        for line in &self.lines {
+            if let Err(refused) = push_clone(values, line) {
+                values.truncate(before);
+                return Err(refused);
+            }
+        }
+        Ok(())
+    }
+}

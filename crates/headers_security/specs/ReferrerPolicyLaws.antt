@@ -1,0 +1,15 @@
+-- What is written of a policy reads as that policy.
+use Rattle.std.specs.Prelude.{refl}
+use Rattle.headers_syntax.specs.HeaderLaws.{ReadsBack}
+use Rattle.headers_security.specs.ReferrerPolicy.{referrer_grammar}
+use Rattle.headers_security.specs.declared.referrer_policy.Policy.TheVariants.{NoReferrer, NoReferrerWhenDowngrade, SameOrigin, Origin, OriginWhenCrossOrigin, UnsafeUrl, StrictOrigin, StrictOriginWhenCrossOrigin}
+
+pub referrer_back : ReadsBack referrer_grammar
+referrer_back lines NoReferrer h = refl
+referrer_back lines NoReferrerWhenDowngrade h = refl
+referrer_back lines SameOrigin h = refl
+referrer_back lines Origin h = refl
+referrer_back lines OriginWhenCrossOrigin h = refl
+referrer_back lines UnsafeUrl h = refl
+referrer_back lines StrictOrigin h = refl
+referrer_back lines StrictOriginWhenCrossOrigin h = refl

@@ -1,0 +1,10 @@
+-- The grammar of `strict-transport-security`.
+use Rattle.headers_syntax.specs.HeaderLaws.{Grammar}
+use Rattle.headers_syntax.specs.Lines.{only_line}
+use Rattle.headers_syntax.specs.Shapes.{one_line}
+use Rattle.headers_security.specs.StrictTransportSecurity.{TransportSecurity, read_security, print_security}
+use Rattle.headers_security.specs.declared.strict_transport_security.StrictTransportSecurity.{StrictTransportSecurity}
+
+-- the only line is read, and a value keeps what it says
+abbrev pub security_grammar : Grammar StrictTransportSecurity TransportSecurity
+security_grammar = one_line (λ v. v) only_line read_security print_security

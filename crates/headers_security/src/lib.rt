@@ -1,0 +1,8 @@
+//! Headers of transport security and referrers (RFC 6797; W3C Referrer Policy).
+#![tactic(auto)]
+
+mod referrer_policy;
+mod strict_transport_security;
+
+pub use crate::referrer_policy::ReferrerPolicy;
+pub use crate::strict_transport_security::StrictTransportSecurity;

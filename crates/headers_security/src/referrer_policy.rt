@@ -1,0 +1,187 @@
+//! The header `referrer-policy`.
+ghost use Rattle.std.specs.Prelude.{◌≡◌, map};
+ghost use Rattle.std.specs.List.{filter_map, last_or};
+ghost use Rattle.headers_syntax.specs.Parts.{parts};
+ghost use Rattle.headers_security.specs.ReferrerPolicy.{policy_named, word_of, words};
+ghost use Rattle.headers_items.specs.Places.{comma};
+
+use headers_core::{AsHeaderValue, Error, Header, Refused, trim_text};
+use http_header::{HeaderName, HeaderValue, REFERRER_POLICY};
+use std::alloc::{AllocError, Global};
+use std::marker::Model;
+
+#[derive(Clone, Copy, Debug, PartialEq, Eq, Hash)]
+enum Policy {
+    NoReferrer,
+    NoReferrerWhenDowngrade,
+    SameOrigin,
+    Origin,
+    OriginWhenCrossOrigin,
+    UnsafeUrl,
+    StrictOrigin,
+    StrictOriginWhenCrossOrigin,
+}
+
+/// How much a request tells of the page that it comes from (W3C Referrer Policy, section 8.1). Of all
+/// lines that are text, cut at every comma, the last known word is_counting_place; with none it is refused.
+#[derive(Clone, Debug, PartialEq, Eq, Hash, Drop)]
+pub struct ReferrerPolicy {
+    policy: Policy,
+}
+
+impl Model for ReferrerPolicy {
+    ghost use Rattle.headers_security.specs.declared.referrer_policy.Policy.{Policy};
+
+    ghost Value = { Policy };
+
+    ghost view = { λ r. r.policy };
+
+    ghost inverse = { λ p. record { policy = p } };
+}
+
+impl ReferrerPolicy {
+    /// `no-referrer`, also read from `never`.
+    pub const NO_REFERRER: ReferrerPolicy = ReferrerPolicy {
+        policy: Policy::NoReferrer,
+    };
+
+    /// `no-referrer-when-downgrade`, also read from `default`.
+    pub const NO_REFERRER_WHEN_DOWNGRADE: ReferrerPolicy = ReferrerPolicy {
+        policy: Policy::NoReferrerWhenDowngrade,
+    };
+
+    /// `same-origin`.
+    pub const SAME_ORIGIN: ReferrerPolicy = ReferrerPolicy {
+        policy: Policy::SameOrigin,
+    };
+
+    /// `origin`.
+    pub const ORIGIN: ReferrerPolicy = ReferrerPolicy {
+        policy: Policy::Origin,
+    };
+
+    /// `origin-when-cross-origin`.
+    pub const ORIGIN_WHEN_CROSS_ORIGIN: ReferrerPolicy = ReferrerPolicy {
+        policy: Policy::OriginWhenCrossOrigin,
+    };
+
+    /// `unsafe-url`, also read from `always`.
+    pub const UNSAFE_URL: ReferrerPolicy = ReferrerPolicy {
+        policy: Policy::UnsafeUrl,
+    };
+
+    /// `strict-origin`.
+    pub const STRICT_ORIGIN: ReferrerPolicy = ReferrerPolicy {
+        policy: Policy::StrictOrigin,
+    };
+
+    /// `strict-origin-when-cross-origin`.
+    pub const STRICT_ORIGIN_WHEN_CROSS_ORIGIN: ReferrerPolicy = ReferrerPolicy {
+        policy: Policy::StrictOriginWhenCrossOrigin,
+    };
+
+    /// The eight constants, each of which is written as the word that its name says.
+    pub fn all() -> [ReferrerPolicy; 8]
+        ensures { map word_of result ≡ words }
+    {
+        [
+            ReferrerPolicy::NO_REFERRER,
+            ReferrerPolicy::NO_REFERRER_WHEN_DOWNGRADE,
+            ReferrerPolicy::SAME_ORIGIN,
+            ReferrerPolicy::ORIGIN,
+            ReferrerPolicy::ORIGIN_WHEN_CROSS_ORIGIN,
+            ReferrerPolicy::UNSAFE_URL,
+            ReferrerPolicy::STRICT_ORIGIN,
+            ReferrerPolicy::STRICT_ORIGIN_WHEN_CROSS_ORIGIN,
+        ]
+    }
+}
+
+// The policy of a known word.
+fn policy_named(word: &str) -> Option<Policy>
+    ensures { result ≡ policy_named word.now }
+{
+    match word {
+        "no-referrer" | "never" => Some(Policy::NoReferrer),
+        "no-referrer-when-downgrade" | "default" => Some(Policy::NoReferrerWhenDowngrade),
+        "same-origin" => Some(Policy::SameOrigin),
+        "origin" => Some(Policy::Origin),
+        "origin-when-cross-origin" => Some(Policy::OriginWhenCrossOrigin),
+        "unsafe-url" | "always" => Some(Policy::UnsafeUrl),
+        "strict-origin" => Some(Policy::StrictOrigin),
+        "strict-origin-when-cross-origin" => Some(Policy::StrictOriginWhenCrossOrigin),
+        _ => None,
+    }
+}
+
+impl Policy {
+    fn word(self) -> &'static str
+        ensures { result.now ≡ word_of self }
+    {
+        match self {
+            Policy::NoReferrer => "no-referrer",
+            Policy::NoReferrerWhenDowngrade => "no-referrer-when-downgrade",
+            Policy::SameOrigin => "same-origin",
+            Policy::Origin => "origin",
+            Policy::OriginWhenCrossOrigin => "origin-when-cross-origin",
+            Policy::UnsafeUrl => "unsafe-url",
+            Policy::StrictOrigin => "strict-origin",
+            Policy::StrictOriginWhenCrossOrigin => "strict-origin-when-cross-origin",
+        }
+    }
+}
+
+// The last policy that the line names, or else the one before.
+fn last_policy(line: &HeaderValue, before: Option<Policy>) -> Option<Policy>
+    ensures { result ≡ last_or before (filter_map policy_named (parts comma line.now.bytes)) }
+{
+    let mut last = before;
+    if let Ok(text) = line.to_str() {
+        for part in text.split(',') {
+            last = policy_named(trim_text(part)).or(last);
+        }
+    }
+    last
+}
+
+impl Header for ReferrerPolicy {
+    ghost use Rattle.std.specs.Prelude.{true, codes};
+    ghost use Rattle.headers_syntax.specs.HeaderLaws.{SameBy, ReadsBy, written_by, laws_by};
+    ghost use Rattle.headers_security.specs.ReferrerPolicy.{referrer_grammar};
+    ghost use Rattle.headers_security.specs.ReferrerPolicyLaws.{referrer_back};
+
+    ghost field_name = { codes "referrer-policy" };
+
+    ghost free = { true };
+
+    ghost same = { SameBy referrer_grammar };
+
+    ghost reads = { ReadsBy referrer_grammar };
+
+    ghost writes = { written_by referrer_grammar };
+
+    ghost laws = { laws_by referrer_grammar referrer_back };
+
+    fn name() -> HeaderName {
+        REFERRER_POLICY
+    }
+
+    fn decode<I: Iterator>(_alloc: Global, values: &mut I) -> Result<ReferrerPolicy, Refused<Error>>
+    where
+        I::Item: AsHeaderValue,
+    {
+        let mut last = None;
+        while let Some(line) = values.next() {
+            last = last_policy(line.as_header_value(), last);
+        }
+        match last {
+            Some(policy) => Ok(ReferrerPolicy { policy }),
+            None => Err(Refused::Invalid(Error::invalid())),
+        }
+    }
+
+    fn encode(&self, _alloc: Global, values: &mut Vec<HeaderValue>) -> Result<(), AllocError> {
+        values.push(HeaderValue::from_static(self.policy.word()))?;
+        Ok(())
+    }
+}
