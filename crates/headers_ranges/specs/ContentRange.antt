@@ -1,0 +1,10 @@
+-- The header `content-range` (RFC 9110, section 14.4): the first line is text that says a range in bytes, or none,
+-- and a length, or none.
+use Rattle.headers_syntax.specs.HeaderLaws.{Grammar}
+use Rattle.headers_syntax.specs.Lines.{first_line}
+use Rattle.headers_syntax.specs.Shapes.{one_line}
+use Rattle.headers_ranges.specs.ContentBytes.{ContentBytes, content_bytes, content_text}
+use Rattle.headers_ranges.specs.declared.content_range.ContentRange.{ContentRange}
+
+abbrev pub content_range_grammar : Grammar ContentRange ContentBytes
+content_range_grammar = one_line (λ range. range) first_line content_bytes content_text

@@ -1,0 +1,9 @@
+pub mod ByteRanges
+pub mod ContentBytes
+pub mod ContentRange
+pub mod ContentRangeLaws
+pub mod Cut
+pub mod CutLaws
+pub mod PrintedLaws
+pub mod Range
+pub mod RangeLaws

@@ -1,0 +1,20 @@
+-- The header `range` (RFC 9110, section 14.2): the first line is text that begins with `bytes=`.
+use Rattle.std.specs.Prelude.{◌≡◌, Option, None, Some, Result, Ok, Err, IsSome, option_map}
+use Rattle.http_header.specs.FieldValue.{FieldValue, plain_value}
+use Rattle.headers_syntax.specs.HeaderLaws.{Grammar}
+use Rattle.headers_syntax.specs.Lines.{Line, first_line}
+use Rattle.headers_syntax.specs.Shapes.{one_line}
+use Rattle.headers_syntax.specs.declared.error.Refused.{Refused}
+use Rattle.headers_syntax.specs.declared.error.Refused.TheVariants.{Invalid, Memory}
+use Rattle.headers_ranges.specs.ByteRanges.{range_line}
+use Rattle.headers_ranges.specs.declared.range.Range.{Range}
+
+-- the line is kept and written
+abbrev pub range_grammar : Grammar Range Line
+range_grammar = one_line (λ range. range.bytes) first_line range_line (λ line. line)
+
+-- a result is the value of a text, if there is one, and `Invalid` exactly if there is none
+abbrev pub IsValueOf : {E : Type 0} → Option Line → Result FieldValue (Refused E) → Type 0
+IsValueOf text (Ok value) = option_map plain_value text ≡ Some value
+IsValueOf text (Err (Invalid e)) = text ≡ None
+IsValueOf text (Err (Memory e)) = IsSome text

@@ -1,0 +1,12 @@
+//! Texts cut at a character.
+ghost use Rattle.std.specs.Prelude.{◌≡◌, ◌<◌, option_map};
+ghost use Rattle.headers_items.specs.Pairs.{pair_shown};
+ghost use Rattle.headers_ranges.specs.Cut.{cut};
+
+// What stands before the first such character and after it, if it is there.
+pub(crate) fn cut_once(text: &str, at: char) -> Option<(&str, &str)>
+    requires { at < 128 }
+    ensures { option_map pair_shown result ≡ cut at text.now }
+{
+    text.split_once(at)
+}

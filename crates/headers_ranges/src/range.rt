@@ -1,0 +1,196 @@
+//! The header `range`.
+ghost use Rattle.std.specs.Prelude.{◌≡◌, ◌↔◌, ◌<◌, ◌^◌, ℕ, true, All, Any, IfOk, Some, None, drop, length};
+ghost use Rattle.std.specs.Prelude.{string_bytes, if◌then◌else◌};
+ghost use Rattle.std.specs.List.{filter_map};
+ghost use Rattle.http_header.specs.FieldValue.{plain_value};
+ghost use Rattle.headers_syntax.specs.Text.{is_text};
+ghost use Rattle.headers_syntax.specs.HeaderLaws.{ReadsBy, written_by};
+ghost use Rattle.headers_ranges.specs.ByteRanges.{Spec, bytes_unit, specs, gives, Covers, GivesCovered, LiesIn};
+ghost use Rattle.headers_ranges.specs.ByteRanges.{IsWithin, bytes_from_to, is_range_line, range_text};
+ghost use Rattle.headers_ranges.specs.Range.{IsValueOf, range_grammar};
+
+use crate::satisfiable::Satisfiable;
+use bytes::Bytes;
+use headers_core::{AsHeaderValue, Error, Header, Refused, first, push_clone, read_text};
+use http_header::{HeaderName, HeaderValue, RANGE};
+use std::alloc::{AllocError, Global};
+use std::fmt;
+use std::marker::Model;
+use std::ops::Bound;
+
+/// The ranges that a request asks for (RFC 9110, section 14.2): the first line, text that begins with
+/// `bytes=`, kept and written as it came. Equality goes by the bytes.
+#[derive(Debug, Drop, PartialEq)]
+pub struct Range {
+    value: HeaderValue,
+}
+
+impl Model for Range {
+    ghost use Rattle.std.specs.Prelude.{◌≡◌, true};
+    ghost use Rattle.http_header.specs.FieldValue.{FieldValue};
+    ghost use Rattle.headers_ranges.specs.ByteRanges.{is_range_line};
+
+    ghost Value = { FieldValue };
+
+    ghost view = { λ range. range.value };
+
+    ghost invariant = { λ range. is_range_line range.value.bytes ≡ true };
+
+    ghost inverse = { λ value. record { value = value } };
+}
+
+/// The bounds have no text as a range of bytes.
+#[derive(Clone, Copy, Debug, PartialEq, Eq)]
+pub struct InvalidRange;
+
+impl fmt::Display for InvalidRange {
+    ghost use Rattle.std.specs.Prelude.{Some, codes};
+
+    ghost output = { λ _. Some (codes "InvalidRange") };
+
+    fn fmt<W: fmt::Write>(&self, f: &mut fmt::Formatter<W>) -> fmt::Result {
+        f.write_str("InvalidRange")
+    }
+}
+
+impl std::error::Error for InvalidRange {}
+
+impl Range {
+    /// The range between two bounds, each a `u64`: from a first position that is included, up to a last
+    /// that is included, to just before one that isn't, or on to the end. `InvalidRange` if the first
+    /// bound is another, or if nothing lies before the last one.
+    pub fn bytes(
+        alloc: Global,
+        range: (Bound<u64>, Bound<u64>),
+    ) -> Result<Range, Refused<InvalidRange>>
+        ensures { IsValueOf (range_text range) result }
+    {
+        let Bound::Included(first) = range.0 else {
+            return Err(Refused::Invalid(InvalidRange));
+        };
+        match range.1 {
+            Bound::Included(last) => Ok(Range::between(alloc, first, last)?),
+            Bound::Excluded(0) => Err(Refused::Invalid(InvalidRange)),
+            Bound::Excluded(end) => Ok(Range::between(alloc, first, end - 1)?),
+            Bound::Unbounded => Ok(Range::starting_at(alloc, first)?),
+        }
+    }
+
+    /// The ranges that a representation of so many bytes can satisfy, in the order in which they are
+    /// asked for (RFC 9110, section 14.1.2): each is a first and a last position below the length, both
+    /// included. A part that is no range, or that covers no position, is passed over.
+    pub fn satisfiable_ranges(&self, len: u64) -> Satisfiable<'_>
+        ensures ranges { result ≡ filter_map (gives len) (specs self.now.bytes) }
+        ensures each { (spec : Spec) → GivesCovered len spec }
+        ensures covered { (p : ℕ) → Any (LiesIn p) result ↔ Any (Covers len p) (specs self.now.bytes) }
+        ensures within { All (IsWithin len) result }
+        ensures count { length result < 2 ^ 64 }
+    {
+        Satisfiable::new(self.rest(), len)
+    }
+
+    /// The same ranges again.
+    pub fn clone(&self, _alloc: Global) -> Result<Range, AllocError>
+        ensures { IfOk result (λ range. range ≡ self.now) }
+    {
+        Ok(Range {
+            value: self.value.clone()?,
+        })
+    }
+
+    // The range from one position to another.
+    fn between(alloc: Global, first: u64, last: u64) -> Result<Range, AllocError>
+        ensures { IfOk result (λ range. range ≡ plain_value (bytes_from_to first (Some last))) }
+    {
+        Range::from_text(format!(in alloc; "bytes={first}-{last}")?)
+    }
+
+    // The range from a position on.
+    fn starting_at(alloc: Global, first: u64) -> Result<Range, AllocError>
+        ensures { IfOk result (λ range. range ≡ plain_value (bytes_from_to first None)) }
+    {
+        Range::from_text(format!(in alloc; "bytes={first}-")?)
+    }
+
+    // The range that a text writes.
+    fn from_text(text: String) -> Result<Range, AllocError>
+        requires { is_range_line (string_bytes text) ≡ true }
+        ensures { IfOk result (λ range. range ≡ plain_value (string_bytes text)) }
+    {
+        Ok(Range {
+            value: HeaderValue::from_known_valid(Bytes::from_string(text)?),
+        })
+    }
+
+    // What follows `bytes=`.
+    #[tactic(auto, unfolding(crate::specs::ByteRanges::is_range_line))]
+    fn rest(&self) -> &str
+        ensures value { result.now ≡ drop (length bytes_unit) self.now.bytes }
+        ensures text { is_text result.now ≡ true }
+    {
+        read_text(&self.value)
+            .unwrap()
+            .strip_prefix("bytes=")
+            .unwrap()
+    }
+
+    // A copy of the value, if it is text that begins with `bytes=`.
+    #[tactic(auto, unfolding(crate::specs::ByteRanges::is_range_line))]
+    fn from_val(value: &HeaderValue) -> Result<Option<Range>, AllocError>
+        ensures { IfOk result (λ found. found ≡ (if is_range_line value.now.bytes then Some value.now else None)) }
+    {
+        match read_text(value) {
+            Some(text) if text.starts_with("bytes=") => Ok(Some(Range {
+                value: value.clone()?,
+            })),
+            _ => Ok(None),
+        }
+    }
+}
+
+/// What is written of any range, built or read, reads as it.
+pub fn ranges_read_back(range: &Range)
+    ensures { ReadsBy range_grammar (written_by range_grammar range.now) range.now }
+{
+    let _value = &range.value;
+}
+
+impl Header for Range {
+    ghost use Rattle.std.specs.Prelude.{false, codes};
+    ghost use Rattle.headers_syntax.specs.HeaderLaws.{SameBy, ReadsBy, written_by};
+    ghost use Rattle.headers_ranges.specs.Range.{range_grammar};
+    ghost use Rattle.headers_ranges.specs.RangeLaws.{range_laws};
+
+    ghost field_name = { codes "range" };
+
+    ghost free = { false };
+
+    ghost same = { SameBy range_grammar };
+
+    ghost reads = { ReadsBy range_grammar };
+
+    ghost writes = { written_by range_grammar };
+
+    ghost laws = { range_laws };
+
+    fn name() -> HeaderName {
+        RANGE
+    }
+
+    fn decode<I: Iterator>(_alloc: Global, values: &mut I) -> Result<Range, Refused<Error>>
+    where
+        I::Item: AsHeaderValue,
+    {
+        let Some(line) = first(values) else {
+            return Err(Refused::Invalid(Error::invalid()));
+        };
+        match Range::from_val(line.as_header_value())? {
+            Some(range) => Ok(range),
+            None => Err(Refused::Invalid(Error::invalid())),
+        }
+    }
+
+    fn encode(&self, _alloc: Global, values: &mut Vec<HeaderValue>) -> Result<(), AllocError> {
+        push_clone(values, &self.value)
+    }
+}

@@ -1,0 +1,142 @@
+//! The ranges that a representation can satisfy.
+ghost use Rattle.std.specs.Prelude.{◌≡◌, ◌<◌, ◌^◌, true, length, IfSome};
+ghost use Rattle.std.specs.List.{filter_map};
+ghost use Rattle.std.specs.Iterator.{YieldsFirst, YieldsFirstBy, item_count};
+ghost use Rattle.headers_syntax.specs.Text.{is_text};
+ghost use Rattle.headers_ranges.specs.ByteRanges.{ByteRange, gives, half, pieces, ranges_in, pieces_left, spec_of};
+ghost use Rattle.headers_ranges.specs.ByteRanges.{plain_rest};
+
+use crate::cut::cut_once;
+use headers_core::parse_number;
+use std::marker::Model;
+use std::ops::Bound;
+
+/// What stands on both sides of a dash, each a number or nothing.
+type Spec = (Option<u64>, Option<u64>);
+
+/// The ranges of a `Range` that a representation of some length can satisfy, in order (RFC 9110, section
+/// 14.1.2). It takes no memory, and gives nothing more after its end.
+#[derive(Drop)]
+pub struct Satisfiable<'a> {
+    rest: Option<&'a str>,
+    len: u64,
+}
+
+impl<'a> Model for Satisfiable<'a> {
+    ghost use Rattle.std.specs.Prelude.{◌≡◌, true, List};
+    ghost use Rattle.headers_ranges.specs.ByteRanges.{ByteRange, ranges_in, plain_rest};
+
+    ghost Value = { List ByteRange };
+
+    ghost view = { λ s. ranges_in s.len s.rest };
+
+    ghost invariant = { λ s. plain_rest s.rest ≡ true };
+}
+
+// The next piece between commas.
+fn next_piece<'a>(rest: &mut Option<&'a str>) -> Option<&'a str>
+    requires { plain_rest rest.old ≡ true }
+    ensures steps { YieldsFirstBy (λ piece. piece.now) pieces_left rest.old result rest.new }
+    ensures plain { plain_rest rest.new ≡ true }
+    ensures text { IfSome result (λ piece. is_text piece.now ≡ true) }
+{
+    let text = (*rest)?;
+    match cut_once(text, ',') {
+        Some((piece, after)) => {
+            *rest = Some(after);
+            Some(piece)
+        }
+        None => {
+            *rest = None;
+            Some(text)
+        }
+    }
+}
+
+// The number that a half writes, or nothing.
+fn half(text: &str) -> Option<Option<u64>>
+    ensures { result ≡ half text.now }
+{
+    if text.is_empty() {
+        return Some(None);
+    }
+    match parse_number(text) {
+        Some(number) => Some(Some(number)),
+        None => None,
+    }
+}
+
+// The halves of a piece.
+fn spec_of(piece: &str) -> Option<Spec>
+    requires { is_text piece.now ≡ true }
+    ensures { result ≡ spec_of piece.now }
+{
+    let (first, last) = cut_once(piece.trim_ascii(), '-')?;
+    half(first).zip(half(last))
+}
+
+// The range of the positions that a spec covers.
+fn covered(spec: Spec, len: u64) -> Option<(Bound<u64>, Bound<u64>)>
+    ensures { result ≡ gives len spec }
+{
+    let end = len.checked_sub(1)?;
+    let (first, last) = match spec {
+        (Some(first), Some(last)) => (first, last.min(end)),
+        (Some(first), None) => (first, end),
+        (None, Some(0)) | (None, None) => return None,
+        (None, Some(count)) => (len.saturating_sub(count), end),
+    };
+    if first > last {
+        return None;
+    }
+    Some((Bound::Included(first), Bound::Included(last)))
+}
+
+// The next range.
+fn next_range(rest: &mut Option<&str>, len: u64) -> Option<(Bound<u64>, Bound<u64>)>
+    requires { plain_rest rest.old ≡ true }
+    ensures steps { YieldsFirst (ranges_in len) rest.old result rest.new }
+    ensures plain { plain_rest rest.new ≡ true }
+{
+    while let Some(piece) = next_piece(rest) {
+        if let Some(spec) = spec_of(piece)
+            && let Some(range) = covered(spec, len)
+        {
+            return Some(range);
+        }
+    }
+    None
+}
+
+impl<'a> Satisfiable<'a> {
+    /// The ranges of what follows `bytes=`.
+    pub(crate) fn new(rest: &'a str, len: u64) -> Satisfiable<'a>
+        requires { is_text rest.now ≡ true }
+        ensures ranges { result ≡ filter_map (gives len) (filter_map spec_of (pieces rest.now)) }
+        ensures count { length result < 2 ^ 64 }
+    {
+        Satisfiable {
+            rest: Some(rest),
+            len,
+        }
+    }
+
+    /// The next range, if one is left: its first and its last position, both included.
+    pub fn next(&mut self) -> Option<(Bound<u64>, Bound<u64>)>
+        ensures { YieldsFirst (λ left. left) self.old result self.new }
+    {
+        next_range(&mut self.rest, self.len)
+    }
+}
+
+impl<'a> Iterator for Satisfiable<'a> {
+    type Item = (Bound<u64>, Bound<u64>);
+
+    ghost next_gives = { YieldsFirst (λ left. left) };
+
+    ghost remaining = { item_count (λ left. left) };
+
+    fn next(&mut self) -> Option<(Bound<u64>, Bound<u64>)> {
+        self.next()
+    }
+}
