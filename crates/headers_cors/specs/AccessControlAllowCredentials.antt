@@ -1,0 +1,9 @@
+-- The header `access-control-allow-credentials`: its first line is `true`.
+use Rattle.std.specs.Prelude.{codes}
+use Rattle.headers_syntax.specs.Lines.{Line}
+use Rattle.headers_syntax.specs.HeaderLaws.{Grammar}
+use Rattle.headers_syntax.specs.Shapes.{first_word}
+use Rattle.headers_cors.specs.declared.access_control_allow_credentials.AccessControlAllowCredentials.{AccessControlAllowCredentials}
+
+abbrev pub access_control_allow_credentials_grammar : Grammar AccessControlAllowCredentials Line
+access_control_allow_credentials_grammar = first_word (codes "true") (λ _. codes "true")

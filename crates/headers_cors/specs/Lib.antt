@@ -1,0 +1,5 @@
+pub mod AccessControlAllowCredentials
+pub mod AccessControlAllowOrigin
+pub mod AccessControlAllowOriginLaws
+pub mod AccessControlRequestMethod
+pub mod AccessControlRequestMethodLaws

@@ -1,0 +1,82 @@
+//! The header `access-control-allow-headers`.
+ghost use Rattle.std.specs.Prelude.{◌≡◌, IfOk};
+ghost use Rattle.std.specs.Iterator.{IsFinite};
+ghost use Rattle.headers_items.specs.Places.{comma, items};
+ghost use Rattle.headers_names.specs.ListItem.{name_of, names, Lists};
+
+use headers_core::{Comma, FlatCsv, FormHeader};
+use headers_names::{Names, list_of_names};
+use http_header::{ACCESS_CONTROL_ALLOW_HEADERS, HeaderName};
+use std::alloc::{AllocError, Global};
+use std::marker::Model;
+
+/// The field names that a cross-origin request may carry (W3C CORS, section 5.6).
+///
+/// All lines are read, joined by a comma and a space; none refuses. Equality goes by the joined bytes.
+#[derive(Debug, PartialEq, Drop)]
+pub struct AccessControlAllowHeaders {
+    names: FlatCsv<Comma>,
+}
+
+impl Model for AccessControlAllowHeaders {
+    ghost use Rattle.std.specs.Prelude.{List, ℕ};
+
+    ghost Value = { List ℕ };
+
+    ghost view = { λ v. v.names };
+
+    ghost inverse = { λ bytes. record { names = bytes } };
+}
+
+impl AccessControlAllowHeaders {
+    /// The names of an iterator, joined by a comma and a space; its size hint is not read. `iter`
+    /// gives them back.
+    pub fn from_iter<I: Iterator<Item = HeaderName> + Drop>(
+        alloc: Global,
+        names: I,
+    ) -> Result<AccessControlAllowHeaders, AllocError>
+        requires can { I.can_next names }
+        requires ends { IsFinite (I.remaining names) }
+        ensures { IfOk result (Lists name_of I.next_gives names) }
+    {
+        Ok(AccessControlAllowHeaders {
+            names: list_of_names(alloc, names)?,
+        })
+    }
+
+    /// The names before the first item that is none.
+    pub fn iter(&self, alloc: Global) -> Names<'_>
+        ensures { result ≡ names (items comma self.now) }
+    {
+        Names::new(alloc, &self.names)
+    }
+
+    /// The same value.
+    pub fn clone(&self, alloc: Global) -> Result<AccessControlAllowHeaders, AllocError>
+        ensures { IfOk result (λ copy. copy ≡ self.now) }
+    {
+        Ok(AccessControlAllowHeaders {
+            names: self.names.clone(alloc)?,
+        })
+    }
+}
+
+impl FormHeader for AccessControlAllowHeaders {
+    ghost use Rattle.std.specs.Prelude.{codes};
+
+    type Form = FlatCsv<Comma>;
+
+    ghost NAME = { codes "access-control-allow-headers" };
+
+    const NAME: HeaderName = ACCESS_CONTROL_ALLOW_HEADERS;
+
+    ghost form = { λ header. header };
+
+    fn from_form(names: FlatCsv<Comma>) -> AccessControlAllowHeaders {
+        AccessControlAllowHeaders { names }
+    }
+
+    fn as_form(&self) -> &FlatCsv<Comma> {
+        &self.names
+    }
+}

@@ -1,0 +1,148 @@
+//! The header `access-control-allow-origin`.
+ghost use Rattle.std.specs.Prelude.{◌≡◌, List, ℕ, Some, None, IfOk, option_copied};
+ghost use Rattle.headers_hosts.specs.declared.origin.Origin.{Origin};
+ghost use Rattle.headers_hosts.specs.Origin.{IsOriginLine};
+ghost use Rattle.headers_hosts.specs.OneLine.{LineDecodesTo};
+ghost use Rattle.headers_cors.specs.AccessControlAllowOrigin.{IsAllowedLine, IsAllowedText, allowed_text, allowed_origin, allow_origin_reads, allow_origin_writes};
+ghost use Rattle.headers_cors.specs.declared.access_control_allow_origin.AccessControlAllowOrigin.{AccessControlAllowOrigin as Seen};
+
+use headers_core::{AsHeaderValue, Error, Header, Refused, just_one};
+use headers_hosts::{Origin, line_of_origin, origin_of_line, origin_of_text};
+use http_header::{ACCESS_CONTROL_ALLOW_ORIGIN, HeaderName, HeaderValue};
+use std::alloc::{AllocError, Global};
+
+/// The origin that may read a response (W3C CORS, section 5.1).
+///
+/// The only line is read: `*` for any, else an origin as `Origin` reads it. Equality and hash go by
+/// the origin's.
+#[derive(Debug, PartialEq, Eq, Hash, Drop)]
+pub struct AccessControlAllowOrigin {
+    kind: OriginOrAny,
+}
+
+#[derive(Debug, PartialEq, Eq, Hash, Drop)]
+enum OriginOrAny {
+    One(Origin),
+    Any,
+}
+
+impl AccessControlAllowOrigin {
+    /// `*`: any origin.
+    pub const ANY: AccessControlAllowOrigin = AccessControlAllowOrigin {
+        kind: OriginOrAny::Any,
+    };
+
+    /// `null`.
+    pub const NULL: AccessControlAllowOrigin = AccessControlAllowOrigin {
+        kind: OriginOrAny::One(Origin::NULL),
+    };
+
+    /// The origin; any has none.
+    pub fn origin(&self) -> Option<&Origin>
+        ensures { option_copied result ≡ allowed_origin self.now }
+    {
+        match &self.kind {
+            OriginOrAny::One(origin) => Some(origin),
+            OriginOrAny::Any => None,
+        }
+    }
+
+    /// The origin that a text is, read as a line. The star is refused, and so is a text that is no
+    /// header value.
+    pub fn try_from_str(
+        alloc: Global,
+        text: &str,
+    ) -> Result<AccessControlAllowOrigin, Refused<Error>>
+        ensures { LineDecodesTo IsAllowedText text.now result }
+    {
+        match origin_of_text(alloc, text) {
+            Ok(origin) => Ok(AccessControlAllowOrigin {
+                kind: OriginOrAny::One(origin),
+            }),
+            Err(refused) => Err(refused),
+        }
+    }
+
+    /// The same value.
+    pub fn clone(&self, alloc: Global) -> Result<AccessControlAllowOrigin, AllocError>
+        ensures { IfOk result (λ copy. copy ≡ self.now) }
+    {
+        let kind = match &self.kind {
+            OriginOrAny::One(origin) => OriginOrAny::One(origin.clone(alloc)?),
+            OriginOrAny::Any => OriginOrAny::Any,
+        };
+        Ok(AccessControlAllowOrigin { kind })
+    }
+
+    fn from_val(value: &HeaderValue) -> Result<AccessControlAllowOrigin, Refused<Error>>
+        ensures { LineDecodesTo IsAllowedLine value.now.bytes result }
+    {
+        if value.as_bytes() == b"*".as_slice() {
+            return Ok(AccessControlAllowOrigin::ANY);
+        }
+        match origin_of_line(value) {
+            Ok(origin) => Ok(AccessControlAllowOrigin {
+                kind: OriginOrAny::One(origin),
+            }),
+            Err(refused) => Err(refused),
+        }
+    }
+
+    fn to_value(&self, alloc: Global) -> Result<HeaderValue, AllocError>
+        ensures { IfOk result (λ value. value.bytes ≡ allowed_text self.now) }
+    {
+        match &self.kind {
+            OriginOrAny::One(origin) => line_of_origin(alloc, origin),
+            OriginOrAny::Any => Ok(HeaderValue::from_static("*")),
+        }
+    }
+}
+
+/// What is written of any, or of an origin that some line reads as, is read back.
+pub fn allow_origin_of_own_text()
+    ensures any { (header : Seen) → allowed_origin header ≡ None
+        → allow_origin_reads (allow_origin_writes header) header }
+    ensures others { (line : List ℕ) (header : Seen) (origin : Origin)
+        → allowed_origin header ≡ Some origin → IsOriginLine line origin
+        → allow_origin_reads (allow_origin_writes header) header }
+{}
+
+impl Header for AccessControlAllowOrigin {
+    ghost use Rattle.std.specs.Prelude.{false, codes};
+    ghost use Rattle.headers_hosts.specs.OneLine.{Same};
+    ghost use Rattle.headers_cors.specs.AccessControlAllowOriginLaws.{allow_origin_laws};
+
+    ghost field_name = { codes "access-control-allow-origin" };
+
+    ghost free = { false };
+
+    ghost same = { Same };
+
+    ghost reads = { allow_origin_reads };
+
+    ghost writes = { allow_origin_writes };
+
+    ghost laws = { allow_origin_laws };
+
+    fn name() -> HeaderName {
+        ACCESS_CONTROL_ALLOW_ORIGIN
+    }
+
+    fn decode<I: Iterator>(
+        _alloc: Global,
+        values: &mut I,
+    ) -> Result<AccessControlAllowOrigin, Refused<Error>>
+    where
+        I::Item: AsHeaderValue,
+    {
+        match just_one(values) {
+            Some(line) => AccessControlAllowOrigin::from_val(line.as_header_value()),
+            None => Err(Refused::Invalid(Error::invalid())),
+        }
+    }
+
+    fn encode(&self, alloc: Global, values: &mut Vec<HeaderValue>) -> Result<(), AllocError> {
+        values.push(self.to_value(alloc)?)?;
+        Ok(())
+    }
+}

@@ -1,0 +1,117 @@
+//! The header `access-control-request-method`.
+ghost use Rattle.std.specs.Prelude.{◌≡◌, IfOk};
+ghost use Rattle.http_header.specs.Token.{IsToken};
+ghost use Rattle.headers_hosts.specs.OneLine.{LineDecodesTo};
+ghost use Rattle.headers_cors.specs.AccessControlRequestMethod.{method_bytes, IsMethodLine, request_method_reads, request_method_writes};
+ghost use Rattle.headers_cors.specs.declared.access_control_request_method.AccessControlRequestMethod.{AccessControlRequestMethod as Seen};
+
+use headers_core::{AsHeaderValue, Error, Header, Refused, first};
+use http::Method;
+use http::method::MethodError;
+use http_header::{ACCESS_CONTROL_REQUEST_METHOD, HeaderName, HeaderValue, HeaderValueError};
+use std::alloc::{AllocError, Global};
+
+/// The method of the request to come (W3C CORS, section 5.8).
+///
+/// The first line is read: a method, as `Method::from_bytes` reads it. Equality and hash go by its
+/// bytes.
+#[derive(Debug, PartialEq, Eq, Hash, Drop)]
+pub struct AccessControlRequestMethod {
+    method: Method,
+}
+
+impl AccessControlRequestMethod {
+    /// The same method.
+    pub fn clone(&self, _alloc: Global) -> Result<AccessControlRequestMethod, AllocError>
+        ensures { IfOk result (λ copy. copy ≡ self.now) }
+    {
+        Ok(AccessControlRequestMethod {
+            method: self.method.clone()?,
+        })
+    }
+
+    fn from_val(
+        alloc: Global,
+        value: &HeaderValue,
+    ) -> Result<AccessControlRequestMethod, Refused<Error>>
+        ensures { LineDecodesTo IsMethodLine value.now.bytes result }
+    {
+        match Method::from_bytes(alloc, value.as_bytes()) {
+            Ok(method) => Ok(AccessControlRequestMethod { method }),
+            Err(MethodError::Invalid) => Err(Refused::Invalid(Error::invalid())),
+            Err(MethodError::OutOfMemory) => Err(Refused::Memory(AllocError)),
+        }
+    }
+
+    fn to_value(&self, alloc: Global) -> Result<HeaderValue, AllocError>
+        ensures { IfOk result (λ value. value.bytes ≡ method_bytes self.now) }
+    {
+        match HeaderValue::from_str(alloc, self.method.as_str()) {
+            Ok(value) => Ok(value),
+            Err(HeaderValueError::Invalid) => unreachable!(),
+            Err(HeaderValueError::OutOfMemory) => Err(AllocError),
+        }
+    }
+}
+
+/// What is written of a method is read back.
+pub fn request_method_of_own_text()
+    ensures { (header : Seen) → IsToken (method_bytes header)
+        → request_method_reads (request_method_writes header) header }
+{}
+
+impl From<Method> for AccessControlRequestMethod {
+    ghost from_gives = { λ method header. method_bytes header ≡ method };
+
+    fn from(method: Method) -> AccessControlRequestMethod {
+        AccessControlRequestMethod { method }
+    }
+}
+
+impl From<AccessControlRequestMethod> for Method {
+    ghost from_gives = { λ header method. method ≡ method_bytes header };
+
+    fn from(header: AccessControlRequestMethod) -> Method {
+        header.method
+    }
+}
+
+impl Header for AccessControlRequestMethod {
+    ghost use Rattle.std.specs.Prelude.{false, codes};
+    ghost use Rattle.headers_hosts.specs.OneLine.{Same};
+    ghost use Rattle.headers_cors.specs.AccessControlRequestMethodLaws.{request_method_laws};
+
+    ghost field_name = { codes "access-control-request-method" };
+
+    ghost free = { false };
+
+    ghost same = { Same };
+
+    ghost reads = { request_method_reads };
+
+    ghost writes = { request_method_writes };
+
+    ghost laws = { request_method_laws };
+
+    fn name() -> HeaderName {
+        ACCESS_CONTROL_REQUEST_METHOD
+    }
+
+    fn decode<I: Iterator>(
+        alloc: Global,
+        values: &mut I,
+    ) -> Result<AccessControlRequestMethod, Refused<Error>>
+    where
+        I::Item: AsHeaderValue,
+    {
+        match first(values) {
+            Some(line) => AccessControlRequestMethod::from_val(alloc, line.as_header_value()),
+            None => Err(Refused::Invalid(Error::invalid())),
+        }
+    }
+
+    fn encode(&self, alloc: Global, values: &mut Vec<HeaderValue>) -> Result<(), AllocError> {
+        values.push(self.to_value(alloc)?)?;
+        Ok(())
+    }
+}

@@ -1,0 +1,2 @@
+pub mod OneLineLemmas
+pub mod OriginLemmas

@@ -1,0 +1,43 @@
+-- Decoding by the one line that a header reads.
+use Rattle.std.proofs.Common.{◌≡◌, List, [], ◌∷◌, Option, Some, None, Result, Ok, Err, option_map, subst, ap}
+use Rattle.http_header.specs.FieldValue.{FieldValue}
+use Rattle.headers_syntax.specs.Lines.{Line}
+use Rattle.headers_syntax.specs.OfLines.{OfLines}
+use Rattle.headers_syntax.specs.DecodesTo.{DecodesTo}
+use Rattle.headers_syntax.specs.declared.error.Refused.{Refused}
+use Rattle.headers_syntax.specs.declared.error.Refused.TheVariants.{Invalid, Memory}
+use Rattle.headers_hosts.specs.OneLine.{ReadsLine, LineDecodesTo}
+
+module _ {V E : Type 0} (pick : List Line → Option Line) (Reads : Line → V → Type 0) where
+  by_line : (lines : List Line) (line : Line) (r : Result V (Refused E)) → pick lines ≡ Some line
+      → LineDecodesTo Reads line r → DecodesTo (ReadsLine pick Reads) lines r
+  by_line lines line (Ok v) e h = (line, e, h)
+  by_line lines line (Err (Invalid i)) e h = λ v k.
+      let same : k.0 ≡ line = let f = k.1 in cc in h v (subst (λ (l : Line). Reads l v) same k.2)
+  by_line lines line (Err (Memory m)) e h = tt
+
+  -- what the picked line decodes to, the lines decode to
+  pub decodes_line : {S A : Type 0} (shown : A → FieldValue) (steps : S → Option A → S → Type 0) (s t : S)
+      (item : A) (bytes : Line) (r : Result V (Refused E))
+      → OfLines shown steps s t (λ lines. pick lines ≡ Some (shown item).bytes) → bytes ≡ (shown item).bytes
+      → LineDecodesTo Reads bytes r
+      → OfLines shown steps s t (λ lines. DecodesTo (ReadsLine pick Reads) lines r)
+  decodes_line shown steps s t item bytes r of same h =
+      record {
+        items = of.items;
+        ended = of.ended;
+        calls = of.calls;
+        holds = λ rest e. by_line _ _ r (of.holds rest e) (subst (λ (l : Line). LineDecodesTo Reads l r) same h);
+      }
+
+  -- without a picked line nothing is read
+  pub decodes_none : {S A : Type 0} (shown : A → FieldValue) (steps : S → Option A → S → Type 0) (s t : S) (e : E)
+      → OfLines shown steps s t (λ lines. pick lines ≡ None)
+      → OfLines shown steps s t (λ lines. DecodesTo (ReadsLine pick Reads) lines (Err (Invalid e)))
+  decodes_none shown steps s t e of =
+      record {
+        items = of.items;
+        ended = of.ended;
+        calls = of.calls;
+        holds = λ rest l v k. let some = k.1 in let none = of.holds rest l in cc (some, none);
+      }

@@ -1,0 +1,9 @@
+use Rattle.std.proofs.Common.{sym, subst}
+use Rattle.http_header.specs.FieldValue.{IsFieldValue}
+use Rattle.headers_hosts.proofs.OriginLemmas.{IsFieldValue-authority}
+use Rattle.headers_hosts.proofs.host.Host.to_value.Goals as goal
+
+pub unreachable-requires : goal.unreachable-requires
+unreachable-requires c =
+    c.in-Err-Invalid.ensures.invalid.0 (cc) (subst IsFieldValue (sym c.as_str.ensures.value)
+    (IsFieldValue-authority _ c.as_str.ensures.valid))

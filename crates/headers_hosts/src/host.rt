@@ -1,0 +1,133 @@
+//! The header `host`.
+ghost use Rattle.std.specs.Prelude.{◌≡◌, ◌≤◌, ◌↔◌, length, IfOk, Some};
+ghost use Rattle.http_uri.specs.Grammar.{IsAuthority, authority_host};
+ghost use Rattle.http_uri.specs.Port.{IsPortNumberOf};
+ghost use Rattle.headers_hosts.specs.OneLine.{LineDecodesTo};
+ghost use Rattle.headers_hosts.specs.Host.{host_bytes, host_reads, host_writes, IsHostLine};
+ghost use Rattle.headers_hosts.specs.declared.host.Host.{Host as Seen};
+
+use headers_core::{AsHeaderValue, Error, Header, Refused, first};
+use http_header::{HOST, HeaderName, HeaderValue, HeaderValueError};
+use http_uri::Authority;
+use std::alloc::{AllocError, Global};
+use std::fmt;
+
+/// The host that a request is for (RFC 9110, section 7.2).
+///
+/// The first line is read: an authority of at most 65,534 bytes, as `http_uri` reads it. It is written
+/// as it stands. Equality, order and hash ignore the case of ASCII letters.
+#[derive(Debug, PartialEq, Eq, PartialOrd, Hash, Drop)]
+pub struct Host {
+    authority: Authority,
+}
+
+// The longest line that is read.
+pub(crate) const MAX_LEN: usize = 65534;
+
+impl Host {
+    /// What follows the last `@`, up to the port. An IPv6 address keeps its brackets.
+    pub fn hostname(&self) -> &str
+        ensures { result.now ≡ authority_host (host_bytes self.now) }
+    {
+        self.authority.host()
+    }
+
+    /// What follows the last colon, if it is a number below 65,536.
+    pub fn port(&self) -> Option<u16>
+        ensures { IsPortNumberOf (host_bytes self.now) result }
+    {
+        self.authority.port_u16()
+    }
+
+    /// The same host.
+    pub fn clone(&self, _alloc: Global) -> Result<Host, AllocError>
+        ensures { IfOk result (λ copy. copy ≡ self.now) }
+    {
+        Ok(Host {
+            authority: self.authority.clone()?,
+        })
+    }
+
+    fn from_val(value: &HeaderValue) -> Result<Host, Refused<Error>>
+        ensures { LineDecodesTo IsHostLine value.now.bytes result }
+    {
+        if value.as_bytes().len() > MAX_LEN {
+            return Err(Refused::Invalid(Error::invalid()));
+        }
+        match Authority::from_shared(value.as_shared().clone()?) {
+            Ok(authority) => Ok(Host { authority }),
+            Err(_) => Err(Refused::Invalid(Error::invalid())),
+        }
+    }
+
+    fn to_value(&self, alloc: Global) -> Result<HeaderValue, AllocError>
+        ensures { IfOk result (λ value. value.bytes ≡ host_bytes self.now) }
+    {
+        match HeaderValue::from_str(alloc, self.authority.as_str()) {
+            Ok(value) => Ok(value),
+            Err(HeaderValueError::Invalid) => unreachable!(),
+            Err(HeaderValueError::OutOfMemory) => Err(AllocError),
+        }
+    }
+}
+
+/// What is written of a host that was made of an authority is read back exactly if it has at most
+/// 65,534 bytes.
+pub fn host_of_short_authority()
+    ensures { (host : Seen) → IsAuthority (host_bytes host)
+        → (host_reads (host_writes host) host ↔ (length (host_bytes host) ≤ 65534)) }
+{}
+
+impl From<Authority> for Host {
+    ghost from_gives = { λ authority host. host_bytes host ≡ authority };
+
+    fn from(authority: Authority) -> Host {
+        Host { authority }
+    }
+}
+
+impl fmt::Display for Host {
+    ghost output = { λ host. Some (host_bytes host) };
+
+    fn fmt<W: fmt::Write>(&self, f: &mut fmt::Formatter<W>) -> fmt::Result {
+        f.write_str(self.authority.as_str())
+    }
+}
+
+impl Header for Host {
+    ghost use Rattle.std.specs.Prelude.{false, codes};
+    ghost use Rattle.headers_hosts.specs.OneLine.{Same};
+    ghost use Rattle.headers_hosts.specs.Host.{host_reads, host_writes};
+    ghost use Rattle.headers_hosts.specs.HostLaws.{host_laws};
+
+    ghost field_name = { codes "host" };
+
+    ghost free = { false };
+
+    ghost same = { Same };
+
+    ghost reads = { host_reads };
+
+    ghost writes = { host_writes };
+
+    ghost laws = { host_laws };
+
+    fn name() -> HeaderName {
+        HOST
+    }
+
+    fn decode<I: Iterator>(_alloc: Global, values: &mut I) -> Result<Host, Refused<Error>>
+    where
+        I::Item: AsHeaderValue,
+    {
+        match first(values) {
+            Some(line) => Host::from_val(line.as_header_value()),
+            None => Err(Refused::Invalid(Error::invalid())),
+        }
+    }
+
+    fn encode(&self, alloc: Global, values: &mut Vec<HeaderValue>) -> Result<(), AllocError> {
+        values.push(self.to_value(alloc)?)?;
+        Ok(())
+    }
+}
