@@ -1,0 +1,3 @@
+pub mod BasicLemmas
+pub mod CredentialLemmas
+pub mod SchemeLemmas

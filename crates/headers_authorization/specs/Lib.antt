@@ -1,0 +1,6 @@
+pub mod Basic
+pub mod BasicLaws
+pub mod Bearer
+pub mod BearerLaws
+pub mod CredentialLaws
+pub mod Scheme

@@ -1,0 +1,154 @@
+//! Bearer tokens.
+ghost use Rattle.std.specs.Prelude.{◌≡◌, ◌↔◌, Some, codes, IsTrue, IfOk, OnOk};
+ghost use Rattle.http_header.specs.FieldValue.{IsFieldValue, plain_value};
+ghost use Rattle.headers_syntax.specs.Refusal.{IsInvalid};
+ghost use Rattle.headers_syntax.specs.Text.{is_text};
+ghost use Rattle.headers_authorization.specs.Bearer.{bearer_line, bearer_token};
+ghost use Rattle.headers_authorization.specs.Bearer.{bearer_scheme, ReadsBearer, bearer_writes};
+ghost use Rattle.headers_authorization.specs.Scheme.{IsReadBack};
+
+use crate::authorization::Authorization;
+use crate::credentials::Credentials;
+use crate::proxy_authorization::ProxyAuthorization;
+use headers_core::{HeaderValueString, Refused};
+use http_header::HeaderValue;
+use std::alloc::{AllocError, Global};
+use std::fmt;
+use std::marker::Model;
+
+/// A bearer token: the whole line, which is text, as it came (RFC 6750, section 2.1). Equality goes
+/// by its bytes.
+#[derive(Debug, Drop, PartialEq)]
+pub struct Bearer {
+    line: HeaderValueString,
+}
+
+impl Model for Bearer {
+    ghost use Rattle.http_header.specs.FieldValue.{FieldValue, field_value_code};
+    ghost use Rattle.headers_authorization.specs.Scheme.{HasScheme};
+    ghost use Rattle.headers_authorization.specs.Bearer.{bearer_scheme};
+
+    ghost Value = { FieldValue };
+
+    ghost coded = { field_value_code };
+
+    ghost view = { λ bearer. bearer.line };
+
+    ghost invariant = { λ bearer. HasScheme bearer_scheme bearer.line.bytes };
+
+    ghost inverse = { λ value. record { line = value } };
+}
+
+/// The token holds a control other than tab, and so its line is no header value.
+#[derive(Clone, Copy, Debug, PartialEq, Eq)]
+pub struct InvalidBearerToken;
+
+impl fmt::Display for InvalidBearerToken {
+    ghost output = { λ _. Some (codes "InvalidBearerToken") };
+
+    ghost styled_output = { λ _ _. Some (codes "InvalidBearerToken") };
+
+    fn fmt<W: fmt::Write>(&self, f: &mut fmt::Formatter<W>) -> fmt::Result {
+        f.write_str("InvalidBearerToken")
+    }
+}
+
+impl std::error::Error for InvalidBearerToken {}
+
+impl Bearer {
+    /// The token: what follows the scheme and its space, without leading white space.
+    pub fn token(&self) -> &str
+        ensures { result.now ≡ bearer_token self.now.bytes }
+    {
+        self.line.as_str()["Bearer ".len()..].trim_start()
+    }
+
+    /// The same credentials, also as to whether they are kept out of logs.
+    pub fn clone(&self, alloc: Global) -> Result<Bearer, AllocError>
+        ensures { IfOk result (λ copy. copy ≡ self.now) }
+    {
+        Ok(Bearer {
+            line: self.line.clone(alloc)?,
+        })
+    }
+}
+
+impl Credentials for Bearer {
+    ghost use Rattle.headers_authorization.specs.Bearer.{bearer_scheme, SameBearer, ReadsBearer, bearer_writes};
+    ghost use Rattle.headers_authorization.specs.BearerLaws.{bearer_laws};
+
+    ghost scheme = { bearer_scheme };
+
+    ghost same = { SameBearer };
+
+    ghost reads = { ReadsBearer };
+
+    ghost writes = { bearer_writes };
+
+    ghost laws = { bearer_laws };
+
+    const SCHEME: &'static str = "Bearer";
+
+    fn scheme_name() -> &'static str {
+        Self::SCHEME
+    }
+
+    fn decode(alloc: Global, value: &HeaderValue) -> Result<Option<Bearer>, AllocError> {
+        match HeaderValueString::from_val(alloc, value) {
+            Ok(line) => Ok(Some(Bearer { line })),
+            Err(Refused::Invalid(_)) => Ok(None),
+            Err(Refused::Memory(refused)) => Err(refused),
+        }
+    }
+
+    fn encode(&self, _alloc: Global) -> Result<HeaderValue, AllocError> {
+        self.line.as_value().clone()
+    }
+}
+
+impl Authorization<Bearer> {
+    /// The line `Bearer`, a space and the token. The token may be any text of a header value, also
+    /// with characters past ASCII, with which it is not read back (RFC 9110, section 5.5). A token
+    /// with a control other than tab is refused.
+    pub fn bearer(
+        alloc: Global,
+        token: &str,
+    ) -> Result<Authorization<Bearer>, Refused<InvalidBearerToken>>
+        ensures ok { IfOk result (λ made. made.0 ≡ plain_value (bearer_line token.now)) }
+        ensures valid { OnOk result (IsFieldValue (bearer_line token.now)) }
+        ensures invalid { IsInvalid result → ¬ (IsFieldValue (bearer_line token.now)) }
+        ensures back { IfOk result (λ made. IsReadBack bearer_scheme ReadsBearer bearer_writes made.0
+            ↔ IsTrue (is_text token.now)) }
+    {
+        let mut line = String::from_str(alloc, "Bearer ")?;
+        line.push_str(token)?;
+        match HeaderValueString::from_str(alloc, line.as_str()) {
+            Ok(line) => Ok(Authorization(Bearer { line })),
+            Err(Refused::Invalid(_)) => Err(Refused::Invalid(InvalidBearerToken)),
+            Err(Refused::Memory(refused)) => Err(Refused::Memory(refused)),
+        }
+    }
+
+    /// The token: what follows the scheme and its space, without leading white space.
+    pub fn token(&self) -> &str
+        ensures { result.now ≡ bearer_token self.now.0.bytes }
+    {
+        self.0.token()
+    }
+
+    /// The same header, also as to whether its value is kept out of logs.
+    pub fn clone(&self, alloc: Global) -> Result<Authorization<Bearer>, AllocError>
+        ensures { IfOk result (λ copy. copy ≡ self.now) }
+    {
+        Ok(Authorization(self.0.clone(alloc)?))
+    }
+}
+
+impl ProxyAuthorization<Bearer> {
+    /// The same header, also as to whether its value is kept out of logs.
+    pub fn clone(&self, alloc: Global) -> Result<ProxyAuthorization<Bearer>, AllocError>
+        ensures { IfOk result (λ copy. copy ≡ self.now) }
+    {
+        Ok(ProxyAuthorization(self.0.clone(alloc)?))
+    }
+}

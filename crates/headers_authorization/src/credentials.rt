@@ -1,0 +1,79 @@
+//! Credentials of an authentication scheme.
+ghost use Rattle.std.specs.Prelude.{◌≡◌, ◌↔◌, List, ℕ, IfOk, IsTrue, MatchOption};
+ghost use Rattle.headers_syntax.specs.OfLines.{OfLines};
+ghost use Rattle.headers_syntax.specs.Lines.{Line};
+ghost use Rattle.headers_authorization.specs.CredentialLaws.{CredentialLaws};
+ghost use Rattle.headers_authorization.specs.Scheme.{HasScheme, FirstReads};
+
+use headers_core::{AsHeaderValue, first};
+use http_header::HeaderValue;
+use std::alloc::{AllocError, Global};
+
+/// What the credentials of a scheme read of a line, and what is written of them (RFC 7235,
+/// section 2.1).
+pub trait Credentials: Drop {
+    // The scheme's name.
+    ghost scheme: { List ℕ };
+
+    // Whether two are the same value.
+    ghost same: { Self → Self → Type 0 };
+
+    // Whether a line reads this value.
+    ghost reads: { Line → Self → Type 0 };
+
+    // The line that is written of a value.
+    ghost writes: { Self → Line };
+
+    /// The scheme's name, which begins each line of its credentials.
+    const SCHEME: &'static str;
+
+    /// The scheme's name, as contracts see it: the value of `SCHEME`.
+    fn scheme_name() -> &'static str
+        ensures { result.now ≡ scheme };
+
+    /// The credentials that the line reads, if any. The line begins with the scheme, in any case,
+    /// and a space.
+    fn decode(alloc: Global, value: &HeaderValue) -> Result<Option<Self>, AllocError>
+        requires { HasScheme scheme value.now.bytes }
+        ensures { IfOk result (λ read. MatchOption read ((v : Self) → ¬ (reads value.now.bytes v))
+            (λ v. reads value.now.bytes v)) };
+
+    /// The line that is written of the credentials.
+    fn encode(&self, alloc: Global) -> Result<HeaderValue, AllocError>
+        ensures { IfOk result (λ value. value.bytes ≡ writes self.now) };
+
+    // Being the same is an equivalence that reading and writing respect, a line reads one value at
+    // most, and what is written of a value that a line of the scheme reads has the scheme and reads
+    // as that value.
+    ghost laws: { CredentialLaws scheme same reads writes };
+}
+
+// Whether the line begins with the scheme, in any case, and a space.
+fn has_scheme(line: &[u8], scheme: &str) -> bool
+    ensures { IsTrue result ↔ HasScheme scheme.now line.now }
+{
+    let end = scheme.len();
+    end < line.len() && line[end] == b' ' && line[..end].eq_ignore_ascii_case(scheme.as_bytes())
+}
+
+// The credentials of the first line, if it has their scheme and they read it.
+pub(crate) fn first_credentials<C: Credentials, I: Iterator>(
+    alloc: Global,
+    values: &mut I,
+) -> Result<Option<C>, AllocError>
+where
+    I::Item: AsHeaderValue,
+    requires { I.can_next values.old }
+    ensures { OfLines I.Item.shown I.next_gives values.old values.new
+        (λ lines. IfOk result (λ read. MatchOption read ((v : C) → ¬ (FirstReads C.scheme C.reads lines v))
+        (λ v. FirstReads C.scheme C.reads lines v))) }
+{
+    let Some(item) = first(values) else {
+        return Ok(None);
+    };
+    let value = item.as_header_value();
+    if !has_scheme(value.as_bytes(), C::scheme_name()) {
+        return Ok(None);
+    }
+    C::decode(alloc, value)
+}

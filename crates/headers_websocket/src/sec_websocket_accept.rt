@@ -1,0 +1,83 @@
+//! The header `sec-websocket-accept`.
+ghost use Rattle.std.specs.Prelude.{◌≡◌, ◌++◌, IfOk, codes};
+ghost use Rattle.http_header.specs.FieldValue.{plain_value};
+ghost use Rattle.sha1.specs.Sha1.{sha1};
+ghost use Rattle.headers_base64.specs.Base64.{base64};
+
+use crate::sec_websocket_key::SecWebsocketKey;
+use headers_base64::base64_value;
+use headers_core::{FormHeader, Header};
+use http_header::{HeaderName, HeaderValue, SEC_WEBSOCKET_ACCEPT};
+use sha1::Sha1;
+use std::alloc::{AllocError, Global};
+use std::marker::Model;
+
+/// The proof that a server took a client's handshake: the first line, whatever it is, as it came
+/// (RFC 6455, section 11.3.3). Equality and hash go by the bytes.
+#[derive(Debug, Drop, PartialEq, Eq, Hash)]
+pub struct SecWebsocketAccept {
+    value: HeaderValue,
+}
+
+impl Model for SecWebsocketAccept {
+    ghost use Rattle.http_header.specs.FieldValue.{FieldValue, field_value_code};
+
+    ghost Value = { FieldValue };
+
+    ghost coded = { field_value_code };
+
+    ghost view = { λ header. header.value };
+
+    ghost inverse = { λ value. record { value = value } };
+}
+
+impl SecWebsocketAccept {
+    /// What a server answers to a key: the base64 of the SHA-1 digest of the key's bytes, as they
+    /// are, and the protocol's GUID (RFC 6455, section 4.2.2).
+    pub fn from_key(alloc: Global, key: &SecWebsocketKey) -> Result<SecWebsocketAccept, AllocError>
+        ensures { IfOk result (λ accept. accept ≡ plain_value
+            (base64 (sha1 (key.now.bytes ++ codes "258EAFA5-E914-47DA-95CA-C5AB0DC85B11")))) }
+    {
+        let mut hasher = Sha1::new();
+        hasher.update(key.as_form().as_bytes());
+        hasher.update(b"258EAFA5-E914-47DA-95CA-C5AB0DC85B11");
+        Ok(SecWebsocketAccept {
+            value: base64_value(alloc, "", &hasher.finalize())?,
+        })
+    }
+
+    /// The same value, also as to whether it is kept out of logs.
+    pub fn clone(&self, _alloc: Global) -> Result<SecWebsocketAccept, AllocError>
+        ensures { IfOk result (λ copy. copy ≡ self.now) }
+    {
+        Ok(SecWebsocketAccept {
+            value: self.value.clone()?,
+        })
+    }
+}
+
+impl FormHeader for SecWebsocketAccept {
+    ghost use Rattle.std.specs.Prelude.{codes};
+
+    type Form = HeaderValue;
+
+    ghost NAME = { codes "sec-websocket-accept" };
+
+    const NAME: HeaderName = SEC_WEBSOCKET_ACCEPT;
+
+    ghost form = { λ header. header };
+
+    fn from_form(value: HeaderValue) -> SecWebsocketAccept {
+        SecWebsocketAccept { value }
+    }
+
+    fn as_form(&self) -> &HeaderValue {
+        &self.value
+    }
+}
+
+/// What is written of any value is read back as it.
+pub fn sec_websocket_accept_is_read_back()
+    ensures { (accept : SecWebsocketAccept)
+        → ⟦<SecWebsocketAccept as Header>⟧.reads (⟦<SecWebsocketAccept as Header>⟧.writes accept) accept }
+{}

@@ -1,0 +1,74 @@
+//! The header `sec-websocket-key`.
+ghost use Rattle.std.specs.Prelude.{◌≡◌, true, IfOk};
+ghost use Rattle.headers_base64.specs.Base64.{base64};
+
+use headers_base64::base64_value;
+use headers_core::{FormHeader, Header};
+use http_header::{HeaderName, HeaderValue, SEC_WEBSOCKET_KEY};
+use std::alloc::{AllocError, Global};
+use std::marker::Model;
+
+/// The nonce of a client's handshake: the first line, whatever it is, as it came (RFC 6455, section
+/// 11.3.1). Equality and hash go by the bytes.
+#[derive(Debug, Drop, PartialEq, Eq, Hash)]
+pub struct SecWebsocketKey {
+    value: HeaderValue,
+}
+
+impl Model for SecWebsocketKey {
+    ghost use Rattle.http_header.specs.FieldValue.{FieldValue, field_value_code};
+
+    ghost Value = { FieldValue };
+
+    ghost coded = { field_value_code };
+
+    ghost view = { λ header. header.value };
+
+    ghost inverse = { λ value. record { value = value } };
+}
+
+impl SecWebsocketKey {
+    /// The base64 of sixteen bytes, kept out of logs.
+    pub fn from_bytes16(alloc: Global, bytes: [u8; 16]) -> Result<SecWebsocketKey, AllocError>
+        ensures { IfOk result (λ key. key ≡ record { bytes = base64 bytes; is_sensitive = true }) }
+    {
+        let mut value = base64_value(alloc, "", &bytes)?;
+        value.set_sensitive(true);
+        Ok(SecWebsocketKey { value })
+    }
+
+    /// The same value, also as to whether it is kept out of logs.
+    pub fn clone(&self, _alloc: Global) -> Result<SecWebsocketKey, AllocError>
+        ensures { IfOk result (λ copy. copy ≡ self.now) }
+    {
+        Ok(SecWebsocketKey {
+            value: self.value.clone()?,
+        })
+    }
+}
+
+impl FormHeader for SecWebsocketKey {
+    ghost use Rattle.std.specs.Prelude.{codes};
+
+    type Form = HeaderValue;
+
+    ghost NAME = { codes "sec-websocket-key" };
+
+    const NAME: HeaderName = SEC_WEBSOCKET_KEY;
+
+    ghost form = { λ header. header };
+
+    fn from_form(value: HeaderValue) -> SecWebsocketKey {
+        SecWebsocketKey { value }
+    }
+
+    fn as_form(&self) -> &HeaderValue {
+        &self.value
+    }
+}
+
+/// What is written of any value is read back as it.
+pub fn sec_websocket_key_is_read_back()
+    ensures { (key : SecWebsocketKey)
+        → ⟦<SecWebsocketKey as Header>⟧.reads (⟦<SecWebsocketKey as Header>⟧.writes key) key }
+{}
