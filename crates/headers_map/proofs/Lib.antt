@@ -1,0 +1,4 @@
+pub mod InsertLemmas
+pub mod LastReadLemmas
+pub mod StepLemmas
+pub mod TypedLemmas

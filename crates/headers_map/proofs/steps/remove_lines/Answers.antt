@@ -1,0 +1,10 @@
+use Rattle.std.proofs.Common.{ap, ◌∙◌}
+use Rattle.http_header.specs.FieldValue.{FieldValue}
+use Rattle.http_header.specs.HeaderMap.{Entries, get_all}
+use Rattle.http_header.proofs.HeaderMapLemmas.{get_all-remove_other}
+use Rattle.headers_map.proofs.steps.remove_lines.Goals as goal
+
+pub returns-clause-others : goal.returns-clause-others
+returns-clause-others c = λ other apart.
+    ap (λ (m : Entries FieldValue). get_all m other) c.remove-first.ensures.after
+    ∙ get_all-remove_other c.args.map.now c.args.name.now other c.keys_len-names.ensures.valid.unique apart

@@ -1,0 +1,50 @@
+-- What a typed read answers after steps, by the last step that touched its name.
+use Rattle.std.specs.Prelude.{◌≡◌, ℕ, List, ⊤, Option, Some, None, Result, Ok, Err}
+use Rattle.headers_syntax.specs.Lines.{Line, lines_of}
+use Rattle.headers_syntax.specs.declared.error.Refused.{Refused}
+use Rattle.headers_syntax.specs.declared.error.Refused.TheVariants.{Invalid, Memory}
+use Rattle.headers_map.specs.Typed.{IsTypedRead}
+use Rattle.headers_map.specs.Canonical.{IsCanonicalRead}
+use Rattle.headers_map.specs.declared.encoded.Encoded.{Encoded}
+use Rattle.headers_map.specs.declared.steps.Step.{Step}
+use Rattle.headers_map.specs.declared.steps.Step.TheVariants.{Put, Remove}
+
+module _ {V : Type 0} (reads : List Line → V → Type 0) (writes : V → List Line) where
+  -- the lines are what is written of a value that was read
+  pub record IsEncodingOf (lines : List Line) (v : V) : Type 0 where
+    pub from : List Line
+    pub was_read : reads from v
+    pub written : lines ≡ writes v
+
+-- the read gave the same value, unless the allocator had no memory
+abbrev pub GivesSame : {V E : Type 0} → (V → V → Type 0) → V → Result (Option V) (Refused E) → Type 0
+GivesSame same v (Ok None) = ⊥
+GivesSame same v (Ok (Some w)) = same v w
+GivesSame same v (Err (Invalid e)) = ⊥
+GivesSame same v (Err (Memory e)) = ⊤
+
+-- the encoding has these lines, unless the allocator had no memory
+abbrev pub GivesLines : {E : Type 0} → List Line → Result (Option Encoded) (Refused E) → Type 0
+GivesLines lines (Ok None) = ⊥
+GivesLines lines (Ok (Some e)) = lines_of e.lines.items ≡ lines
+GivesLines lines (Err (Invalid e)) = ⊥
+GivesLines lines (Err (Memory e)) = ⊤
+
+module _ {V E : Type 0} (same : V → V → Type 0) (reads : List Line → V → Type 0) (writes : V → List Line) where
+  -- A `Put` is read, and its value is given where its lines are an encoding. After a `Remove` there is no line.
+  -- The lines that stood there before are read where no step touched the name.
+  abbrev pub IsLastRead : List Line → Option Step → Result (Option V) (Refused E) → Type 0
+  IsLastRead before None read = IsTypedRead reads before read
+  IsLastRead before (Some (Put e)) read =
+      IsTypedRead reads (lines_of e.lines.items) read
+      × ((v : V) → IsEncodingOf reads writes (lines_of e.lines.items) v → GivesSame same v read)
+  IsLastRead before (Some (Remove name)) read = read ≡ Ok None
+
+module _ {V E : Type 0} (name : List ℕ) (reads : List Line → V → Type 0) (writes : V → List Line) where
+  -- the same of `canonical`: an encoding comes back as it was put
+  abbrev pub IsLastCanonical : List Line → Option Step → Result (Option Encoded) (Refused E) → Type 0
+  IsLastCanonical before None read = IsCanonicalRead name reads writes before read
+  IsLastCanonical before (Some (Put e)) read =
+      IsCanonicalRead name reads writes (lines_of e.lines.items) read
+      × ((v : V) → IsEncodingOf reads writes (lines_of e.lines.items) v → GivesLines (lines_of e.lines.items) read)
+  IsLastCanonical before (Some (Remove other)) read = read ≡ Ok None

@@ -1,0 +1,5 @@
+pub mod Canonical
+pub mod InsertErrors
+pub mod LastRead
+pub mod LineMap
+pub mod Typed

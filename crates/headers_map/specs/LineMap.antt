@@ -1,0 +1,54 @@
+-- A map gives each name a list of lines, and steps change it.
+use Rattle.std.specs.Prelude.{ℕ, Bool, ◌&&◌, List, [], ◌∷◌, length, reverse, Option, if◌then◌else◌, bytes_eq}
+use Rattle.std.specs.Prelude.{nat_lt, find}
+use Rattle.std.specs.Option.{option_map_or}
+use Rattle.http_header.specs.FieldValue.{FieldValue}
+use Rattle.http_header.specs.HeaderMap.{Entries, get_all}
+use Rattle.headers_syntax.specs.Lines.{Line, lines_of}
+use Rattle.headers_map.specs.declared.steps.Step.{Step}
+use Rattle.headers_map.specs.declared.steps.Step.TheVariants.{Put, Remove}
+
+-- the lines under each name
+abbrev pub LineMap : Type 0
+LineMap = List ℕ → List Line
+
+-- the lines that a header map has under each name
+abbrev pub lines_at : Entries FieldValue → LineMap
+lines_at m name = lines_of (get_all m name)
+
+-- the map with the lines at the name, or the map itself where there is no line
+abbrev pub put : LineMap → List ℕ → List Line → LineMap
+put m name [] other = m other
+put m name (line ∷ lines) other = if bytes_eq name other then line ∷ lines else m other
+
+-- the map without lines at the name
+abbrev pub remove : LineMap → List ℕ → LineMap
+remove m name other = if bytes_eq name other then [] else m other
+
+-- the map after one step
+abbrev pub after_step : LineMap → Step → LineMap
+after_step m (Put e) = put m e.name (lines_of e.lines.items)
+after_step m (Remove name) = remove m name
+
+-- the map after the steps in order
+abbrev pub run : LineMap → List Step → LineMap
+run m [] = m
+run m (step ∷ steps) = run (after_step m step) steps
+
+-- the step is a `Remove` of the name, or a `Put` under it of one line at least
+abbrev pub touches : List ℕ → Step → Bool
+touches name (Put e) = bytes_eq e.name name && nat_lt 0 (length e.lines.items)
+touches name (Remove other) = bytes_eq other name
+
+-- the last step that touches the name, if one does
+abbrev pub last_step : List Step → List ℕ → Option Step
+last_step steps name = find (touches name) (reverse steps)
+
+-- the lines that a step leaves at a name that it touches
+abbrev pub lines_left : Step → List Line
+lines_left (Put e) = lines_of e.lines.items
+lines_left (Remove name) = []
+
+-- what the last step that touches the name left there, or what the map has there, where none does
+abbrev pub last : LineMap → List Step → LineMap
+last m steps name = option_map_or lines_left (last_step steps name) (m name)

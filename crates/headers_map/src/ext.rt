@@ -1,0 +1,78 @@
+//! Typed reads and inserts as methods of a header map.
+ghost use Rattle.std.specs.Prelude.{◌≡◌, ◌≢◌, ℕ, List, IsTrue, OnOk, IfErr, IfSome, IfNone};
+ghost use Rattle.http_header.specs.FieldValue.{FieldValue};
+ghost use Rattle.http_header.specs.HeaderMap.{Entries, get_all};
+ghost use Rattle.headers_syntax.specs.Refusal.{NeverMemory};
+ghost use Rattle.headers_map.specs.LineMap.{lines_at, put};
+ghost use Rattle.headers_map.specs.InsertErrors.{IsRefusedPut};
+ghost use Rattle.headers_map.specs.Typed.{HasLine, IsTypedRead, ReadsNothing};
+
+use crate::encoded::{Encoded, encoding};
+use crate::insert::{InsertError, put_lines};
+use headers_core::{Error, Header, Refused};
+use http_header::HeaderMap;
+use std::alloc::Global;
+
+mod sealed {
+    pub trait Sealed {}
+
+    impl Sealed for http_header::HeaderMap {}
+}
+
+/// Typed reads and inserts of a header map.
+pub trait HeaderMapExt: sealed::Sealed {
+    // The names of the map, each with its values.
+    ghost entries: { Self → Entries FieldValue };
+
+    /// Puts the lines that are written of the header in place of all lines under its name. No line
+    /// leaves the map as it was. If the call is refused, the name has its old lines or a beginning of
+    /// the new ones; other names are never changed.
+    fn typed_insert<H: Header>(&mut self, alloc: Global, header: H) -> Result<(), InsertError>
+        ensures ok { OnOk result ((name : List ℕ) → lines_at (entries self.new) name
+            ≡ put (lines_at (entries self.old)) H.field_name (H.writes header) name) }
+        ensures others { (name : List ℕ) → H.field_name ≢ name
+            → get_all (entries self.new) name ≡ get_all (entries self.old) name }
+        ensures err { IfErr result
+            (IsRefusedPut (entries self.old) (entries self.new) H.field_name (H.writes header)) };
+
+    /// The value that the lines under the header's name read, or `None`: if there is no line, if the
+    /// lines read nothing, or if the allocator had no memory. `typed_try_get` tells these apart.
+    fn typed_get<H: Header>(&self, alloc: Global) -> Option<H>
+        ensures some { IfSome result (λ value. HasLine (lines_at (entries self.now) H.field_name)
+            × H.reads (lines_at (entries self.now) H.field_name) value) }
+        ensures none { IsTrue H.free → IfNone result
+            (ReadsNothing H.reads (lines_at (entries self.now) H.field_name)) };
+
+    /// The value that the lines under the header's name read. `Ok(None)` is that there is no line, and
+    /// `Invalid` that the lines read nothing.
+    fn typed_try_get<H: Header>(&self, alloc: Global) -> Result<Option<H>, Refused<Error>>
+        ensures value { IsTypedRead H.reads (lines_at (entries self.now) H.field_name) result }
+        ensures memory { IsTrue H.free → NeverMemory result };
+}
+
+impl HeaderMapExt for HeaderMap {
+    ghost entries = { λ map. map };
+
+    fn typed_insert<H: Header>(&mut self, alloc: Global, header: H) -> Result<(), InsertError> {
+        let Encoded { name, lines } = encoding(alloc, &header)?;
+        put_lines(self, &name, lines)
+    }
+
+    fn typed_get<H: Header>(&self, alloc: Global) -> Option<H> {
+        match self.typed_try_get(alloc) {
+            Ok(value) => value,
+            Err(_) => None,
+        }
+    }
+
+    fn typed_try_get<H: Header>(&self, alloc: Global) -> Result<Option<H>, Refused<Error>> {
+        let all = self.get_all(H::name());
+        if all.iter().next().is_none() {
+            return Ok(None);
+        }
+        match H::decode(alloc, &mut all.iter()) {
+            Ok(value) => Ok(Some(value)),
+            Err(refused) => Err(refused),
+        }
+    }
+}

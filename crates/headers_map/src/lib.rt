@@ -1,0 +1,17 @@
+//! Typed reads and inserts over a header map, and lists of steps that change one.
+#![tactic(auto)]
+
+mod encoded;
+mod ext;
+mod insert;
+mod laws;
+mod steps;
+
+pub use crate::encoded::{Encoded, canonical, encoding};
+pub use crate::ext::HeaderMapExt;
+pub use crate::insert::InsertError;
+pub use crate::laws::{reads_the_inserted, reads_the_last_put};
+pub use crate::steps::{ApplyError, Step, apply};
+
+#[cfg(test)]
+mod tests;
