@@ -1,0 +1,1 @@
+pub use Rattle.headers_syntax.proofs.TextLemmas

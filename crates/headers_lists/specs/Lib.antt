@@ -1,0 +1,11 @@
+pub use Rattle.headers_caching.specs.CacheControl
+pub use Rattle.headers_caching.specs.CacheControlGrammar
+pub use Rattle.headers_conditional.specs.EntityTagRange
+pub use Rattle.headers_conditional.specs.IfMatch
+pub use Rattle.headers_conditional.specs.IfNoneMatch
+pub use Rattle.headers_connection.specs.Chunked
+pub use Rattle.headers_connection.specs.Connection
+pub use Rattle.headers_names.specs.ListItem
+pub use Rattle.headers_security.specs.ReferrerPolicy
+pub use Rattle.headers_security.specs.StrictTransportSecurity
+pub use Rattle.headers_security.specs.StrictTransportSecurityGrammar
