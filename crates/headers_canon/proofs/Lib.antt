@@ -1,0 +1,6 @@
+pub mod BlockLemmas
+pub mod FieldLemmas
+pub mod NameLemmas
+pub mod RoomLemmas
+pub mod RunLemmas
+pub mod SectionLemmas

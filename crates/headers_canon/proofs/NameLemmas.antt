@@ -1,0 +1,200 @@
+-- Names at their first appearance, and the values under them, in a map to which the fields were appended.
+use Rattle.std.proofs.Common.{◌≡◌, ℕ, ◌+◌, ◌<◌, ◌||◌, Bool, true, false, not, List, [], ◌∷◌, ◌++◌, length, take, drop, map, filter, get_or, bytes_eq, if◌then◌else◌, All, Contains, IsTrue, refl, sym, ◌∙◌, ap, subst, inl, inr, arith}
+use Rattle.std.specs.List.{list_any}
+use Rattle.std.proofs.lemmas.Bool.{cases_Bool}
+use Rattle.std.proofs.lemmas.List.{append-nil, append_assoc, map-append, take_more, take-append-drop, drop_more}
+use Rattle.std.proofs.lemmas.List.Elements.{filter-append, All-nil, All-cons, All-filter, All-weaker}
+use Rattle.std.proofs.lemmas.List.Folds.{list_any_at, Any-from_list_any}
+use Rattle.std.proofs.lemmas.Slice.Eq.{bytes_eq-Decides}
+use Rattle.http_header.specs.FieldValue.{FieldValue}
+use Rattle.http_header.specs.HeaderMap.{Entries, keys, get_all, append, append_all, RefusesAppend}
+use Rattle.http_header.specs.declared.map.HeaderMapError.{HeaderMapError}
+use Rattle.http_header.specs.declared.map.HeaderMapError.TheVariants.{MaxSizeReached, OutOfMemory}
+use Rattle.http_header.proofs.HeaderMapLemmas.{get_all-append_same, get_all-append_other}
+use Rattle.headers.specs.Lines.{Line, lines_of}
+use Rattle.headers_canon.specs.declared.status.RunError.TheVariants.{Room, Io}
+use Rattle.headers_canon.specs.MapErrors.{run_error_of}
+use Rattle.headers_canon.specs.Section.{Field, FillsMap}
+use Rattle.headers_canon.specs.CanonicalText.{names, lines_under, first_appearances}
+
+-- the list has the name
+abbrev pub has : List ℕ → List (List ℕ) → Bool
+has name list = list_any (λ other. bytes_eq other name) list
+
+-- the list with the name at its end, if it is new
+abbrev pub with_name : List (List ℕ) → List ℕ → List (List ℕ)
+with_name list name = if has name list then list else list ++ name ∷ []
+
+-- append to a map
+pub keys-append : (m : Entries FieldValue) (name : List ℕ) (value : FieldValue) → keys (append m name value) ≡ with_name (keys m) name
+keys-append [] name value = refl
+keys-append (e ∷ m) name value =
+    elim (cases_Bool (bytes_eq e.0 name)) [
+      | inl t ↦ rw t refl
+      | inr f ↦
+          elim (cases_Bool (has name (keys m))) [
+            | inl old ↦
+                let rest : keys (append m name value) ≡ keys m = keys-append m name value ∙ (rw old refl) in
+                rw (f, old) (ap (λ (ks : List (List ℕ)). e.0 ∷ ks) rest)
+            | inr new ↦
+                let rest : keys (append m name value) ≡ keys m ++ name ∷ [] = keys-append m name value ∙ (rw new refl) in
+                rw (f, new) (ap (λ (ks : List (List ℕ)). e.0 ∷ ks) rest)
+          ]
+    ]
+
+apart-sym : (a b : List ℕ) → bytes_eq a b ≡ false → bytes_eq b a ≡ false
+apart-sym a b h =
+    elim (cases_Bool (bytes_eq b a)) [
+      | inl t ↦ let same = (bytes_eq-Decides a b).1 (sym ((bytes_eq-Decides b a).0 t)) in absurd (cc (same, h))
+      | inr f ↦ f
+    ]
+
+-- a name that is not the one left out
+has-filter : (name left_out : List ℕ) (list : List (List ℕ)) → bytes_eq left_out name ≡ false
+    → has name (filter (λ other. not (bytes_eq other left_out)) list) ≡ has name list
+has-filter name left_out [] apart = refl
+has-filter name left_out (x ∷ list) apart =
+    elim (cases_Bool (bytes_eq x left_out)) [
+      | inl t ↦
+          let same : x ≡ left_out = (bytes_eq-Decides x left_out).0 t in
+          let other : bytes_eq x name ≡ false = rw same apart in
+          rw (t, other) (has-filter name left_out list apart)
+      | inr f ↦ rw f (ap (λ (b : Bool). bytes_eq x name || b) (has-filter name left_out list apart))
+    ]
+
+-- one more name
+pub first_appearances-push : (list : List (List ℕ)) (name : List ℕ) → first_appearances (list ++ name ∷ []) ≡ with_name (first_appearances list) name
+first_appearances-push [] name = refl
+first_appearances-push (x ∷ list) name =
+    let P : List ℕ → Bool = λ other. not (bytes_eq other x) in
+    let rest : first_appearances (list ++ name ∷ []) ≡ with_name (first_appearances list) name = first_appearances-push list name in
+    elim (cases_Bool (has name (first_appearances list))) [
+      | inl old ↦
+          let same : first_appearances (list ++ name ∷ []) ≡ first_appearances list = rest ∙ rw old refl in
+          elim (cases_Bool (bytes_eq x name)) [
+            | inl t ↦ rw (same, t) refl
+            | inr f ↦ let kept = has-filter name x (first_appearances list) f in rw (same, f, kept, old) refl
+          ]
+      | inr new ↦
+          let more : first_appearances (list ++ name ∷ []) ≡ first_appearances list ++ name ∷ [] = rest ∙ rw new refl in
+          let cut : filter P (first_appearances (list ++ name ∷ [])) ≡ filter P (first_appearances list) ++ filter P (name ∷ []) = ap (filter P) more ∙ filter-append P (first_appearances list) (name ∷ []) in
+          elim (cases_Bool (bytes_eq x name)) [
+            | inl t ↦
+                let gone : filter P (name ∷ []) ≡ [] = let s : bytes_eq name x ≡ true = (bytes_eq-Decides name x).1 (sym ((bytes_eq-Decides x name).0 t)) in rw s refl in
+                rw t (ap (λ (ns : List (List ℕ)). x ∷ ns) (cut ∙ ap (λ (ns : List (List ℕ)). filter P (first_appearances list) ++ ns) gone ∙ append-nil _))
+            | inr f ↦
+                let kept = has-filter name x (first_appearances list) f in
+                let stays : filter P (name ∷ []) ≡ name ∷ [] = let s : bytes_eq name x ≡ false = apart-sym x name f in rw s refl in
+                rw (f, kept, new) (ap (λ (ns : List (List ℕ)). x ∷ ns) (cut ∙ ap (λ (ns : List (List ℕ)). filter P (first_appearances list) ++ ns) stays))
+          ]
+    ]
+
+has-from_Contains : (name : List ℕ) (list : List (List ℕ)) → Contains list name → has name list ≡ true
+has-from_Contains name list h =
+    list_any_at (λ other. bytes_eq other name) list h.0 name h.1 ((bytes_eq-Decides _ name).1 h.2)
+
+Contains-from_has : (name : List ℕ) (list : List (List ℕ)) → has name list ≡ true → Contains list name
+Contains-from_has name list h =
+    let any = Any-from_list_any (λ other. bytes_eq other name) list h in
+    subst (λ (n : List ℕ). Contains list n) ((bytes_eq-Decides any.1 name).0 any.4) (any.0, any.2, any.3)
+
+-- a name that was found, and one that was not
+pub with_name-found : (found : Bool) (name : List ℕ) (list : List (List ℕ)) → (IsTrue found → Contains list name) → found ≡ true → with_name list name ≡ list
+with_name-found found name list h t = let old = has-from_Contains name list (h t) in rw old refl
+
+pub with_name-new : (found : Bool) (name : List ℕ) (list : List (List ℕ)) → (Contains list name → IsTrue found) → found ≡ false
+    → with_name list name ≡ list ++ name ∷ []
+with_name-new found name list h f =
+    elim (cases_Bool (has name list)) [
+      | inl old ↦ let t = h (Contains-from_has name list old) in absurd (cc (t, f))
+      | inr new ↦ rw new refl
+    ]
+
+pub append_all-push : (m : Entries FieldValue) (fields : List Field) (field : Field) → append_all m (fields ++ field ∷ []) ≡ append (append_all m fields) field.0 field.1
+append_all-push m [] field = refl
+append_all-push m (f ∷ fields) field = append_all-push (append m f.0 f.1) fields field
+
+-- the first fields, up to one at a place
+pub fields_more : (fields : List Field) (i : ℕ) (field : Field) → i < length fields → field ≡ get_or fields i field → take (i + 1) fields ≡ take i fields ++ field ∷ []
+fields_more fields i field within at = take_more fields i field within ∙ ap (λ (f : Field). take i fields ++ f ∷ []) (sym at)
+
+pub names_more : (fields : List Field) (i : ℕ) (field : Field) → i < length fields → field ≡ get_or fields i field
+    → first_appearances (names (take (i + 1) fields)) ≡ with_name (first_appearances (names (take i fields))) field.0
+names_more fields i field within at =
+    ap (λ (fs : List Field). first_appearances (names fs)) (fields_more fields i field within at)
+    ∙ ap first_appearances (map-append (λ (f : Field). f.0) (take i fields) (field ∷ []))
+    ∙ first_appearances-push (names (take i fields)) field.0
+
+-- what a map holds under a name
+pub get_all-append_all : (m : Entries FieldValue) (fields : List Field) (name : List ℕ)
+    → get_all (append_all m fields) name ≡ get_all m name ++ map (λ field. field.1) (filter (λ field. bytes_eq field.0 name) fields)
+get_all-append_all m [] name = sym (append-nil (get_all m name))
+get_all-append_all m (f ∷ fields) name =
+    let rest = get_all-append_all (append m f.0 f.1) fields name in
+    elim (cases_Bool (bytes_eq f.0 name)) [
+      | inl t ↦
+          let same : f.0 ≡ name = (bytes_eq-Decides f.0 name).0 t in
+          let own : get_all (append m f.0 f.1) name ≡ get_all m name ++ f.1 ∷ [] =
+          subst (λ (n : List ℕ). get_all (append m f.0 f.1) n ≡ get_all m n ++ f.1 ∷ []) same (get_all-append_same m f.0 f.1) in
+          rw t (rest ∙ ap (λ (vs : List FieldValue). vs ++ map (λ field. field.1) (filter (λ field. bytes_eq field.0 name) fields)) own ∙ append_assoc (get_all m name) (f.1 ∷ []) _)
+      | inr n ↦
+          let other : get_all (append m f.0 f.1) name ≡ get_all m name = get_all-append_other m f.0 name f.1 (λ e. let t = (bytes_eq-Decides f.0 name).1 e in absurd (cc (t, n))) in
+          rw n (rest ∙ ap (λ (vs : List FieldValue). vs ++ map (λ field. field.1) (filter (λ field. bytes_eq field.0 name) fields)) other)
+    ]
+
+map-bytes : (fields : List Field) → lines_of (map (λ field. field.1) fields) ≡ map (λ field. field.1.bytes) fields
+map-bytes [] = refl
+map-bytes (f ∷ fields) = ap (λ (ls : List Line). f.1.bytes ∷ ls) (map-bytes fields)
+
+-- the lines under a name of the map that holds the fields
+pub lines_held : (fields : List Field) (name : List ℕ) → lines_of (get_all (append_all [] fields) name) ≡ lines_under fields name
+lines_held fields name =
+    ap lines_of (get_all-append_all [] fields name) ∙ map-bytes (filter (λ field. bytes_eq field.0 name) fields)
+
+has_line : (fields : List Field) (name : List ℕ) → has name (names fields) ≡ true → 0 < length (get_all (append_all [] fields) name)
+has_line fields name h = subst (λ (vs : List FieldValue). 0 < length vs) (sym (get_all-append_all [] fields name)) (by fields h)
+  where
+    by : (fields : List Field) → has name (names fields) ≡ true → 0 < length (map (λ field. field.1) (filter (λ field. bytes_eq field.0 name) fields))
+    by [] e = absurd (cc e)
+    by (f ∷ fields) e =
+        elim (cases_Bool (bytes_eq f.0 name)) [
+          | inl t ↦ rw t (omega arith)
+          | inr n ↦ rw n (by fields (rw n at e))
+        ]
+
+first_has : (list : List (List ℕ)) → All (λ name. has name list ≡ true) (first_appearances list)
+first_has [] = All-nil _
+first_has (x ∷ list) =
+    All-cons (λ name. has name (x ∷ list) ≡ true) x _ (let same = (bytes_eq-Decides x x).1 refl in rw same refl)
+    (All-filter (λ other. not (bytes_eq other x)) (λ name. has name (x ∷ list) ≡ true) (first_appearances list)
+    (All-weaker (λ name. has name list ≡ true) (λ name. has name (x ∷ list) ≡ true) (λ name h. more (bytes_eq x name) (has name list) h) (first_appearances list) (first_has list)))
+  where
+    more : (a b : Bool) → b ≡ true → (a || b) ≡ true
+    more true b h = refl
+    more false b h = h
+
+-- each name has a line in the map that holds the fields
+pub names_filled : (fields : List Field) → All (λ name. 0 < length (get_all (append_all [] fields) name)) (first_appearances (names fields))
+names_filled fields = All-weaker (λ name. has name (names fields) ≡ true) _ (has_line fields) (first_appearances (names fields)) (first_has (names fields))
+
+-- a map that refuses the field after those that it holds
+pub FillsMap-from_refusal : (fields : List Field) (i : ℕ) (field : Field) (m : Entries FieldValue) → i < length fields → field ≡ get_or fields i field
+    → m ≡ append_all [] (take i fields) → RefusesAppend m field.0 → FillsMap fields
+FillsMap-from_refusal fields i field m within at held full =
+    record {
+      first = take i fields;
+      next = field;
+      later = drop (i + 1) fields;
+      split =
+          sym (take-append-drop i fields) ∙ ap (λ (fs : List Field). take i fields ++ fs) (drop_more fields i field within)
+          ∙ ap (λ (f : Field). take i fields ++ f ∷ drop (i + 1) fields) (sym at);
+      full = subst (λ (n : Entries FieldValue). RefusesAppend n field.0) held full;
+    }
+
+pub full_from_room : (e : HeaderMapError) → run_error_of e ≡ Room → e ≡ MaxSizeReached
+full_from_room MaxSizeReached h = refl
+full_from_room OutOfMemory h = absurd (cc h)
+
+pub never_io : (e : HeaderMapError) → run_error_of e ≡ Io → ⊥
+never_io MaxSizeReached h = cc h
+never_io OutOfMemory h = cc h

@@ -1,0 +1,81 @@
+-- Fields for which a map has room.
+use Rattle.std.proofs.Common.{◌≡◌, ℕ, ◌+◌, ◌<◌, true, List, [], ◌∷◌, ◌++◌, length, take, get_or, IsTrue, ◌⊎◌, ⊎_elim, inl, inr, refl, sym, ◌∙◌, ap, subst}
+use Rattle.std.proofs.lemmas.List.Elements.{All-head, All-tail}
+use Rattle.http_header.specs.Token.{AllPass, is_token_byte, lowercase}
+use Rattle.http_header.specs.FieldValue.{FieldValue, plain_value}
+use Rattle.http_header.specs.HeaderMap.{Entries, append_all, RefusesAppend}
+use Rattle.headers.specs.Lines.{Line}
+use Rattle.headers.specs.Text.{trim}
+use Rattle.headers_canon.specs.Section.{Field, IsField, AreFields, FillsMap}
+use Rattle.headers_canon.proofs.FieldLemmas.{colon_is_no_token}
+use Rattle.headers_canon.proofs.NameLemmas.{fields_more}
+
+-- an item in the middle of a list leaves it not empty
+not_empty : {A : Type 0} (first : List A) (next : A) (later : List A) → ¬ ([] ≡ first ++ next ∷ later)
+not_empty [] next later e = absurd (cc e)
+not_empty (x ∷ first) next later e = absurd (cc e)
+
+-- an item of a list is its last, or an item of what stands before that
+last_or_before : {A : Type 0} (xs : List A) (last : A) (first : List A) (next : A) (later : List A) → xs ++ last ∷ [] ≡ first ++ next ∷ later
+    → ((xs ≡ first) × (last ≡ next)) ⊎ ((rest : List A) × (xs ≡ first ++ next ∷ rest))
+last_or_before [] last [] next later e = inl (refl, cc e)
+last_or_before [] last (y ∷ first) next later e =
+    let none : [] ≡ first ++ next ∷ later = cc e in absurd (not_empty first next later none)
+last_or_before (x ∷ xs) last [] next later e =
+    let same : x ≡ next = cc e in inr (xs, ap (λ y. y ∷ xs) same)
+last_or_before (x ∷ xs) last (y ∷ first) next later e =
+    let same : x ≡ y = cc e in
+    let rest : xs ++ last ∷ [] ≡ first ++ next ∷ later = cc e in
+    ⊎_elim
+    (λ h. inl (ap (λ z. z ∷ xs) same ∙ ap (λ zs. y ∷ zs) h.0, h.1))
+    (λ h. inr (h.0, ap (λ z. z ∷ xs) same ∙ ap (λ zs. y ∷ zs) h.1))
+    (last_or_before xs last first next later rest)
+
+pub fits_none : (fields : List Field) → ¬ (FillsMap (take 0 fields))
+fits_none fields fills = not_empty fills.first fills.next fills.later fills.split
+
+-- a field more, which the map took
+pub fits_more : (fields : List Field) (i : ℕ) (field : Field) (m : Entries FieldValue) → i < length fields → field ≡ get_or fields i field
+    → m ≡ append_all [] (take i fields) → ¬ (RefusesAppend m field.0) → ¬ (FillsMap (take i fields)) → ¬ (FillsMap (take (i + 1) fields))
+fits_more fields i field m within at held room fits fills =
+    ⊎_elim
+    (λ h.
+    let full : RefusesAppend (append_all [] (take i fields)) field.0 =
+    subst (λ (f : Field). RefusesAppend (append_all [] (take i fields)) f.0) (sym h.1)
+    (subst (λ (fs : List Field). RefusesAppend (append_all [] fs) fills.next.0) (sym h.0) fills.full) in
+    room (subst (λ (n : Entries FieldValue). RefusesAppend n field.0) (sym held) full))
+    (λ h. fits (record { first = fills.first; next = fills.next; later = h.0; split = h.1; full = fills.full }))
+    (last_or_before (take i fields) field fills.first fills.next fills.later (sym (fields_more fields i field within at) ∙ fills.split))
+
+-- no name holds a colon
+no_colon : (b : ℕ) → is_token_byte b ≡ true → ¬ (b ≡ 58)
+no_colon b token e = let here : is_token_byte 58 ≡ true = rw e at token in absurd (cc (here, colon_is_no_token))
+
+-- so the first colon of a line parts it in one way
+colon_once : (a b r s : List ℕ) → AllPass is_token_byte a → AllPass is_token_byte b → a ++ 58 ∷ r ≡ b ++ 58 ∷ s → (a ≡ b) × (r ≡ s)
+colon_once [] [] r s h k e = (refl, cc e)
+colon_once [] (y ∷ b) r s h k e =
+    let same : y ≡ 58 = cc e in absurd (no_colon y (All-head (λ (x : ℕ). IsTrue (is_token_byte x)) y b k) same)
+colon_once (x ∷ a) [] r s h k e =
+    let same : x ≡ 58 = cc e in absurd (no_colon x (All-head (λ (y : ℕ). IsTrue (is_token_byte y)) x a h) same)
+colon_once (x ∷ a) (y ∷ b) r s h k e =
+    let same : x ≡ y = cc e in
+    let rest : a ++ 58 ∷ r ≡ b ++ 58 ∷ s = cc e in
+    let more = colon_once a b r s (All-tail (λ (z : ℕ). IsTrue (is_token_byte z)) x a h) (All-tail (λ (z : ℕ). IsTrue (is_token_byte z)) y b k) rest in
+    (ap (λ (z : ℕ). z ∷ a) same ∙ ap (λ (zs : List ℕ). y ∷ zs) more.0, more.1)
+
+-- a line is one field at most
+IsField-once : (line : Line) (f g : Field) → IsField line f → IsField line g → f ≡ g
+IsField-once line f g p q =
+    let both = colon_once p.name q.name p.rest q.rest p.valid_name.0.1 q.valid_name.0.1 (sym p.line_is ∙ q.line_is) in
+    let field : List ℕ → List ℕ → Field = λ name rest. (lowercase name, plain_value (trim rest)) in
+    p.field_is ∙ ap (λ name. field name p.rest) both.0 ∙ ap (field q.name) both.1 ∙ sym q.field_is
+
+pub AreFields-once : (lines : List Line) (fs gs : List Field) → AreFields lines fs → AreFields lines gs → fs ≡ gs
+AreFields-once [] [] [] p q = refl
+AreFields-once [] [] (g ∷ gs) p q = absurd q
+AreFields-once [] (f ∷ fs) gs p q = absurd p
+AreFields-once (line ∷ lines) [] gs p q = absurd p
+AreFields-once (line ∷ lines) (f ∷ fs) [] p q = absurd q
+AreFields-once (line ∷ lines) (f ∷ fs) (g ∷ gs) p q =
+    ap (λ (h : Field). h ∷ fs) (IsField-once line f g p.0 q.0) ∙ ap (λ (hs : List Field). g ∷ hs) (AreFields-once lines fs gs p.1 q.1)

@@ -1,0 +1,11 @@
+use Rattle.std.proofs.Common.{◌≡◌, List, ◌++◌, length}
+use Rattle.headers.specs.Lines.{Line}
+use Rattle.headers_canon.specs.Section.{section, AreFields}
+use Rattle.headers_canon.proofs.field.read_fields.Given as goal
+
+abbrev pub invariant-loop-line : goal.invariant-loop-line
+invariant-loop-line l =
+    (taken : List Line) × AreFields taken l.fields.items × (section l.fn.input ≡ taken ++ section l.rest)
+
+abbrev pub decreases-loop-line : goal.decreases-loop-line
+decreases-loop-line l = length l.rest

@@ -1,0 +1,31 @@
+use Rattle.std.proofs.Common.{◌≡◌, ◌∙◌, ◌<◌, ◌||◌, List, ℕ, Vec, Global, option_map, is_none, length, subst, sym}
+use Rattle.http_header.specs.FieldValue.{FieldValue}
+use Rattle.http_header.specs.HeaderMap.{get_all}
+use Rattle.headers.specs.Lines.{lines_of}
+use Rattle.headers_canon.specs.CanonicalText.{Block}
+use Rattle.headers_canon.proofs.BlockLemmas.{HasBlocks-start, HasBlocks-more, HasBlocks-all, is_none-map, not-from_not, marked_none, marked_some}
+use Rattle.headers_canon.proofs.text.print_blocks.Goals as goal
+use Rattle.headers_canon.proofs.text.print_blocks.Goals.{then-is_none, else-is_none}
+
+pub loop-name-init : goal.loop-name-init
+loop-name-init c = HasBlocks-start _ c.args.order.now c.new-bytes.result.items c.new-bytes.ensures.items
+
+pub loop-name-preserved : goal.loop-name-preserved
+loop-name-preserved c =
+    let name = c.name-item.result in
+    let block : Block = option_map (λ (v : Vec FieldValue Global). lines_of v.items) c.in_ok-block.block in
+    let none : is_none block ≡ c.is_none.result = is_none-map (λ (v : Vec FieldValue Global). lines_of v.items) c.in_ok-block.block ∙ not-from_not _ c.is_none.result c.is_none.ensures in
+    let marked : c.if-is_none.some_refused ≡ (c.loop-name.some_refused || is_none block) =
+    elim c.if-is_none.branch [
+      | then-is_none w ↦ w.some_refused-is ∙ marked_none c.loop-name.some_refused (is_none block) c.is_none.result w.if-is_none.true none
+      | else-is_none w ↦ w.some_refused-is ∙ marked_some c.loop-name.some_refused (is_none block) c.is_none.result w.if-is_none.false none
+    ] in
+    let has : 0 < length (get_all c.args.map.now name) =
+    subst (λ (n : List ℕ). 0 < length (get_all c.args.map.now n)) (sym c.name-item.is) (c.requires c.loop-name.name-index name c.loop-name-test.true) in
+    HasBlocks-more (λ n. lines_of (get_all c.args.map.now n)) c.args.order.now c.loop-name.name-index name c.loop-name.bytes.items _
+    c.loop-name.some_refused c.if-is_none.some_refused block c.loop-name-test.true c.name-item.is c.loop-name.invariant (c.in_ok-block.ensures has)
+    c.in_ok-print_block.ensures marked
+
+pub returns : goal.returns
+returns c =
+    HasBlocks-all _ c.args.order.now c.loop-name.name-index _ _ c.loop-name-test.false c.loop-name.invariant

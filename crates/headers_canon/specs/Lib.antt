@@ -1,0 +1,5 @@
+pub mod Answer
+pub mod CanonicalText
+pub mod KnownHeaders
+pub mod MapErrors
+pub mod Section

@@ -1,0 +1,69 @@
+-- The fields of an input (RFC 9112, sections 2.1, 5 and 5.1).
+use Rattle.std.specs.Prelude.{◌≡◌, ℕ, ◌-◌, Bool, true, false, List, [], ◌∷◌, ◌++◌, map, length, take, slice_index, ◌==◌, if◌then◌else◌, Contains, take_while}
+use Rattle.std.specs.List.{slice_split, AllZip}
+use Rattle.http_header.specs.Token.{lowercase}
+use Rattle.http_header.specs.FieldName.{IsFieldName}
+use Rattle.http_header.specs.FieldValue.{FieldValue, IsFieldValue, plain_value}
+use Rattle.http_header.specs.HeaderMap.{append_all, RefusesAppend}
+use Rattle.headers.specs.Lines.{Line}
+use Rattle.headers.specs.Text.{trim}
+
+-- the greatest length of an input
+abbrev pub input_limit : ℕ
+input_limit = 8388608
+
+abbrev pub is_newline : ℕ → Bool
+is_newline b = b == 10
+
+-- the line without the byte 13 that it ends with, if it does
+abbrev pub without_return : Line → Line
+without_return line = if slice_index line (length line - 1) == 13 then take (length line - 1) line else line
+
+abbrev pub is_filled : Line → Bool
+is_filled [] = false
+is_filled (b ∷ rest) = true
+
+-- the pieces between bytes 10, each without a byte 13 at its end
+abbrev pub input_lines : List ℕ → List Line
+input_lines input = map without_return (slice_split is_newline input)
+
+-- the lines before the first empty one
+abbrev pub section : List ℕ → List Line
+section input = take_while is_filled (input_lines input)
+
+-- a field: its name in lower case, and its value
+abbrev pub Field : Type 0
+Field = List ℕ × FieldValue
+
+-- the line is a name, the first colon of the line, and a value, which is_counting_place without the spaces and tabs at its ends
+pub record IsField (line : Line) (field : Field) : Type 0 where
+  pub name : List ℕ
+  pub rest : List ℕ
+  pub line_is : line ≡ name ++ 58 ∷ rest
+  pub valid_name : IsFieldName name
+  pub valid_value : IsFieldValue (trim rest)
+  pub field_is : field ≡ (lowercase name, plain_value (trim rest))
+
+-- the fields of the lines, one each
+abbrev pub AreFields : List Line → List Field → Type 0
+AreFields lines fields = AllZip IsField lines fields
+
+-- the line is no field
+abbrev pub IsNoField : Line → Type 0
+IsNoField line = (field : Field) → ¬ (IsField line field)
+
+-- some line is no field
+abbrev pub HasNoField : List Line → Type 0
+HasNoField lines = (line : Line) × Contains lines line × IsNoField line
+
+-- a map that holds the fields before one of them, and no other, has no room for it
+pub record FillsMap (fields : List Field) : Type 0 where
+  pub first : List Field
+  pub next : Field
+  pub later : List Field
+  pub split : fields ≡ first ++ next ∷ later
+  pub full : RefusesAppend (append_all [] first) next.0
+
+-- the lines before the first empty one are fields, and these fill a map
+abbrev pub HasTooManyFields : List ℕ → Type 0
+HasTooManyFields input = (fields : List Field) × AreFields (section input) fields × FillsMap fields

@@ -1,0 +1,25 @@
+//! The bytes that a run writes.
+ghost use Rattle.std.specs.Prelude.{◌≡◌, ℕ, List, ◌++◌, OnOk, IfErr, OnErr};
+ghost use Rattle.std.specs.Io.KnownBytes.{Appends};
+
+use crate::status::RunError;
+use std::io::Write;
+
+/// Writes the text, and then flushes. Whatever fails, and a write that takes no byte, is `Io` at once.
+pub fn write_text<W: Write>(writer: &mut W, text: &[u8]) -> Result<(), RunError>
+    ensures ok { OnOk result (Appends (W.contents writer.old) (W.contents writer.new) text.now) }
+    ensures err { OnErr result ((begun rest : List ℕ) × (text.now ≡ begun ++ rest)
+        × Appends (W.contents writer.old) (W.contents writer.new) begun) }
+    ensures error { IfErr result (λ e. e ≡ RunError.Io) }
+{
+    let mut rest = text;
+    while !rest.is_empty() {
+        let count = writer.write(rest)?;
+        if count == 0 {
+            return Err(RunError::Io);
+        }
+        rest = &rest[count..];
+    }
+    writer.flush()?;
+    Ok(())
+}

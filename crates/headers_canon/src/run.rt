@@ -1,0 +1,48 @@
+//! A run of the program over a reader and a writer.
+ghost use Rattle.std.specs.Prelude.{◌≡◌, ◌⊎◌, Ok, Err, IfSome, true, false};
+ghost use Rattle.std.specs.Io.KnownBytes.{Keeps};
+ghost use Rattle.headers_canon.specs.Section.{HasTooManyFields};
+ghost use Rattle.headers_canon.specs.Answer.{WroteText, BeganText, HasBadLine, HasNoRoom};
+
+use crate::input::read_input;
+use crate::output::write_text;
+use crate::status::{Outcome, RunError};
+use crate::text::canonical_text;
+use std::alloc::Global;
+use std::io::{Read, Write};
+
+/// Reads an input of at most 8,388,608 bytes, which begins with a header section (RFC 9112, section
+/// 2.1), and writes its canonical text: each name at its first appearance, with its lines. The text is
+/// made whole before the first write, and no failing call is tried again. After `Memory`, `Io` and too
+/// long an input, what the reader has left is open.
+pub fn run<R: Read, W: Write>(
+    alloc: Global,
+    reader: &mut R,
+    writer: &mut W,
+) -> Result<Outcome, RunError>
+    ensures clean { result ≡ Ok Outcome.Clean → WroteText (R.remaining reader.old) (R.remaining reader.new)
+        (W.contents writer.old) (W.contents writer.new) false }
+    ensures some_refused { result ≡ Ok Outcome.SomeRefused → WroteText (R.remaining reader.old)
+        (R.remaining reader.new) (W.contents writer.old) (W.contents writer.new) true }
+    ensures fits { (result ≡ Ok Outcome.Clean) ⊎ (result ≡ Ok Outcome.SomeRefused)
+        → IfSome (R.remaining reader.old) (λ input. ¬ (HasTooManyFields input)) }
+    ensures not_a_field { result ≡ Ok Outcome.NotAField → HasBadLine (R.remaining reader.old)
+        (R.remaining reader.new) }
+    ensures room { result ≡ Err RunError.Room → HasNoRoom (R.remaining reader.old)
+        (R.remaining reader.new) }
+    ensures nothing_written { (result ≡ Ok Outcome.NotAField) ⊎ (result ≡ Err RunError.Memory) ⊎ (result ≡ Err RunError.Room)
+        → Keeps (W.contents writer.old) (W.contents writer.new) }
+    ensures io { result ≡ Err RunError.Io → BeganText (R.remaining reader.old) (R.remaining reader.new)
+        (W.contents writer.old) (W.contents writer.new) }
+{
+    let input = read_input(alloc, reader)?;
+    let Some(text) = canonical_text(alloc, input.as_slice())? else {
+        return Ok(Outcome::NotAField);
+    };
+    write_text(writer, text.bytes.as_slice())?;
+    if text.some_refused {
+        Ok(Outcome::SomeRefused)
+    } else {
+        Ok(Outcome::Clean)
+    }
+}

@@ -1,0 +1,133 @@
+//! The canonical text of a header section.
+ghost use Rattle.std.specs.Prelude.{◌≡◌, ◌≢◌, ◌<◌, ◌++◌, [], length, option_map, IfOk, IfSome, IfNone, OnOk, All, flat_map};
+ghost use Rattle.http_header.specs.HeaderMap.{get_all, append_all};
+ghost use Rattle.headers.specs.Lines.{lines_of};
+ghost use Rattle.headers_canon.specs.Section.{section, HasNoField, FillsMap, HasTooManyFields};
+ghost use Rattle.headers_canon.specs.CanonicalText.{names, first_appearances, block_text, line_text, HasBlocks, IsTextOf, IsCanonicalText};
+
+use crate::block::read_block;
+use crate::field::{Field, read_fields};
+use crate::status::RunError;
+use headers::{HeaderMap, HeaderName, HeaderValue, Refused};
+use std::alloc::{AllocError, Global};
+
+/// The canonical text of a header section, and whether the lines of some name were refused.
+#[derive(Drop)]
+pub struct CanonicalText {
+    pub bytes: Vec<u8>,
+    pub some_refused: bool,
+}
+
+// The fields in one map, and each name where it stands first.
+fn collect_fields(alloc: Global, fields: &[Field]) -> Result<(HeaderMap, Vec<HeaderName>), RunError>
+    ensures held { IfOk result (λ all. all.0 ≡ append_all [] fields.now) }
+    ensures order { IfOk result (λ all. all.1.items ≡ first_appearances (names fields.now)) }
+    ensures fits { IfOk result (λ _. ¬ (FillsMap fields.now)) }
+    ensures room { result ≡ Err RunError.Room → FillsMap fields.now }
+    ensures never_io { result ≢ Err RunError.Io }
+{
+    let mut map = HeaderMap::new(alloc);
+    let mut order = Vec::new(alloc);
+    for (name, value) in fields {
+        let found = map.append(name, value.clone()?)?;
+        if !found {
+            order.push(name.clone()?)?;
+        }
+    }
+    Ok((map, order))
+}
+
+// Prints each line after the name.
+fn print_lines(
+    text: &mut Vec<u8>,
+    name: &HeaderName,
+    lines: &[HeaderValue],
+) -> Result<(), AllocError>
+    ensures { OnOk result (text.new.items ≡ text.old.items ++ flat_map (line_text name.now) (lines_of lines.now)) }
+{
+    for line in lines {
+        text.extend_from_slice(name.as_bytes())?;
+        text.extend_from_slice(b": ")?;
+        text.extend_from_slice(line.as_bytes())?;
+        text.push(b'\n')?;
+    }
+    Ok(())
+}
+
+// Prints the mark of a refusal, and the name.
+fn print_refusal(text: &mut Vec<u8>, name: &HeaderName) -> Result<(), AllocError>
+    ensures { OnOk result (text.new.items ≡ text.old.items ++ block_text name.now None) }
+{
+    text.extend_from_slice(b"! ")?;
+    text.extend_from_slice(name.as_bytes())?;
+    text.push(b'\n')?;
+    Ok(())
+}
+
+// Prints a block.
+fn print_block(
+    text: &mut Vec<u8>,
+    name: &HeaderName,
+    block: &Option<Vec<HeaderValue>>,
+) -> Result<(), AllocError>
+    ensures { OnOk result (text.new.items ≡ text.old.items
+        ++ block_text name.now (option_map (λ lines. lines_of lines.items) block.now)) }
+{
+    match block {
+        Some(lines) => print_lines(text, name, lines.as_slice()),
+        None => print_refusal(text, name),
+    }
+}
+
+// The block of each name, one after the other.
+fn print_blocks(
+    alloc: Global,
+    map: &HeaderMap,
+    order: &[HeaderName],
+) -> Result<CanonicalText, AllocError>
+    requires { All (λ name. 0 < length (get_all map.now name)) order.now }
+    ensures { IfOk result (λ text. HasBlocks (λ name. lines_of (get_all map.now name)) order.now
+        text.bytes.items text.some_refused) }
+{
+    let mut bytes = Vec::new(alloc);
+    let mut some_refused = false;
+    for name in order {
+        let block = read_block(alloc, map, name)?;
+        if block.is_none() {
+            some_refused = true;
+        }
+        print_block(&mut bytes, name, &block)?;
+    }
+    Ok(CanonicalText {
+        bytes,
+        some_refused,
+    })
+}
+
+// The canonical text of the fields.
+fn print_fields(alloc: Global, fields: &[Field]) -> Result<CanonicalText, RunError>
+    ensures text { IfOk result (λ text. IsTextOf fields.now text.bytes.items text.some_refused) }
+    ensures fits { IfOk result (λ _. ¬ (FillsMap fields.now)) }
+    ensures room { result ≡ Err RunError.Room → FillsMap fields.now }
+    ensures never_io { result ≢ Err RunError.Io }
+{
+    let (map, order) = collect_fields(alloc, fields)?;
+    Ok(print_blocks(alloc, &map, order.as_slice())?)
+}
+
+/// The canonical text of an input, or `None` where a line before the first empty one is no field.
+/// It is refused as `Room` where a header map has no room for the fields.
+pub fn canonical_text(alloc: Global, input: &[u8]) -> Result<Option<CanonicalText>, RunError>
+    ensures text { IfOk result (λ found. IfSome found
+        (λ text. IsCanonicalText input.now text.bytes.items text.some_refused)) }
+    ensures fits { IfOk result (λ found. IfSome found (λ _. ¬ (HasTooManyFields input.now))) }
+    ensures no_field { IfOk result (λ found. IfNone found (HasNoField (section input.now))) }
+    ensures room { result ≡ Err RunError.Room
+        → HasTooManyFields input.now }
+    ensures never_io { result ≢ Err RunError.Io }
+{
+    match read_fields(alloc, input)? {
+        Some(fields) => Ok(Some(print_fields(alloc, fields.as_slice())?)),
+        None => Ok(None),
+    }
+}
