@@ -1,0 +1,50 @@
+//! The tests of the headers, one module a subject.
+#![tactic(auto)]
+
+// Lines, and the one line that is written of the header that they read; and lines that are refused.
+#[cfg(test)]
+macro_rules! rows {
+    ($rt:expr, $header:ty, $name:expr, $($lines:expr => $written:expr),*
+     $(; refuses $($refused:expr),*)?) => {
+        $crate::rows::rows::<$header>(
+            &$rt,
+            $name,
+            &[$((&$lines, Some($written)),)* $($((&$refused, None),)*)?],
+        )
+    };
+}
+
+// Whether what is written of the header, and of its copy, is marked sensitive if its line is.
+#[cfg(test)]
+macro_rules! marks {
+    ($rt:expr, $header:ty, $line:expr => $is_marked:expr, clone($($alloc:expr)?)) => {
+        let header: $header = $crate::rows::marked(&$rt, $line);
+        let copy = header.clone($($alloc)?).expect(&$rt, "a copy");
+        $crate::rows::marks(&$rt, [&header, &copy], $line, $is_marked);
+    };
+}
+
+#[cfg(test)]
+mod caching;
+#[cfg(test)]
+mod conditional;
+#[cfg(test)]
+mod connection;
+#[cfg(test)]
+mod content;
+#[cfg(test)]
+mod context;
+#[cfg(test)]
+mod cookies;
+#[cfg(test)]
+mod cors;
+#[cfg(test)]
+mod map;
+#[cfg(test)]
+mod ranges;
+#[cfg(test)]
+mod rows;
+#[cfg(test)]
+mod security;
+#[cfg(test)]
+mod websocket;

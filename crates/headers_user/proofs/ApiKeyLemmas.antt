@@ -1,0 +1,32 @@
+-- Keys are text.
+use Rattle.std.proofs.Common.{◌≡◌, ℕ, ◌<◌, true, List, Err, rules}
+use Rattle.std.specs.List.{list_all}
+use Rattle.std.specs.Str.{IsUtf8}
+use Rattle.std.proofs.lemmas.List.Elements.{All-weaker}
+use Rattle.std.proofs.lemmas.List.Sums.{AllPass-from_list_all}
+use Rattle.std.proofs.lemmas.Str.{IsUtf8-from_ascii}
+use Rattle.std.proofs.lemmas.Str.Ascii.{IsAscii-from_all}
+use Rattle.headers.specs.Lines.{Line}
+use Rattle.headers.specs.Typed.{IsTypedRead}
+use Rattle.headers.specs.declared.Refused.{Refused}
+use Rattle.headers.specs.declared.Refused.TheVariants.{Invalid, Memory}
+use Rattle.headers.specs.declared.authorization.Authorization.{Authorization}
+use Rattle.headers_user.specs.ApiKey.{is_key, is_key_byte, CarryKey}
+
+key_byte_ascii : (b : ℕ) → is_key_byte b ≡ true → b < 128
+key_byte_ascii b e = search rules
+
+pub IsUtf8-key : (key : List ℕ) → is_key key ≡ true → IsUtf8 key
+IsUtf8-key key e =
+    let all : list_all is_key_byte key ≡ true = search rules in
+    IsUtf8-from_ascii key
+    (IsAscii-from_all key
+    (All-weaker (λ b. is_key_byte b ≡ true) (λ b. b < 128) key_byte_ascii key
+    (AllPass-from_list_all is_key_byte key all)))
+
+-- a header keeps a key and nothing else
+pub IsTypedRead-of_key : {E : Type 0} (lines : List Line) (refused : Refused E)
+    → IsTypedRead {V = Authorization (List ℕ)} {E = E} (λ ls header. CarryKey ls header.0) lines (Err refused)
+    → IsTypedRead {V = List ℕ} {E = E} CarryKey lines (Err refused)
+IsTypedRead-of_key lines (Invalid e) h = (h.0, λ key. h.1 (record { 0 = key }))
+IsTypedRead-of_key lines (Memory e) h = h

@@ -1,0 +1,2 @@
+pub mod ApiKeyLemmas
+pub mod MaxForwardsLemmas
