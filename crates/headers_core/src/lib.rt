@@ -2,12 +2,16 @@
 //! of field syntax and list items.
 #![tactic(auto)]
 
+mod built;
 mod field_form;
 mod form_header;
 mod forms;
 mod header;
 mod laws;
 
+pub use crate::built::{
+    lines_read_back, lists_read_back, tags_read_back, texts_read_back, words_read_back,
+};
 pub use crate::field_form::FieldForm;
 pub use crate::form_header::FormHeader;
 pub use crate::header::Header;

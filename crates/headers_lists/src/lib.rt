@@ -16,4 +16,6 @@ pub use headers_cors::{
 };
 pub use headers_names::{Methods, Names, SkipNames};
 pub use headers_ranges::AcceptRanges;
-pub use headers_security::{ReferrerPolicy, StrictTransportSecurity};
+pub use headers_security::{
+    ReferrerPolicy, StrictTransportSecurity, policies_read_back, security_reads_back,
+};

@@ -119,10 +119,12 @@ read_fits ps s h =
       | inr n ↦ let none : None ≡ Some s = rw n at h in absurd (cc none)
     ]
 
+-- what is written of any value reads as that value
+pub built_back : (s : TransportSecurity) → s.max_age < 2 ^ 64 → read_security (print_security s) ≡ Some s
+built_back s fits = ap security_of (printed_parts s fits) ∙ parts_say s.include_subdomains s.max_age fits
+
 pub security_back : ReadsBackLine read_security print_security
-security_back line s h =
-    let fits = read_fits (parts 59 line) s h in
-    ap security_of (printed_parts s fits) ∙ parts_say s.include_subdomains s.max_age fits
+security_back line s h = built_back s (read_fits (parts 59 line) s h)
 
 pub security_laws : HeaderLaws (SameBy security_grammar) (ReadsBy security_grammar) (written_by security_grammar)
 security_laws = one_line_laws (λ v. v) only_line read_security print_security (λ line. refl) security_back

@@ -4,5 +4,5 @@
 mod referrer_policy;
 mod strict_transport_security;
 
-pub use crate::referrer_policy::ReferrerPolicy;
-pub use crate::strict_transport_security::StrictTransportSecurity;
+pub use crate::referrer_policy::{ReferrerPolicy, policies_read_back};
+pub use crate::strict_transport_security::{StrictTransportSecurity, security_reads_back};

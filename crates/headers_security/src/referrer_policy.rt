@@ -185,3 +185,9 @@ impl Header for ReferrerPolicy {
         Ok(())
     }
 }
+
+/// What is written of any policy is read back as it.
+#[tactic(auto, using(crate::specs::ReferrerPolicyLaws::referrer_back))]
+pub fn policies_read_back()
+    ensures { (policy : ReferrerPolicy) → ⟦<ReferrerPolicy as Header>⟧.reads (⟦<ReferrerPolicy as Header>⟧.writes policy) policy }
+{}

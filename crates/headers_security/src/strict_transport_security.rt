@@ -3,6 +3,8 @@ ghost use Rattle.std.specs.Prelude.{◌≡◌, ◌/◌, ◌∷◌, ◌++◌, Lis
 ghost use Rattle.std.specs.Duration.{as_nanos};
 ghost use Rattle.http_header.specs.FieldValue.{IsFieldValue};
 ghost use Rattle.headers_syntax.specs.Durations.{IsWholeSeconds, LastsSeconds};
+ghost use Rattle.headers_syntax.specs.HeaderLaws.{ReadsBy, written_by};
+ghost use Rattle.headers_security.specs.StrictTransportSecurityGrammar.{security_grammar};
 ghost use Rattle.headers_security.specs.StrictTransportSecurity.{carries_age, age_in, security_of, read_security, print_security};
 ghost use Rattle.headers_security.specs.SecuritySoFar.{parts_so_far};
 
@@ -202,4 +204,12 @@ impl Header for StrictTransportSecurity {
         values.push(value)?;
         Ok(())
     }
+}
+
+/// What is written of any value is read back as it.
+#[tactic(auto, using(crate::specs::StrictTransportSecurityLaws::built_back))]
+pub fn security_reads_back(header: &StrictTransportSecurity)
+    ensures { ReadsBy security_grammar (written_by security_grammar header.now) header.now }
+{
+    let _max_age = header.max_age;
 }

@@ -18,7 +18,4 @@ pub use headers_ranges::{
     ContentRange, InvalidContentRange, InvalidRange, Range, Satisfiable, content_ranges_read_back,
     ranges_read_back,
 };
-pub use headers_websocket::{
-    SecWebsocketAccept, SecWebsocketKey, SecWebsocketVersion, sec_websocket_accept_is_read_back,
-    sec_websocket_key_is_read_back,
-};
+pub use headers_websocket::{SecWebsocketAccept, SecWebsocketKey, SecWebsocketVersion};

@@ -5,8 +5,8 @@ mod sec_websocket_accept;
 mod sec_websocket_key;
 mod sec_websocket_version;
 
-pub use crate::sec_websocket_accept::{SecWebsocketAccept, sec_websocket_accept_is_read_back};
-pub use crate::sec_websocket_key::{SecWebsocketKey, sec_websocket_key_is_read_back};
+pub use crate::sec_websocket_accept::SecWebsocketAccept;
+pub use crate::sec_websocket_key::SecWebsocketKey;
 pub use crate::sec_websocket_version::SecWebsocketVersion;
 
 #[cfg(test)]

@@ -75,9 +75,3 @@ impl FormHeader for SecWebsocketAccept {
         &self.value
     }
 }
-
-/// What is written of any value is read back as it.
-pub fn sec_websocket_accept_is_read_back()
-    ensures { (accept : SecWebsocketAccept)
-        → ⟦<SecWebsocketAccept as Header>⟧.reads (⟦<SecWebsocketAccept as Header>⟧.writes accept) accept }
-{}

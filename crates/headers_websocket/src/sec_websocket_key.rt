@@ -66,9 +66,3 @@ impl FormHeader for SecWebsocketKey {
         &self.value
     }
 }
-
-/// What is written of any value is read back as it.
-pub fn sec_websocket_key_is_read_back()
-    ensures { (key : SecWebsocketKey)
-        → ⟦<SecWebsocketKey as Header>⟧.reads (⟦<SecWebsocketKey as Header>⟧.writes key) key }
-{}

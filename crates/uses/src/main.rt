@@ -4,9 +4,9 @@
 
 ghost use Rattle.std.specs.Prelude.{◌≡◌, IfOk};
 
+use headers::laws::numbers_read_back;
 use headers::{
     Age, CacheControl, Error, Header, HeaderMap, HeaderMapExt, HeaderValue, Refused, decode_values,
-    numbers_read_back,
 };
 use std::alloc::Global;
 

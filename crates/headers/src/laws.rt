@@ -1,0 +1,13 @@
+//! Laws: functions without a body, whose contracts a proof cites by calling them.
+
+pub use headers_conditional::{if_match_of_own_tag, if_none_match_of_own_tag};
+pub use headers_content::content_type_reads_back;
+pub use headers_core::{
+    date_reads_back, encodes_as_before, lines_read_back, lists_read_back, numbers_read_back,
+    same_by_writes, tags_read_back, texts_read_back, words_read_back,
+};
+pub use headers_cors::{allow_origin_of_own_text, request_method_of_own_text};
+pub use headers_hosts::{host_of_short_authority, origin_of_own_text};
+pub use headers_map::{reads_the_inserted, reads_the_last_put};
+pub use headers_ranges::{content_ranges_read_back, ranges_read_back};
+pub use headers_security::{policies_read_back, security_reads_back};
