@@ -1,5 +1,6 @@
 -- The canonical text of a reading reads as that reading in canonical form, whose canonical text it is.
-use Rattle.std.proofs.Common.{◌≡◌, ◌⊎◌, ℕ, Bool, true, false, ◌&&◌, List, [], ◌∷◌, ◌++◌, map, refl, sym, ◌∙◌, ap, subst, arith, Option, Some, None, IsTrue, inl, inr, append-nil}
+use Rattle.std.proofs.Common.{◌≡◌, ◌⊎◌, ℕ, Bool, true, false, ◌&&◌, List, [], ◌∷◌, ◌++◌, map, refl, sym, ◌∙◌, ap}
+use Rattle.std.proofs.Common.{subst, arith, Option, Some, None, IsTrue, inl, inr, append-nil}
 use Rattle.std.specs.Prelude.{bytes_eq, codes, option_map, IfSome, if◌then◌else◌}
 use Rattle.std.specs.Char.{to_ascii_lowercase}
 use Rattle.std.specs.List.{All, list_all, flat_map, cons_option}
@@ -10,7 +11,10 @@ use Rattle.std.proofs.lemmas.List.Elements.{All-nil, All-cons, All-head, All-tai
 use Rattle.http_header.specs.Token.{IsToken, is_token_byte, lowercase}
 use Rattle.http_header.proofs.TokenLemmas.{is_token_byte-to_ascii_lowercase}
 use Rattle.headers_syntax.specs.Text.{quote, is_blank}
-use Rattle.headers_mime.specs.MediaType.{semicolon, slash, Parameter, MediaType, IsParameter, IsQuotedString, quoted_part_text, parameter_text, Segment, IsSegment, segments_text, parameters_of, IsMediaType, canonical_value, canonical_parameter, canonical_parts, parameters_text, media_text, canonical, IsCanonical}
+use Rattle.headers_mime.specs.MediaType.{semicolon, slash, Parameter, MediaType, IsParameter, IsQuotedString}
+use Rattle.headers_mime.specs.MediaType.{quoted_part_text, parameter_text, Segment, IsSegment, segments_text}
+use Rattle.headers_mime.specs.MediaType.{parameters_of, IsMediaType, canonical_value, canonical_parameter}
+use Rattle.headers_mime.specs.MediaType.{canonical_parts, parameters_text, media_text, canonical, IsCanonical}
 use Rattle.headers_mime.specs.MediaTypeReading.{read_media, canonical_of}
 use Rattle.headers_mime.proofs.ReadingLemmas.{read_media-media, media-from_read}
 use Rattle.headers_mime.proofs.TokenLemmas.{map_parts}

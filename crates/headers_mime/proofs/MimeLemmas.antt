@@ -1,5 +1,6 @@
 -- Canonical texts are text, and what is read of a text.
-use Rattle.std.proofs.Common.{◌≡◌, ◌⊎◌, ℕ, Bool, true, false, List, [], ◌∷◌, ◌++◌, refl, sym, ◌∙◌, ap, subst, arith, Option, Some, None, IsTrue, inl, inr}
+use Rattle.std.proofs.Common.{◌≡◌, ◌⊎◌, ℕ, Bool, true, false, List, [], ◌∷◌, ◌++◌, refl, sym, ◌∙◌, ap, subst, arith}
+use Rattle.std.proofs.Common.{Option, Some, None, IsTrue, inl, inr}
 use Rattle.std.specs.Prelude.{option_map, Err, MatchOption, IsSome, bytes_eq}
 use Rattle.std.specs.List.{All, list_all, list_any, flat_map}
 use Rattle.std.proofs.lemmas.Bool.{and_from, and_parts, cases_Bool}
@@ -13,7 +14,10 @@ use Rattle.http_header.proofs.TokenLemmas.{token_byte_range}
 use Rattle.headers_syntax.specs.Text.{quote, is_text}
 use Rattle.headers_syntax.specs.declared.error.Refused.{Refused}
 use Rattle.headers_syntax.specs.declared.error.Refused.TheVariants.{Invalid, Memory}
-use Rattle.headers_mime.specs.MediaType.{slash, equals, Parameter, MediaType, IsParameter, QuotedPart, plain, escaped, IsQuotedPart, quoted_part_text, IsQuotedString, parameter_text, parameters_text, media_text, IsMediaType, canonical_parts, canonical, IsCanonical}
+use Rattle.headers_mime.specs.MediaType.{slash, equals, Parameter, MediaType, IsParameter, QuotedPart, plain, escaped}
+use Rattle.headers_mime.specs.MediaType.{IsQuotedPart, quoted_part_text, IsQuotedString, parameter_text}
+use Rattle.headers_mime.specs.MediaType.{parameters_text, media_text, IsMediaType, canonical_parts, canonical}
+use Rattle.headers_mime.specs.MediaType.{IsCanonical}
 use Rattle.headers_mime.specs.MediaTypeReading.{read_media, canonical_of, GivesRead}
 use Rattle.headers_mime.specs.MimeText.{text_bytes, known_texts, IsMimeText, ReadsMime}
 use Rattle.headers_mime.specs.declared.mime.Text.TheVariants.{Known, Read}

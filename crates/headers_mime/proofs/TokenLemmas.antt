@@ -1,5 +1,7 @@
 -- Tokens, quoted strings and blanks at the head of a text.
-use Rattle.std.proofs.Common.{◌≡◌, ◌≢◌, ◌⊎◌, ℕ, suc, ◌+◌, Bool, true, false, ◌&&◌, not, List, [], ◌∷◌, ◌++◌, length, length-append, take, drop, refl, sym, ◌∙◌, ap, subst, arith, eqb, Option, Some, None, IsTrue, inl, inr, append_assoc}
+use Rattle.std.proofs.Common.{◌≡◌, ◌≢◌, ◌⊎◌, ℕ, suc, ◌+◌, Bool, true, false, ◌&&◌, not, List, [], ◌∷◌, ◌++◌, length}
+use Rattle.std.proofs.Common.{length-append, take, drop, refl, sym, ◌∙◌, ap, subst, arith, eqb, Option, Some, None}
+use Rattle.std.proofs.Common.{IsTrue, inl, inr, append_assoc}
 use Rattle.std.specs.Prelude.{option_map}
 use Rattle.std.specs.Option.{option_and_then}
 use Rattle.std.proofs.lemmas.List.Folds.{length-prefix_len}
@@ -12,8 +14,10 @@ use Rattle.std.proofs.Math.Seq.{take-append_seam, drop-append_seam}
 use Rattle.http_header.specs.Token.{IsToken, is_token_byte, is_visible_or_blank}
 use Rattle.http_header.proofs.TokenLemmas.{token_byte_range}
 use Rattle.headers_syntax.specs.Text.{quote, is_blank, trim_start}
-use Rattle.headers_mime.specs.MediaType.{backslash, IsBlanks, QuotedPart, plain, escaped, IsQuotedPart, quoted_part_text, IsQuotedString}
-use Rattle.headers_mime.specs.MediaTypeReading.{quoted_len, token_len, value_len, begins_with, split_at, read_token, read_value}
+use Rattle.headers_mime.specs.MediaType.{backslash, IsBlanks, QuotedPart, plain, escaped, IsQuotedPart}
+use Rattle.headers_mime.specs.MediaType.{quoted_part_text, IsQuotedString}
+use Rattle.headers_mime.specs.MediaTypeReading.{quoted_len, token_len, value_len, begins_with, split_at, read_token}
+use Rattle.headers_mime.specs.MediaTypeReading.{read_value}
 
 module _ (p : ℕ → Bool) where
   -- what passes, before a byte that does not

@@ -1,5 +1,6 @@
 -- Media types (RFC 9110, section 8.3.1; tokens, quoted strings and parameters by its section 5.6).
-use Rattle.std.specs.Prelude.{◌≡◌, ◌≢◌, ◌⊎◌, ℕ, Bool, ◌&&◌, IsTrue, List, [], ◌∷◌, ◌++◌, map, Option, Some, None, IfSome, bytes_eq, codes, if◌then◌else◌}
+use Rattle.std.specs.Prelude.{◌≡◌, ◌≢◌, ◌⊎◌, ℕ, Bool, ◌&&◌, IsTrue, List, [], ◌∷◌, ◌++◌, map, Option, Some, None}
+use Rattle.std.specs.Prelude.{IfSome, bytes_eq, codes, if◌then◌else◌}
 use Rattle.std.specs.List.{All, AllPass, list_all, flat_map, filter_map}
 use Rattle.http_header.specs.Token.{IsToken, is_token_byte, is_visible_or_blank, lowercase}
 use Rattle.headers_syntax.specs.Text.{quote, is_blank}

@@ -1,10 +1,12 @@
 -- Media types as they are read from the front on. That this is the grammar is proved in proofs/ReadingLemmas.
-use Rattle.std.specs.Prelude.{◌≡◌, ℕ, zero, suc, ◌+◌, Bool, false, ◌&&◌, not, ◌==◌, List, [], ◌∷◌, ◌++◌, length, take, drop, Option, Some, None, map, option_map, if◌then◌else◌}
+use Rattle.std.specs.Prelude.{◌≡◌, ℕ, zero, suc, ◌+◌, Bool, false, ◌&&◌, not, ◌==◌, List, [], ◌∷◌, ◌++◌, length, take}
+use Rattle.std.specs.Prelude.{drop, Option, Some, None, map, option_map, if◌then◌else◌}
 use Rattle.std.specs.List.{prefix_len, cons_option}
 use Rattle.std.specs.Option.{option_and_then}
 use Rattle.http_header.specs.Token.{is_token_byte, is_visible_or_blank}
 use Rattle.headers_syntax.specs.Text.{quote, trim_start}
-use Rattle.headers_mime.specs.MediaType.{semicolon, slash, equals, backslash, Parameter, MediaType, canonical, canonical_parameter, parameters_text}
+use Rattle.headers_mime.specs.MediaType.{semicolon, slash, equals, backslash, Parameter, MediaType, canonical}
+use Rattle.headers_mime.specs.MediaType.{canonical_parameter, parameters_text}
 use denote.Ref.{Bor}
 use Rattle.std.specs.Prelude.{Result, Ok, Err, ⊤}
 use Rattle.headers_syntax.specs.declared.error.Refused.{Refused}

@@ -4,7 +4,9 @@ ghost use Rattle.std.specs.List.{prefix_len};
 ghost use Rattle.std.specs.Option.{option_copied};
 ghost use Rattle.headers_syntax.specs.Text.{is_blank, trim_start};
 ghost use Rattle.http_header.specs.Token.{is_token_byte, is_visible_or_blank};
-ghost use Rattle.headers_mime.specs.MediaTypeReading.{quoted_len, token_len, value_len, after_byte, read_token, read_value, read_parameter, read_optional, read_segment, read_essence, read_shown, two_pieces, three_pieces};
+ghost use Rattle.headers_mime.specs.MediaTypeReading.{quoted_len, token_len, value_len, after_byte, read_token};
+ghost use Rattle.headers_mime.specs.MediaTypeReading.{read_value, read_parameter, read_optional, read_segment};
+ghost use Rattle.headers_mime.specs.MediaTypeReading.{read_essence, read_shown, two_pieces, three_pieces};
 
 use http_header::is_token_char;
 use std::marker::Model;

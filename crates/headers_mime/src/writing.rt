@@ -3,7 +3,8 @@ ghost use Rattle.std.specs.Prelude.{◌≡◌, ◌∷◌, [], ◌++◌, OnOk, ve
 ghost use Rattle.http_header.specs.Token.{is_token_byte, lowercase};
 ghost use Rattle.std.specs.List.{list_all};
 ghost use Rattle.headers_mime.specs.MediaType.{canonical_value, is_charset_token};
-ghost use Rattle.headers_mime.specs.MediaTypeReading.{canonical_of, canonical_rest, optional_canonical, WritesBehind, GivesRead};
+ghost use Rattle.headers_mime.specs.MediaTypeReading.{canonical_of, canonical_rest, optional_canonical, WritesBehind};
+ghost use Rattle.headers_mime.specs.MediaTypeReading.{GivesRead};
 
 use crate::reading::{ParameterRef, read_essence, read_segment};
 use headers_syntax::{Error, Refused};

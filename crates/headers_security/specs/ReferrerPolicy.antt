@@ -6,7 +6,11 @@ use Rattle.headers_syntax.specs.HeaderLaws.{Grammar}
 use Rattle.headers_syntax.specs.Parts.{parts_of_lines}
 use Rattle.headers_security.specs.declared.referrer_policy.ReferrerPolicy.{ReferrerPolicy}
 use Rattle.headers_security.specs.declared.referrer_policy.Policy.{Policy}
-use Rattle.headers_security.specs.declared.referrer_policy.Policy.TheVariants.{NoReferrer, NoReferrerWhenDowngrade, SameOrigin, Origin, OriginWhenCrossOrigin, UnsafeUrl, StrictOrigin, StrictOriginWhenCrossOrigin}
+use Rattle.headers_security.specs.declared.referrer_policy.Policy.TheVariants.{NoReferrer, NoReferrerWhenDowngrade}
+use Rattle.headers_security.specs.declared.referrer_policy.Policy.TheVariants.{SameOrigin, Origin}
+use Rattle.headers_security.specs.declared.referrer_policy.Policy.TheVariants.{OriginWhenCrossOrigin, UnsafeUrl}
+use Rattle.headers_security.specs.declared.referrer_policy.Policy.TheVariants.{StrictOrigin}
+use Rattle.headers_security.specs.declared.referrer_policy.Policy.TheVariants.{StrictOriginWhenCrossOrigin}
 use Rattle.headers_items.specs.Places.{comma}
 
 -- the word of a policy (W3C Referrer Policy, section 3)

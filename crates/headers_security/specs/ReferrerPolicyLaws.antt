@@ -2,7 +2,11 @@
 use Rattle.std.specs.Prelude.{refl}
 use Rattle.headers_syntax.specs.HeaderLaws.{ReadsBack}
 use Rattle.headers_security.specs.ReferrerPolicy.{referrer_grammar}
-use Rattle.headers_security.specs.declared.referrer_policy.Policy.TheVariants.{NoReferrer, NoReferrerWhenDowngrade, SameOrigin, Origin, OriginWhenCrossOrigin, UnsafeUrl, StrictOrigin, StrictOriginWhenCrossOrigin}
+use Rattle.headers_security.specs.declared.referrer_policy.Policy.TheVariants.{NoReferrer, NoReferrerWhenDowngrade}
+use Rattle.headers_security.specs.declared.referrer_policy.Policy.TheVariants.{SameOrigin, Origin}
+use Rattle.headers_security.specs.declared.referrer_policy.Policy.TheVariants.{OriginWhenCrossOrigin, UnsafeUrl}
+use Rattle.headers_security.specs.declared.referrer_policy.Policy.TheVariants.{StrictOrigin}
+use Rattle.headers_security.specs.declared.referrer_policy.Policy.TheVariants.{StrictOriginWhenCrossOrigin}
 
 pub referrer_back : ReadsBack referrer_grammar
 referrer_back lines NoReferrer h = refl

@@ -1,5 +1,6 @@
 -- The header `strict-transport-security`: an age, and whether subdomains are included.
-use Rattle.std.specs.Prelude.{ℕ, Bool, ◌&&◌, nat_le, List, [], ◌++◌, filter, count_by, option_map, Option, None, codes, decimal, if◌then◌else◌}
+use Rattle.std.specs.Prelude.{ℕ, Bool, ◌&&◌, nat_le, List, [], ◌++◌, filter, count_by, option_map, Option, None}
+use Rattle.std.specs.Prelude.{codes, decimal, if◌then◌else◌}
 use Rattle.std.specs.List.{list_any, before_first, after_first}
 use Rattle.std.specs.Option.{option_and_then}
 use Rattle.headers_syntax.specs.Lines.{Line, only_line}
@@ -11,7 +12,8 @@ use Rattle.headers_syntax.specs.Parts.{parts}
 use Rattle.headers_syntax.specs.AsciiCase.{same_name}
 use Rattle.headers_syntax.specs.Text.{without_quotes}
 
--- for how many seconds a host is to be reached by secure transport alone, and whether its subdomains are too (RFC 6797, section 6.1)
+-- for how many seconds a host is to be reached by secure transport alone, and whether its subdomains are too (RFC
+-- 6797, section 6.1)
 pub record TransportSecurity : Type 0 where
   pub include_subdomains : Bool
   pub max_age : ℕ
@@ -28,11 +30,13 @@ carries_age part = list_any is_equals part && same_name (trim (before_first is_e
 abbrev pub age_in : List ℕ → Option ℕ
 age_in part = number (without_quotes (trim (after_first is_equals part)))
 
--- one part at most names `includeSubdomains`, exactly one carries an age, and that age is readable; other parts say nothing
+-- one part at most names `includeSubdomains`, exactly one carries an age, and that age is readable; other parts say
+-- nothing
 abbrev pub security_of : List (List ℕ) → Option TransportSecurity
 security_of ps =
     if nat_le (count_by names_subdomains ps) 1
-    then option_map (λ age. record { include_subdomains = list_any names_subdomains ps; max_age = age }) (option_and_then age_in (only_line (filter carries_age ps)))
+    then option_map (λ age. record { include_subdomains = list_any names_subdomains ps; max_age = age })
+    (option_and_then age_in (only_line (filter carries_age ps)))
     else None
 
 -- a line is cut at every semicolon, in quotes or not

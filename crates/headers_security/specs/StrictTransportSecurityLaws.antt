@@ -1,5 +1,6 @@
 -- What is printed of transport security reads as it.
-use Rattle.std.proofs.Common.{◌≡◌, ℕ, ◌^◌, ◌<◌, ◌≤◌, Bool, true, false, not, ◌==◌, nat_le, cond, List, [], ◌∷◌, ◌++◌, map, filter, Option, Some, None, codes, refl, sym, ◌∙◌, ap, subst, inl, inr, arith}
+use Rattle.std.proofs.Common.{◌≡◌, ℕ, ◌^◌, ◌<◌, ◌≤◌, Bool, true, false, not, ◌==◌, nat_le, cond, List, [], ◌∷◌, ◌++◌}
+use Rattle.std.proofs.Common.{map, filter, Option, Some, None, codes, refl, sym, ◌∙◌, ap, subst, inl, inr, arith}
 use Rattle.std.specs.Prelude.{option_map}
 use Rattle.std.specs.Fmt.{decimal}
 use Rattle.std.specs.Char.{is_ascii_digit}
@@ -24,7 +25,8 @@ use Rattle.headers_syntax.proofs.PlainLemmas.{decimal_plain}
 use Rattle.headers_syntax.specs.Parts.{parts}
 use Rattle.headers_syntax.specs.Text.{without_quotes}
 use Rattle.headers_syntax.proofs.PlainLemmas.{is_plain, trim_piece, unquoted_piece, text_piece}
-use Rattle.headers_security.specs.StrictTransportSecurity.{TransportSecurity, names_subdomains, carries_age, age_in, security_of, read_security, print_security}
+use Rattle.headers_security.specs.StrictTransportSecurity.{TransportSecurity, names_subdomains, carries_age, age_in}
+use Rattle.headers_security.specs.StrictTransportSecurity.{security_of, read_security, print_security}
 use Rattle.headers_security.specs.StrictTransportSecurityGrammar.{security_grammar}
 
 -- the age as a part, and `includeSubdomains` as one if it is set
@@ -50,7 +52,8 @@ digits_uncut (c ∷ ds) h =
 
 age_uncut : (n : ℕ) → n < 2 ^ 64 → All (λ b. (b == 59) ≡ false) (age_part n)
 age_uncut n l =
-    let all : list_all no_cut (age_part n) ≡ true = digits_uncut (decimal n) (digits_decimal (numerals_by_value _ tells_all_ascii_digits) n l) in
+    let all : list_all no_cut (age_part n) ≡ true =
+    digits_uncut (decimal n) (digits_decimal (numerals_by_value _ tells_all_ascii_digits) n l) in
     λ k d h. not-true _ (AllPass-from_list_all no_cut (age_part n) all k d h)
 
 pub age_plain : (n : ℕ) → n < 2 ^ 64 → list_all is_plain (age_part n) ≡ true
@@ -65,16 +68,22 @@ printed_text s l = by s.include_subdomains
         ∙ and_from _ _ (text_piece (age_part s.max_age) (age_plain s.max_age l)) refl
     by false = ap is_text (append-nil (age_part s.max_age)) ∙ text_piece (age_part s.max_age) (age_plain s.max_age l)
 
-printed_parts : (s : TransportSecurity) → s.max_age < 2 ^ 64 → parts 59 (print_security s) ≡ age_part s.max_age ∷ mark_parts s.include_subdomains
+printed_parts : (s : TransportSecurity) → s.max_age < 2 ^ 64
+    → parts 59 (print_security s) ≡ age_part s.max_age ∷ mark_parts s.include_subdomains
 printed_parts s l =
-    ap (λ t. cond t (map trim (slice_split (λ b. b == 59) (print_security s))) []) (printed_text s l) ∙ by s.include_subdomains
+    ap (λ t. cond t (map trim (slice_split (λ b. b == 59) (print_security s))) []) (printed_text s l)
+    ∙ by s.include_subdomains
   where
     first : (rest : List (List ℕ)) → trim (age_part s.max_age) ∷ rest ≡ age_part s.max_age ∷ rest
     first rest = ap (λ p. p ∷ rest) (trim_piece (age_part s.max_age) (age_plain s.max_age l))
 
-    by : (b : Bool) → map trim (slice_split (λ b. b == 59) (age_part s.max_age ++ cond b (codes "; includeSubdomains") [])) ≡ age_part s.max_age ∷ mark_parts b
+    by : (b : Bool)
+        → map trim (slice_split (λ b. b == 59) (age_part s.max_age ++ cond b (codes "; includeSubdomains") []))
+        ≡ age_part s.max_age ∷ mark_parts b
     by true =
-        ap (map trim) (slice_split_at (λ b. b == 59) (age_part s.max_age) 59 (codes " includeSubdomains") (age_uncut s.max_age l) refl)
+        ap (map trim)
+        (slice_split_at (λ b. b == 59) (age_part s.max_age) 59 (codes " includeSubdomains")
+        (age_uncut s.max_age l) refl)
         ∙ first (mark_parts true)
     by false =
         ap (λ r. map trim (slice_split (λ b. b == 59) r)) (append-nil (age_part s.max_age))
@@ -88,15 +97,22 @@ age_read n l =
     ap (λ r. number (without_quotes r)) (trim_piece (decimal n) (decimal_plain n l))
     ∙ ap number (unquoted_piece (decimal n) (decimal_plain n l)) ∙ number-decimal n l
 
-parts_say : (b : Bool) (n : ℕ) → n < 2 ^ 64 → security_of (age_part n ∷ mark_parts b) ≡ Some (record { include_subdomains = b; max_age = n })
+parts_say : (b : Bool) (n : ℕ) → n < 2 ^ 64
+    → security_of (age_part n ∷ mark_parts b) ≡ Some (record { include_subdomains = b; max_age = n })
 parts_say true n l =
-    ap (λ c. cond (nat_le c 1) (option_map (λ (age : ℕ). let s : TransportSecurity = record { include_subdomains = true; max_age = age } in s) (age_in (age_part n))) None)
+    ap (λ c. cond (nat_le c 1)
+    (option_map (λ (age : ℕ). let s : TransportSecurity = record { include_subdomains = true; max_age = age } in
+    s) (age_in (age_part n))) None)
     (sym (length-filter names_subdomains (age_part n ∷ mark_parts true)))
-    ∙ ap (option_map (λ (age : ℕ). let s : TransportSecurity = record { include_subdomains = true; max_age = age } in s)) (age_read n l)
+    ∙ ap (option_map (λ (age : ℕ). let s : TransportSecurity = record { include_subdomains = true; max_age = age } in
+    s)) (age_read n l)
 parts_say false n l =
-    ap (λ c. cond (nat_le c 1) (option_map (λ (age : ℕ). let s : TransportSecurity = record { include_subdomains = false; max_age = age } in s) (age_in (age_part n))) None)
+    ap (λ c. cond (nat_le c 1)
+    (option_map (λ (age : ℕ). let s : TransportSecurity = record { include_subdomains = false; max_age = age } in
+    s) (age_in (age_part n))) None)
     (sym (length-filter names_subdomains (age_part n ∷ mark_parts false)))
-    ∙ ap (option_map (λ (age : ℕ). let s : TransportSecurity = record { include_subdomains = false; max_age = age } in s)) (age_read n l)
+    ∙ ap (option_map (λ (age : ℕ). let s : TransportSecurity = record { include_subdomains = false; max_age = age } in
+    s)) (age_read n l)
 
 -- ---- an age that was read fits
 
@@ -105,7 +121,8 @@ age_fits None n h = absurd (cc h)
 age_fits (Some part) n h = number-lt _ n h
 
 value_fits : (b : Bool) (age : Option ℕ) (s : TransportSecurity) → ((n : ℕ) → age ≡ Some n → n < 2 ^ 64)
-    → option_map (λ (n : ℕ). let v : TransportSecurity = record { include_subdomains = b; max_age = n } in v) age ≡ Some s → s.max_age < 2 ^ 64
+    → option_map (λ (n : ℕ). let v : TransportSecurity = record { include_subdomains = b; max_age = n } in v) age
+    ≡ Some s → s.max_age < 2 ^ 64
 value_fits b None s fits h = absurd (cc h)
 value_fits b (Some n) s fits h =
     let v : TransportSecurity = record { include_subdomains = b; max_age = n } in
@@ -115,7 +132,8 @@ value_fits b (Some n) s fits h =
 read_fits : (ps : List (List ℕ)) (s : TransportSecurity) → security_of ps ≡ Some s → s.max_age < 2 ^ 64
 read_fits ps s h =
     elim (cases_Bool (nat_le (count_by names_subdomains ps) 1)) [
-      | inl y ↦ value_fits (list_any names_subdomains ps) (option_and_then age_in (only_line (filter carries_age ps))) s (age_fits (only_line (filter carries_age ps))) (rw y at h)
+      | inl y ↦ value_fits (list_any names_subdomains ps) (option_and_then age_in (only_line (filter carries_age ps)))
+          s (age_fits (only_line (filter carries_age ps))) (rw y at h)
       | inr n ↦ let none : None ≡ Some s = rw n at h in absurd (cc none)
     ]
 

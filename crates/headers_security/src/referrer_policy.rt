@@ -189,5 +189,6 @@ impl Header for ReferrerPolicy {
 /// What is written of any policy is read back as it.
 #[tactic(auto, using(crate::specs::ReferrerPolicyLaws::referrer_back))]
 pub fn policies_read_back()
-    ensures { (policy : ReferrerPolicy) → ⟦<ReferrerPolicy as Header>⟧.reads (⟦<ReferrerPolicy as Header>⟧.writes policy) policy }
+    ensures { (policy : ReferrerPolicy)
+        → ⟦<ReferrerPolicy as Header>⟧.reads (⟦<ReferrerPolicy as Header>⟧.writes policy) policy }
 {}

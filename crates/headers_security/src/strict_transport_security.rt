@@ -1,11 +1,13 @@
 //! The header `strict-transport-security`.
-ghost use Rattle.std.specs.Prelude.{◌≡◌, ◌/◌, ◌∷◌, ◌++◌, List, [], ℕ, true, false, Some, None, IfOk, if◌then◌else◌, string_bytes};
+ghost use Rattle.std.specs.Prelude.{◌≡◌, ◌/◌, ◌∷◌, ◌++◌, List, [], ℕ, true, false, Some, None, IfOk, if◌then◌else◌};
+ghost use Rattle.std.specs.Prelude.{string_bytes};
 ghost use Rattle.std.specs.Duration.{as_nanos};
 ghost use Rattle.http_header.specs.FieldValue.{IsFieldValue};
 ghost use Rattle.headers_syntax.specs.Durations.{IsWholeSeconds, LastsSeconds};
 ghost use Rattle.headers_syntax.specs.HeaderLaws.{ReadsBy, written_by};
 ghost use Rattle.headers_security.specs.StrictTransportSecurityGrammar.{security_grammar};
-ghost use Rattle.headers_security.specs.StrictTransportSecurity.{carries_age, age_in, security_of, read_security, print_security};
+ghost use Rattle.headers_security.specs.StrictTransportSecurity.{carries_age, age_in, security_of, read_security};
+ghost use Rattle.headers_security.specs.StrictTransportSecurity.{print_security};
 ghost use Rattle.headers_security.specs.SecuritySoFar.{parts_so_far};
 
 use bytes::Bytes;
@@ -154,7 +156,8 @@ fn print_security(
     include_subdomains: bool,
     max_age: u64,
 ) -> Result<String, AllocError>
-    ensures text { IfOk result (λ text. string_bytes text ≡ print_security (record { include_subdomains = include_subdomains; max_age = max_age })) }
+    ensures text { IfOk result (λ text. string_bytes text
+        ≡ print_security (record { include_subdomains = include_subdomains; max_age = max_age })) }
     ensures valid { IfOk result (λ text. IsFieldValue (string_bytes text)) }
 {
     let mut text = String::new(alloc);

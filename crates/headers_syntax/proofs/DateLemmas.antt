@@ -1,5 +1,7 @@
 -- The calendar counted off from 1970, and that a printed date is read back.
-use Rattle.std.proofs.Common.{◌≡◌, ℕ, zero, suc, ◌+◌, ◌-◌, ◌*◌, ◌/◌, ◌%◌, ◌<◌, ◌≤◌, nat_lt, Bool, true, false, cond, [], ◌∷◌, ◌++◌, length, take, Option, Some, None, codes, refl, sym, ◌∙◌, ap, subst, inl, inr, arith, append_assoc}
+use Rattle.std.proofs.Common.{◌≡◌, ℕ, zero, suc, ◌+◌, ◌-◌, ◌*◌, ◌/◌, ◌%◌, ◌<◌, ◌≤◌, nat_lt, Bool, true, false, cond}
+use Rattle.std.proofs.Common.{[], ◌∷◌, ◌++◌, length, take, Option, Some, None, codes, refl, sym, ◌∙◌, ap, subst, inl}
+use Rattle.std.proofs.Common.{inr, arith, append_assoc}
 use Rattle.std.specs.Int.{IsInRange}
 use Rattle.std.specs.List.{prefix_len, suffix_len}
 use Rattle.std.proofs.lemmas.List.{reverse-append, take_all}
@@ -12,7 +14,8 @@ use Rattle.std.proofs.lemmas.Bool.{cases_Bool, and_from, ltb-true, ltb-false}
 use Rattle.std.proofs.lemmas.Bool.Decides.{nat_tests}
 use Rattle.std.proofs.lemmas.Option.{none-some}
 use Rattle.httpdate.specs.declared.parts.Parts.{Parts}
-use Rattle.httpdate.specs.Calendar.{days_in_year, days_in_month, days_of_years, days_of_months, days_from_civil, weekday}
+use Rattle.httpdate.specs.Calendar.{days_in_year, days_in_month, days_of_years, days_of_months, days_from_civil}
+use Rattle.httpdate.specs.Calendar.{weekday}
 use Rattle.httpdate.specs.Date.{parse_secs, valid_secs}
 use Rattle.httpdate.specs.Reader.{parse}
 use Rattle.httpdate.specs.Text.{day_name, month_name, two_digits, four_digits, imf_fixdate}
@@ -47,7 +50,8 @@ months_more y m (suc k) =
     rw next (omega arith)
 
 -- a day that lies in the year 1970 + j, and in the year 1970 + k
-same_year : (j k r days : ℕ) → j ≤ k → days + days_of_years j ≡ days_of_years k + r → days < days_in_year (1970 + j) → j ≡ k
+same_year : (j k r days : ℕ) → j ≤ k → days + days_of_years j ≡ days_of_years k + r → days < days_in_year (1970 + j)
+    → j ≡ k
 unfolding days_of_years
 same_year j k r days low e inside =
     elim (cases_Bool (nat_lt j k)) [
@@ -58,7 +62,8 @@ same_year j k r days low e inside =
       | inr f ↦ let not_less : k ≤ j = ltb-false _ _ f in omega arith
     ]
 
-year_of-is : (n j k r days : ℕ) → j ≤ k → k ≤ j + n → r < days_in_year (1970 + k) → days + days_of_years j ≡ days_of_years k + r → year_of n (1970 + j) days ≡ (1970 + k, r)
+year_of-is : (n j k r days : ℕ) → j ≤ k → k ≤ j + n → r < days_in_year (1970 + k)
+    → days + days_of_years j ≡ days_of_years k + r → year_of n (1970 + j) days ≡ (1970 + k, r)
 unfolding year_of days_of_years
 year_of-is zero j k r days low high inside e =
     let same : j ≡ k = omega arith in
@@ -76,11 +81,13 @@ year_of-is (suc n) j k r days low high inside e =
                 absurd (omega (arith, ap days_of_years here, ap (λ y. days_in_year (1970 + y)) here))
           ]) in
           let next : 1970 + j + 1 ≡ 1970 + suc j = omega arith in
-          rw f (rw next (year_of-is n (suc j) k r (days - days_in_year (1970 + j)) later (omega arith) inside (omega arith)))
+          rw f (rw next
+          (year_of-is n (suc j) k r (days - days_in_year (1970 + j)) later (omega arith) inside (omega arith)))
     ]
 
 -- a day that lies in the month j + 1, and in the month k + 1
-same_month : (y j k r days : ℕ) → j ≤ k → days + days_of_months y j ≡ days_of_months y k + r → days < days_in_month y (j + 1) → j ≡ k
+same_month : (y j k r days : ℕ) → j ≤ k → days + days_of_months y j ≡ days_of_months y k + r
+    → days < days_in_month y (j + 1) → j ≡ k
 unfolding days_of_months
 same_month y j k r days low e inside =
     elim (cases_Bool (nat_lt j k)) [
@@ -92,7 +99,8 @@ same_month y j k r days low e inside =
       | inr f ↦ let not_less : k ≤ j = ltb-false _ _ f in omega arith
     ]
 
-month_of-is : (n y j k r days : ℕ) → j ≤ k → k ≤ j + n → r < days_in_month y (k + 1) → days + days_of_months y j ≡ days_of_months y k + r → month_of n y (j + 1) days ≡ (k + 1, r)
+month_of-is : (n y j k r days : ℕ) → j ≤ k → k ≤ j + n → r < days_in_month y (k + 1)
+    → days + days_of_months y j ≡ days_of_months y k + r → month_of n y (j + 1) days ≡ (k + 1, r)
 unfolding month_of days_of_months
 month_of-is zero y j k r days low high inside e =
     let same : j ≡ k = omega arith in
@@ -111,7 +119,9 @@ month_of-is (suc n) y j k r days low high inside e =
           ]) in
           let next : j + 1 + 1 ≡ suc j + 1 = omega arith in
           let one : suc j ≡ j + 1 = omega arith in
-          rw f (rw next (month_of-is n y (suc j) k r (days - days_in_month y (j + 1)) later (omega arith) inside (omega (arith, ap (days_in_month y) one))))
+          rw f (rw next
+          (month_of-is n y (suc j) k r (days - days_in_month y (j + 1)) later (omega arith) inside
+          (omega (arith, ap (days_in_month y) one))))
     ]
 
 -- ---- the date of a second
@@ -129,7 +139,8 @@ days_before p = days_of_months p.year (p.mon - 1) + (p.day - 1)
 in_its_month : (p : Parts) → IsValid p → p.day - 1 < days_in_month p.year (p.mon - 1 + 1)
 in_its_month p valid =
     let same : p.mon - 1 + 1 ≡ p.mon = (let low : 1 ≤ p.mon = valid.0.1.0 in omega arith) in
-    rw same (let low : 1 ≤ p.day = valid.0.2.0 in let high : p.day ≤ days_in_month p.year p.mon = valid.0.2.1 in omega arith)
+    rw same (let low : 1 ≤ p.day = valid.0.2.0 in let high : p.day ≤ days_in_month p.year p.mon = valid.0.2.1 in
+    omega arith)
 
 in_its_year : (p : Parts) → IsValid p → days_before p < days_in_year p.year
 unfolding days_before
@@ -143,7 +154,8 @@ in_its_year p valid =
     let same : p.mon + (12 - p.mon) ≡ 12 = omega arith in
     omega (arith, rw same at up, days_of_months_all p.year)
 
-year_of-date : (p : Parts) → IsValid p → year_of 8029 1970 (days_from_civil p.year p.mon p.day) ≡ (p.year, days_before p)
+year_of-date : (p : Parts) → IsValid p
+    → year_of 8029 1970 (days_from_civil p.year p.mon p.day) ≡ (p.year, days_before p)
 unfolding days_before days_of_years
 year_of-date p valid =
     let low : 1970 ≤ p.year = valid.0.0.0 in
@@ -151,7 +163,8 @@ year_of-date p valid =
     let same : 1970 + (p.year - 1970) ≡ p.year = omega arith in
     let start : 1970 + 0 ≡ 1970 = refl in
     let inside : days_before p < days_in_year (1970 + (p.year - 1970)) = rw same (in_its_year p valid) in
-    year_of-is 8029 0 (p.year - 1970) (days_before p) (days_from_civil p.year p.mon p.day) (omega arith) (omega arith) inside (omega arith)
+    year_of-is 8029 0 (p.year - 1970) (days_before p) (days_from_civil p.year p.mon p.day) (omega arith) (omega arith)
+    inside (omega arith)
     ∙ ap (λ y. (y, days_before p)) same
 
 month_of-date : (p : Parts) → IsValid p → month_of 11 p.year 1 (days_before p) ≡ (p.mon, p.day - 1)
@@ -160,7 +173,8 @@ month_of-date p valid =
     let low : 1 ≤ p.mon = valid.0.1.0 in
     let high : p.mon ≤ 12 = valid.0.1.1 in
     let same : p.mon - 1 + 1 ≡ p.mon = omega arith in
-    month_of-is 11 p.year 0 (p.mon - 1) (p.day - 1) (days_before p) (omega arith) (omega arith) (in_its_month p valid) (omega arith)
+    month_of-is 11 p.year 0 (p.mon - 1) (p.day - 1) (days_before p) (omega arith) (omega arith) (in_its_month p valid)
+    (omega arith)
     ∙ ap (λ m. (m, p.day - 1)) same
 
 -- the day and the time of day of a second
@@ -179,7 +193,16 @@ parts_at-is p valid =
     let low : 1 ≤ p.day = valid.0.2.0 in
     let back : p.day - 1 + 1 ≡ p.day = omega arith in
     let wday = ap weekday time.0 ∙ sym valid.2 in
-    λ i. record { year = (year i).0; mon = (month i).0; day = (ap (λ (m : ℕ × ℕ). m.1 + 1) month ∙ back) i; hour = time.1 i; min = time.2 i; sec = time.3 i; wday = wday i }
+    λ i. record {
+      year = (year i).0;
+      mon = (month i).0;
+      day = (ap (λ (m : ℕ × ℕ). m.1 + 1) month ∙ back) i;
+      hour =
+          time.1 i;
+      min = time.2 i;
+      sec = time.3 i;
+      wday = wday i;
+    }
 
 pub fixdate-is : (p : Parts) → IsValid p → fixdate (parts_secs p) ≡ imf_fixdate p
 unfolding fixdate
@@ -196,7 +219,8 @@ byte_text b rest h t = record { is = and_from _ _ h t.is }
 
 digits_text : (n : ℕ) (rest : Line) → n < 100 → IsText rest → IsText (two_digits n ++ rest)
 digits_text n rest h t =
-    byte_text _ _ (visible (48 + n / 10) (omega arith) (omega arith)) (byte_text _ _ (visible (48 + n % 10) (omega arith) (omega arith)) t)
+    byte_text _ _ (visible (48 + n / 10) (omega arith) (omega arith))
+    (byte_text _ _ (visible (48 + n % 10) (omega arith) (omega arith)) t)
 
 name_text : (name rest : Line) → is_text name ≡ true → IsText rest → IsText (name ++ rest)
 name_text name rest h t = record { is = list_all-append is_visible_or_blank name rest ∙ and_from _ _ h t.is }
@@ -236,7 +260,8 @@ day_range y m = grind (arith, nat_tests)
 
 fixdate_text : (p : Parts) → IsValid p → is_text (imf_fixdate p) ≡ true
 fixdate_text p valid =
-    let day : p.day < 100 = (let last : p.day ≤ days_in_month p.year p.mon = valid.0.2.1 in omega (arith, day_range p.year p.mon)) in
+    let day : p.day < 100 =
+    (let last : p.day ≤ days_in_month p.year p.mon = valid.0.2.1 in omega (arith, day_range p.year p.mon)) in
     let year : p.year ≤ 9999 = valid.0.0.1 in
     let hour : p.hour < 24 = valid.1.0 in
     let min : p.min < 60 = valid.1.1 in
@@ -277,12 +302,14 @@ last_letter : (p : Parts) → imf_fixdate p ≡ (day_name p.wday ++ after_day_na
 last_letter p =
     imf_fixdate_grouped p
     ∙ sym (append_assoc (day_name p.wday) (after_day_name p (codes " GM")) (84 ∷ [])
-    ∙ ap (λ (rest : Line). day_name p.wday ++ 44 ∷ 32 ∷ (two_digits p.day ++ 32 ∷ rest)) (append_assoc (month_name p.mon) (after_month p (codes " GM")) (84 ∷ [])))
+    ∙ ap (λ (rest : Line). day_name p.wday ++ 44 ∷ 32 ∷ (two_digits p.day ++ 32 ∷ rest))
+    (append_assoc (month_name p.mon) (after_month p (codes " GM")) (84 ∷ [])))
 
 fixdate_trimmed : (p : Parts) → IsValid p → trim (imf_fixdate p) ≡ imf_fixdate p
 fixdate_trimmed p valid =
     ap trim (imf_fixdate_grouped p)
-    ∙ ap trim_end (letter_first p.wday (after_day_name p (codes " GMT")) (wday_range p valid) ∙ sym (imf_fixdate_grouped p) ∙ last_letter p)
+    ∙ ap trim_end (letter_first p.wday (after_day_name p (codes " GMT")) (wday_range p valid)
+    ∙ sym (imf_fixdate_grouped p) ∙ last_letter p)
     ∙ trim_end_same (day_name p.wday ++ after_day_name p (codes " GM")) 84 refl
     ∙ sym (last_letter p)
 
@@ -294,7 +321,13 @@ fixdate_visible p valid = visible-from_is_text (imf_fixdate p) (fixdate_text p v
 pub date-fixdate : (p : Parts) → IsValid p → date (fixdate (parts_secs p)) ≡ Some (parts_secs p)
 unfolding date
 date-fixdate p valid =
-    rw (fixdate-is p valid, fixdate_text p valid, fixdate_trimmed p valid, parse_complete (imf_fixdate p) p valid (inl refl), is_valid_complete p valid)
+    rw (
+      fixdate-is p valid,
+      fixdate_text p valid,
+      fixdate_trimmed p valid,
+      parse_complete (imf_fixdate p) p valid (inl refl),
+      is_valid_complete p valid,
+    )
 
 -- the date that a line shows is a valid one
 pub date_parts : (line : Line) (n : ℕ) → date line ≡ Some n → (p : Parts) × IsValid p × (parts_secs p ≡ n)
@@ -354,7 +387,8 @@ number-fixdate line n e =
     let p = shown.0 in
     let printed = ap fixdate (sym shown.2) ∙ fixdate-is p shown.1 ∙ imf_fixdate_grouped p in
     ap number printed
-    ∙ number-no_digits (day_name p.wday ++ after_day_name p (codes " GMT")) (name_no_digits p.wday (after_day_name p (codes " GMT")) (wday_range p shown.1))
+    ∙ number-no_digits (day_name p.wday ++ after_day_name p (codes " GMT"))
+    (name_no_digits p.wday (after_day_name p (codes " GMT")) (wday_range p shown.1))
 
 -- ---- what a line shows
 

@@ -12,7 +12,8 @@ use Rattle.headers_syntax.proofs.DateLemmas.{date_parts, fixdate-is}
 use Rattle.headers_syntax.proofs.EntityTagLemmas.{is_tag-false}
 
 -- a tag begins with a quote, or has a slash next
-no_tag_text : (a b : ℕ) (rest : Line) → a ≢ 34 → b ≢ 47 → (is_weak : Bool) (opaque : Line) → a ∷ b ∷ rest ≢ tag_text (record { is_weak = is_weak; opaque = opaque })
+no_tag_text : (a b : ℕ) (rest : Line) → a ≢ 34 → b ≢ 47 → (is_weak : Bool) (opaque : Line)
+    → a ∷ b ∷ rest ≢ tag_text (record { is_weak = is_weak; opaque = opaque })
 no_tag_text a b rest first second true opaque e = second (ap (λ s. get_or s 1 0) e)
 no_tag_text a b rest first second false opaque e = first (ap (λ s. get_or s 0 0) e)
 
@@ -27,8 +28,10 @@ day_no_tag (suc (suc zero)) rest h = no_tag 84 117 _ (λ e. omega (arith, e)) (�
 day_no_tag (suc (suc (suc zero))) rest h = no_tag 87 101 _ (λ e. omega (arith, e)) (λ e. omega (arith, e))
 day_no_tag (suc (suc (suc (suc zero)))) rest h = no_tag 84 104 _ (λ e. omega (arith, e)) (λ e. omega (arith, e))
 day_no_tag (suc (suc (suc (suc (suc zero))))) rest h = no_tag 70 114 _ (λ e. omega (arith, e)) (λ e. omega (arith, e))
-day_no_tag (suc (suc (suc (suc (suc (suc zero)))))) rest h = no_tag 83 97 _ (λ e. omega (arith, e)) (λ e. omega (arith, e))
-day_no_tag (suc (suc (suc (suc (suc (suc (suc zero))))))) rest h = no_tag 83 117 _ (λ e. omega (arith, e)) (λ e. omega (arith, e))
+day_no_tag (suc (suc (suc (suc (suc (suc zero)))))) rest h =
+    no_tag 83 97 _ (λ e. omega (arith, e)) (λ e. omega (arith, e))
+day_no_tag (suc (suc (suc (suc (suc (suc (suc zero))))))) rest h =
+    no_tag 83 117 _ (λ e. omega (arith, e)) (λ e. omega (arith, e))
 day_no_tag zero rest h = absurd (omega arith)
 day_no_tag (suc (suc (suc (suc (suc (suc (suc (suc k)))))))) rest h = absurd (omega arith)
 
@@ -39,4 +42,5 @@ pub is_tag-fixdate : (line : Line) (n : ℕ) → date line ≡ Some n → is_tag
 is_tag-fixdate line n e =
     let shown = date_parts line n e in
     let p = shown.0 in
-    ap is_tag (ap fixdate (sym shown.2) ∙ fixdate-is p shown.1 ∙ imf_fixdate_grouped p) ∙ day_no_tag p.wday _ (wday_range p shown.1)
+    ap is_tag (ap fixdate (sym shown.2) ∙ fixdate-is p shown.1 ∙ imf_fixdate_grouped p)
+    ∙ day_no_tag p.wday _ (wday_range p shown.1)

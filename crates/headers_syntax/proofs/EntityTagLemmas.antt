@@ -1,5 +1,7 @@
 -- Facts on entity tags.
-use Rattle.std.proofs.Common.{◌≡◌, ◌≢◌, get_or, ℕ, ◌-◌, Bool, true, false, List, [], ◌∷◌, ◌++◌, length, length-append, take, map, ◌↔◌, refl, sym, ◌∙◌, ap, subst, arith, Option, Some, None, IsTrue, is_some, ◌↔◌}
+use Rattle.std.proofs.Common.{◌≡◌, ◌≢◌, get_or, ℕ, ◌-◌, Bool, true, false, List, [], ◌∷◌, ◌++◌, length, length-append}
+use Rattle.std.proofs.Common.{take, map, ◌↔◌, refl, sym, ◌∙◌, ap, subst, arith, Option, Some, None, IsTrue, is_some}
+use Rattle.std.proofs.Common.{◌↔◌}
 use Rattle.std.specs.List.{list_all, suffix_len, onto_first}
 use Rattle.std.proofs.lemmas.Bool.{and_parts, and_from, and_right, ne_eqb, false_from_ne_true}
 use Rattle.std.proofs.lemmas.List.{reverse-append, take_all}
@@ -8,15 +10,19 @@ use Rattle.std.proofs.lemmas.Slice.Eq.{bytes_eq-Decides}
 use Rattle.std.specs.Prelude.{bytes_eq}
 use Rattle.std.proofs.lemmas.List.Sums.{AllPass-from_list_all, list_all-from_AllPass}
 use Rattle.headers_syntax.specs.Text.{quote, is_blank, is_text, trim, trim_end}
-use Rattle.headers_syntax.specs.EntityTag.{is_tag_byte, between_quotes, TagParts, tag_text, IsTag, IsSomeTag, FindsTag, is_tag, parts_of}
+use Rattle.headers_syntax.specs.EntityTag.{is_tag_byte, between_quotes, TagParts, tag_text, IsTag, IsSomeTag}
+use Rattle.headers_syntax.specs.EntityTag.{FindsTag, is_tag, parts_of}
 
 -- the opaque part by its place
 between_quotes_quoted : (opaque : List ℕ) → between_quotes (quote ∷ (opaque ++ quote ∷ [])) ≡ opaque
 between_quotes_quoted opaque =
-    let n : length (quote ∷ (opaque ++ quote ∷ [])) - 2 ≡ length opaque = omega (arith, length-append opaque (quote ∷ [])) in
+    let n : length (quote ∷ (opaque ++ quote ∷ [])) - 2 ≡ length opaque =
+    omega (arith, length-append opaque (quote ∷ [])) in
     ap (λ k. take k (opaque ++ quote ∷ [])) n ∙ take-append_seam opaque (quote ∷ [])
 
-parts_of-text : (is_weak : Bool) (opaque : List ℕ) → parts_of (tag_text (record { is_weak = is_weak; opaque = opaque })) ≡ record { is_weak = is_weak; opaque = opaque }
+parts_of-text : (is_weak : Bool) (opaque : List ℕ)
+    → parts_of (tag_text (record { is_weak = is_weak; opaque = opaque }))
+    ≡ record { is_weak = is_weak; opaque = opaque }
 parts_of-text true opaque = ap (λ o. record { is_weak = true; opaque = o }) (between_quotes_quoted opaque)
 parts_of-text false opaque = ap (λ o. record { is_weak = false; opaque = o }) (between_quotes_quoted opaque)
 
@@ -38,7 +44,8 @@ is_tag-true bytes parts h =
 pub IsTag-from_is_tag : (bytes : List ℕ) → is_tag bytes ≡ true → IsTag bytes (parts_of bytes)
 unfolding is_tag
 IsTag-from_is_tag bytes h =
-    let both = and_parts (bytes_eq bytes (tag_text (parts_of bytes))) (list_all is_tag_byte (parts_of bytes).opaque) h in
+    let both = and_parts (bytes_eq bytes (tag_text (parts_of bytes))) (list_all is_tag_byte (parts_of bytes).opaque) h
+    in
     record {
       text = (bytes_eq-Decides bytes (tag_text (parts_of bytes))).0 both.0;
       opaque = AllPass-from_list_all is_tag_byte (parts_of bytes).opaque both.1;

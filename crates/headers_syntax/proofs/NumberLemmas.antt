@@ -1,12 +1,15 @@
 -- What `parse` reads of a line is its number, and a printed number is read back.
-use Rattle.std.proofs.Common.{◌≡◌, ℕ, ◌<◌, ◌≤◌, ◌≢◌, ◌^◌, ◌&&◌, true, false, [], ◌∷◌, length, Some, None, Result, Ok, Err, refl, sym, ◌∙◌, ap, subst, inl, inr, arith, rules, nat_lt, nat_le, get_or, ◌==◌}
+use Rattle.std.proofs.Common.{◌≡◌, ℕ, ◌<◌, ◌≤◌, ◌≢◌, ◌^◌, ◌&&◌, true, false, [], ◌∷◌, length, Some, None, Result, Ok}
+use Rattle.std.proofs.Common.{Err, refl, sym, ◌∙◌, ap, subst, inl, inr, arith, rules, nat_lt, nat_le, get_or, ◌==◌}
 use Rattle.std.specs.Str.{all_ascii_digits}
 use Rattle.std.specs.Str.Parse.{ParsesUnsigned}
 use Rattle.std.specs.Result.{OkIff, result_ok}
-use Rattle.std.proofs.lemmas.Str.Parse.{IsNumeralModel, numerals_by_weight, tells_all_ascii_digits, parse_plain, parse_plus, not_in_digits}
+use Rattle.std.proofs.lemmas.Str.Parse.{IsNumeralModel, numerals_by_weight, tells_all_ascii_digits, parse_plain}
+use Rattle.std.proofs.lemmas.Str.Parse.{parse_plus, not_in_digits}
 use Rattle.std.proofs.lemmas.Fmt.{digits_decimal, digits_value-decimal, decimal_nonempty}
 use Rattle.std.specs.Fmt.{decimal}
-use Rattle.std.proofs.lemmas.Bool.{cases_Bool, and_from, and_parts, or_right, le-leb, leb-true, lt-ltb, ltb-true, false_from_ne_true, eqb-true, eqb-false}
+use Rattle.std.proofs.lemmas.Bool.{cases_Bool, and_from, and_parts, or_right, le-leb, leb-true, lt-ltb, ltb-true}
+use Rattle.std.proofs.lemmas.Bool.{false_from_ne_true, eqb-true, eqb-false}
 use Rattle.std.specs.Char.{is_ascii_digit}
 use Rattle.std.proofs.lemmas.List.Elements.{All-cons}
 use Rattle.http_header.specs.Token.{is_visible_or_blank}
@@ -90,7 +93,8 @@ visible_from_digits [] e = digits_visible [] refl
 visible_from_digits (c ∷ cs) e =
     elim (cases_Bool (c == 43)) [
       | inl t ↦ let plus : c ≡ 43 = eqb-true _ _ t in
-          All-cons (λ b. is_visible_or_blank b ≡ true) c cs (visible c (omega arith) (omega arith)) (digits_visible cs (rw t at e))
+          All-cons (λ b. is_visible_or_blank b ≡ true) c cs (visible c (omega arith) (omega arith))
+          (digits_visible cs (rw t at e))
       | inr f ↦ digits_visible (c ∷ cs) (rw f at e)
     ]
 
@@ -102,4 +106,5 @@ number-none line h =
 
 pub number-no_digits : (line : Line) → all_ascii_digits (after_plus line) ≡ false → number line ≡ None
 unfolding number
-number-no_digits line h = rw (is_numeral-false (after_plus line) (λ n. let both : true ≡ false = sym n.0 ∙ h in cc both)) refl
+number-no_digits line h =
+    rw (is_numeral-false (after_plus line) (λ n. let both : true ≡ false = sym n.0 ∙ h in cc both)) refl

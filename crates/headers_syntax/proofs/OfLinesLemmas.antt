@@ -1,5 +1,6 @@
 -- How `OfLines` is built call by call, and what a caller reads of it.
-use Rattle.std.proofs.Common.{◌≡◌, Bool, true, false, IsTrue, List, [], ◌∷◌, ◌++◌, map, length, Option, Some, None, refl, sym, ◌∙◌, ap, subst, arith}
+use Rattle.std.proofs.Common.{◌≡◌, Bool, true, false, IsTrue, List, [], ◌∷◌, ◌++◌, map, length, Option, Some, None}
+use Rattle.std.proofs.Common.{refl, sym, ◌∙◌, ap, subst, arith}
 use Rattle.std.specs.Iterator.{Yields, YieldsThen, YieldsFirstBy}
 use Rattle.std.specs.Slice.Iter.{iter_rest, iter_steps}
 use Rattle.std.specs.declared.slice.Iter.{Iter}
@@ -26,7 +27,8 @@ module _ {S A : Type 0} (shown : A → FieldValue) (steps : S → Option A → S
   OfLines-some s j t x P call g = by g.ended g.calls g.holds
     where
       by : (ended : Bool) → MatchBool ended (YieldsThen steps j g.items None t) (Yields steps j g.items t)
-          → ((rest : List Line) → (IsTrue ended → rest ≡ []) → P ((shown x).bytes ∷ (map (λ item. (shown item).bytes) g.items ++ rest)))
+          → ((rest : List Line) → (IsTrue ended → rest ≡ [])
+          → P ((shown x).bytes ∷ (map (λ item. (shown item).bytes) g.items ++ rest)))
           → OfLines shown steps s t P
       by true calls holds =
           record { items = x ∷ g.items; ended = true; calls = (calls.0, (j, call, calls.1), calls.2); holds = holds }
@@ -34,14 +36,16 @@ module _ {S A : Type 0} (shown : A → FieldValue) (steps : S → Option A → S
           record { items = x ∷ g.items; ended = false; calls = (j, call, calls); holds = holds }
 
   -- one call was made, and P ties its answer to the lines
-  pub OfLines-next : (P : Option A → List Line → Type 0) → P None [] → ((x : A) (lines : List Line) → P (Some x) ((shown x).bytes ∷ lines))
+  pub OfLines-next : (P : Option A → List Line → Type 0) → P None []
+      → ((x : A) (lines : List Line) → P (Some x) ((shown x).bytes ∷ lines))
       → (s t : S) (r : Option A) → steps s r t → OfLines shown steps s t (P r)
   OfLines-next P none some s t None call = OfLines-none s t (P None) call none
   OfLines-next P none some s t (Some x) call =
       OfLines-some s t t x (P (Some x)) call (OfLines-stop t (λ lines. P (Some x) ((shown x).bytes ∷ lines)) (some x))
 
   -- a call more
-  yields_more : (s t u : S) (items : List A) (x : A) → Yields steps s items t → steps t (Some x) u → Yields steps s (items ++ x ∷ []) u
+  yields_more : (s t u : S) (items : List A) (x : A) → Yields steps s items t → steps t (Some x) u
+      → Yields steps s (items ++ x ∷ []) u
   yields_more s t u [] x e call = (u, subst (λ (j : S). steps j (Some x) u) (sym e) call, refl)
   yields_more s t u (y ∷ items) x calls call = (calls.0, calls.1, yields_more calls.0 t u items x calls.2 call)
 
@@ -60,7 +64,8 @@ module _ {S A : Type 0} (shown : A → FieldValue) (steps : S → Option A → S
       record {
         items = so_far.items ++ x ∷ [];
         calls = yields_more s t u so_far.items x so_far.calls call;
-        holds = subst Q (sym (map-append (λ (item : A). (shown item).bytes) so_far.items (x ∷ []))) (more _ so_far.holds);
+        holds = subst Q (sym (map-append (λ (item : A). (shown item).bytes) so_far.items (x ∷ [])))
+            (more _ so_far.holds);
       }
 
   -- the last call gave `None`
@@ -71,7 +76,9 @@ module _ {S A : Type 0} (shown : A → FieldValue) (steps : S → Option A → S
         items = so_far.items;
         ended = true;
         calls = (t, so_far.calls, call);
-        holds = λ rest e. subst Q (sym (append-nil _) ∙ ap (λ (r : List Line). map (λ item. (shown item).bytes) so_far.items ++ r) (sym (e refl))) (h _ so_far.holds);
+        holds = λ rest e. subst Q (sym (append-nil _)
+            ∙ ap (λ (r : List Line). map (λ item. (shown item).bytes) so_far.items ++ r) (sym (e refl)))
+            (h _ so_far.holds);
       }
 
   -- the last call gave an item, and no other was made
@@ -83,8 +90,10 @@ module _ {S A : Type 0} (shown : A → FieldValue) (steps : S → Option A → S
       record { items = more.items; ended = false; calls = more.calls; holds = λ rest _. more.holds rest }
 
   -- an iterator whose state shows the values that are left
-  module _ (rest : S → List FieldValue) (shows : (s : S) (r : Option A) (t : S) → steps s r t → YieldsFirstBy shown rest s r t) where
-    left_after : (s t : S) (items : List A) → Yields steps s items t → lines_of (rest s) ≡ map (λ item. (shown item).bytes) items ++ lines_of (rest t)
+  module _ (rest : S → List FieldValue) (shows : (s : S) (r : Option A) (t : S) → steps s r t
+      → YieldsFirstBy shown rest s r t) where
+    left_after : (s t : S) (items : List A) → Yields steps s items t
+        → lines_of (rest s) ≡ map (λ item. (shown item).bytes) items ++ lines_of (rest t)
     left_after s t [] e = ap (λ (j : S). lines_of (rest j)) e
     left_after s t (x ∷ items) calls =
         ap lines_of (shows s (Some x) calls.0 calls.1)
@@ -95,10 +104,12 @@ module _ {S A : Type 0} (shown : A → FieldValue) (steps : S → Option A → S
     OfLines-all s t P g = by g.ended g.calls g.holds
       where
         by : (ended : Bool) → MatchBool ended (YieldsThen steps s g.items None t) (Yields steps s g.items t)
-            → ((more : List Line) → (IsTrue ended → more ≡ []) → P (map (λ item. (shown item).bytes) g.items ++ more)) → P (lines_of (rest s))
+            → ((more : List Line) → (IsTrue ended → more ≡ []) → P (map (λ item. (shown item).bytes) g.items ++ more))
+            → P (lines_of (rest s))
         by true calls holds =
             let none = (shows calls.0 None t calls.2).0 in
-            subst P (sym (left_after s calls.0 g.items calls.1)) (holds (lines_of (rest calls.0)) (λ _. ap lines_of none))
+            subst P (sym (left_after s calls.0 g.items calls.1))
+            (holds (lines_of (rest calls.0)) (λ _. ap lines_of none))
         by false calls holds =
             subst P (sym (left_after s t g.items calls)) (holds (lines_of (rest t)) (λ e. absurd (cc e)))
 
@@ -111,12 +122,14 @@ empty_values [] e = refl
 empty_values (v ∷ vs) e = absurd (omega (arith, e))
 
 -- the iterator of a slice shows what is left
-slice_shows : (s : Iter FieldValue) (r : Option (Bor FieldValue)) (t : Iter FieldValue) → iter_steps s r t → YieldsFirstBy shown_value iter_rest s r t
+slice_shows : (s : Iter FieldValue) (r : Option (Bor FieldValue)) (t : Iter FieldValue) → iter_steps s r t
+    → YieldsFirstBy shown_value iter_rest s r t
 slice_shows s None t call =
     let none = empty_values (iter_rest s) call.0 in
     (none, ap (λ (it : Iter FieldValue). iter_rest it) call.1 ∙ none)
 slice_shows s (Some x) t call = call
 
 -- so what a call over a slice's iterator was given holds of the slice
-pub OfLines-slice : (s t : Iter FieldValue) (P : List Line → Type 0) → OfLines shown_value iter_steps s t P → P (lines_of (iter_rest s))
+pub OfLines-slice : (s t : Iter FieldValue) (P : List Line → Type 0) → OfLines shown_value iter_steps s t P
+    → P (lines_of (iter_rest s))
 OfLines-slice s t P g = OfLines-all shown_value iter_steps iter_rest slice_shows s t P g

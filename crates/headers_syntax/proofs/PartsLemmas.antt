@@ -12,23 +12,28 @@ pub last_or-append : {A : Type 0} (o : Option A) (xs ys : List A) → last_or o 
 last_or-append o [] ys = refl
 last_or-append o (x ∷ xs) ys = last_or-append (Some x) xs ys
 
-one_more : {X A : Type 0} (f : X → Option A) (o r : Option A) (x : X) → f x ≡ r → last_or o (filter_map f (x ∷ [])) ≡ option_or r o
+one_more : {X A : Type 0} (f : X → Option A) (o r : Option A) (x : X) → f x ≡ r
+    → last_or o (filter_map f (x ∷ [])) ≡ option_or r o
 one_more f o None x e = rw e refl
 one_more f o (Some a) x e = rw e refl
 
 -- a word more
-pub last_step : {X A : Type 0} (f : X → Option A) (o : Option A) (xs : List X) (x : X) → last_or o (filter_map f (xs ++ x ∷ [])) ≡ option_or (f x) (last_or o (filter_map f xs))
+pub last_step : {X A : Type 0} (f : X → Option A) (o : Option A) (xs : List X) (x : X)
+    → last_or o (filter_map f (xs ++ x ∷ [])) ≡ option_or (f x) (last_or o (filter_map f xs))
 last_step f o xs x =
     ap (last_or o) (filter_map-append f xs (x ∷ [])) ∙ last_or-append o (filter_map f xs) (filter_map f (x ∷ []))
     ∙ one_more f (last_or o (filter_map f xs)) (f x) x refl
 
 -- a line more
-parts-more : (c : ℕ) (lines : List Line) (line : Line) → parts_of_lines c (lines ++ line ∷ []) ≡ parts_of_lines c lines ++ parts c line
+parts-more : (c : ℕ) (lines : List Line) (line : Line)
+    → parts_of_lines c (lines ++ line ∷ []) ≡ parts_of_lines c lines ++ parts c line
 parts-more c lines line =
     flat_map-append (parts c) lines (line ∷ []) ∙ ap (λ r. parts_of_lines c lines ++ r) (append-nil (parts c line))
 
-pub last_more : {A : Type 0} (f : List ℕ → Option A) (c : ℕ) (last next : Option A) (lines : List Line) (line : Line) → next ≡ last_or last (filter_map f (parts c line))
-    → last ≡ last_or None (filter_map f (parts_of_lines c lines)) → next ≡ last_or None (filter_map f (parts_of_lines c (lines ++ line ∷ [])))
+pub last_more : {A : Type 0} (f : List ℕ → Option A) (c : ℕ) (last next : Option A) (lines : List Line) (line : Line)
+    → next ≡ last_or last (filter_map f (parts c line))
+    → last ≡ last_or None (filter_map f (parts_of_lines c lines))
+    → next ≡ last_or None (filter_map f (parts_of_lines c (lines ++ line ∷ [])))
 last_more f c last next lines line e h =
     e ∙ ap (λ o. last_or o (filter_map f (parts c line))) h
     ∙ sym (last_or-append None (filter_map f (parts_of_lines c lines)) (filter_map f (parts c line)))

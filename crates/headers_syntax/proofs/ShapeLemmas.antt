@@ -10,7 +10,8 @@ use Rattle.headers_syntax.specs.Number.{number}
 use Rattle.headers_syntax.specs.EntityTag.{is_tag}
 use Rattle.headers_syntax.specs.Text.{is_text}
 use Rattle.headers_syntax.specs.HeaderLaws.{HeaderLaws, SameBy, ReadsBy, written_by, ReadsBack, laws_by}
-use Rattle.headers_syntax.specs.Shapes.{line_if, text_line, word_line, one_line, first_kept, only_number, only_text, only_word, first_word, all_kept, only_date, tag_line, only_tag}
+use Rattle.headers_syntax.specs.Shapes.{line_if, text_line, word_line, one_line, first_kept, only_number, only_text}
+use Rattle.headers_syntax.specs.Shapes.{only_word, first_word, all_kept, only_date, tag_line, only_tag}
 use Rattle.headers_syntax.proofs.DateLemmas.{date_back}
 use Rattle.headers_syntax.proofs.NumberLemmas.{number-decimal, number-lt}
 
@@ -19,7 +20,8 @@ abbrev pub ReadsBackLine : {A : Type 0} → (Line → Option A) → (A → Line)
 ReadsBackLine {A} read write = (line : Line) (a : A) → read line ≡ Some a → read (write a) ≡ Some a
 
 -- what is read of a line that may be absent, is read of a line
-read_of_some : {A : Type 0} (read : Line → Option A) (line : Option Line) (a : A) → option_and_then read line ≡ Some a → (l : Line) × (read l ≡ Some a)
+read_of_some : {A : Type 0} (read : Line → Option A) (line : Option Line) (a : A) → option_and_then read line ≡ Some a
+    → (l : Line) × (read l ≡ Some a)
 read_of_some read None a e = absurd (cc e)
 read_of_some read (Some line) a e = (line, e)
 
@@ -40,7 +42,8 @@ text_back = line_if_back is_text
 pub word_back : (word : Line) → ReadsBackLine (word_line word) (λ line. line)
 word_back word line w e =
     elim (cases_Bool (bytes_eq line word)) [
-      | inl t ↦ let some : Some word ≡ Some w = rw t at e in let same : word ≡ w = cc some in rw (← same, (bytes_eq-Decides word word).1 refl) refl
+      | inl t ↦ let some : Some word ≡ Some w = rw t at e in let same : word ≡ w = cc some in
+          rw (← same, (bytes_eq-Decides word word).1 refl) refl
       | inr f ↦ let none : None ≡ Some w = rw f at e in absurd (cc none)
     ]
 
@@ -55,13 +58,15 @@ kept_again (line ∷ lines) (other ∷ kept) h = refl
 module _ {V A : Type 0} where
   -- a shape of one line rests on its reader and its writer alone
   pub one_line_back : (kept : V → A) (pick : List Line → Option Line) (read : Line → Option A) (write : A → Line)
-      → ((line : Line) → pick (line ∷ []) ≡ Some line) → ReadsBackLine read write → ReadsBack (one_line kept pick read write)
+      → ((line : Line) → pick (line ∷ []) ≡ Some line) → ReadsBackLine read write
+      → ReadsBack (one_line kept pick read write)
   one_line_back kept pick read write single back lines a h =
       let l = read_of_some read (pick lines) a h in rw (single (write a)) (back l.0 a l.1)
 
   pub one_line_laws : (kept : V → A) (pick : List Line → Option Line) (read : Line → Option A) (write : A → Line)
       → ((line : Line) → pick (line ∷ []) ≡ Some line) → ReadsBackLine read write
-      → HeaderLaws (SameBy (one_line kept pick read write)) (ReadsBy (one_line kept pick read write)) (written_by (one_line kept pick read write))
+      → HeaderLaws (SameBy (one_line kept pick read write)) (ReadsBy (one_line kept pick read write))
+      (written_by (one_line kept pick read write))
   one_line_laws kept pick read write single back =
       laws_by (one_line kept pick read write) (one_line_back kept pick read write single back)
 
@@ -81,11 +86,16 @@ module _ {V : Type 0} where
   pub only_tag_back : (kept : V → Line) → ReadsBack (only_tag kept)
   only_tag_back kept = one_line_back kept only_line tag_line (λ line. line) (λ line. refl) tag_back
 
-  pub only_word_laws : (word : Line) (kept : V → Line) → HeaderLaws (SameBy (only_word word kept)) (ReadsBy (only_word word kept)) (written_by (only_word word kept))
-  only_word_laws word kept = one_line_laws kept only_line (word_line word) (λ line. line) (λ line. refl) (word_back word)
+  pub only_word_laws : (word : Line) (kept : V → Line)
+      → HeaderLaws (SameBy (only_word word kept)) (ReadsBy (only_word word kept)) (written_by (only_word word kept))
+  only_word_laws word kept =
+      one_line_laws kept only_line (word_line word) (λ line. line) (λ line. refl) (word_back word)
 
-  pub first_word_laws : (word : Line) (kept : V → Line) → HeaderLaws (SameBy (first_word word kept)) (ReadsBy (first_word word kept)) (written_by (first_word word kept))
-  first_word_laws word kept = one_line_laws kept first_line (word_line word) (λ line. line) (λ line. refl) (word_back word)
+  pub first_word_laws : (word : Line) (kept : V → Line)
+      → HeaderLaws (SameBy (first_word word kept)) (ReadsBy (first_word word kept)) (written_by (first_word word kept))
+  first_word_laws word kept =
+      one_line_laws kept first_line (word_line word) (λ line. line) (λ line. refl) (word_back word)
 
-  pub all_kept_laws : (kept : V → List Line) → HeaderLaws (SameBy (all_kept kept)) (ReadsBy (all_kept kept)) (written_by (all_kept kept))
+  pub all_kept_laws : (kept : V → List Line)
+      → HeaderLaws (SameBy (all_kept kept)) (ReadsBy (all_kept kept)) (written_by (all_kept kept))
   all_kept_laws kept = laws_by (all_kept kept) kept_again

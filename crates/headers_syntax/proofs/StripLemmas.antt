@@ -1,5 +1,7 @@
 -- What `trim_start_matches` and `trim_end_matches` leave of a text, where the characters that go are ASCII.
-use Rattle.std.proofs.Common.{◌≡◌, ℕ, suc, ◌+◌, ◌-◌, ◌<◌, Bool, true, false, List, [], ◌∷◌, ◌++◌, length, take, drop, get_or, Option, Some, None, IfSome, refl, sym, ◌∙◌, ap, arith, inl, inr, take-append-drop, length-append}
+use Rattle.std.proofs.Common.{◌≡◌, ℕ, suc, ◌+◌, ◌-◌, ◌<◌, Bool, true, false, List, [], ◌∷◌, ◌++◌, length, take, drop}
+use Rattle.std.proofs.Common.{get_or, Option, Some, None, IfSome, refl, sym, ◌∙◌, ap, arith, inl, inr}
+use Rattle.std.proofs.Common.{take-append-drop, length-append}
 use Rattle.std.specs.List.{prefix_len, suffix_len}
 use Rattle.std.proofs.Common.{⊎_elim, ◌==◌}
 use Rattle.std.specs.Char.{char_set_contains}
@@ -8,7 +10,8 @@ use Rattle.std.proofs.lemmas.Bool.Decides.{nat_tests}
 use Rattle.headers_syntax.specs.Text.{is_blank}
 use Rattle.headers_syntax.specs.Text.{is_quote}
 use lib.Utf8.{low_scalar}
-use Rattle.std.specs.Str.Pattern.{FindsPrefixBy, FindsSuffixBy, IsTrimStartMatches, IsTrimEndMatches, CutsPrefixes, CutsSuffixes}
+use Rattle.std.specs.Str.Pattern.{FindsPrefixBy, FindsSuffixBy, IsTrimStartMatches, IsTrimEndMatches, CutsPrefixes}
+use Rattle.std.specs.Str.Pattern.{CutsSuffixes}
 use Rattle.std.proofs.lemmas.Bool.{cases_Bool}
 use Rattle.std.proofs.lemmas.List.{reverse-append, take-append-le, drop_all, take_all, take_more}
 use Rattle.std.proofs.lemmas.List.Sums.{suffix_len_is}
@@ -30,7 +33,8 @@ front_step : (test : ℕ → Bool) (b : ℕ) (t : List ℕ) → test b ≡ true 
 front_step test b t h =
     let e : 1 + prefix_len test t ≡ suc (prefix_len test t) = omega arith in rw (h, e) refl
 
-end_length : (test : ℕ → Bool) (t : List ℕ) (b : ℕ) → test b ≡ true → suffix_len test (t ++ b ∷ []) ≡ 1 + suffix_len test t
+end_length : (test : ℕ → Bool) (t : List ℕ) (b : ℕ) → test b ≡ true
+    → suffix_len test (t ++ b ∷ []) ≡ 1 + suffix_len test t
 end_length test t b h = rw (reverse-append t (b ∷ []), h) refl
 
 end_step : (test : ℕ → Bool) (t : List ℕ) (b : ℕ) → test b ≡ true → strip_end test (t ++ b ∷ []) ≡ strip_end test t
@@ -41,16 +45,24 @@ end_step test t b h =
     ap (λ k. take k (t ++ b ∷ [])) n ∙ take-append-le (length t - suffix_len test t) t (b ∷ []) (omega arith)
 
 -- a character at the front of a text is its first byte, and one at the end its last
-cut_first : (test : ℕ → Bool) → OnAscii test → (s : List ℕ) (n : ℕ) → FindsPrefixBy test s (Some n) → (b : ℕ) × (t : List ℕ) × (s ≡ b ∷ t) × (test b ≡ true) × (drop n s ≡ t)
+cut_first : (test : ℕ → Bool) → OnAscii test → (s : List ℕ) (n : ℕ) → FindsPrefixBy test s (Some n) → (b : ℕ)
+    × (t : List ℕ) × (s ≡ b ∷ t) × (test b ≡ true) × (drop n s ≡ t)
 cut_first test ascii s n h =
     let small = ascii h.0 h.1 in (h.0, drop n s, drop_at_char h.0 s 0 n h.2 small, h.1, refl)
 
-cut_last : (test : ℕ → Bool) → OnAscii test → (s : List ℕ) (n : ℕ) → FindsSuffixBy test s (Some n) → (b : ℕ) × (t : List ℕ) × (s ≡ t ++ b ∷ []) × (test b ≡ true) × (take (length s - n) s ≡ t)
+cut_last : (test : ℕ → Bool) → OnAscii test → (s : List ℕ) (n : ℕ) → FindsSuffixBy test s (Some n) → (b : ℕ)
+    × (t : List ℕ) × (s ≡ t ++ b ∷ []) × (test b ≡ true) × (take (length s - n) s ≡ t)
 cut_last test ascii s n h =
     let small = ascii h.0 h.1 in
     let here = drop_at_char h.0 s (length s - n) (length s) h.2 small in
-    let none : drop (length s) s ≡ [] = drop_all (length s) s (omega arith) in
-    (h.0, take (length s - n) s, sym (take-append-drop (length s - n) s) ∙ ap (λ r. take (length s - n) s ++ r) (here ∙ ap (λ r. h.0 ∷ r) none), h.1, refl)
+    let none : drop (length s) s ≡ [] = drop_all (length s) s (omega arith) in (
+      h.0,
+      take (length s - n) s,
+      sym (take-append-drop (length s - n) s)
+          ∙ ap (λ r. take (length s - n) s ++ r) (here ∙ ap (λ r. h.0 ∷ r) none),
+      h.1,
+      refl,
+    )
 
 -- where no such character is left, nothing goes
 none_first : (test : ℕ → Bool) → OnAscii test → (s : List ℕ) → FindsPrefixBy test s None → strip_front test s ≡ s
@@ -58,7 +70,8 @@ none_first test ascii [] h = refl
 none_first test ascii (b ∷ t) h =
     elim (cases_Bool (test b)) [
       | inl y ↦ let small = ascii b y in
-          let no : test b ≡ false = h b t (low_scalar b (omega arith)) (ap (λ r. r ++ t) (sym (encode_ascii b small))) in
+          let no : test b ≡ false = h b t (low_scalar b (omega arith)) (ap (λ r. r ++ t) (sym (encode_ascii b small)))
+          in
           absurd (cc (y, no))
       | inr n ↦ rw n refl
     ]
@@ -72,37 +85,48 @@ none_last test ascii s h =
       | inl y ↦ let small = ascii b y in
           let n : (length s - 1) + 1 ≡ length s = omega arith in
           let lt : length s - 1 < length s = omega arith in
-          let split : s ≡ take (length s - 1) s ++ b ∷ [] = sym (take_all (length s) s (omega arith)) ∙ ap (λ k. take k s) (sym n) ∙ take_more s (length s - 1) 0 lt in
-          let no : test b ≡ false = h b (take (length s - 1) s) (low_scalar b (omega arith)) (split ∙ ap (λ r. take (length s - 1) s ++ r) (sym (encode_ascii b small))) in
+          let split : s ≡ take (length s - 1) s ++ b ∷ [] = sym (take_all (length s) s (omega arith))
+          ∙ ap (λ k. take k s) (sym n) ∙ take_more s (length s - 1) 0 lt in
+          let no : test b ≡ false =
+          h b (take (length s - 1) s) (low_scalar b (omega arith)) (split
+          ∙ ap (λ r. take (length s - 1) s ++ r) (sym (encode_ascii b small))) in
           absurd (cc (y, no))
       | inr n ↦ n
     ] in
-    let none : suffix_len test s ≡ length s - length s = suffix_len_is test s (length s) 0 (omega arith) (λ k a b. absurd (omega arith)) last in
+    let none : suffix_len test s ≡ length s - length s =
+    suffix_len_is test s (length s) 0 (omega arith) (λ k a b. absurd (omega arith)) last in
     ap (λ k. take (length s - k) s) none ∙ take_all (length s - (length s - length s)) s (omega arith)
 
 module _ (test : ℕ → Bool) (ascii : OnAscii test) (R : List ℕ → Option ℕ → Type 0) where
-  front_kept : ((s : List ℕ) (o : Option ℕ) → R s o → FindsPrefixBy test s o) → (s : List ℕ) (ns : List ℕ) (r : List ℕ) → CutsPrefixes R s ns r → strip_front test s ≡ strip_front test r
+  front_kept : ((s : List ℕ) (o : Option ℕ) → R s o → FindsPrefixBy test s o)
+      → (s : List ℕ) (ns : List ℕ) (r : List ℕ) → CutsPrefixes R s ns r → strip_front test s ≡ strip_front test r
   front_kept by s [] r e = ap (strip_front test) (sym e)
   front_kept by s (n ∷ ns) r h =
       let cut = cut_first test ascii h.0 n (by h.0 (Some n) h.2) in
-      front_kept by s ns h.0 h.1 ∙ ap (strip_front test) cut.2 ∙ front_step test cut.0 cut.1 cut.3 ∙ ap (strip_front test) (sym (h.3 ∙ cut.4))
+      front_kept by s ns h.0 h.1 ∙ ap (strip_front test) cut.2 ∙ front_step test cut.0 cut.1 cut.3
+      ∙ ap (strip_front test) (sym (h.3 ∙ cut.4))
 
-  end_kept : ((s : List ℕ) (o : Option ℕ) → R s o → FindsSuffixBy test s o) → (s : List ℕ) (ns : List ℕ) (r : List ℕ) → CutsSuffixes R s ns r → strip_end test s ≡ strip_end test r
+  end_kept : ((s : List ℕ) (o : Option ℕ) → R s o → FindsSuffixBy test s o) → (s : List ℕ) (ns : List ℕ) (r : List ℕ)
+      → CutsSuffixes R s ns r → strip_end test s ≡ strip_end test r
   end_kept by s [] r e = ap (strip_end test) (sym e)
   end_kept by s (n ∷ ns) r h =
       let cut = cut_last test ascii h.0 n (by h.0 (Some n) h.2) in
-      end_kept by s ns h.0 h.1 ∙ ap (strip_end test) cut.2 ∙ end_step test cut.1 cut.0 cut.3 ∙ ap (strip_end test) (sym (h.3 ∙ cut.4))
+      end_kept by s ns h.0 h.1 ∙ ap (strip_end test) cut.2 ∙ end_step test cut.1 cut.0 cut.3
+      ∙ ap (strip_end test) (sym (h.3 ∙ cut.4))
 
-  trim_start_is : ((s : List ℕ) (o : Option ℕ) → R s o → FindsPrefixBy test s o) → (s r : List ℕ) → IsTrimStartMatches R s r → r ≡ strip_front test s
+  trim_start_is : ((s : List ℕ) (o : Option ℕ) → R s o → FindsPrefixBy test s o) → (s r : List ℕ)
+      → IsTrimStartMatches R s r → r ≡ strip_front test s
   trim_start_is by s r h = sym (front_kept by s h.0.0 r h.0.1 ∙ done h.1.0 h.1.1 h.1.2)
     where
       done : (o : Option ℕ) → R r o → IfSome o (λ n. n ≡ 0) → strip_front test r ≡ r
       done None f z = none_first test ascii r (by r None f)
       done (Some n) f z =
           let cut = cut_first test ascii r n (by r (Some n) f) in
-          absurd (let same : r ≡ cut.1 = ap (λ k. drop k r) (sym z) ∙ cut.4 in let long = ap length (sym cut.2 ∙ same) in omega (arith, long))
+          absurd (let same : r ≡ cut.1 = ap (λ k. drop k r) (sym z) ∙ cut.4 in let long = ap length (sym cut.2 ∙ same)
+          in omega (arith, long))
 
-  trim_end_is : ((s : List ℕ) (o : Option ℕ) → R s o → FindsSuffixBy test s o) → (s r : List ℕ) → IsTrimEndMatches R s r → r ≡ strip_end test s
+  trim_end_is : ((s : List ℕ) (o : Option ℕ) → R s o → FindsSuffixBy test s o) → (s r : List ℕ)
+      → IsTrimEndMatches R s r → r ≡ strip_end test s
   trim_end_is by s r h = sym (end_kept by s h.0.0 r h.0.1 ∙ done h.1.0 h.1.1 h.1.2)
     where
       done : (o : Option ℕ) → R r o → IfSome o (λ n. n ≡ 0) → strip_end test r ≡ r
@@ -120,7 +144,8 @@ quote_ascii c h = let e = eqb-true c 34 h in omega (arith, e)
 
 pub blank_ascii : OnAscii is_blank
 blank_ascii c h =
-    ⊎_elim (λ a. let e = eqb-true c 9 a in omega (arith, e)) (λ a. let e = eqb-true c 32 a in omega (arith, e)) (or_cases (c == 9) (c == 32) h)
+    ⊎_elim (λ a. let e = eqb-true c 9 a in omega (arith, e)) (λ a. let e = eqb-true c 32 a in omega (arith, e))
+    (or_cases (c == 9) (c == 32) h)
 
 pub is_quote_set : (c : ℕ) → char_set_contains (34 ∷ []) c ≡ is_quote c
 is_quote_set c = grind (arith, nat_tests)
@@ -135,7 +160,9 @@ FrontOfSet set s o = (k : ℕ → Bool) → ((c : ℕ) → char_set_contains set
 abbrev pub EndOfSet : List ℕ → List ℕ → Option ℕ → Type 0
 EndOfSet set s o = (k : ℕ → Bool) → ((c : ℕ) → char_set_contains set c ≡ k c) → FindsSuffixBy k s o
 
-pub strip_set : (test : ℕ → Bool) (set : List ℕ) → OnAscii test → ((c : ℕ) → char_set_contains set c ≡ test c) → (s m r : List ℕ) → IsTrimStartMatches (FrontOfSet set) s m → IsTrimEndMatches (EndOfSet set) m r → r ≡ strip_end test (strip_front test s)
+pub strip_set : (test : ℕ → Bool) (set : List ℕ) → OnAscii test → ((c : ℕ) → char_set_contains set c ≡ test c)
+    → (s m r : List ℕ) → IsTrimStartMatches (FrontOfSet set) s m → IsTrimEndMatches (EndOfSet set) m r
+    → r ≡ strip_end test (strip_front test s)
 strip_set test set ascii same s m r a b =
     trim_end_is test ascii (EndOfSet set) (λ s o h. h test same) m r b
     ∙ ap (strip_end test) (trim_start_is test ascii (FrontOfSet set) (λ s o h. h test same) s m a)

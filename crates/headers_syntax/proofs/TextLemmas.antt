@@ -18,7 +18,8 @@ pub no_text : (s : List ℕ) → (IsVisibleAscii s → ⊥) → is_text s ≡ fa
 no_text s h = false_from_ne_true _ (λ e. h (visible-from_is_text s e))
 
 -- a test of each element, in two parts
-pub list_all-parts : (f : ℕ → Bool) (xs ys : List ℕ) → list_all f (xs ++ ys) ≡ true → (list_all f xs ≡ true) × (list_all f ys ≡ true)
+pub list_all-parts : (f : ℕ → Bool) (xs ys : List ℕ) → list_all f (xs ++ ys) ≡ true → (list_all f xs ≡ true)
+    × (list_all f ys ≡ true)
 list_all-parts f [] ys h = (refl, h)
 list_all-parts f (x ∷ xs) ys h =
     let parts = and_parts (f x) (list_all f (xs ++ ys)) h in
@@ -29,7 +30,8 @@ list_all-parts f (x ∷ xs) ys h =
 pub is_text-slice : (s : List ℕ) (i j : ℕ) → is_text s ≡ true → is_text (slice_range s i j) ≡ true
 is_text-slice s i j h =
     let rest = (list_all-parts is_visible_or_blank (take i s) (drop i s) (ap is_text (take-append-drop i s) ∙ h)).1 in
-    (list_all-parts is_visible_or_blank (take (j - i) (drop i s)) (drop (j - i) (drop i s)) (ap is_text (take-append-drop (j - i) (drop i s)) ∙ rest)).0
+    (list_all-parts is_visible_or_blank (take (j - i) (drop i s)) (drop (j - i) (drop i s))
+    (ap is_text (take-append-drop (j - i) (drop i s)) ∙ rest)).0
 
 -- a value that is not refused is one
 pub IsFieldValue-from_kept : (bytes : List ℕ) → ¬ (¬ (IsFieldValue bytes)) → IsFieldValue bytes

@@ -16,17 +16,20 @@ date line = if is_text line then parse_secs (trim line) else None
 abbrev pub IsDated : ℕ → Type 0
 IsDated secs = secs < 253_402_300_800
 
--- The year in which a day lies, and how many days of it have passed, where `days` have passed of the years from `year` on.
+-- The year in which a day lies, and how many days of it have passed, where `days` have passed of the years from
+-- `year` on.
 -- At most n years are counted off.
 unfoldable pub year_of : ℕ → ℕ → ℕ → ℕ × ℕ
 year_of zero year days = (year, days)
-year_of (suc n) year days = if nat_lt days (days_in_year year) then (year, days) else year_of n (year + 1) (days - days_in_year year)
+year_of (suc n) year days = if nat_lt days (days_in_year year) then (year, days)
+    else year_of n (year + 1) (days - days_in_year year)
 
 -- the same for the months of a year
 unfoldable pub month_of : ℕ → ℕ → ℕ → ℕ → ℕ × ℕ
 month_of zero year month days = (month, days)
 month_of (suc n) year month days =
-    if nat_lt days (days_in_month year month) then (month, days) else month_of n year (month + 1) (days - days_in_month year month)
+    if nat_lt days (days_in_month year month) then (month, days)
+    else month_of n year (month + 1) (days - days_in_month year month)
 
 -- the date and the time of day that lie so many seconds after the start of 1970, up to 8029 years and 11 months later
 abbrev pub parts_at : ℕ → Parts
@@ -48,6 +51,8 @@ parts_at secs =
 unfoldable pub fixdate : ℕ → Line
 fixdate secs = imf_fixdate (parts_at secs)
 
--- the line is text, and without the spaces and tabs at its ends it shows the date of that second in one of the three formats
+-- the line is text, and without the spaces and tabs at its ends it shows the date of that second in one of the three
+-- formats
 abbrev pub ShowsDate : Line → ℕ → Type 0
-ShowsDate line secs = IsTrue (is_text line) × ((p : Parts) × IsValid p × IsPartsText (trim line) p × (parts_secs p ≡ secs))
+ShowsDate line secs = IsTrue (is_text line)
+    × ((p : Parts) × IsValid p × IsPartsText (trim line) p × (parts_secs p ≡ secs))

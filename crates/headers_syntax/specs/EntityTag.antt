@@ -1,5 +1,6 @@
 -- Entity tags and their comparison (RFC 9110, sections 8.8.3 and 8.8.3.2).
-use Rattle.std.specs.Prelude.{◌≡◌, ◌≢◌, ℕ, ◌-◌, Bool, true, false, ◌&&◌, ◌||◌, ◌==◌, nat_le, List, [], ◌∷◌, ◌++◌, take, drop, length, slice_index, bytes_eq, if◌then◌else◌, codes, Option, MatchOption}
+use Rattle.std.specs.Prelude.{◌≡◌, ◌≢◌, ℕ, ◌-◌, Bool, true, false, ◌&&◌, ◌||◌, ◌==◌, nat_le, List, [], ◌∷◌, ◌++◌}
+use Rattle.std.specs.Prelude.{take, drop, length, slice_index, bytes_eq, if◌then◌else◌, codes, Option, MatchOption}
 use Rattle.std.specs.List.{list_all}
 use denote.Ref.{Bor}
 use Rattle.http_header.specs.Token.{AllPass}
@@ -67,4 +68,5 @@ FindsTag bytes found = MatchOption found (¬ (IsSomeTag bytes)) (IsTag bytes)
 -- the bytes are a quote, what was found, and a quote; there are no such bytes where nothing was found
 abbrev pub FindsQuoted : List ℕ → Option (Bor (List ℕ)) → Type 0
 FindsQuoted bytes found =
-    MatchOption found ((inner : List ℕ) → bytes ≢ quote ∷ (inner ++ quote ∷ [])) (λ inner. bytes ≡ quote ∷ (inner.now ++ quote ∷ []))
+    MatchOption found ((inner : List ℕ) → bytes ≢ quote ∷ (inner ++ quote ∷ []))
+    (λ inner. bytes ≡ quote ∷ (inner.now ++ quote ∷ []))

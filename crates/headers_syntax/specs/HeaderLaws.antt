@@ -3,8 +3,10 @@ use Rattle.std.specs.Prelude.{◌≡◌, List, Option, Some, refl}
 use Rattle.std.proofs.Common.{sym, ◌∙◌, ap}
 use Rattle.headers_syntax.specs.Lines.{Line}
 
--- `same` is an equivalence that reading and writing respect, lines read one value at most, and what is written of a value that was read reads as that value
-pub record HeaderLaws {V : Type 0} (same : V → V → Type 0) (reads : List Line → V → Type 0) (writes : V → List Line) : Type 0 where
+-- `same` is an equivalence that reading and writing respect, lines read one value at most, and what is written of a
+-- value that was read reads as that value
+pub record HeaderLaws {V : Type 0} (same : V → V → Type 0) (reads : List Line → V → Type 0) (writes : V → List Line) :
+    Type 0 where
   pub same_refl : (v : V) → same v v
   pub same_sym : (v w : V) → same v w → same w v
   pub same_trans : (u v w : V) → same u v → same v w → same u w
@@ -13,7 +15,8 @@ pub record HeaderLaws {V : Type 0} (same : V → V → Type 0) (reads : List Lin
   pub reads_once : (lines : List Line) (v w : V) → reads lines v → reads lines w → same v w
   pub reads_back : (lines : List Line) (v : V) → reads lines v → reads (writes v) v
 
--- A grammar: the abstract value that a header keeps, the one that lines read, if any, and the lines that are written of one.
+-- A grammar: the abstract value that a header keeps, the one that lines read, if any, and the lines that are written
+-- of one.
 pub record Grammar (V A : Type 0) : Type 0 where
   pub kept : V → A
   pub value_of : List Line → Option A
@@ -34,7 +37,8 @@ module _ {V A : Type 0} (grammar : Grammar V A) where
 
   -- what is written of an abstract value that lines read, reads as it
   abbrev pub ReadsBack : Type 0
-  ReadsBack = (lines : List Line) (a : A) → grammar.value_of lines ≡ Some a → grammar.value_of (grammar.lines_of_value a) ≡ Some a
+  ReadsBack = (lines : List Line) (a : A) → grammar.value_of lines ≡ Some a
+      → grammar.value_of (grammar.lines_of_value a) ≡ Some a
 
   -- the laws rest on that alone
   pub laws_by : ReadsBack → HeaderLaws SameBy ReadsBy written_by

@@ -1,6 +1,7 @@
 //! Entity tags, which tell one representation of a resource from another.
 ghost use Rattle.std.specs.Prelude.{◌≡◌, ◌↔◌, ℕ, List, false, IsTrue, IfOk, Some, None, if◌then◌else◌};
-ghost use Rattle.headers_syntax.specs.EntityTag.{TagParts, IsTag, IsSomeTag, is_tag, is_tag_byte, FindsTag, FindsQuoted, StronglyEqual, WeaklyEqual};
+ghost use Rattle.headers_syntax.specs.EntityTag.{TagParts, IsTag, IsSomeTag, is_tag, is_tag_byte, FindsTag};
+ghost use Rattle.headers_syntax.specs.EntityTag.{FindsQuoted, StronglyEqual, WeaklyEqual};
 
 use http_header::HeaderValue;
 use std::alloc::{AllocError, Global};

@@ -2,7 +2,8 @@ use Rattle.std.proofs.Common.{◌≡◌, ◌<◌, ◌++◌, ℕ, List, length, s
 use Rattle.std.specs.Prelude.{option_map}
 use Rattle.std.proofs.lemmas.Bool.Decides.{nat_tests}
 use Rattle.headers_mime.specs.MediaTypeReading.{canonical_rest, optional_canonical}
-use Rattle.headers_mime.proofs.WritingLemmas.{segment-shrinks, canonical_rest-none, canonical_rest-some, canonical_rest-end, written_more, none_behind}
+use Rattle.headers_mime.proofs.WritingLemmas.{segment-shrinks, canonical_rest-none, canonical_rest-some}
+use Rattle.headers_mime.proofs.WritingLemmas.{canonical_rest-end, written_more, none_behind}
 use Rattle.headers_mime.proofs.writing.push_parameters.Goals as goal
 
 pub returns-in_default : goal.returns-in_default

@@ -14,10 +14,12 @@ use Rattle.headers_security.proofs.referrer_policy.last_policy.Goals as goal
 pub loop-part-preserved : goal.loop-part-preserved
 loop-part-preserved c =
     let words = map trim (map (λ (part : Bor (List ℕ)). part.now) c.loop-part.yielded) in
-    let more : map trim (map (λ (part : Bor (List ℕ)). part.now) (c.loop-part.yielded ++ c.in-Some.part ∷ [])) ≡ words ++ trim c.in-Some.part.now ∷ [] =
+    let more : map trim (map (λ (part : Bor (List ℕ)). part.now) (c.loop-part.yielded ++ c.in-Some.part ∷ [])) ≡ words
+    ++ trim c.in-Some.part.now ∷ [] =
     ap (map trim) (map-append (λ (part : Bor (List ℕ)). part.now) c.loop-part.yielded (c.in-Some.part ∷ []))
     ∙ map-append trim (map (λ (part : Bor (List ℕ)). part.now) c.loop-part.yielded) (c.in-Some.part.now ∷ []) in
-    let found : c.policy_named.result ≡ policy_named (trim c.in-Some.part.now) = c.policy_named.ensures ∙ ap policy_named c.trim_text.ensures in
+    let found : c.policy_named.result ≡ policy_named (trim c.in-Some.part.now) = c.policy_named.ensures
+    ∙ ap policy_named c.trim_text.ensures in
     c.or-last.ensures
     ∙ ap (λ r. option_or r c.loop-part.last) found
     ∙ ap (option_or (policy_named (trim c.in-Some.part.now))) c.loop-part.invariant
@@ -28,7 +30,13 @@ pub returns-in-None : goal.returns-in-None
 returns-in-None c =
     let s = c.into_iter-part-iterator.result in
     let line = c.args.line.now.bytes in
-    let text : split_text s ≡ line = ap split_text c.into_iter-part-iterator.ensures.into_iter_gives ∙ c.split-part-items.ensures.text ∙ c.in-Ok.ensures.ok in
-    let all = YieldsList-end (YieldsList-from_str_split 44 line (lit< tt) text (ap split_has_more c.into_iter-part-iterator.ensures.into_iter_gives ∙ c.split-part-items.ensures.has_more) (ap split_pattern c.into_iter-part-iterator.ensures.into_iter_gives ∙ c.split-part-items.ensures.pattern)) c.loop-part.yielded _ c.loop-part.yielded_by _ _ c.in-None.is c.next.ensures.steps in
+    let text : split_text s ≡ line = ap split_text c.into_iter-part-iterator.ensures.into_iter_gives
+    ∙ c.split-part-items.ensures.text ∙ c.in-Ok.ensures.ok in
+    let all = YieldsList-end
+    (YieldsList-from_str_split 44 line (lit< tt) text
+    (ap split_has_more c.into_iter-part-iterator.ensures.into_iter_gives ∙ c.split-part-items.ensures.has_more)
+    (ap split_pattern c.into_iter-part-iterator.ensures.into_iter_gives ∙ c.split-part-items.ensures.pattern))
+    c.loop-part.yielded _ c.loop-part.yielded_by _ _ c.in-None.is c.next.ensures.steps in
     let plain : is_text line ≡ true = is_text-from_visible line (c.in-Ok.ensures.succeeds.0 refl) in
-    c.loop-part.invariant ∙ ap (λ ws. last_or c.args.before (filter_map policy_named (map trim ws))) all.0 ∙ rw plain refl
+    c.loop-part.invariant ∙ ap (λ ws. last_or c.args.before (filter_map policy_named (map trim ws))) all.0
+    ∙ rw plain refl

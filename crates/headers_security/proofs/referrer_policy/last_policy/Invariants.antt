@@ -7,4 +7,5 @@ use Rattle.headers_security.proofs.referrer_policy.last_policy.Given as goal
 
 abbrev pub invariant-loop-part : goal.invariant-loop-part
 invariant-loop-part l =
-    l.last ≡ last_or l.fn.before (filter_map policy_named (map trim (map (λ (part : Bor (List ℕ)). part.now) l.yielded)))
+    l.last ≡ last_or l.fn.before
+    (filter_map policy_named (map trim (map (λ (part : Bor (List ℕ)). part.now) l.yielded)))

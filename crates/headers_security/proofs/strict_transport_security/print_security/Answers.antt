@@ -7,4 +7,5 @@ returns-clause-text c = search rules
 
 pub returns-clause-valid : goal.returns-clause-valid
 returns-clause-valid c =
-    printed_value (record { include_subdomains = c.args.include_subdomains; max_age = c.args.max_age }) c.ranges.max_age.fits _ (returns-clause-text c)
+    printed_value (record { include_subdomains = c.args.include_subdomains; max_age = c.args.max_age })
+    c.ranges.max_age.fits _ (returns-clause-text c)

@@ -17,7 +17,13 @@ pub returns : goal.returns
 returns c =
     let s = c.into_iter-part-iterator.result in
     let line = c.args.line.now.bytes in
-    let text : split_text s ≡ line = ap split_text c.into_iter-part-iterator.ensures.into_iter_gives ∙ c.split-part-items.ensures.text ∙ c.in-Ok.ensures.ok in
-    let all = YieldsList-end (YieldsList-from_str_split 59 line (lit< tt) text (ap split_has_more c.into_iter-part-iterator.ensures.into_iter_gives ∙ c.split-part-items.ensures.has_more) (ap split_pattern c.into_iter-part-iterator.ensures.into_iter_gives ∙ c.split-part-items.ensures.pattern)) c.loop-part.yielded _ c.loop-part.yielded_by _ _ c.in-None.is c.next.ensures.steps in
+    let text : split_text s ≡ line = ap split_text c.into_iter-part-iterator.ensures.into_iter_gives
+    ∙ c.split-part-items.ensures.text ∙ c.in-Ok.ensures.ok in
+    let all = YieldsList-end
+    (YieldsList-from_str_split 59 line (lit< tt) text
+    (ap split_has_more c.into_iter-part-iterator.ensures.into_iter_gives ∙ c.split-part-items.ensures.has_more)
+    (ap split_pattern c.into_iter-part-iterator.ensures.into_iter_gives ∙ c.split-part-items.ensures.pattern))
+    c.loop-part.yielded _ c.loop-part.yielded_by _ _ c.in-None.is c.next.ensures.steps in
     let plain : is_text line ≡ true = is_text-from_visible line (c.in-Ok.ensures.succeeds.0 refl) in
-    c.value.ensures (map trim (map (λ (part : Bor (List ℕ)). part.now) c.loop-part.yielded)) c.loop-part.invariant ∙ ap (λ ws. security_of (map trim ws)) all.0 ∙ says line plain
+    c.value.ensures (map trim (map (λ (part : Bor (List ℕ)). part.now) c.loop-part.yielded)) c.loop-part.invariant
+    ∙ ap (λ ws. security_of (map trim ws)) all.0 ∙ says line plain

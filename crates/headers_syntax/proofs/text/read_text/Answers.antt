@@ -14,8 +14,12 @@ returns-in-Ok-clause-cases c = (is_text-from_visible _ (c.in-Ok.ensures.succeeds
 
 pub returns-in-Err-clause-value : goal.returns-in-Err-clause-value
 returns-in-Err-clause-value c =
-    let other : is_text c.args.value.now.bytes ≡ false = no_text _ (λ (visible : IsVisibleAscii c.args.value.now.bytes). absurd (cc (c.in-Err.ensures.succeeds.1 visible))) in
+    let other : is_text c.args.value.now.bytes ≡ false =
+    no_text _ (λ (visible : IsVisibleAscii c.args.value.now.bytes). absurd
+    (cc (c.in-Err.ensures.succeeds.1 visible))) in
     rw other refl
 
 pub returns-in-Err-clause-cases : goal.returns-in-Err-clause-cases
-returns-in-Err-clause-cases c = no_text c.args.value.now.bytes (λ (visible : IsVisibleAscii c.args.value.now.bytes). absurd (cc (c.in-Err.ensures.succeeds.1 visible)))
+returns-in-Err-clause-cases c =
+    no_text c.args.value.now.bytes
+    (λ (visible : IsVisibleAscii c.args.value.now.bytes). absurd (cc (c.in-Err.ensures.succeeds.1 visible)))

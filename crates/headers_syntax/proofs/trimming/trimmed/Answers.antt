@@ -10,4 +10,5 @@ returns-clause-value c =
     let low = c.leading-low.result in
     let n = c.without_trailing.result in
     slice_slice s c.args.start c.args.end low n c.requires.order (grind (arith, common_steps))
-    ∙ trim_from_lengths (slice_range s c.args.start c.args.end) low n c.leading-low.ensures.value c.without_trailing.ensures.value
+    ∙ trim_from_lengths (slice_range s c.args.start c.args.end) low n c.leading-low.ensures.value
+    c.without_trailing.ensures.value

@@ -13,13 +13,16 @@ loop-line-preserved g c =
     let line = (shown c.in-Some.line).bytes in
     let progress = c.in-Some.ensures.goes.on c.loop-line.invariant.finite in
     let next : c.last_policy-last.result ≡ last_or c.loop-line.last (filter_map policy_named (parts 44 line)) =
-    c.last_policy-last.ensures ∙ ap (λ (v : FieldValue). last_or c.loop-line.last (filter_map policy_named (parts 44 v.bytes))) c.as_header_value.ensures in
+    c.last_policy-last.ensures
+    ∙ ap (λ (v : FieldValue). last_or c.loop-line.last (filter_map policy_named (parts 44 v.bytes)))
+    c.as_header_value.ensures in
     record {
       can = progress.0;
       finite = progress.1;
       so_far =
           OfLinesSoFar-more shown g.I.Iterator.next_gives _ _ _ _
-          (λ lines. c.loop-line.last ≡ last_or None (policies lines)) (λ lines. c.last_policy-last.result ≡ last_or None (policies lines))
+          (λ lines. c.loop-line.last ≡ last_or None (policies lines))
+          (λ lines. c.last_policy-last.result ≡ last_or None (policies lines))
           c.loop-line.invariant.so_far c.in-Some.ensures.steps
           (λ lines h. last_more policy_named 44 c.loop-line.last c.last_policy-last.result lines line next h);
     }

@@ -7,5 +7,7 @@ returns-then-self c = value_refused c.args.self c.if-self.true
 
 pub returns-in-Some-Some : goal.returns-in-Some-Some
 returns-in-Some-Some c =
-    let inner : c.in-Some-Some.field-0 ≡ Some c.in-Some-Some.max_age = rw c.in-Some-Some.is at c.in-Some-Some.field-0-is in
-    value_kept c.args.self (Some (Some c.in-Some-Some.max_age)) (c.in-Some-Some.is ∙ ap (λ (o : Option ℕ). Some o) inner) c.if-self.false
+    let inner : c.in-Some-Some.field-0 ≡ Some c.in-Some-Some.max_age =
+    rw c.in-Some-Some.is at c.in-Some-Some.field-0-is in
+    value_kept c.args.self (Some (Some c.in-Some-Some.max_age)) (c.in-Some-Some.is
+    ∙ ap (λ (o : Option ℕ). Some o) inner) c.if-self.false

@@ -15,4 +15,5 @@ returns-in_default-parse_ascii c =
 pub returns : goal.returns
 returns c =
     let shown = c.trim.ensures ∙ ap trim (c.as_bytes.ensures.value ∙ c.in-Ok.ensures.ok) in
-    ap (λ (n : ℕ). Some n) c.unix_secs.ensures.value ∙ c.in-Ok-parse_ascii.ensures.secs ∙ ap parse_secs shown ∙ sym (date-text _ (c.in-Ok.ensures.succeeds.0 refl))
+    ap (λ (n : ℕ). Some n) c.unix_secs.ensures.value ∙ c.in-Ok-parse_ascii.ensures.secs ∙ ap parse_secs shown
+    ∙ sym (date-text _ (c.in-Ok.ensures.succeeds.0 refl))

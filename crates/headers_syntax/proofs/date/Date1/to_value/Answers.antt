@@ -16,7 +16,8 @@ returns-in-Ok-from_bytes c =
     let value = c.in-Ok-from_bytes.ensures.ok ∙ ap plain_value (c.to_bytes-text.ensures ∙ sym printed) in
     record {
       value = value;
-      reads_back = ap (λ v. date v.bytes) value ∙ subst (λ (n : ℕ). date (fixdate n) ≡ Some n) second (date-fixdate d.parts valid);
+      reads_back = ap (λ v. date v.bytes) value
+          ∙ subst (λ (n : ℕ). date (fixdate n) ≡ Some n) second (date-fixdate d.parts valid);
     }
 
 err_is : {T E : Type 0} (x y : E) → x ≡ y → IsErrOf {T = T} (Err x) y
@@ -26,4 +27,5 @@ pub unreachable-requires-in-Err-Invalid : goal.unreachable-requires-in-Err-Inval
 unreachable-requires-in-Err-Invalid c =
     let d = c.in-Ok.date in
     let valid : IsValid d.parts = (d.civil, d.time, d.right_day) in
-    c.in-Err-Invalid.ensures.invalid.0 (err_is _ _ c.in-Err-Invalid.field-0-is) (subst IsFieldValue (sym c.to_bytes-text.ensures) (IsFieldValue-from_visible _ (fixdate_visible d.parts valid)))
+    c.in-Err-Invalid.ensures.invalid.0 (err_is _ _ c.in-Err-Invalid.field-0-is)
+    (subst IsFieldValue (sym c.to_bytes-text.ensures) (IsFieldValue-from_visible _ (fixdate_visible d.parts valid)))
