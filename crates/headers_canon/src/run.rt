@@ -9,12 +9,16 @@ use crate::output::write_text;
 use crate::status::{Outcome, RunError};
 use crate::text::canonical_text;
 use std::alloc::Global;
+use std::hash::RandomState;
 use std::io::{Read, Write};
 
 /// Reads an input of at most 8,388,608 bytes, which begins with a header section (RFC 9112, section
 /// 2.1), and writes its canonical text: each name at its first appearance, with its lines. The text is
 /// made whole before the first write, and no failing call is tried again. After `Memory`, `Io` and too
 /// long an input, what the reader has left is open.
+///
+/// It is `run_with_keys` without keys, so its map hashes with fixed ones: names can be picked that make it
+/// slow.
 pub fn run<R: Read, W: Write>(
     alloc: Global,
     reader: &mut R,
@@ -35,8 +39,33 @@ pub fn run<R: Read, W: Write>(
     ensures io { result ≡ Err RunError.Io → BeganText (R.remaining reader.old) (R.remaining reader.new)
         (W.contents writer.old) (W.contents writer.new) }
 {
+    run_with_keys(alloc, None, reader, writer)
+}
+
+/// `run` over a map that hashes with these keys where names collide.
+pub fn run_with_keys<R: Read, W: Write>(
+    alloc: Global,
+    keys: Option<RandomState>,
+    reader: &mut R,
+    writer: &mut W,
+) -> Result<Outcome, RunError>
+    ensures clean { result ≡ Ok Outcome.Clean → WroteText (R.remaining reader.old) (R.remaining reader.new)
+        (W.contents writer.old) (W.contents writer.new) false }
+    ensures some_refused { result ≡ Ok Outcome.SomeRefused → WroteText (R.remaining reader.old)
+        (R.remaining reader.new) (W.contents writer.old) (W.contents writer.new) true }
+    ensures fits { (result ≡ Ok Outcome.Clean) ⊎ (result ≡ Ok Outcome.SomeRefused)
+        → IfSome (R.remaining reader.old) (λ input. ¬ (HasTooManyFields input)) }
+    ensures not_a_field { result ≡ Ok Outcome.NotAField → HasBadLine (R.remaining reader.old)
+        (R.remaining reader.new) }
+    ensures room { result ≡ Err RunError.Room → HasNoRoom (R.remaining reader.old)
+        (R.remaining reader.new) }
+    ensures nothing_written { (result ≡ Ok Outcome.NotAField) ⊎ (result ≡ Err RunError.Memory) ⊎ (result ≡ Err RunError.Room)
+        → Keeps (W.contents writer.old) (W.contents writer.new) }
+    ensures io { result ≡ Err RunError.Io → BeganText (R.remaining reader.old) (R.remaining reader.new)
+        (W.contents writer.old) (W.contents writer.new) }
+{
     let input = read_input(alloc, reader)?;
-    let Some(text) = canonical_text(alloc, input.as_slice())? else {
+    let Some(text) = canonical_text(alloc, keys, input.as_slice())? else {
         return Ok(Outcome::NotAField);
     };
     write_text(writer, text.bytes.as_slice())?;

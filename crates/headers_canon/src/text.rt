@@ -8,8 +8,9 @@ ghost use Rattle.headers_canon.specs.CanonicalText.{names, first_appearances, bl
 use crate::block::read_block;
 use crate::field::{Field, read_fields};
 use crate::status::RunError;
-use headers::{HeaderMap, HeaderName, HeaderValue, Refused};
+use headers::{HeaderMap, HeaderName, HeaderValue};
 use std::alloc::{AllocError, Global};
+use std::hash::RandomState;
 
 /// The canonical text of a header section, and whether the lines of some name were refused.
 #[derive(Drop)]
@@ -18,15 +19,29 @@ pub struct CanonicalText {
     pub some_refused: bool,
 }
 
+// An empty map, which hashes with the keys where names collide.
+fn empty_map(alloc: Global, keys: Option<RandomState>) -> HeaderMap
+    ensures { result ≡ [] }
+{
+    match keys {
+        Some(keys) => HeaderMap::with_hasher(alloc, keys),
+        None => HeaderMap::new(alloc),
+    }
+}
+
 // The fields in one map, and each name where it stands first.
-fn collect_fields(alloc: Global, fields: &[Field]) -> Result<(HeaderMap, Vec<HeaderName>), RunError>
+fn collect_fields(
+    alloc: Global,
+    keys: Option<RandomState>,
+    fields: &[Field],
+) -> Result<(HeaderMap, Vec<HeaderName>), RunError>
     ensures held { IfOk result (λ all. all.0 ≡ append_all [] fields.now) }
     ensures order { IfOk result (λ all. all.1.items ≡ first_appearances (names fields.now)) }
     ensures fits { IfOk result (λ _. ¬ (FillsMap fields.now)) }
     ensures room { result ≡ Err RunError.Room → FillsMap fields.now }
     ensures never_io { result ≢ Err RunError.Io }
 {
-    let mut map = HeaderMap::new(alloc);
+    let mut map = empty_map(alloc, keys);
     let mut order = Vec::new(alloc);
     for (name, value) in fields {
         let found = map.append(name, value.clone()?)?;
@@ -105,19 +120,27 @@ fn print_blocks(
 }
 
 // The canonical text of the fields.
-fn print_fields(alloc: Global, fields: &[Field]) -> Result<CanonicalText, RunError>
+fn print_fields(
+    alloc: Global,
+    keys: Option<RandomState>,
+    fields: &[Field],
+) -> Result<CanonicalText, RunError>
     ensures text { IfOk result (λ text. IsTextOf fields.now text.bytes.items text.some_refused) }
     ensures fits { IfOk result (λ _. ¬ (FillsMap fields.now)) }
     ensures room { result ≡ Err RunError.Room → FillsMap fields.now }
     ensures never_io { result ≢ Err RunError.Io }
 {
-    let (map, order) = collect_fields(alloc, fields)?;
+    let (map, order) = collect_fields(alloc, keys, fields)?;
     Ok(print_blocks(alloc, &map, order.as_slice())?)
 }
 
 /// The canonical text of an input, or `None` where a line before the first empty one is no field.
-/// It is refused as `Room` where a header map has no room for the fields.
-pub fn canonical_text(alloc: Global, input: &[u8]) -> Result<Option<CanonicalText>, RunError>
+/// It is refused as `Room` where a header map has no room for the fields. The keys are those of the map.
+pub fn canonical_text(
+    alloc: Global,
+    keys: Option<RandomState>,
+    input: &[u8],
+) -> Result<Option<CanonicalText>, RunError>
     ensures text { IfOk result (λ found. IfSome found
         (λ text. IsCanonicalText input.now text.bytes.items text.some_refused)) }
     ensures fits { IfOk result (λ found. IfSome found (λ _. ¬ (HasTooManyFields input.now))) }
@@ -127,7 +150,7 @@ pub fn canonical_text(alloc: Global, input: &[u8]) -> Result<Option<CanonicalTex
     ensures never_io { result ≢ Err RunError.Io }
 {
     match read_fields(alloc, input)? {
-        Some(fields) => Ok(Some(print_fields(alloc, fields.as_slice())?)),
+        Some(fields) => Ok(Some(print_fields(alloc, keys, fields.as_slice())?)),
         None => Ok(None),
     }
 }

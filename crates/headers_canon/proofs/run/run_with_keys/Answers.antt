@@ -1,7 +1,7 @@
 use Rattle.std.proofs.Common.{◌≡◌, ℕ, Bool, true, false, List, refl, sym, ◌∙◌, subst}
 use Rattle.headers_canon.specs.CanonicalText.{IsCanonicalText}
 use Rattle.headers_canon.proofs.RunLemmas.{wrote_text, began_text}
-use Rattle.headers_canon.proofs.run.run.Goals as goal
+use Rattle.headers_canon.proofs.run.run_with_keys.Goals as goal
 
 -- the text that was made is that of the bytes that were read
 canonical_of : (input shown text : List ℕ) (made refused : Bool) → shown ≡ input → made ≡ refused → IsCanonicalText shown text made → IsCanonicalText input text refused
