@@ -39,5 +39,6 @@ pub use headers_ranges::{
     AcceptRanges, ContentRange, InvalidContentRange, InvalidRange, Range, Satisfiable,
 };
 pub use headers_security::{ReferrerPolicy, StrictTransportSecurity};
+pub use headers_syntax::trimmed;
 pub use headers_websocket::{SecWebsocketAccept, SecWebsocketKey, SecWebsocketVersion};
 pub use http_header::{HeaderMap, HeaderName, HeaderValue};

@@ -1,4 +1,5 @@
 pub mod BlockLemmas
+pub mod CollectLemmas
 pub mod FieldLemmas
 pub mod NameLemmas
 pub mod RoomLemmas

@@ -1,8 +1,8 @@
 -- Names at their first appearance, and the values under them, in a map to which the fields were appended.
-use Rattle.std.proofs.Common.{◌≡◌, ℕ, ◌+◌, ◌<◌, ◌||◌, Bool, true, false, not, List, [], ◌∷◌, ◌++◌, length, take, drop, map, filter, get_or, bytes_eq, if◌then◌else◌, All, Contains, IsTrue, refl, sym, ◌∙◌, ap, subst, inl, inr, arith}
+use Rattle.std.proofs.Common.{◌≡◌, ℕ, ◌<◌, ◌||◌, Bool, true, false, not, List, [], ◌∷◌, ◌++◌, length, map, filter, bytes_eq, if◌then◌else◌, All, Contains, IsTrue, refl, sym, ◌∙◌, ap, subst, inl, inr, arith}
 use Rattle.std.specs.List.{list_any}
 use Rattle.std.proofs.lemmas.Bool.{cases_Bool}
-use Rattle.std.proofs.lemmas.List.{append-nil, append_assoc, map-append, take_more, take-append-drop, drop_more}
+use Rattle.std.proofs.lemmas.List.{append-nil, append_assoc, map-append}
 use Rattle.std.proofs.lemmas.List.Elements.{filter-append, All-nil, All-cons, All-filter, All-weaker}
 use Rattle.std.proofs.lemmas.List.Folds.{list_any_at, Any-from_list_any}
 use Rattle.std.proofs.lemmas.Slice.Eq.{bytes_eq-Decides}
@@ -114,16 +114,12 @@ pub append_all-push : (m : Entries FieldValue) (fields : List Field) (field : Fi
 append_all-push m [] field = refl
 append_all-push m (f ∷ fields) field = append_all-push (append m f.0 f.1) fields field
 
--- the first fields, up to one at a place
-pub fields_more : (fields : List Field) (i : ℕ) (field : Field) → i < length fields → field ≡ get_or fields i field → take (i + 1) fields ≡ take i fields ++ field ∷ []
-fields_more fields i field within at = take_more fields i field within ∙ ap (λ (f : Field). take i fields ++ f ∷ []) (sym at)
-
-pub names_more : (fields : List Field) (i : ℕ) (field : Field) → i < length fields → field ≡ get_or fields i field
-    → first_appearances (names (take (i + 1) fields)) ≡ with_name (first_appearances (names (take i fields))) field.0
-names_more fields i field within at =
-    ap (λ (fs : List Field). first_appearances (names fs)) (fields_more fields i field within at)
-    ∙ ap first_appearances (map-append (λ (f : Field). f.0) (take i fields) (field ∷ []))
-    ∙ first_appearances-push (names (take i fields)) field.0
+-- the names of the fields, with one more
+pub names_more : (before : List Field) (field : Field)
+    → first_appearances (names (before ++ field ∷ [])) ≡ with_name (first_appearances (names before)) field.0
+names_more before field =
+    ap first_appearances (map-append (λ (f : Field). f.0) before (field ∷ []))
+    ∙ first_appearances-push (names before) field.0
 
 -- what a map holds under a name
 pub get_all-append_all : (m : Entries FieldValue) (fields : List Field) (name : List ℕ)
@@ -178,16 +174,14 @@ pub names_filled : (fields : List Field) → All (λ name. 0 < length (get_all (
 names_filled fields = All-weaker (λ name. has name (names fields) ≡ true) _ (has_line fields) (first_appearances (names fields)) (first_has (names fields))
 
 -- a map that refuses the field after those that it holds
-pub FillsMap-from_refusal : (fields : List Field) (i : ℕ) (field : Field) (m : Entries FieldValue) → i < length fields → field ≡ get_or fields i field
-    → m ≡ append_all [] (take i fields) → RefusesAppend m field.0 → FillsMap fields
-FillsMap-from_refusal fields i field m within at held full =
+pub FillsMap-from_refusal : (before : List Field) (field : Field) (later : List Field) (m : Entries FieldValue)
+    → m ≡ append_all [] before → RefusesAppend m field.0 → FillsMap (before ++ field ∷ later)
+FillsMap-from_refusal before field later m held full =
     record {
-      first = take i fields;
+      first = before;
       next = field;
-      later = drop (i + 1) fields;
-      split =
-          sym (take-append-drop i fields) ∙ ap (λ (fs : List Field). take i fields ++ fs) (drop_more fields i field within)
-          ∙ ap (λ (f : Field). take i fields ++ f ∷ drop (i + 1) fields) (sym at);
+      later = later;
+      split = refl;
       full = subst (λ (n : Entries FieldValue). RefusesAppend n field.0) held full;
     }
 

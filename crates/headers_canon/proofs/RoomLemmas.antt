@@ -1,5 +1,5 @@
 -- Fields for which a map has room.
-use Rattle.std.proofs.Common.{◌≡◌, ℕ, ◌+◌, ◌<◌, true, List, [], ◌∷◌, ◌++◌, length, take, get_or, IsTrue, ◌⊎◌, ⊎_elim, inl, inr, refl, sym, ◌∙◌, ap, subst}
+use Rattle.std.proofs.Common.{◌≡◌, ℕ, true, List, [], ◌∷◌, ◌++◌, IsTrue, ◌⊎◌, ⊎_elim, inl, inr, refl, sym, ◌∙◌, ap, subst}
 use Rattle.std.proofs.lemmas.List.Elements.{All-head, All-tail}
 use Rattle.http_header.specs.Token.{AllPass, is_token_byte, lowercase}
 use Rattle.http_header.specs.FieldValue.{FieldValue, plain_value}
@@ -8,7 +8,6 @@ use Rattle.headers.specs.Lines.{Line}
 use Rattle.headers.specs.Text.{trim}
 use Rattle.headers_canon.specs.Section.{Field, IsField, AreFields, FillsMap}
 use Rattle.headers_canon.proofs.FieldLemmas.{colon_is_no_token}
-use Rattle.headers_canon.proofs.NameLemmas.{fields_more}
 
 -- an item in the middle of a list leaves it not empty
 not_empty : {A : Type 0} (first : List A) (next : A) (later : List A) → ¬ ([] ≡ first ++ next ∷ later)
@@ -31,21 +30,21 @@ last_or_before (x ∷ xs) last (y ∷ first) next later e =
     (λ h. inr (h.0, ap (λ z. z ∷ xs) same ∙ ap (λ zs. y ∷ zs) h.1))
     (last_or_before xs last first next later rest)
 
-pub fits_none : (fields : List Field) → ¬ (FillsMap (take 0 fields))
-fits_none fields fills = not_empty fills.first fills.next fills.later fills.split
+pub fits_none : ¬ (FillsMap [])
+fits_none fills = not_empty fills.first fills.next fills.later fills.split
 
 -- a field more, which the map took
-pub fits_more : (fields : List Field) (i : ℕ) (field : Field) (m : Entries FieldValue) → i < length fields → field ≡ get_or fields i field
-    → m ≡ append_all [] (take i fields) → ¬ (RefusesAppend m field.0) → ¬ (FillsMap (take i fields)) → ¬ (FillsMap (take (i + 1) fields))
-fits_more fields i field m within at held room fits fills =
+pub fits_more : (before : List Field) (field : Field) (m : Entries FieldValue) → m ≡ append_all [] before
+    → ¬ (RefusesAppend m field.0) → ¬ (FillsMap before) → ¬ (FillsMap (before ++ field ∷ []))
+fits_more before field m held room fits fills =
     ⊎_elim
     (λ h.
-    let full : RefusesAppend (append_all [] (take i fields)) field.0 =
-    subst (λ (f : Field). RefusesAppend (append_all [] (take i fields)) f.0) (sym h.1)
+    let full : RefusesAppend (append_all [] before) field.0 =
+    subst (λ (f : Field). RefusesAppend (append_all [] before) f.0) (sym h.1)
     (subst (λ (fs : List Field). RefusesAppend (append_all [] fs) fills.next.0) (sym h.0) fills.full) in
     room (subst (λ (n : Entries FieldValue). RefusesAppend n field.0) (sym held) full))
     (λ h. fits (record { first = fills.first; next = fills.next; later = h.0; split = h.1; full = fills.full }))
-    (last_or_before (take i fields) field fills.first fills.next fills.later (sym (fields_more fields i field within at) ∙ fills.split))
+    (last_or_before before field fills.first fills.next fills.later fills.split)
 
 -- no name holds a colon
 no_colon : (b : ℕ) → is_token_byte b ≡ true → ¬ (b ≡ 58)

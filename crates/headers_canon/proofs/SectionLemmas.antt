@@ -4,7 +4,6 @@ use Rattle.std.specs.List.{slice_split, prefix_len}
 use Rattle.std.proofs.lemmas.List.{take-append-drop, drop_more, get_or-take, length-take-le}
 use Rattle.std.proofs.lemmas.List.Splits.{slice_split_at, slice_split_none}
 use Rattle.std.proofs.lemmas.List.Elements.{All-from_get_or, Contains-append_left, Contains-push}
-use denote.Ref.{Bor}
 use Rattle.memchr.specs.Find.{NoneBefore, Nowhere, Passes, is_byte}
 use Rattle.headers.specs.Lines.{Line}
 use Rattle.headers_canon.specs.Section.{without_return, is_newline, is_filled, input_lines, section, Field, IsField, AreFields, IsNoField, HasNoField}
@@ -62,10 +61,10 @@ section_taken all taken input line lines e f h =
     e ∙ ap (λ (ls : List Line). taken ++ ls) (section-filled input line lines f h) ∙ sym (append_assoc taken (line ∷ []) _)
 
 -- the line that a cut gives is the first
-pub first_line_of : (input : List ℕ) (line : Line) (after : Option (Bor (List ℕ))) → IfNone after (input_lines input ≡ line ∷ [])
-    → IfSome after (λ rest. input_lines input ≡ line ∷ input_lines rest.now) → (lines : List Line) × (input_lines input ≡ line ∷ lines)
+pub first_line_of : (input : List ℕ) (line : Line) (after : Option (List ℕ)) → IfNone after (input_lines input ≡ line ∷ [])
+    → IfSome after (λ rest. input_lines input ≡ line ∷ input_lines rest) → (lines : List Line) × (input_lines input ≡ line ∷ lines)
 first_line_of input line None last more = ([], last)
-first_line_of input line (Some rest) last more = (input_lines rest.now, more)
+first_line_of input line (Some rest) last more = (input_lines rest, more)
 
 -- one more field was read
 pub AreFields-push : (lines : List Line) (fields : List Field) (line : Line) (field : Field) → AreFields lines fields → IsField line field

@@ -1,9 +1,11 @@
 //! The fields of an input.
 ghost use Rattle.std.specs.Prelude.{◌≡◌, ◌<◌, ◌∷◌, [], length, IfOk, IfSome, IfNone};
+ghost use Rattle.headers.specs.Text.{trim};
 ghost use Rattle.headers_canon.specs.Section.{without_return, input_lines, section, IsField, IsNoField, AreFields, HasNoField};
 
-use headers::{HeaderName, HeaderValue, trim};
-use http_header::{HeaderNameError, HeaderValueError};
+use bytes::Bytes;
+use headers::{HeaderName, HeaderValue, trimmed};
+use http_header::HeaderNameError;
 use memchr::memchr;
 use std::alloc::{AllocError, Global};
 
@@ -11,57 +13,73 @@ use std::alloc::{AllocError, Global};
 pub type Field = (HeaderName, HeaderValue);
 
 // The line without the byte 13 that it ends with, if it does.
-fn without_return(line: &[u8]) -> &[u8]
-    ensures { result.now ≡ without_return line.now }
+fn without_return(mut line: Bytes) -> Bytes
+    ensures { result ≡ without_return line }
 {
-    match line {
-        [.., b'\r'] => &line[..line.len() - 1],
-        _ => line,
+    if let [before @ .., b'\r'] = line.as_slice() {
+        let kept = before.len();
+        line.truncate(kept);
     }
+    line
 }
 
 // The first line, and what follows the byte 10 that ends it, if one does.
-fn cut_line(input: &[u8]) -> (&[u8], Option<&[u8]>)
-    ensures last { IfNone result.1 (input_lines input.now ≡ result.0.now ∷ []) }
-    ensures more { IfSome result.1 (λ rest. input_lines input.now ≡ result.0.now ∷ input_lines rest.now) }
-    ensures shorter { IfSome result.1 (λ rest. length rest.now < length input.now) }
+fn cut_line(mut input: Bytes) -> Result<(Bytes, Option<Bytes>), AllocError>
+    ensures last { IfOk result (λ cut. IfNone cut.1 (input_lines input ≡ cut.0 ∷ [])) }
+    ensures more { IfOk result (λ cut. IfSome cut.1 (λ rest. input_lines input ≡ cut.0 ∷ input_lines rest)) }
+    ensures shorter { IfOk result (λ cut. IfSome cut.1 (λ rest. length rest < length input)) }
 {
-    match memchr(b'\n', input) {
-        Some(end) => (without_return(&input[..end]), Some(&input[end + 1..])),
-        None => (without_return(input), None),
+    match memchr(b'\n', input.as_slice()) {
+        Some(end) => {
+            let line = input.split_to(end)?;
+            input.advance(1);
+            Ok((without_return(line), Some(input)))
+        }
+        None => Ok((without_return(input), None)),
     }
 }
 
-// The field that the line is, if it is one.
-fn read_field(alloc: Global, line: &[u8]) -> Result<Option<Field>, AllocError>
-    ensures some { IfOk result (λ found. IfSome found (IsField line.now)) }
-    ensures none { IfOk result (λ found. IfNone found (IsNoField line.now)) }
+// The bytes without the spaces and tabs at their ends.
+fn trim(mut bytes: Bytes) -> Bytes
+    ensures { result ≡ trim bytes }
 {
-    let Some(colon) = memchr(b':', line) else {
+    let (start, end) = trimmed(bytes.as_slice(), 0, bytes.len());
+    bytes.truncate(end);
+    bytes.advance(start);
+    bytes
+}
+
+// The field that the line is, if it is one. It shares the bytes of the line.
+fn read_field(alloc: Global, mut line: Bytes) -> Result<Option<Field>, AllocError>
+    ensures some { IfOk result (λ found. IfSome found (IsField line)) }
+    ensures none { IfOk result (λ found. IfNone found (IsNoField line)) }
+{
+    let Some(colon) = memchr(b':', line.as_slice()) else {
         return Ok(None);
     };
-    let name = match HeaderName::from_bytes(alloc, &line[..colon]) {
+    let before = line.split_to(colon)?;
+    line.advance(1);
+    let name = match HeaderName::from_shared(alloc, before) {
         Ok(name) => name,
         Err(HeaderNameError::Invalid) => return Ok(None),
         Err(HeaderNameError::OutOfMemory) => return Err(AllocError),
     };
-    match HeaderValue::from_bytes(alloc, trim(&line[colon + 1..])) {
+    match HeaderValue::from_shared(trim(line)) {
         Ok(value) => Ok(Some((name, value))),
-        Err(HeaderValueError::Invalid) => Ok(None),
-        Err(HeaderValueError::OutOfMemory) => Err(AllocError),
+        Err(_) => Ok(None),
     }
 }
 
 /// The fields before the first empty line (RFC 9112, sections 2.1 and 5), or `None` where a line
-/// before it is no field.
-pub fn read_fields(alloc: Global, input: &[u8]) -> Result<Option<Vec<Field>>, AllocError>
-    ensures some { IfOk result (λ found. IfSome found (λ fields. AreFields (section input.now) fields.items)) }
-    ensures none { IfOk result (λ found. IfNone found (HasNoField (section input.now))) }
+/// before it is no field. They share the bytes of the input.
+pub fn read_fields(alloc: Global, input: Bytes) -> Result<Option<Vec<Field>>, AllocError>
+    ensures some { IfOk result (λ found. IfSome found (λ fields. AreFields (section input) fields.items)) }
+    ensures none { IfOk result (λ found. IfNone found (HasNoField (section input))) }
 {
     let mut fields = Vec::new(alloc);
     let mut rest = input;
     loop {
-        let (line, after) = cut_line(rest);
+        let (line, after) = cut_line(rest)?;
         if line.is_empty() {
             return Ok(Some(fields));
         }

@@ -8,6 +8,7 @@ use crate::input::read_input;
 use crate::output::write_text;
 use crate::status::{Outcome, RunError};
 use crate::text::canonical_text;
+use bytes::Bytes;
 use std::alloc::Global;
 use std::hash::RandomState;
 use std::io::{Read, Write};
@@ -65,7 +66,7 @@ pub fn run_with_keys<R: Read, W: Write>(
         (W.contents writer.old) (W.contents writer.new) }
 {
     let input = read_input(alloc, reader)?;
-    let Some(text) = canonical_text(alloc, keys, input.as_slice())? else {
+    let Some(text) = canonical_text(alloc, keys, Bytes::from_vec(input)?)? else {
         return Ok(Outcome::NotAField);
     };
     write_text(writer, text.bytes.as_slice())?;

@@ -8,6 +8,7 @@ ghost use Rattle.headers_canon.specs.CanonicalText.{names, first_appearances, bl
 use crate::block::read_block;
 use crate::field::{Field, read_fields};
 use crate::status::RunError;
+use bytes::Bytes;
 use headers::{HeaderMap, HeaderName, HeaderValue};
 use std::alloc::{AllocError, Global};
 use std::hash::RandomState;
@@ -33,20 +34,20 @@ fn empty_map(alloc: Global, keys: Option<RandomState>) -> HeaderMap
 fn collect_fields(
     alloc: Global,
     keys: Option<RandomState>,
-    fields: &[Field],
+    fields: Vec<Field>,
 ) -> Result<(HeaderMap, Vec<HeaderName>), RunError>
-    ensures held { IfOk result (λ all. all.0 ≡ append_all [] fields.now) }
-    ensures order { IfOk result (λ all. all.1.items ≡ first_appearances (names fields.now)) }
-    ensures fits { IfOk result (λ _. ¬ (FillsMap fields.now)) }
-    ensures room { result ≡ Err RunError.Room → FillsMap fields.now }
+    ensures held { IfOk result (λ all. all.0 ≡ append_all [] fields.items) }
+    ensures order { IfOk result (λ all. all.1.items ≡ first_appearances (names fields.items)) }
+    ensures fits { IfOk result (λ _. ¬ (FillsMap fields.items)) }
+    ensures room { result ≡ Err RunError.Room → FillsMap fields.items }
     ensures never_io { result ≢ Err RunError.Io }
 {
     let mut map = empty_map(alloc, keys);
     let mut order = Vec::new(alloc);
     for (name, value) in fields {
-        let found = map.append(name, value.clone()?)?;
+        let found = map.append(&name, value)?;
         if !found {
-            order.push(name.clone()?)?;
+            order.push(name)?;
         }
     }
     Ok((map, order))
@@ -123,11 +124,11 @@ fn print_blocks(
 fn print_fields(
     alloc: Global,
     keys: Option<RandomState>,
-    fields: &[Field],
+    fields: Vec<Field>,
 ) -> Result<CanonicalText, RunError>
-    ensures text { IfOk result (λ text. IsTextOf fields.now text.bytes.items text.some_refused) }
-    ensures fits { IfOk result (λ _. ¬ (FillsMap fields.now)) }
-    ensures room { result ≡ Err RunError.Room → FillsMap fields.now }
+    ensures text { IfOk result (λ text. IsTextOf fields.items text.bytes.items text.some_refused) }
+    ensures fits { IfOk result (λ _. ¬ (FillsMap fields.items)) }
+    ensures room { result ≡ Err RunError.Room → FillsMap fields.items }
     ensures never_io { result ≢ Err RunError.Io }
 {
     let (map, order) = collect_fields(alloc, keys, fields)?;
@@ -139,18 +140,18 @@ fn print_fields(
 pub fn canonical_text(
     alloc: Global,
     keys: Option<RandomState>,
-    input: &[u8],
+    input: Bytes,
 ) -> Result<Option<CanonicalText>, RunError>
     ensures text { IfOk result (λ found. IfSome found
-        (λ text. IsCanonicalText input.now text.bytes.items text.some_refused)) }
-    ensures fits { IfOk result (λ found. IfSome found (λ _. ¬ (HasTooManyFields input.now))) }
-    ensures no_field { IfOk result (λ found. IfNone found (HasNoField (section input.now))) }
+        (λ text. IsCanonicalText input text.bytes.items text.some_refused)) }
+    ensures fits { IfOk result (λ found. IfSome found (λ _. ¬ (HasTooManyFields input))) }
+    ensures no_field { IfOk result (λ found. IfNone found (HasNoField (section input))) }
     ensures room { result ≡ Err RunError.Room
-        → HasTooManyFields input.now }
+        → HasTooManyFields input }
     ensures never_io { result ≢ Err RunError.Io }
 {
     match read_fields(alloc, input)? {
-        Some(fields) => Ok(Some(print_fields(alloc, keys, fields.as_slice())?)),
+        Some(fields) => Ok(Some(print_fields(alloc, keys, fields)?)),
         None => Ok(None),
     }
 }

@@ -3,9 +3,9 @@ use Rattle.headers.specs.Lines.{Line}
 use Rattle.headers_canon.specs.Section.{section, AreFields}
 use Rattle.headers_canon.proofs.field.read_fields.Given as goal
 
-abbrev pub invariant-loop-line : goal.invariant-loop-line
-invariant-loop-line l =
+abbrev pub invariant-loop-fields : goal.invariant-loop-fields
+invariant-loop-fields l =
     (taken : List Line) × AreFields taken l.fields.items × (section l.fn.input ≡ taken ++ section l.rest)
 
-abbrev pub decreases-loop-line : goal.decreases-loop-line
-decreases-loop-line l = length l.rest
+abbrev pub decreases-loop-fields : goal.decreases-loop-fields
+decreases-loop-fields l = length l.rest

@@ -10,22 +10,22 @@ canonical_of input shown text made refused e f h =
 
 pub returns-clause-clean : goal.returns-clause-clean
 returns-clause-clean g c is =
-    let made : IsCanonicalText c.as_slice.result.now c.in-Some.text.bytes.items c.in-Some.text.some_refused = rw c.in-Some.is at c.in_ok-text.ensures.text in
+    let made : IsCanonicalText c.in_ok-from_vec.field-0 c.in-Some.text.bytes.items c.in-Some.text.some_refused = rw c.in-Some.is at c.in_ok-text.ensures.text in
     wrote_text _ _ _ _ c.in_ok-input.input.items c.in-Some.text.bytes.items false c.in_ok-input.ensures.read c.in_ok-input.ensures.end c.in_ok-input.ensures.limit
-    (canonical_of _ _ _ _ false c.as_slice.ensures.value c.if-text.false made)
-    (rw (← c.as_slice-2.ensures.value) c.in_ok-write_text.ensures.ok)
+    (canonical_of _ _ _ _ false c.in_ok-from_vec.ensures.ok c.if-text.false made)
+    (rw (← c.as_slice.ensures.value) c.in_ok-write_text.ensures.ok)
 
 pub returns-then-text-clause-some_refused : goal.returns-then-text-clause-some_refused
 returns-then-text-clause-some_refused g c is =
-    let made : IsCanonicalText c.as_slice.result.now c.in-Some.text.bytes.items c.in-Some.text.some_refused = rw c.in-Some.is at c.in_ok-text.ensures.text in
+    let made : IsCanonicalText c.in_ok-from_vec.field-0 c.in-Some.text.bytes.items c.in-Some.text.some_refused = rw c.in-Some.is at c.in_ok-text.ensures.text in
     wrote_text _ _ _ _ c.in_ok-input.input.items c.in-Some.text.bytes.items true c.in_ok-input.ensures.read c.in_ok-input.ensures.end c.in_ok-input.ensures.limit
-    (canonical_of _ _ _ _ true c.as_slice.ensures.value c.if-text.true made)
-    (rw (← c.as_slice-2.ensures.value) c.in_ok-write_text.ensures.ok)
+    (canonical_of _ _ _ _ true c.in_ok-from_vec.ensures.ok c.if-text.true made)
+    (rw (← c.as_slice.ensures.value) c.in_ok-write_text.ensures.ok)
 
 pub returns-in_err-write_text-clause-io : goal.returns-in_err-write_text-clause-io
 returns-in_err-write_text-clause-io g c is =
-    let made : IsCanonicalText c.as_slice.result.now c.in-Some.text.bytes.items c.in-Some.text.some_refused = rw c.in-Some.is at c.in_ok-text.ensures.text in
+    let made : IsCanonicalText c.in_ok-from_vec.field-0 c.in-Some.text.bytes.items c.in-Some.text.some_refused = rw c.in-Some.is at c.in_ok-text.ensures.text in
     let written = c.in_err-write_text.ensures.err in
     began_text _ _ _ _ c.in_ok-input.input.items c.in-Some.text.bytes.items c.in-Some.text.some_refused c.in_ok-input.ensures.read c.in_ok-input.ensures.end c.in_ok-input.ensures.limit
-    (canonical_of _ _ _ _ _ c.as_slice.ensures.value refl made)
-    written.0 written.1 (sym c.as_slice-2.ensures.value ∙ written.2) written.3
+    (canonical_of _ _ _ _ _ c.in_ok-from_vec.ensures.ok refl made)
+    written.0 written.1 (sym c.as_slice.ensures.value ∙ written.2) written.3

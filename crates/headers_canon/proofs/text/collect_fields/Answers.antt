@@ -1,55 +1,50 @@
-use Rattle.std.proofs.Common.{◌≡◌, ◌∙◌, ◌++◌, ◌∷◌, Err, Vec, Global, List, ℕ, ap, subst, sym, take, [], Contains}
+use Rattle.std.proofs.Common.{◌≡◌, ◌∙◌, ◌++◌, ◌∷◌, [], true, Err, List, ℕ, ap, subst, sym, Contains}
 use Rattle.std.proofs.lemmas.Result.{err_from_is_err_and}
+use Rattle.std.specs.Vec.Iter.{into_iter_items}
 use Rattle.http_header.specs.declared.map.HeaderMapError.{HeaderMapError}
-use Rattle.headers_canon.specs.declared.status.RunError.TheVariants.{Room, Io}
+use Rattle.headers_canon.specs.declared.status.RunError.TheVariants.{Room}
 use Rattle.headers_canon.specs.MapErrors.{run_error_of}
-use Rattle.http_header.specs.FieldValue.{FieldValue}
-use Rattle.http_header.specs.HeaderMap.{Entries, append, append_all, keys}
-use Rattle.headers_canon.proofs.NameLemmas.{keys-append, with_name, with_name-found, with_name-new, append_all-push, fields_more, names_more, FillsMap-from_refusal, full_from_room, never_io}
-use Rattle.headers_canon.proofs.RoomLemmas.{fits_more}
+use Rattle.headers_canon.proofs.NameLemmas.{with_name, with_name-found, with_name-new, full_from_room}
+use Rattle.headers_canon.proofs.CollectLemmas.{IsCollected, IsCollected-more, FillsMap-from_collected}
 use Rattle.headers_canon.proofs.text.collect_fields.Goals as goal
-use Rattle.headers_canon.proofs.text.collect_fields.Goals.{then-not-found+in_ok-clone-2+in_ok-push, else-not-found}
+use Rattle.headers_canon.proofs.text.collect_fields.Goals.{In_ok-found}
 
 pub returns-in_err-found-clause-room : goal.returns-in_err-found-clause-room
 returns-in_err-found-clause-room c is =
-    let error = err_from_is_err_and c.from_residual-in_err-found.result c.from_residual-in_err-found.ensures.1 in
+    let error = err_from_is_err_and c.from_residual.result c.from_residual.ensures.1 in
     let room : run_error_of c.in_err-found.field-0.0 ≡ Room = let e : error.0 ≡ Room = cc (error.1, is) in sym error.2 ∙ e in
-    let full = c.in_err-found.ensures.full.0 (ap (λ (e : HeaderMapError). Err e) (full_from_room c.in_err-found.field-0.0 room)) in
-    FillsMap-from_refusal c.args.fields.now c.loop-name.name-index c.loop-name-item.result c.loop-name.map c.loop-name-test.true c.loop-name-item.is
-    c.loop-name.invariant.held full
+    FillsMap-from_collected _ _ _ _ _ c.loop-name.invariant _ _ c.in-Some.ensures.steps.0
+    (c.in_err-found.ensures.full.0 (ap (λ (e : HeaderMapError). Err e) (full_from_room c.in_err-found.field-0.0 room)))
 
-pub returns-in_err-found-clause-never_io : goal.returns-in_err-found-clause-never_io
-returns-in_err-found-clause-never_io c is =
-    let error = err_from_is_err_and c.from_residual-in_err-found.result c.from_residual-in_err-found.ensures.1 in
-    never_io c.in_err-found.field-0.0 (let e : error.0 ≡ Io = cc (error.1, is) in sym error.2 ∙ e)
+-- the map took the field, and these are the names then
+taken : (c : In_ok-found) (named : List (List ℕ)) → named ≡ with_name c.loop-name.order.items c.in-Some.name
+    → IsCollected c.args.fields.items (c.loop-name.yielded ++ (c.in-Some.name, c.in-Some.value) ∷ []) (into_iter_items c.next.new.self) c.append.new.self named
+taken c named is =
+    IsCollected-more _ _ _ _ _ c.loop-name.invariant _ _ c.in-Some.ensures.steps.0 c.append.new.self named c.in_ok-found.ensures.ok
+    (λ refused. let none = c.in_ok-found.ensures.full.1 refused in absurd (cc none)) is
+
+-- its name was there
+taken_again : (c : In_ok-found) → c.in_ok-found.found ≡ true
+    → IsCollected c.args.fields.items (c.loop-name.yielded ++ (c.in-Some.name, c.in-Some.value) ∷ []) (into_iter_items c.next.new.self) c.append.new.self c.loop-name.order.items
+taken_again c found =
+    let old : Contains c.loop-name.order.items c.in-Some.name =
+    subst (λ (ns : List (List ℕ)). Contains ns c.in-Some.name) (sym c.loop-name.invariant.same) (c.in_ok-found.ensures.found.0 found) in
+    taken c c.loop-name.order.items (sym (with_name-found c.in_ok-found.found c.in-Some.name c.loop-name.order.items (λ _. old) found))
+
+pub loop-name-preserved-in-Continue-branch-2 : goal.loop-name-preserved-in-Continue-branch-2
+loop-name-preserved-in-Continue-branch-2 c =
+    taken (goal.at.loop-name-preserved-in-Continue-branch-2 c).In_ok-found c.push.new.self.items
+    (c.in_ok-push.ensures.items
+    ∙ sym (with_name-new c.in_ok-found.found c.in-Some.name c.loop-name.order.items
+    (λ there. c.in_ok-found.ensures.found.1 (subst (λ (ns : List (List ℕ)). Contains ns c.in-Some.name) c.loop-name.invariant.same there)) c.if-not-found.true))
+
+pub loop-name-preserved-else-not-found : goal.loop-name-preserved-else-not-found
+loop-name-preserved-else-not-found c =
+    taken_again (goal.at.loop-name-preserved-else-not-found c).In_ok-found c.if-not-found.false
+
+pub loop-name-preserved-else-not-found-2 : goal.loop-name-preserved-else-not-found-2
+loop-name-preserved-else-not-found-2 c =
+    taken_again (goal.at.loop-name-preserved-else-not-found-2 c).In_ok-found c.if-not-found.false
 
 pub loop-name-preserved : goal.loop-name-preserved
-loop-name-preserved c =
-    let fields = c.args.fields.now in
-    let i = c.loop-name.name-index in
-    let name = c.loop-name-item.result.0 in
-    let kept = c.loop-name.invariant in
-    let more : c.if-not-found.order.items ≡ with_name c.loop-name.order.items name =
-    elim c.if-not-found.branch [
-      | then-not-found+in_ok-clone-2+in_ok-push w ↦
-          ap (λ (v : Vec (List ℕ) Global). v.items) w.order-is
-          ∙ w.in_ok-push.ensures.items
-          ∙ ap (λ (n : List ℕ). c.loop-name.order.items ++ n ∷ []) w.in_ok-clone-2.ensures.cases
-          ∙ sym (with_name-new c.in_ok-found.found name c.loop-name.order.items
-          (λ there. c.in_ok-found.ensures.found.1 (subst (λ (ns : List (List ℕ)). Contains ns name) kept.same there)) w.if-not-found.true)
-      | else-not-found w ↦
-          ap (λ (v : Vec (List ℕ) Global). v.items) w.order-is
-          ∙ sym (with_name-found c.in_ok-found.found name c.loop-name.order.items
-          (λ t. subst (λ (ns : List (List ℕ)). Contains ns name) (sym kept.same) (c.in_ok-found.ensures.found.0 t)) w.if-not-found.false)
-    ] in
-    record {
-      held =
-          c.in_ok-found.ensures.ok
-          ∙ ap (λ (v : FieldValue). append c.loop-name.map name v) c.in_ok-clone.ensures.cases
-          ∙ ap (λ (m : Entries FieldValue). append m name c.loop-name-item.result.1) kept.held
-          ∙ sym (append_all-push [] (take i fields) c.loop-name-item.result)
-          ∙ ap (append_all []) (sym (fields_more fields i c.loop-name-item.result c.loop-name-test.true c.loop-name-item.is));
-      order = more ∙ ap (λ (ns : List (List ℕ)). with_name ns name) kept.order ∙ sym (names_more fields i c.loop-name-item.result c.loop-name-test.true c.loop-name-item.is);
-      same = more ∙ ap (λ (ns : List (List ℕ)). with_name ns name) kept.same ∙ sym (keys-append c.loop-name.map name c.in_ok-clone.field-0) ∙ ap (λ (m : Entries FieldValue). keys m) (sym c.in_ok-found.ensures.ok);
-      fits = fits_more fields i c.loop-name-item.result c.loop-name.map c.loop-name-test.true c.loop-name-item.is kept.held (λ refused. let none = c.in_ok-found.ensures.full.1 refused in absurd (cc none)) kept.fits;
-    }
+loop-name-preserved c = taken_again (goal.at.loop-name-preserved c).In_ok-found c.if-not-found.false
