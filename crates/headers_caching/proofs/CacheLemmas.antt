@@ -1,8 +1,11 @@
 -- What one entry more adds to what entries direct.
-use Rattle.std.proofs.Common.{◌≡◌, ℕ, Bool, true, false, ◌||◌, ◌↔◌, IsTrue, List, [], ◌∷◌, ◌++◌, Option, Some, None, filter, is_none, codes, refl, sym, ◌∙◌, ap, inl, inr}
-use Rattle.std.specs.List.{last_or}
+use Rattle.std.proofs.Common.{◌≡◌, ℕ, ◌+◌, ◌<◌, Bool, true, false, not, ◌||◌, ◌&&◌, ◌==◌, ◌↔◌, IsTrue, List, [], ◌∷◌, ◌++◌, length, get_or, Option, Some, None, filter, is_none, codes, refl, sym, ◌∙◌, ap, inl, inr, arith}
+use Rattle.std.specs.List.{list_any, last_or, before_first, after_first, position_or_len}
 use Rattle.std.specs.Option.{option_or, option_and_then}
-use Rattle.std.proofs.lemmas.Bool.{cases_Bool, false_from_ne_true}
+use Rattle.std.proofs.lemmas.Bool.{cases_Bool, false_from_ne_true, and_right}
+use Rattle.std.proofs.lemmas.Bool.Decides.{Decides-eqb}
+use Rattle.std.proofs.lemmas.List.{append-nil, drop_all}
+use Rattle.std.proofs.lemmas.List.Sums.{split_at_first, passes_at_first}
 use Rattle.std.proofs.Math.Bool.{or-false}
 use Rattle.http_header.specs.Token.{lowercase}
 use Rattle.std.proofs.lemmas.List.Folds.{list_any-append}
@@ -12,6 +15,8 @@ use Rattle.headers_syntax.specs.AsciiCase.{SameButForCase}
 use Rattle.headers_syntax.specs.AsciiCase.{same_name}
 use Rattle.headers_syntax.proofs.AsciiCaseLemmas.{same_name-is}
 use Rattle.headers_caching.specs.CacheControl.{carries, number_in, is_bad_for, is_bad, is_set, last_number}
+use Rattle.headers_caching.specs.CacheControlLaws.{no_flag}
+use Rattle.headers_items.specs.Pairs.{is_equals}
 use Rattle.headers_syntax.proofs.PartsLemmas.{last_or-append}
 
 -- a flag
@@ -53,3 +58,40 @@ pub none_bad : (entry : List ℕ) → is_bad_for (codes "max-age") entry ≡ fal
     → (false ≡ true) ↔ IsTrue (is_bad entry)
 none_bad entry a b c d =
     let none : is_bad entry ≡ false = rw (a, b, c, d) refl in (λ e. absurd (cc e), λ e. absurd (cc (e, none)))
+
+-- ---- an entry that is cut at its first `=`, and one that has none
+
+-- it is no flag, whose name has no `=`
+pub set_cut : (flag : List ℕ) (es : List (List ℕ)) (entry : List ℕ) (before : Bool) → before ≡ is_set flag es → list_any is_equals (lowercase flag) ≡ false
+    → position_or_len is_equals entry < length entry → before ≡ is_set flag (es ++ entry ∷ [])
+set_cut flag es entry before e plain cut =
+    let parts : entry ≡ before_first is_equals entry ++ (get_or entry (position_or_len is_equals entry) 61 ∷ after_first is_equals entry) = split_at_first is_equals entry 61 cut in
+    let at : get_or entry (position_or_len is_equals entry) 61 ≡ 61 = (Decides-eqb _ _).0 (passes_at_first is_equals entry 61 cut) in
+    let other : same_name entry flag ≡ false =
+    ap (λ (x : List ℕ). same_name x flag) (parts ∙ ap (λ (b : ℕ). before_first is_equals entry ++ (b ∷ after_first is_equals entry)) at)
+    ∙ no_flag flag (before_first is_equals entry) (after_first is_equals entry) plain in
+    e ∙ sym (or-false (is_set flag es))
+    ∙ ap (λ v. is_set flag es || v) (sym (or-false (same_name entry flag) ∙ other))
+    ∙ sym (list_any-append (λ (one : List ℕ). same_name one flag) es (entry ∷ []))
+
+-- nothing stands after a `=` that isn't there
+nothing_after : (entry : List ℕ) → position_or_len is_equals entry ≡ length entry → after_first is_equals entry ≡ []
+nothing_after entry e = drop_all (position_or_len is_equals entry + 1) entry (omega (arith, e))
+
+pub carries_uncut : (directive entry : List ℕ) → position_or_len is_equals entry ≡ length entry → carries directive entry ≡ false
+carries_uncut directive entry e =
+    ap (λ (x : List ℕ). same_name (before_first is_equals entry) directive && not (length x == 0)) (nothing_after entry e)
+    ∙ and_right _ false refl
+
+-- it carries no number
+pub number_uncut : (directive : List ℕ) (es : List (List ℕ)) (entry : List ℕ) (before : Option ℕ) → before ≡ last_number directive es
+    → position_or_len is_equals entry ≡ length entry → before ≡ last_number directive (es ++ entry ∷ [])
+number_uncut directive es entry before e none =
+    let none_here : filter (carries directive) (entry ∷ []) ≡ [] = rw (carries_uncut directive entry none) refl in
+    e ∙ ap (λ r. option_and_then number_in (last_or None r)) (sym (filter-append (carries directive) es (entry ∷ []) ∙ ap (λ r. filter (carries directive) es ++ r) none_here ∙ append-nil _))
+
+pub uncut_not_bad : (entry : List ℕ) → position_or_len is_equals entry ≡ length entry → (false ≡ true) ↔ IsTrue (is_bad entry)
+uncut_not_bad entry none = none_bad entry (one (codes "max-age")) (one (codes "max-stale")) (one (codes "min-fresh")) (one (codes "s-maxage"))
+  where
+    one : (directive : List ℕ) → is_bad_for directive entry ≡ false
+    one directive = ap (λ b. b && is_none (number_in entry)) (carries_uncut directive entry none)

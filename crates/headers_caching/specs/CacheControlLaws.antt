@@ -94,7 +94,7 @@ flags_set flag d (row ∷ rows) =
     ∙ ap (λ v. (same_name row.0 flag && row.1 d) || v) (flags_set flag d rows)
 
 -- a flag's name has no `=`, and what is printed of a number has one
-no_flag : (flag name ds : List ℕ) → list_any is_equals (lowercase flag) ≡ false → same_name (name ++ 61 ∷ ds) flag ≡ false
+pub no_flag : (flag name ds : List ℕ) → list_any is_equals (lowercase flag) ≡ false → same_name (name ++ 61 ∷ ds) flag ≡ false
 no_flag flag name ds h =
     false_from_ne_true (same_name (name ++ 61 ∷ ds) flag)
     (λ e.

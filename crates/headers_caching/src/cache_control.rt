@@ -1,13 +1,14 @@
 //! The header `cache-control`.
 ghost use Rattle.std.specs.Prelude.{◌≡◌, ◌↔◌, ◌<◌, ◌^◌, ◌/◌, ◌∷◌, ◌++◌, List, [], ℕ, true, Some, IfOk, OnOk, IsTrue, IsErr, string_bytes};
 ghost use Rattle.std.specs.Duration.{as_nanos};
-ghost use Rattle.std.specs.List.{list_any};
+ghost use Rattle.std.specs.List.{list_any, before_first, after_first};
 ghost use Rattle.http_header.specs.FieldValue.{IsFieldValue};
 ghost use Rattle.headers_syntax.specs.Durations.{IsWholeSeconds};
 ghost use Rattle.headers_items.specs.Entries.{line_entries};
+ghost use Rattle.headers_items.specs.Pairs.{is_equals};
 ghost use Rattle.headers_syntax.specs.HeaderLaws.{written_by};
 ghost use Rattle.headers_items.specs.Merge.{merge};
-ghost use Rattle.headers_caching.specs.CacheControl.{GivesSeconds, directives, last_number, is_bad, is_bad_for, number_rows, print_flag, print_number, printed};
+ghost use Rattle.headers_caching.specs.CacheControl.{GivesSeconds, directives, last_number, is_bad, is_bad_for, is_set, number_rows, print_flag, print_number, printed};
 ghost use Rattle.headers_caching.specs.CacheControlGrammar.{cache_grammar};
 ghost use Rattle.headers_caching.specs.CacheControlLaws.{FitRows, FitsOption};
 ghost use Rattle.headers_caching.specs.Printing.{separated, append_all};
@@ -56,14 +57,13 @@ impl Model for CacheControl {
     ghost inverse = { λ d. record { no_cache = d.no_cache; no_store = d.no_store; no_transform = d.no_transform; only_if_cached = d.only_if_cached; must_revalidate = d.must_revalidate; public = d.public; private = d.private; immutable = d.immutable; must_understand = d.must_understand; proxy_revalidate = d.proxy_revalidate; max_age = d.max_age; max_stale = d.max_stale; min_fresh = d.min_fresh; s_max_age = d.s_max_age } };
 }
 
-// The number that the entry carries for the directive, if it does.
-fn number_for(directive: &str, entry: &str) -> Result<Option<u64>, Error>
-    ensures ok { IfOk result (λ n. n ≡ last_number directive.now (entry.now ∷ [])) }
-    ensures refused { IsErr result ↔ IsTrue (is_bad_for directive.now entry.now) }
+// The number that an entry carries for the directive, if it does, by what stands round its first `=`.
+fn number_for(directive: &str, name: &str, value: &str) -> Result<Option<u64>, Error>
+    ensures ok { IfOk result (λ n. (entry : List ℕ) → before_first is_equals entry ≡ name.now → after_first is_equals entry ≡ value.now
+        → n ≡ last_number directive.now (entry ∷ [])) }
+    ensures refused { (entry : List ℕ) → before_first is_equals entry ≡ name.now → after_first is_equals entry ≡ value.now
+        → (IsErr result ↔ IsTrue (is_bad_for directive.now entry)) }
 {
-    let Some((name, value)) = entry.split_once('=') else {
-        return Ok(None);
-    };
     if value.is_empty() || !same_but_for_case(name, directive) {
         return Ok(None);
     }
@@ -71,6 +71,30 @@ fn number_for(directive: &str, entry: &str) -> Result<Option<u64>, Error>
         Some(number) => Ok(Some(number)),
         None => Err(Error::invalid()),
     }
+}
+
+// Sets the flag where the entry is its name.
+fn set_flag(set: &mut bool, flag: &str, entry: &str)
+    ensures { (es : List (List ℕ)) → set.old ≡ is_set flag.now es → set.new ≡ is_set flag.now (es ++ entry.now ∷ []) }
+{
+    *set |= same_but_for_case(entry, flag);
+}
+
+// Puts the number that the entry carries for the directive in place of an old one.
+fn set_number(
+    number: &mut Option<u64>,
+    directive: &str,
+    name: &str,
+    value: &str,
+) -> Result<(), Error>
+    ensures ok { IfOk result (λ _. (es : List (List ℕ)) (entry : List ℕ) → before_first is_equals entry ≡ name.now → after_first is_equals entry ≡ value.now
+        → number.old ≡ last_number directive.now es → number.new ≡ last_number directive.now (es ++ entry ∷ [])) }
+    ensures refused { (entry : List ℕ) → before_first is_equals entry ≡ name.now → after_first is_equals entry ≡ value.now
+        → (IsErr result ↔ IsTrue (is_bad_for directive.now entry)) }
+{
+    let given = number_for(directive, name, value)?;
+    *number = given.or(*number);
+    Ok(())
 }
 
 impl CacheControl {
@@ -321,31 +345,30 @@ impl CacheControl {
         }
     }
 
-    // What the entries before direct, and this one.
-    fn with_entry(&self, entry: &str) -> Result<CacheControl, Error>
-        ensures ok { IfOk result (λ after. (es : List (List ℕ)) → self.now ≡ directives es → after ≡ directives (es ++ entry.now ∷ [])) }
+    // Takes in what an entry directs. It is cut once, in place of once for each number, and is compared with names of
+    // its kind alone.
+    fn add_entry(&mut self, entry: &str) -> Result<(), Error>
+        ensures ok { IfOk result (λ _. (es : List (List ℕ)) → self.old ≡ directives es → self.new ≡ directives (es ++ entry.now ∷ [])) }
         ensures refused { IsErr result ↔ IsTrue (is_bad entry.now) }
     {
-        let max_age = number_for("max-age", entry)?;
-        let max_stale = number_for("max-stale", entry)?;
-        let min_fresh = number_for("min-fresh", entry)?;
-        let s_max_age = number_for("s-maxage", entry)?;
-        Ok(CacheControl {
-            no_cache: self.no_cache | same_but_for_case(entry, "no-cache"),
-            no_store: self.no_store | same_but_for_case(entry, "no-store"),
-            no_transform: self.no_transform | same_but_for_case(entry, "no-transform"),
-            only_if_cached: self.only_if_cached | same_but_for_case(entry, "only-if-cached"),
-            must_revalidate: self.must_revalidate | same_but_for_case(entry, "must-revalidate"),
-            public: self.public | same_but_for_case(entry, "public"),
-            private: self.private | same_but_for_case(entry, "private"),
-            immutable: self.immutable | same_but_for_case(entry, "immutable"),
-            must_understand: self.must_understand | same_but_for_case(entry, "must-understand"),
-            proxy_revalidate: self.proxy_revalidate | same_but_for_case(entry, "proxy-revalidate"),
-            max_age: max_age.or(self.max_age),
-            max_stale: max_stale.or(self.max_stale),
-            min_fresh: min_fresh.or(self.min_fresh),
-            s_max_age: s_max_age.or(self.s_max_age),
-        })
+        let Some((name, value)) = entry.split_once('=') else {
+            set_flag(&mut self.no_cache, "no-cache", entry);
+            set_flag(&mut self.no_store, "no-store", entry);
+            set_flag(&mut self.no_transform, "no-transform", entry);
+            set_flag(&mut self.only_if_cached, "only-if-cached", entry);
+            set_flag(&mut self.must_revalidate, "must-revalidate", entry);
+            set_flag(&mut self.public, "public", entry);
+            set_flag(&mut self.private, "private", entry);
+            set_flag(&mut self.immutable, "immutable", entry);
+            set_flag(&mut self.must_understand, "must-understand", entry);
+            set_flag(&mut self.proxy_revalidate, "proxy-revalidate", entry);
+            return Ok(());
+        };
+        set_number(&mut self.max_age, "max-age", name, value)?;
+        set_number(&mut self.max_stale, "max-stale", name, value)?;
+        set_number(&mut self.min_fresh, "min-fresh", name, value)?;
+        set_number(&mut self.s_max_age, "s-maxage", name, value)?;
+        Ok(())
     }
 
     // What the entries before direct, and those of this line.
@@ -355,7 +378,7 @@ impl CacheControl {
     {
         let mut after = self;
         for entry in Entries::new(line) {
-            after = after.with_entry(entry)?;
+            after.add_entry(entry)?;
         }
         Ok(after)
     }
