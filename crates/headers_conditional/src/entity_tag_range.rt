@@ -7,9 +7,7 @@ ghost use Rattle.headers_items.specs.Merge.{merge};
 ghost use Rattle.headers_items.specs.Places.{comma};
 ghost use Rattle.headers_conditional.specs.EntityTagRange.{Matches, range_of, range_text};
 
-use headers_core::{
-    AsHeaderValue, Comma, EntityTag, EntityTagRef, Error, FieldForm, FlatCsv, Refused,
-};
+use headers_core::{AsHeaderValue, Comma, EntityTag, Error, FieldForm, FlatCsv, Refused};
 use http_header::HeaderValue;
 use std::alloc::{AllocError, Global};
 
@@ -26,20 +24,14 @@ pub enum EntityTagRange {
 fn is_strongly_equal(item: &str, tag: &EntityTag) -> bool
     ensures { IsTrue result ↔ AreTags StronglyEqual item.now tag.now.bytes }
 {
-    match EntityTagRef::parse(item.as_bytes()) {
-        Some(other) => other.strong_eq(&tag.view()),
-        None => false,
-    }
+    tag.strong_eq_bytes(item.as_bytes())
 }
 
 // Whether an item of a list is an entity tag that is weakly equal.
 fn is_weakly_equal(item: &str, tag: &EntityTag) -> bool
     ensures { IsTrue result ↔ AreTags WeaklyEqual item.now tag.now.bytes }
 {
-    match EntityTagRef::parse(item.as_bytes()) {
-        Some(other) => other.weak_eq(&tag.view()),
-        None => false,
-    }
+    tag.weak_eq_bytes(item.as_bytes())
 }
 
 impl EntityTagRange {

@@ -10,6 +10,7 @@ use Rattle.std.proofs.lemmas.Slice.Eq.{bytes_eq-Decides}
 use Rattle.std.specs.Prelude.{bytes_eq}
 use Rattle.std.proofs.lemmas.List.Sums.{AllPass-from_list_all, list_all-from_AllPass}
 use Rattle.headers_syntax.specs.Text.{quote, is_blank, is_text, trim, trim_end}
+use Rattle.http_header.specs.Token.{AllPass}
 use Rattle.headers_syntax.specs.EntityTag.{is_tag_byte, between_quotes, TagParts, tag_text, IsTag, IsSomeTag}
 use Rattle.headers_syntax.specs.EntityTag.{FindsTag, is_tag, parts_of}
 
@@ -32,6 +33,14 @@ parts_of-tag bytes parts h = ap parts_of h.text ∙ parts_of-text parts.is_weak 
 
 pub parts_unique : (bytes : List ℕ) (s t : TagParts) → IsTag bytes s → IsTag bytes t → s ≡ t
 parts_unique bytes s t h k = sym (parts_of-tag bytes s h) ∙ parts_of-tag bytes t k
+
+-- of bytes that are a tag, whatever is written as they are passes
+pub passes_from_text : (bytes : List ℕ) (parts : TagParts) → bytes ≡ tag_text parts → IsSomeTag bytes
+    → AllPass is_tag_byte parts.opaque
+passes_from_text bytes parts e h =
+    let same : parts ≡ h.0 = sym (ap parts_of e ∙ parts_of-text parts.is_weak parts.opaque)
+    ∙ parts_of-tag bytes h.0 h.1 in
+    subst (λ (p : TagParts). AllPass is_tag_byte p.opaque) (sym same) h.1.opaque
 
 -- the test for a tag
 pub is_tag-true : (bytes : List ℕ) (parts : TagParts) → IsTag bytes parts → is_tag bytes ≡ true

@@ -1,7 +1,8 @@
 //! Entity tags, which tell one representation of a resource from another.
-ghost use Rattle.std.specs.Prelude.{◌≡◌, ◌↔◌, ℕ, List, false, IsTrue, IfOk, Some, None, if◌then◌else◌};
-ghost use Rattle.headers_syntax.specs.EntityTag.{TagParts, IsTag, IsSomeTag, is_tag, is_tag_byte, FindsTag};
-ghost use Rattle.headers_syntax.specs.EntityTag.{FindsQuoted, StronglyEqual, WeaklyEqual};
+ghost use Rattle.std.specs.Prelude.{◌≡◌, ◌≢◌, ◌↔◌, MatchOption, ℕ, List, false, IsTrue, IfOk, Some, None};
+ghost use Rattle.std.specs.Prelude.{if◌then◌else◌};
+ghost use Rattle.headers_syntax.specs.EntityTag.{TagParts, tag_text, IsTag, IsSomeTag, is_tag, is_tag_byte, AreTags};
+ghost use Rattle.headers_syntax.specs.EntityTag.{FindsTag, FindsQuoted, StronglyEqual, WeaklyEqual};
 
 use http_header::HeaderValue;
 use std::alloc::{AllocError, Global};
@@ -40,19 +41,29 @@ fn quoted(bytes: &[u8]) -> Option<&[u8]>
     }
 }
 
+// The parts that the mark and the quotes give, whatever bytes stand between the quotes.
+fn shaped(bytes: &[u8]) -> Option<EntityTagRef<'_>>
+    ensures { MatchOption result ((parts : TagParts) → bytes.now ≢ tag_text parts)
+        (λ parts. bytes.now ≡ tag_text parts) }
+{
+    let (is_weak, rest) = match bytes {
+        [b'W', b'/', rest @ ..] => (true, rest),
+        _ => (false, bytes),
+    };
+    let opaque = quoted(rest)?;
+    Some(EntityTagRef { is_weak, opaque })
+}
+
+#[tactic(auto, using(crate::proofs::EntityTagLemmas::passes_from_text))]
 impl<'a> EntityTagRef<'a> {
     /// The entity tag that the bytes are, all of them: `W/` where it is weak, and the opaque part in
     /// quotes, of bytes 0x21, 0x23 to 0x7E and 0x80 to 0xFF; None where they are no entity tag.
     pub fn parse(bytes: &'a [u8]) -> Option<EntityTagRef<'a>>
         ensures { FindsTag bytes.now result }
     {
-        let (is_weak, rest) = match bytes {
-            [b'W', b'/', rest @ ..] => (true, rest),
-            _ => (false, bytes),
-        };
-        let opaque = quoted(rest)?;
-        if opaque.iter().all(|byte| is_tag_byte(*byte)) {
-            Some(EntityTagRef { is_weak, opaque })
+        let tag = shaped(bytes)?;
+        if tag.opaque.iter().all(|byte| is_tag_byte(*byte)) {
+            Some(tag)
         } else {
             None
         }
@@ -145,7 +156,27 @@ impl EntityTag {
     pub fn view(&self) -> EntityTagRef<'_>
         ensures { IsTag self.now.bytes result }
     {
-        EntityTagRef::parse(self.value.as_bytes()).unwrap()
+        // The bytes are a tag's: they are not tested again.
+        shaped(self.value.as_bytes()).unwrap()
+    }
+
+    /// Whether the bytes are an entity tag that is strongly equal to this one.
+    pub fn strong_eq_bytes(&self, bytes: &[u8]) -> bool
+        ensures { IsTrue result ↔ AreTags StronglyEqual bytes.now self.now.bytes }
+    {
+        // What equals a tag is one.
+        !self.view().is_weak() && bytes == self.value.as_bytes()
+    }
+
+    /// Whether the bytes are an entity tag that is weakly equal to this one.
+    pub fn weak_eq_bytes(&self, bytes: &[u8]) -> bool
+        ensures { IsTrue result ↔ AreTags WeaklyEqual bytes.now self.now.bytes }
+    {
+        // Where a tag's opaque part stands between the quotes, the bytes are a tag.
+        match shaped(bytes) {
+            Some(other) => other.weak_eq(&self.view()),
+            None => false,
+        }
     }
 
     /// The value itself.
