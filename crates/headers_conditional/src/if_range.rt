@@ -1,11 +1,11 @@
 //! The header `if-range`.
 ghost use Rattle.std.specs.Prelude.{◌≡◌, ◌↔◌, IsTrue, IfOk, option_map};
 ghost use Rattle.headers_syntax.specs.Date.{IsDated};
-ghost use Rattle.headers_conditional.specs.Validator.{Tag, Second, unmarked, validator, validator_line, IsModified};
+ghost use Rattle.headers_conditional.specs.Validator.{Tag, Second, unmarked, validator, IsModified};
 
 use crate::etag::{ETag, into_tag, tag_of};
 use crate::last_modified::LastModified;
-use headers_core::{AsHeaderValue, Date1, EntityTag, Error, Header, Refused, first};
+use headers_core::{AsHeaderValue, Date1, EntityTag, Error, FieldForm, Header, Refused, first};
 use http_header::{HeaderName, HeaderValue, IF_RANGE};
 use std::alloc::{AllocError, Global};
 use std::marker::Model;
@@ -106,15 +106,6 @@ impl IfRange {
             },
         }
     }
-
-    fn to_value(&self, alloc: Global) -> Result<HeaderValue, AllocError>
-        ensures { IfOk result (λ value. value.bytes ≡ validator_line (unmarked self.now)) }
-    {
-        match &self.named {
-            Named::Tag(tag) => Ok(tag.clone(alloc)?.into_value()),
-            Named::Date(date) => date.to_value(alloc),
-        }
-    }
 }
 
 impl Header for IfRange {
@@ -148,7 +139,9 @@ impl Header for IfRange {
     }
 
     fn encode(&self, alloc: Global, values: &mut Vec<HeaderValue>) -> Result<(), AllocError> {
-        values.push(self.to_value(alloc)?)?;
-        Ok(())
+        match &self.named {
+            Named::Tag(tag) => tag.write_lines(alloc, values),
+            Named::Date(date) => date.write_lines(alloc, values),
+        }
     }
 }
