@@ -179,7 +179,7 @@ parity_count n (x ∷ xs) =
     ap (λ v. parity_after (cond v (not (is_even n)) (is_even n)) xs) q ∙ parity_count n xs ∙ ap is_even e)
     (cases_Bool (is_quote x))
 
-zero_even : (s : List ℕ) → is_even (quotes_before s 0) ≡ true
+pub zero_even : (s : List ℕ) → is_even (quotes_before s 0) ≡ true
 zero_even [] = refl
 zero_even (x ∷ s) = refl
 

@@ -1,3 +1,4 @@
+pub mod AnswerLemmas
 pub mod CutAtLemmas
 pub mod CutLemmas
 pub mod ItemsLemmas

@@ -1,3 +1,4 @@
+pub mod Answers
 pub mod CutLaw
 pub mod Entries
 pub mod ItemsState

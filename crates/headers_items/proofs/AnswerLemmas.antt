@@ -1,0 +1,89 @@
+-- What goes by the items of a value stays the same if its lines are joined or split.
+use Rattle.std.proofs.Common.{◌≡◌, ◌↔◌, ℕ, true, List, [], ◌∷◌, ◌++◌, refl, sym, ◌∙◌, ap, subst, filter, append-nil}
+use Rattle.std.specs.List.{flat_map, list_all}
+use Rattle.std.proofs.lemmas.Bool.{and_parts}
+use Rattle.std.proofs.lemmas.List.Elements.{filter-append}
+use Rattle.http_header.specs.Token.{is_visible_or_blank}
+use Rattle.headers_syntax.specs.Lines.{Line}
+use Rattle.headers_syntax.specs.Text.{is_text}
+use Rattle.headers_syntax.proofs.TextLemmas.{list_all-parts}
+use Rattle.headers_items.specs.Answers.{SameAnswers, SurvivesCuts, GoesByItems}
+use Rattle.headers_items.specs.CutLaw.{AreCuts}
+use Rattle.headers_items.specs.Entries.{entries, line_entries}
+use Rattle.headers_items.specs.ItemsState.{is_entry}
+use Rattle.headers_items.specs.Merge.{merge}
+use Rattle.headers_items.specs.Places.{comma, semicolon, items, pieces}
+use Rattle.headers_items.specs.Separator.{IsSeparator, comma_is_separator, semicolon_is_separator}
+use Rattle.headers_items.proofs.CutLemmas.{IsCutInto, items_apart, items_cut_at, IsCutInto-pieces, zero_even, HasItemsOf-merge}
+
+-- equal values have the same answers
+pub same_answers : {A R : Type 0} (answers : A → R → Type 0) (v w : A) → v ≡ w → SameAnswers answers v w
+same_answers answers v w e result =
+    (λ h. subst (λ x. answers x result) e h, λ h. subst (λ x. answers x result) (sym e) h)
+
+-- answers over the items go by them
+pub goes_by_items : {R : Type 0} (separator : ℕ) (answers : List (List ℕ) → R → Type 0)
+    → GoesByItems separator (λ value. answers (items separator value))
+goes_by_items separator answers v w e = same_answers answers (items separator v) (items separator w) e
+
+-- what goes by items survives cuts
+pub survives : {R : Type 0} (separator : ℕ) (answers : List ℕ → R → Type 0) → IsSeparator separator → GoesByItems separator answers
+    → SurvivesCuts separator (λ lines. answers (merge separator lines))
+survives separator answers f goes =
+    record {
+      cut = λ text places t cuts. goes (merge separator (pieces text 0 places)) text (items_cut_at separator text places f t cuts);
+      merged = λ line lines t even. same_answers answers (merge separator (line ∷ lines)) (merge separator (line ∷ lines)) refl;
+    }
+
+-- answers over the items, by comma and by semicolon
+pub survives_commas : {R : Type 0} (answers : List (List ℕ) → R → Type 0)
+    → SurvivesCuts comma (λ lines. answers (items comma (merge comma lines)))
+survives_commas answers = survives comma (λ value. answers (items comma value)) comma_is_separator (goes_by_items comma answers)
+
+pub survives_semicolons : {R : Type 0} (answers : List (List ℕ) → R → Type 0)
+    → SurvivesCuts semicolon (λ lines. answers (items semicolon (merge semicolon lines)))
+survives_semicolons answers =
+    survives semicolon (λ value. answers (items semicolon value)) semicolon_is_separator (goes_by_items semicolon answers)
+
+-- the items of a text are those of the lines that it was cut into, one line after the other
+items_of_parts : (separator : ℕ) (s : List ℕ) (lines : List Line) → IsSeparator separator → is_text s ≡ true → IsCutInto separator s lines
+    → flat_map (items separator) lines ≡ items separator s
+items_of_parts separator s [] f t h = absurd h
+items_of_parts separator s (x ∷ []) f t h = append-nil (items separator x) ∙ ap (items separator) (sym h)
+items_of_parts separator s (x ∷ y ∷ ys) f t h =
+    let t' : is_text (x ++ separator ∷ h.0) ≡ true = ap is_text (sym h.1) ∙ t in
+    let parts = list_all-parts is_visible_or_blank x (separator ∷ h.0) t' in
+    let tb = (and_parts (is_visible_or_blank separator) (list_all is_visible_or_blank h.0) parts.1).1 in
+    ap (λ r. items separator x ++ r) (items_of_parts separator h.0 (y ∷ ys) f tb h.3)
+    ∙ sym (ap (items separator) h.1 ∙ items_apart separator x h.0 f t' h.2)
+
+-- entries are items of the lines
+entries_items : (lines : List Line) → entries lines ≡ filter is_entry (flat_map (items comma) lines)
+entries_items [] = refl
+entries_items (line ∷ lines) =
+    ap (λ r. line_entries line ++ r) (entries_items lines)
+    ∙ sym (filter-append is_entry (items comma line) (flat_map (items comma) lines))
+
+-- the entries of one line, of the lines that it was cut into, and of the lines that were merged to it
+entries_line : (line : Line) → entries (line ∷ []) ≡ filter is_entry (items comma line)
+entries_line line = append-nil (line_entries line)
+
+entries_cut : (s places : List ℕ) → is_text s ≡ true → AreCuts comma s 0 places → entries (pieces s 0 places) ≡ entries (s ∷ [])
+entries_cut s places t cuts =
+    entries_items (pieces s 0 places)
+    ∙ ap (filter is_entry) (items_of_parts comma s (pieces s 0 places) comma_is_separator t (IsCutInto-pieces comma s 0 places comma_is_separator.no_quote (zero_even s) cuts))
+    ∙ sym (entries_line s)
+
+entries_merged : (line : Line) (lines : List Line) → flat_map (items comma) (line ∷ lines) ≡ items comma (merge comma (line ∷ lines))
+    → entries (line ∷ lines) ≡ entries (merge comma (line ∷ lines) ∷ [])
+entries_merged line lines e = entries_items (line ∷ lines) ∙ ap (filter is_entry) e ∙ sym (entries_line (merge comma (line ∷ lines)))
+
+-- answers over the entries of lines survive cuts, though each line stands by itself
+pub entries_survive : {R : Type 0} (answers : List (List ℕ) → R → Type 0) → SurvivesCuts comma (λ lines. answers (entries lines))
+entries_survive answers =
+    record {
+      cut = λ text places t cuts. same_answers answers (entries (pieces text 0 places)) (entries (text ∷ [])) (entries_cut text places t cuts);
+      merged = λ line lines t even.
+          same_answers answers (entries (line ∷ lines)) (entries (merge comma (line ∷ lines) ∷ []))
+          (entries_merged line lines (sym (HasItemsOf-merge comma (line ∷ lines) comma_is_separator t even)));
+    }
