@@ -1,7 +1,9 @@
 //! The header `cookie`.
 ghost use Rattle.std.specs.Prelude.{◌≡◌, ◌<◌, ◌^◌, length, option_map, IfOk};
+ghost use Rattle.headers_items.specs.Answers.{GoesByItems, SurvivesCuts};
+ghost use Rattle.headers_items.specs.Merge.{merge};
 ghost use Rattle.headers_items.specs.Places.{semicolon, items};
-ghost use Rattle.headers_items.specs.ItemsState.{walk_over};
+ghost use Rattle.headers_items.specs.ItemsState.{ItemsState, walk_over};
 ghost use Rattle.headers_items.specs.Pairs.{pairs, pairs_left, first_value};
 
 use headers_core::{FlatCsv, FormHeader, Pairs, SemiColon};
@@ -31,13 +33,21 @@ impl Cookie {
         ensures pairs { pairs_left result ≡ pairs (items semicolon self.now) }
         ensures fresh { result ≡ walk_over semicolon self.now }
         ensures count { length (pairs_left result) < 2 ^ 64 }
+        ensures cuts { SurvivesCuts semicolon
+            (λ lines (walk : ItemsState). pairs_left walk ≡ pairs (items semicolon (merge semicolon lines))) }
+        ensures by_items { GoesByItems semicolon
+            (λ value (walk : ItemsState). pairs_left walk ≡ pairs (items semicolon value)) }
     {
         Pairs::new(&self.pairs)
     }
 
     /// The value of the first pair of a name, if there is one.
     pub fn get(&self, name: &str) -> Option<&str>
-        ensures { option_map (λ value. value.now) result ≡ first_value name.now (pairs (items semicolon self.now)) }
+        ensures answer { option_map (λ value. value.now) result ≡ first_value name.now (pairs (items semicolon self.now)) }
+        ensures cuts { SurvivesCuts semicolon
+            (λ lines got. got ≡ first_value name.now (pairs (items semicolon (merge semicolon lines)))) }
+        ensures by_items { GoesByItems semicolon
+            (λ value got. got ≡ first_value name.now (pairs (items semicolon value))) }
     {
         for (key, value) in self.iter() {
             if key == name {
@@ -49,7 +59,10 @@ impl Cookie {
 
     /// How many pairs there are.
     pub fn len(&self) -> usize
-        ensures { result ≡ length (pairs (items semicolon self.now)) }
+        ensures answer { result ≡ length (pairs (items semicolon self.now)) }
+        ensures cuts { SurvivesCuts semicolon
+            (λ lines count. count ≡ length (pairs (items semicolon (merge semicolon lines)))) }
+        ensures by_items { GoesByItems semicolon (λ value count. count ≡ length (pairs (items semicolon value))) }
     {
         self.iter().count()
     }

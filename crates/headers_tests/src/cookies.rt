@@ -27,6 +27,23 @@ fn cookies(rt: HostRuntime) {
     }
 }
 
+// One line, and the lines that it is cut into at each choice of its semicolons outside quotes.
+#[test]
+fn cookies_cut(rt: HostRuntime) {
+    let rows: [&[&str]; 4] = [
+        &["a=1; b=\"x;y\"; a=2"],
+        &["a=1", " b=\"x;y\"; a=2"],
+        &["a=1; b=\"x;y\"", " a=2"],
+        &["a=1", " b=\"x;y\"", " a=2"],
+    ];
+    for texts in rows {
+        let cookie: Cookie = decoded(&rt, texts);
+        assert_eq!(rt; cookie.get("a"), Some("1"));
+        assert_eq!(rt; cookie.get("b"), Some("\"x;y\""));
+        assert_eq!(rt; cookie.len(), 3);
+    }
+}
+
 #[test]
 fn cookie_pairs(rt: HostRuntime) {
     let cookie: Cookie = decoded(&rt, &["a=b=c;=d; e"]);

@@ -1,0 +1,8 @@
+use Rattle.headers_items.proofs.AnswerLemmas.{survives_semicolons}
+use Rattle.headers_items.specs.ItemsState.{ItemsState}
+use Rattle.headers_items.specs.Pairs.{pairs, pairs_left}
+use Rattle.std.proofs.Common.{◌≡◌}
+use Rattle.headers_cookies.proofs.cookie.Cookie.iter.Goals as goal
+
+pub returns-clause-cuts : goal.returns-clause-cuts
+returns-clause-cuts c = survives_semicolons (λ items (walk : ItemsState). pairs_left walk ≡ pairs items)
