@@ -1,6 +1,8 @@
 //! The header `connection`.
 ghost use Rattle.std.specs.Prelude.{◌≡◌, ◌↔◌, List, ℕ, IsTrue, IfOk, codes};
 ghost use Rattle.std.specs.Iterator.{IsFinite};
+ghost use Rattle.headers_items.specs.Answers.{GoesByItems, SurvivesCuts};
+ghost use Rattle.headers_items.specs.Merge.{merge};
 ghost use Rattle.headers_items.specs.Places.{comma, items};
 ghost use Rattle.headers_items.specs.CutLaw.{MergesLines};
 ghost use Rattle.headers_connection.specs.Connection.{HasOption};
@@ -116,7 +118,11 @@ impl Connection {
 
     /// Whether some item is the option, ignoring the case of ASCII letters (RFC 9110, section 7.6.1).
     pub fn contains<T: AsConnectionOption>(&self, option: T) -> bool
-        ensures { IsTrue result ↔ HasOption (items comma self.now) (T.option option) }
+        ensures answer { IsTrue result ↔ HasOption (items comma self.now) (T.option option) }
+        ensures cuts { SurvivesCuts comma
+            (λ lines has. IsTrue has ↔ HasOption (items comma (merge comma lines)) (T.option option)) }
+        ensures by_items { GoesByItems comma
+            (λ value has. IsTrue has ↔ HasOption (items comma value) (T.option option)) }
     {
         let option = option.as_connection_option();
         self.options

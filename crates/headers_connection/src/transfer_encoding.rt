@@ -2,6 +2,8 @@
 ghost use Rattle.std.specs.Prelude.{◌≡◌, ◌↔◌, IsTrue, IfOk, codes};
 ghost use Rattle.std.specs.List.{after_last};
 ghost use Rattle.headers_syntax.specs.Text.{trim};
+ghost use Rattle.headers_items.specs.Answers.{GoesByItems, SurvivesCuts};
+ghost use Rattle.headers_items.specs.Merge.{merge};
 ghost use Rattle.headers_items.specs.Places.{comma, items};
 ghost use Rattle.headers_connection.specs.Chunked.{IsChunked, is_comma};
 
@@ -57,7 +59,10 @@ impl TransferEncoding {
     /// Whether the list ends in `chunked`: what follows the last comma of the last item, or the whole
     /// item if it has none, is that word when trimmed. A value that isn't text isn't chunked.
     pub fn is_chunked(&self) -> bool
-        ensures { IsTrue result ↔ IsChunked (items comma self.now) }
+        ensures answer { IsTrue result ↔ IsChunked (items comma self.now) }
+        ensures cuts { SurvivesCuts comma
+            (λ lines chunked. IsTrue chunked ↔ IsChunked (items comma (merge comma lines))) }
+        ensures by_items { GoesByItems comma (λ value chunked. IsTrue chunked ↔ IsChunked (items comma value)) }
     {
         match self.codings.as_text() {
             Some(text) => ends_in_chunked(text),
