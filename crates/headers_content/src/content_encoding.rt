@@ -1,5 +1,7 @@
 //! The header `content-encoding`.
 ghost use Rattle.std.specs.Prelude.{◌≡◌, ◌↔◌, Contains, IsTrue, IfOk, codes};
+ghost use Rattle.headers_items.specs.Answers.{GoesByItems, SurvivesCuts};
+ghost use Rattle.headers_items.specs.Merge.{merge};
 ghost use Rattle.headers_items.specs.Places.{comma, items};
 
 use headers_core::{Comma, FlatCsv, FormHeader};
@@ -53,7 +55,10 @@ impl ContentEncoding {
 
     /// Whether some item is the coding, with case.
     pub fn contains(&self, coding: &str) -> bool
-        ensures { IsTrue result ↔ Contains (items comma self.now) coding.now }
+        ensures answer { IsTrue result ↔ Contains (items comma self.now) coding.now }
+        ensures cuts { SurvivesCuts comma
+            (λ lines has. IsTrue has ↔ Contains (items comma (merge comma lines)) coding.now) }
+        ensures by_items { GoesByItems comma (λ value has. IsTrue has ↔ Contains (items comma value) coding.now) }
     {
         self.codings.iter().any(|item| item == coding)
     }
