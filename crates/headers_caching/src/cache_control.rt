@@ -4,9 +4,10 @@ ghost use Rattle.std.specs.Duration.{as_nanos};
 ghost use Rattle.std.specs.List.{list_any, before_first, after_first};
 ghost use Rattle.http_header.specs.FieldValue.{IsFieldValue};
 ghost use Rattle.headers_syntax.specs.Durations.{IsWholeSeconds};
+ghost use Rattle.headers_items.specs.Answers.{SurvivesCuts};
 ghost use Rattle.headers_items.specs.Entries.{line_entries};
 ghost use Rattle.headers_items.specs.Pairs.{is_equals};
-ghost use Rattle.headers_syntax.specs.HeaderLaws.{written_by};
+ghost use Rattle.headers_syntax.specs.HeaderLaws.{ReadsBy, written_by};
 ghost use Rattle.headers_items.specs.Merge.{merge};
 ghost use Rattle.headers_caching.specs.CacheControl.{GivesSeconds, directives, last_number, is_bad, is_bad_for, is_set, number_rows, print_flag, print_number, printed};
 ghost use Rattle.headers_caching.specs.CacheControlGrammar.{cache_grammar};
@@ -505,3 +506,8 @@ impl Header for CacheControl {
         Ok(())
     }
 }
+
+/// Joining or splitting the lines of a field keeps what they decode to: the same value, or a refusal.
+pub fn cache_control_survives_cuts()
+    ensures { SurvivesCuts comma (ReadsBy cache_grammar) }
+{}

@@ -8,7 +8,7 @@ mod pragma;
 mod vary;
 
 pub use crate::age::Age;
-pub use crate::cache_control::{CacheControl, equal_by_encoding};
+pub use crate::cache_control::{CacheControl, cache_control_survives_cuts, equal_by_encoding};
 pub use crate::expires::Expires;
 pub use crate::pragma::Pragma;
 pub use crate::vary::Vary;

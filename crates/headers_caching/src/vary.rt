@@ -1,8 +1,10 @@
 //! The header `vary`.
 ghost use Rattle.std.specs.Prelude.{◌≡◌, ◌<◌, ◌^◌, ◌↔◌, length, Contains, IsTrue, IfOk, IsOkAnd, codes};
 ghost use Rattle.std.specs.Iterator.{IsFinite};
+ghost use Rattle.headers_items.specs.Answers.{GoesByItems, SurvivesCuts};
+ghost use Rattle.headers_items.specs.Merge.{merge};
 ghost use Rattle.headers_items.specs.Places.{comma, items};
-ghost use Rattle.headers_items.specs.ItemsState.{items_left, walk_over};
+ghost use Rattle.headers_items.specs.ItemsState.{ItemsState, items_left, walk_over};
 ghost use Rattle.headers_items.specs.CutLaw.{MergesLines};
 
 use headers_core::{Comma, FlatCsv, FormHeader, Items};
@@ -61,7 +63,10 @@ impl Vary {
 
     /// Whether some item is `*`.
     pub fn is_any(&self) -> bool
-        ensures { IsTrue result ↔ Contains (items comma self.now) (codes "*") }
+        ensures answer { IsTrue result ↔ Contains (items comma self.now) (codes "*") }
+        ensures cuts { SurvivesCuts comma
+            (λ lines any. IsTrue any ↔ Contains (items comma (merge comma lines)) (codes "*")) }
+        ensures by_items { GoesByItems comma (λ value any. IsTrue any ↔ Contains (items comma value) (codes "*")) }
     {
         self.names.iter().any(|item| item == "*")
     }
@@ -71,6 +76,9 @@ impl Vary {
         ensures items { items_left result ≡ items comma self.now }
         ensures fresh { result ≡ walk_over comma self.now }
         ensures count { length (items_left result) < 2 ^ 64 }
+        ensures cuts { SurvivesCuts comma
+            (λ lines (walk : ItemsState). items_left walk ≡ items comma (merge comma lines)) }
+        ensures by_items { GoesByItems comma (λ value (walk : ItemsState). items_left walk ≡ items comma value) }
     {
         self.names.iter()
     }

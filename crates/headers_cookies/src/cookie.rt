@@ -43,7 +43,8 @@ impl Cookie {
 
     /// The value of the first pair of a name, if there is one.
     pub fn get(&self, name: &str) -> Option<&str>
-        ensures answer { option_map (λ value. value.now) result ≡ first_value name.now (pairs (items semicolon self.now)) }
+        ensures answer { option_map (λ value. value.now) result
+            ≡ first_value name.now (pairs (items semicolon self.now)) }
         ensures cuts { SurvivesCuts semicolon
             (λ lines got. got ≡ first_value name.now (pairs (items semicolon (merge semicolon lines)))) }
         ensures by_items { GoesByItems semicolon

@@ -27,27 +27,31 @@ pub goes_by_items : {R : Type 0} (separator : ℕ) (answers : List (List ℕ) �
 goes_by_items separator answers v w e = same_answers answers (items separator v) (items separator w) e
 
 -- what goes by items survives cuts
-pub survives : {R : Type 0} (separator : ℕ) (answers : List ℕ → R → Type 0) → IsSeparator separator → GoesByItems separator answers
-    → SurvivesCuts separator (λ lines. answers (merge separator lines))
+pub survives : {R : Type 0} (separator : ℕ) (answers : List ℕ → R → Type 0) → IsSeparator separator
+    → GoesByItems separator answers → SurvivesCuts separator (λ lines. answers (merge separator lines))
 survives separator answers f goes =
     record {
-      cut = λ text places t cuts. goes (merge separator (pieces text 0 places)) text (items_cut_at separator text places f t cuts);
-      merged = λ line lines t even. same_answers answers (merge separator (line ∷ lines)) (merge separator (line ∷ lines)) refl;
+      cut = λ text places t cuts.
+          goes (merge separator (pieces text 0 places)) text (items_cut_at separator text places f t cuts);
+      merged = λ line lines t even.
+          same_answers answers (merge separator (line ∷ lines)) (merge separator (line ∷ lines)) refl;
     }
 
 -- answers over the items, by comma and by semicolon
 pub survives_commas : {R : Type 0} (answers : List (List ℕ) → R → Type 0)
     → SurvivesCuts comma (λ lines. answers (items comma (merge comma lines)))
-survives_commas answers = survives comma (λ value. answers (items comma value)) comma_is_separator (goes_by_items comma answers)
+survives_commas answers =
+    survives comma (λ value. answers (items comma value)) comma_is_separator (goes_by_items comma answers)
 
 pub survives_semicolons : {R : Type 0} (answers : List (List ℕ) → R → Type 0)
     → SurvivesCuts semicolon (λ lines. answers (items semicolon (merge semicolon lines)))
 survives_semicolons answers =
-    survives semicolon (λ value. answers (items semicolon value)) semicolon_is_separator (goes_by_items semicolon answers)
+    survives semicolon (λ value. answers (items semicolon value)) semicolon_is_separator
+    (goes_by_items semicolon answers)
 
 -- the items of a text are those of the lines that it was cut into, one line after the other
-items_of_parts : (separator : ℕ) (s : List ℕ) (lines : List Line) → IsSeparator separator → is_text s ≡ true → IsCutInto separator s lines
-    → flat_map (items separator) lines ≡ items separator s
+items_of_parts : (separator : ℕ) (s : List ℕ) (lines : List Line) → IsSeparator separator → is_text s ≡ true
+    → IsCutInto separator s lines → flat_map (items separator) lines ≡ items separator s
 items_of_parts separator s [] f t h = absurd h
 items_of_parts separator s (x ∷ []) f t h = append-nil (items separator x) ∙ ap (items separator) (sym h)
 items_of_parts separator s (x ∷ y ∷ ys) f t h =
@@ -68,21 +72,28 @@ entries_items (line ∷ lines) =
 entries_line : (line : Line) → entries (line ∷ []) ≡ filter is_entry (items comma line)
 entries_line line = append-nil (line_entries line)
 
-entries_cut : (s places : List ℕ) → is_text s ≡ true → AreCuts comma s 0 places → entries (pieces s 0 places) ≡ entries (s ∷ [])
+entries_cut : (s places : List ℕ) → is_text s ≡ true → AreCuts comma s 0 places
+    → entries (pieces s 0 places) ≡ entries (s ∷ [])
 entries_cut s places t cuts =
     entries_items (pieces s 0 places)
-    ∙ ap (filter is_entry) (items_of_parts comma s (pieces s 0 places) comma_is_separator t (IsCutInto-pieces comma s 0 places comma_is_separator.no_quote (zero_even s) cuts))
+    ∙ ap (filter is_entry)
+    (items_of_parts comma s (pieces s 0 places) comma_is_separator t
+    (IsCutInto-pieces comma s 0 places comma_is_separator.no_quote (zero_even s) cuts))
     ∙ sym (entries_line s)
 
-entries_merged : (line : Line) (lines : List Line) → flat_map (items comma) (line ∷ lines) ≡ items comma (merge comma (line ∷ lines))
+entries_merged : (line : Line) (lines : List Line)
+    → flat_map (items comma) (line ∷ lines) ≡ items comma (merge comma (line ∷ lines))
     → entries (line ∷ lines) ≡ entries (merge comma (line ∷ lines) ∷ [])
-entries_merged line lines e = entries_items (line ∷ lines) ∙ ap (filter is_entry) e ∙ sym (entries_line (merge comma (line ∷ lines)))
+entries_merged line lines e =
+    entries_items (line ∷ lines) ∙ ap (filter is_entry) e ∙ sym (entries_line (merge comma (line ∷ lines)))
 
 -- answers over the entries of lines survive cuts, though each line stands by itself
-pub entries_survive : {R : Type 0} (answers : List (List ℕ) → R → Type 0) → SurvivesCuts comma (λ lines. answers (entries lines))
+pub entries_survive : {R : Type 0} (answers : List (List ℕ) → R → Type 0)
+    → SurvivesCuts comma (λ lines. answers (entries lines))
 entries_survive answers =
     record {
-      cut = λ text places t cuts. same_answers answers (entries (pieces text 0 places)) (entries (text ∷ [])) (entries_cut text places t cuts);
+      cut = λ text places t cuts.
+          same_answers answers (entries (pieces text 0 places)) (entries (text ∷ [])) (entries_cut text places t cuts);
       merged = λ line lines t even.
           same_answers answers (entries (line ∷ lines)) (entries (merge comma (line ∷ lines) ∷ []))
           (entries_merged line lines (sym (HasItemsOf-merge comma (line ∷ lines) comma_is_separator t even)));

@@ -6,7 +6,8 @@ use Rattle.headers_items.specs.Pairs.{pairs, first_value}
 use Rattle.headers_items.specs.Places.{semicolon, items}
 use Rattle.headers_cookies.proofs.cookie.Cookie.get.Goals as goal
 
-value_survives : (name : List ℕ) → SurvivesCuts semicolon (λ lines (got : Option (List ℕ)). got ≡ first_value name (pairs (items semicolon (merge semicolon lines))))
+value_survives : (name : List ℕ) → SurvivesCuts semicolon
+    (λ lines (got : Option (List ℕ)). got ≡ first_value name (pairs (items semicolon (merge semicolon lines))))
 value_survives name = survives_semicolons (λ items (got : Option (List ℕ)). got ≡ first_value name (pairs items))
 
 pub returns-then-eq-clause-cuts : goal.returns-then-eq-clause-cuts
