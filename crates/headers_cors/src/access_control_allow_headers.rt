@@ -1,6 +1,8 @@
 //! The header `access-control-allow-headers`.
 ghost use Rattle.std.specs.Prelude.{◌≡◌, IfOk};
 ghost use Rattle.std.specs.Iterator.{IsFinite};
+ghost use Rattle.headers_items.specs.Answers.{GoesByItems, SurvivesCuts};
+ghost use Rattle.headers_items.specs.Merge.{merge};
 ghost use Rattle.headers_items.specs.Places.{comma, items};
 ghost use Rattle.headers_names.specs.ListItem.{name_of, names, Lists};
 
@@ -46,7 +48,9 @@ impl AccessControlAllowHeaders {
 
     /// The names before the first item that is none.
     pub fn iter(&self, alloc: Global) -> Names<'_>
-        ensures { result ≡ names (items comma self.now) }
+        ensures answer { result ≡ names (items comma self.now) }
+        ensures cuts { SurvivesCuts comma (λ lines left. left ≡ names (items comma (merge comma lines))) }
+        ensures by_items { GoesByItems comma (λ value left. left ≡ names (items comma value)) }
     {
         Names::new(alloc, &self.names)
     }

@@ -1,6 +1,8 @@
 //! The header `access-control-allow-methods`.
 ghost use Rattle.std.specs.Prelude.{◌≡◌, IfOk};
 ghost use Rattle.std.specs.Iterator.{IsFinite};
+ghost use Rattle.headers_items.specs.Answers.{GoesByItems, SurvivesCuts};
+ghost use Rattle.headers_items.specs.Merge.{merge};
 ghost use Rattle.headers_items.specs.Places.{comma, items};
 ghost use Rattle.headers_names.specs.ListItem.{method_of, methods, Lists};
 
@@ -47,7 +49,9 @@ impl AccessControlAllowMethods {
 
     /// The items that are methods, in order.
     pub fn iter(&self, alloc: Global) -> Methods<'_>
-        ensures { result ≡ methods (items comma self.now) }
+        ensures answer { result ≡ methods (items comma self.now) }
+        ensures cuts { SurvivesCuts comma (λ lines left. left ≡ methods (items comma (merge comma lines))) }
+        ensures by_items { GoesByItems comma (λ value left. left ≡ methods (items comma value)) }
     {
         Methods::new(alloc, &self.methods)
     }

@@ -1,6 +1,8 @@
 //! The header `access-control-request-headers`.
 ghost use Rattle.std.specs.Prelude.{◌≡◌, IfOk};
 ghost use Rattle.std.specs.Iterator.{IsFinite};
+ghost use Rattle.headers_items.specs.Answers.{GoesByItems, SurvivesCuts};
+ghost use Rattle.headers_items.specs.Merge.{merge};
 ghost use Rattle.headers_items.specs.Places.{comma, items};
 ghost use Rattle.headers_names.specs.ListItem.{name_of, skip_names, Lists};
 
@@ -46,7 +48,9 @@ impl AccessControlRequestHeaders {
 
     /// The items that are field names, in order.
     pub fn iter(&self, alloc: Global) -> SkipNames<'_>
-        ensures { result ≡ skip_names (items comma self.now) }
+        ensures answer { result ≡ skip_names (items comma self.now) }
+        ensures cuts { SurvivesCuts comma (λ lines left. left ≡ skip_names (items comma (merge comma lines))) }
+        ensures by_items { GoesByItems comma (λ value left. left ≡ skip_names (items comma value)) }
     {
         SkipNames::new(alloc, &self.names)
     }
