@@ -1,3 +1,4 @@
 pub mod ConditionLemmas
+pub mod CutLemmas
 pub mod EntityTagRangeLemmas
 pub mod TagItemLemmas

@@ -2,6 +2,10 @@
 ghost use Rattle.std.specs.Prelude.{◌≡◌, ◌↔◌, List, ℕ, true, false, IsTrue, IfOk};
 ghost use Rattle.headers_syntax.specs.EntityTag.{IsTag, TagParts, WeaklyEqual};
 ghost use Rattle.headers_syntax.specs.Text.{is_text};
+ghost use Rattle.headers_items.specs.Answers.{GoesByItems, SurvivesCuts};
+ghost use Rattle.headers_items.specs.Merge.{merge};
+ghost use Rattle.headers_items.specs.Places.{comma};
+ghost use Rattle.headers_conditional.specs.EntityTagRange.{range_of};
 ghost use Rattle.headers_conditional.specs.IfNoneMatch.{NoneMatchPasses};
 ghost use Rattle.headers_conditional.specs.declared.entity_tag_range.EntityTagRange.TheVariants.{Any, Tags};
 
@@ -44,7 +48,11 @@ impl IfNoneMatch {
 
     /// Whether it isn't any, and no item is an entity tag that is weakly equal to this one.
     pub fn precondition_passes(&self, etag: &ETag) -> bool
-        ensures { IsTrue result ↔ NoneMatchPasses self.now etag.now.bytes }
+        ensures answer { IsTrue result ↔ NoneMatchPasses self.now etag.now.bytes }
+        ensures cuts { SurvivesCuts comma
+            (λ lines passes. IsTrue passes ↔ NoneMatchPasses (range_of (merge comma lines)) etag.now.bytes) }
+        ensures by_items { GoesByItems comma
+            (λ tags passes. IsTrue passes ↔ NoneMatchPasses (Tags tags) etag.now.bytes) }
     {
         !self.tags.matches_weak(tag_of(etag))
     }
