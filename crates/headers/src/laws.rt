@@ -1,6 +1,9 @@
 //! Laws: functions without a body, whose contracts a proof cites by calling them.
 
-pub use headers_conditional::{if_match_of_own_tag, if_none_match_of_own_tag};
+pub use headers_caching::{cache_control_survives_cuts, directives_read_back};
+pub use headers_conditional::{
+    if_match_of_own_tag, if_none_match_of_own_tag, tag_ranges_read_back,
+};
 pub use headers_content::content_type_reads_back;
 pub use headers_core::{
     date_reads_back, encodes_as_before, lines_read_back, lists_read_back, numbers_read_back,

@@ -428,6 +428,14 @@ pub fn equal_by_encoding(a: &CacheControl, b: &CacheControl) -> bool
     a == b
 }
 
+/// What is written of any directives is read back as them.
+#[tactic(auto, using(crate::specs::CacheControlLaws::reads_written))]
+pub fn directives_read_back(header: &CacheControl)
+    ensures { ReadsBy cache_grammar (written_by cache_grammar header.now) header.now }
+{
+    header.numbers_fit();
+}
+
 // A number that is given is one of its type.
 fn number_fits(number: Option<u64>)
     ensures { FitsOption number }

@@ -8,7 +8,9 @@ mod pragma;
 mod vary;
 
 pub use crate::age::Age;
-pub use crate::cache_control::{CacheControl, cache_control_survives_cuts, equal_by_encoding};
+pub use crate::cache_control::{
+    CacheControl, cache_control_survives_cuts, directives_read_back, equal_by_encoding,
+};
 pub use crate::expires::Expires;
 pub use crate::pragma::Pragma;
 pub use crate::vary::Vary;

@@ -1,11 +1,14 @@
 //! The entity tags that a condition names, or any.
-ghost use Rattle.std.specs.Prelude.{◌≡◌, ◌↔◌, IsTrue, IfOk};
+ghost use Rattle.std.specs.Prelude.{◌≡◌, ◌≢◌, ◌↔◌, IsTrue, IfOk};
 ghost use Rattle.std.specs.Iterator.{IsFinite};
 ghost use Rattle.headers_syntax.specs.OfLines.{OfLines};
 ghost use Rattle.headers_syntax.specs.EntityTag.{AreTags, StronglyEqual, WeaklyEqual};
 ghost use Rattle.headers_items.specs.Merge.{merge};
 ghost use Rattle.headers_items.specs.Places.{comma};
-ghost use Rattle.headers_conditional.specs.EntityTagRange.{Matches, range_of, range_text};
+ghost use Rattle.headers_syntax.specs.HeaderLaws.{ReadsBy, written_by};
+ghost use Rattle.headers_conditional.specs.EntityTagRange.{Matches, range_of, range_text, star, tags_grammar};
+ghost use Rattle.headers_conditional.specs.declared.entity_tag_range.EntityTagRange.{EntityTagRange as Range};
+ghost use Rattle.headers_conditional.specs.declared.entity_tag_range.EntityTagRange.TheVariants.{Tags};
 
 use headers_core::{AsHeaderValue, Comma, EntityTag, Error, FieldForm, FlatCsv, Refused};
 use http_header::HeaderValue;
@@ -99,9 +102,7 @@ impl EntityTagRange {
 
 impl FieldForm for EntityTagRange {
     ghost use Rattle.std.specs.Prelude.{false};
-    ghost use Rattle.headers_conditional.specs.EntityTagRange.{tags_grammar};
     ghost use Rattle.headers_conditional.specs.EntityTagRangeLaws.{range_back};
-    ghost use Rattle.headers_conditional.specs.declared.entity_tag_range.EntityTagRange.{EntityTagRange as Range};
 
     ghost free = { false };
 
@@ -126,3 +127,9 @@ impl FieldForm for EntityTagRange {
         Ok(())
     }
 }
+
+/// What is written of a range is read back as it, exactly if it isn't a list that is the one byte `*`.
+#[tactic(auto, using(crate::specs::EntityTagRangeLaws::built_back))]
+pub fn tag_ranges_read_back()
+    ensures { (range : Range) → ReadsBy tags_grammar (written_by tags_grammar range) range ↔ range ≢ Tags star }
+{}

@@ -10,7 +10,7 @@ mod if_range;
 mod if_unmodified_since;
 mod last_modified;
 
-pub use crate::entity_tag_range::EntityTagRange;
+pub use crate::entity_tag_range::{EntityTagRange, tag_ranges_read_back};
 pub use crate::etag::{ETag, InvalidETag, into_tag, tag_of};
 pub use crate::if_match::{IfMatch, if_match_of_own_tag};
 pub use crate::if_modified_since::IfModifiedSince;

@@ -1,7 +1,9 @@
 //! The list headers, by subject in the crates that this one passes on.
 #![tactic(auto)]
 
-pub use headers_caching::{CacheControl, Vary, equal_by_encoding};
+pub use headers_caching::{
+    CacheControl, Vary, cache_control_survives_cuts, directives_read_back, equal_by_encoding,
+};
 pub use headers_conditional::{
     IfMatch, IfNoneMatch, if_match_of_own_tag, if_none_match_of_own_tag,
 };
