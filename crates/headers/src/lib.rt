@@ -5,9 +5,7 @@ pub mod authorization;
 pub mod laws;
 
 pub use headers_authorization::{Authorization, ProxyAuthorization};
-pub use headers_caching::{
-    Age, CacheControl, Expires, Pragma, Vary, cache_control_survives_cuts, equal_by_encoding,
-};
+pub use headers_caching::{Age, CacheControl, Expires, Pragma, Vary, equal_by_encoding};
 pub use headers_conditional::{
     ETag, IfMatch, IfModifiedSince, IfNoneMatch, IfRange, IfUnmodifiedSince, InvalidETag,
     LastModified,
