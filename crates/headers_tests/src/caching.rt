@@ -232,35 +232,3 @@ fn vary_of_names(rt: HostRuntime) -> Result<(), Fail> {
     assert_eq!(rt; items.next(), None);
     Ok(())
 }
-
-// An iterator that hints at no number of items.
-#[derive(Drop)]
-struct Unhinted(std::vec::IntoIter<HeaderValue>);
-
-impl Iterator for Unhinted {
-    type Item = HeaderValue;
-
-    ghost can_next = { λ s. ⟦<std::vec::IntoIter<HeaderValue> as Iterator>⟧.can_next s.0 };
-
-    ghost next_gives = { λ s r t. ⟦<std::vec::IntoIter<HeaderValue> as Iterator>⟧.next_gives s.0 r t.0 };
-
-    ghost remaining = { λ s. ⟦<std::vec::IntoIter<HeaderValue> as Iterator>⟧.remaining s.0 };
-
-    fn next(&mut self) -> Option<HeaderValue> {
-        self.0.next()
-    }
-
-    fn size_hint(&self) -> (usize, Option<usize>) {
-        (0, None)
-    }
-}
-
-#[test]
-fn vary_of_unhinted_lines(rt: HostRuntime) -> Result<(), Fail> {
-    let rows: [(&[&str], &str); 2] = [(&["a", "b"], "a, b"), (&[], "")];
-    for (texts, line) in rows {
-        let mut unhinted = Unhinted(lines(&rt, texts).into_iter());
-        writes(&rt, &Vary::decode(rt.alloc(), &mut unhinted)?, &[line]);
-    }
-    Ok(())
-}

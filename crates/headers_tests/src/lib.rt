@@ -39,6 +39,10 @@ mod cookies;
 #[cfg(test)]
 mod cors;
 #[cfg(test)]
+mod full_map;
+#[cfg(test)]
+mod hostile;
+#[cfg(test)]
 mod map;
 #[cfg(test)]
 mod ranges;

@@ -7,10 +7,12 @@ use std::io::{ErrorKind, Read, Write};
 use std::process::Abort;
 use std::test::Fail;
 
-// Gives a text, then as many bytes of nonsense, then fails once, if it is to, and then it ends.
+// Gives a text, up to `each` bytes a call, then as many bytes of nonsense, then fails once, if it is to,
+// and then it ends.
 #[derive(Drop)]
 struct Source<'a> {
     text: &'a [u8],
+    each: usize,
     nonsense: usize,
     failure: Option<ErrorKind>,
 }
@@ -18,7 +20,8 @@ struct Source<'a> {
 impl Read for Source<'_> {
     fn read(&mut self, buf: &mut [u8]) -> io::Result<usize> {
         if !self.text.is_empty() {
-            return self.text.read(buf);
+            let most = buf.len().min(self.each);
+            return self.text.read(&mut buf[..most]);
         }
         let count = buf.len().min(self.nonsense);
         if count == 0
@@ -111,6 +114,7 @@ fn a_failing_read_writes_nothing(rt: HostRuntime) {
     for kind in [ErrorKind::Other, ErrorKind::Interrupted] {
         let source = Source {
             text: b"Age: 5\n",
+            each: 100,
             nonsense: 0,
             failure: Some(kind),
         };
@@ -119,9 +123,21 @@ fn a_failing_read_writes_nothing(rt: HostRuntime) {
 }
 
 #[test]
+fn short_reads_go_on(rt: HostRuntime) {
+    let source = Source {
+        text: b"Age: +7\n",
+        each: 1,
+        nonsense: 0,
+        failure: None,
+    };
+    reads(&rt, source, "age: 7\n", Ok(Outcome::Clean));
+}
+
+#[test]
 fn the_limit_is_read(rt: HostRuntime) {
     let source = Source {
         text: b"Age: 5\n\n",
+        each: 100,
         nonsense: 8_388_600,
         failure: None,
     };
@@ -134,6 +150,7 @@ fn past_the_limit_is_no_room(rt: HostRuntime) {
     for failure in [None, Some(ErrorKind::Other)] {
         let source = Source {
             text: b"Age: 5\n\n",
+            each: 100,
             nonsense: 8_388_601,
             failure,
         };

@@ -1,0 +1,198 @@
+//! Lines that mean harm: each header answers, and reads again what it writes.
+use crate::rows::{lines, writes};
+use headers::authorization::{Authorization, Basic, Bearer, ProxyAuthorization};
+use headers::{
+    AcceptRanges, AccessControlAllowCredentials, AccessControlAllowHeaders,
+    AccessControlAllowMethods, AccessControlAllowOrigin, AccessControlExposeHeaders,
+    AccessControlMaxAge, AccessControlRequestHeaders, AccessControlRequestMethod, Age, Allow,
+    CacheControl, Connection, ContentDisposition, ContentEncoding, ContentLength, ContentLocation,
+    ContentRange, ContentType, Cookie, Date, ETag, Error, Expect, Expires, Header, Host, IfMatch,
+    IfModifiedSince, IfNoneMatch, IfRange, IfUnmodifiedSince, LastModified, Location, Origin,
+    Pragma, Range, Referer, ReferrerPolicy, Refused, RetryAfter, SecWebsocketAccept,
+    SecWebsocketKey, SecWebsocketVersion, Server, SetCookie, StrictTransportSecurity, Te,
+    TransferEncoding, Upgrade, UserAgent, Vary, decode_values,
+};
+use http_header::HeaderValue;
+use std::process::Abort;
+use std::test::Fail;
+
+// Gives values, and hints that nothing is sure to be left, and as much as it is told.
+#[derive(Drop)]
+struct Hinted {
+    values: std::vec::IntoIter<HeaderValue>,
+    most: Option<usize>,
+}
+
+impl Iterator for Hinted {
+    type Item = HeaderValue;
+
+    ghost can_next = { λ s. ⟦<std::vec::IntoIter<HeaderValue> as Iterator>⟧.can_next s.values };
+
+    ghost next_gives = { λ s r t. ⟦<std::vec::IntoIter<HeaderValue> as Iterator>⟧.next_gives s.values r t.values };
+
+    ghost remaining = { λ s. ⟦<std::vec::IntoIter<HeaderValue> as Iterator>⟧.remaining s.values };
+
+    fn next(&mut self) -> Option<HeaderValue> {
+        self.values.next()
+    }
+
+    fn size_hint(&self) -> (usize, Option<usize>) {
+        (0, self.most)
+    }
+}
+
+// The same values, behind these hints.
+fn with_hint(
+    rt: &(impl Abort + AllocGlobal),
+    values: &[HeaderValue],
+    most: Option<usize>,
+) -> Hinted {
+    let mut copies = Vec::new(rt.alloc());
+    for value in values {
+        let copy = value.clone().expect(rt, "a value");
+        copies.push(copy).expect(rt, "a value");
+    }
+    Hinted {
+        values: copies.into_iter(),
+        most,
+    }
+}
+
+// The lines that are written of what was read, or nothing if it was refused.
+fn rewritten<H: Header>(
+    rt: &(impl Abort + AllocGlobal),
+    answer: Result<H, Refused<Error>>,
+) -> Option<Vec<HeaderValue>> {
+    match answer {
+        Ok(header) => {
+            let mut values = Vec::new(rt.alloc());
+            header.encode(rt.alloc(), &mut values).expect(rt, "lines");
+            Some(values)
+        }
+        Err(Refused::Invalid(_)) => None,
+        Err(Refused::Memory(_)) => {
+            assert!(rt; false, "there is memory");
+            None
+        }
+    }
+}
+
+// The values are a header or none, whatever the iterator hints; and what is written of it reads as it.
+fn judged<H: Header>(rt: &(impl Abort + AllocGlobal), values: &[HeaderValue]) {
+    let written = rewritten::<H>(rt, decode_values(rt.alloc(), values));
+    for most in [None, Some(usize::MAX)] {
+        let answer = H::decode(rt.alloc(), &mut with_hint(rt, values, most));
+        assert!(rt; rewritten::<H>(rt, answer) == written, "{}", H::name());
+    }
+    if let Some(lines) = written {
+        let again = rewritten::<H>(rt, decode_values(rt.alloc(), &lines));
+        assert!(rt; again == Some(lines), "{}", H::name());
+    }
+}
+
+fn judged_by_values(rt: &(impl Abort + AllocGlobal), values: &[HeaderValue]) {
+    judged::<AccessControlAllowCredentials>(rt, values);
+    judged::<AccessControlMaxAge>(rt, values);
+    judged::<Age>(rt, values);
+    judged::<ContentDisposition>(rt, values);
+    judged::<ContentLength>(rt, values);
+    judged::<ContentLocation>(rt, values);
+    judged::<ContentRange>(rt, values);
+    judged::<ContentType>(rt, values);
+    judged::<Date>(rt, values);
+    judged::<Expect>(rt, values);
+    judged::<Expires>(rt, values);
+    judged::<IfModifiedSince>(rt, values);
+    judged::<IfUnmodifiedSince>(rt, values);
+    judged::<LastModified>(rt, values);
+    judged::<Location>(rt, values);
+    judged::<Pragma>(rt, values);
+    judged::<RetryAfter>(rt, values);
+}
+
+fn judged_by_texts(rt: &(impl Abort + AllocGlobal), values: &[HeaderValue]) {
+    judged::<AccessControlAllowOrigin>(rt, values);
+    judged::<AccessControlRequestMethod>(rt, values);
+    judged::<Authorization<Basic>>(rt, values);
+    judged::<Authorization<Bearer>>(rt, values);
+    judged::<ETag>(rt, values);
+    judged::<Host>(rt, values);
+    judged::<IfRange>(rt, values);
+    judged::<Origin>(rt, values);
+    judged::<ProxyAuthorization<Basic>>(rt, values);
+    judged::<ProxyAuthorization<Bearer>>(rt, values);
+    judged::<Range>(rt, values);
+    judged::<Referer>(rt, values);
+    judged::<SecWebsocketAccept>(rt, values);
+    judged::<SecWebsocketKey>(rt, values);
+    judged::<SecWebsocketVersion>(rt, values);
+    judged::<Server>(rt, values);
+    judged::<Upgrade>(rt, values);
+    judged::<UserAgent>(rt, values);
+}
+
+fn judged_by_items(rt: &(impl Abort + AllocGlobal), values: &[HeaderValue]) {
+    judged::<AcceptRanges>(rt, values);
+    judged::<AccessControlAllowHeaders>(rt, values);
+    judged::<AccessControlAllowMethods>(rt, values);
+    judged::<AccessControlExposeHeaders>(rt, values);
+    judged::<AccessControlRequestHeaders>(rt, values);
+    judged::<Allow>(rt, values);
+    judged::<CacheControl>(rt, values);
+    judged::<Connection>(rt, values);
+    judged::<ContentEncoding>(rt, values);
+    judged::<Cookie>(rt, values);
+    judged::<IfMatch>(rt, values);
+    judged::<IfNoneMatch>(rt, values);
+    judged::<ReferrerPolicy>(rt, values);
+    judged::<SetCookie>(rt, values);
+    judged::<StrictTransportSecurity>(rt, values);
+    judged::<Te>(rt, values);
+    judged::<TransferEncoding>(rt, values);
+    judged::<Vary>(rt, values);
+}
+
+// Each of the 51 headers judges the values; those of credentials do so with both schemes.
+fn judged_by_all(rt: &(impl Abort + AllocGlobal), values: &[HeaderValue]) {
+    judged_by_values(rt, values);
+    judged_by_texts(rt, values);
+    judged_by_items(rt, values);
+}
+
+#[test]
+fn few_bytes(rt: HostRuntime) -> Result<(), Fail> {
+    judged_by_all(&rt, &[]);
+    judged_by_all(&rt, &lines(&rt, &[""]));
+    judged_by_all(&rt, &lines(&rt, &["\""]));
+    judged_by_all(&rt, &[HeaderValue::from_bytes(rt.alloc(), b"\xe9")?]);
+    Ok(())
+}
+
+#[test]
+fn long_lines(rt: HostRuntime) -> Result<(), Fail> {
+    for (text, count) in [(",", 1_000), ("a", 65_536), ("5", 65_536)] {
+        let line = text.repeat(rt.alloc(), count)?;
+        judged_by_all(&rt, &lines(&rt, &[&line]));
+    }
+    Ok(())
+}
+
+#[test]
+fn many_lines(rt: HostRuntime) -> Result<(), Fail> {
+    for text in ["a", "5", ""] {
+        judged_by_all(&rt, &lines(&rt, &[text; 1_000]));
+    }
+    Ok(())
+}
+
+#[test]
+fn vary_of_hinted_lines(rt: HostRuntime) -> Result<(), Fail> {
+    let rows: [(&[&str], &str); 2] = [(&["a", "b"], "a, b"), (&[], "")];
+    for (texts, line) in rows {
+        for most in [None, Some(usize::MAX)] {
+            let mut values = with_hint(&rt, &lines(&rt, texts), most);
+            writes(&rt, &Vary::decode(rt.alloc(), &mut values)?, &[line]);
+        }
+    }
+    Ok(())
+}
