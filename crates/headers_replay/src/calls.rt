@@ -1,0 +1,133 @@
+//! The calls.
+mod authorization;
+mod caching;
+mod conditional;
+mod connection;
+mod content;
+mod context;
+mod cookies;
+mod cors;
+mod errors;
+mod hosts;
+mod ranges;
+mod security;
+mod websocket;
+
+use crate::answer::Answer;
+use crate::arguments::Arguments;
+use crate::failure::Failure;
+use crate::replay::call;
+use authorization::call_authorization;
+use content::call_mime;
+use errors::display;
+use headers::authorization::{Authorization, Basic, Bearer, ProxyAuthorization};
+use headers::{
+    AcceptRanges, AccessControlAllowCredentials, AccessControlAllowHeaders,
+    AccessControlAllowMethods, AccessControlAllowOrigin, AccessControlExposeHeaders,
+    AccessControlMaxAge, AccessControlRequestHeaders, AccessControlRequestMethod, Age, Allow,
+    CacheControl, Connection, ContentDisposition, ContentEncoding, ContentLength, ContentLocation,
+    ContentRange, ContentType, Cookie, Date, ETag, Expect, Expires, Host, IfMatch, IfModifiedSince,
+    IfNoneMatch, IfRange, IfUnmodifiedSince, LastModified, Location, Origin, Pragma, Range,
+    Referer, ReferrerPolicy, RetryAfter, SecWebsocketAccept, SecWebsocketKey, SecWebsocketVersion,
+    Server, SetCookie, StrictTransportSecurity, Te, TransferEncoding, Upgrade, UserAgent, Vary,
+};
+use std::alloc::Global;
+
+// Adds the answer of a call of a type.
+fn call_of_type(
+    name: &str,
+    word: &str,
+    arguments: &mut Arguments<'_>,
+    answer: &mut Answer,
+) -> Result<(), Failure> {
+    match name {
+        "AcceptRanges" => call::<AcceptRanges>(word, arguments, answer),
+        "AccessControlAllowCredentials" => {
+            call::<AccessControlAllowCredentials>(word, arguments, answer)
+        }
+        "AccessControlAllowHeaders" => call::<AccessControlAllowHeaders>(word, arguments, answer),
+        "AccessControlAllowMethods" => call::<AccessControlAllowMethods>(word, arguments, answer),
+        "AccessControlAllowOrigin" => call::<AccessControlAllowOrigin>(word, arguments, answer),
+        "AccessControlExposeHeaders" => call::<AccessControlExposeHeaders>(word, arguments, answer),
+        "AccessControlMaxAge" => call::<AccessControlMaxAge>(word, arguments, answer),
+        "AccessControlRequestHeaders" => {
+            call::<AccessControlRequestHeaders>(word, arguments, answer)
+        }
+        "AccessControlRequestMethod" => call::<AccessControlRequestMethod>(word, arguments, answer),
+        "Age" => call::<Age>(word, arguments, answer),
+        "Allow" => call::<Allow>(word, arguments, answer),
+        "Authorization" => call_authorization(word, arguments, answer),
+        "AuthorizationBasic" => call::<Authorization<Basic>>(word, arguments, answer),
+        "AuthorizationBearer" => call::<Authorization<Bearer>>(word, arguments, answer),
+        "CacheControl" => call::<CacheControl>(word, arguments, answer),
+        "Connection" => call::<Connection>(word, arguments, answer),
+        "ContentDisposition" => call::<ContentDisposition>(word, arguments, answer),
+        "ContentEncoding" => call::<ContentEncoding>(word, arguments, answer),
+        "ContentLength" => call::<ContentLength>(word, arguments, answer),
+        "ContentLocation" => call::<ContentLocation>(word, arguments, answer),
+        "ContentRange" => call::<ContentRange>(word, arguments, answer),
+        "ContentType" => call::<ContentType>(word, arguments, answer),
+        "Cookie" => call::<Cookie>(word, arguments, answer),
+        "Date" => call::<Date>(word, arguments, answer),
+        "ETag" => call::<ETag>(word, arguments, answer),
+        "Expect" => call::<Expect>(word, arguments, answer),
+        "Expires" => call::<Expires>(word, arguments, answer),
+        "Host" => call::<Host>(word, arguments, answer),
+        "IfMatch" => call::<IfMatch>(word, arguments, answer),
+        "IfModifiedSince" => call::<IfModifiedSince>(word, arguments, answer),
+        "IfNoneMatch" => call::<IfNoneMatch>(word, arguments, answer),
+        "IfRange" => call::<IfRange>(word, arguments, answer),
+        "IfUnmodifiedSince" => call::<IfUnmodifiedSince>(word, arguments, answer),
+        "LastModified" => call::<LastModified>(word, arguments, answer),
+        "Location" => call::<Location>(word, arguments, answer),
+        "Mime" => call_mime(word, arguments, answer),
+        "Origin" => call::<Origin>(word, arguments, answer),
+        "Pragma" => call::<Pragma>(word, arguments, answer),
+        "ProxyAuthorizationBasic" => call::<ProxyAuthorization<Basic>>(word, arguments, answer),
+        "ProxyAuthorizationBearer" => call::<ProxyAuthorization<Bearer>>(word, arguments, answer),
+        "Range" => call::<Range>(word, arguments, answer),
+        "Referer" => call::<Referer>(word, arguments, answer),
+        "ReferrerPolicy" => call::<ReferrerPolicy>(word, arguments, answer),
+        "RetryAfter" => call::<RetryAfter>(word, arguments, answer),
+        "SecWebsocketAccept" => call::<SecWebsocketAccept>(word, arguments, answer),
+        "SecWebsocketKey" => call::<SecWebsocketKey>(word, arguments, answer),
+        "SecWebsocketVersion" => call::<SecWebsocketVersion>(word, arguments, answer),
+        "Server" => call::<Server>(word, arguments, answer),
+        "SetCookie" => call::<SetCookie>(word, arguments, answer),
+        "StrictTransportSecurity" => call::<StrictTransportSecurity>(word, arguments, answer),
+        "Te" => call::<Te>(word, arguments, answer),
+        "TransferEncoding" => call::<TransferEncoding>(word, arguments, answer),
+        "Upgrade" => call::<Upgrade>(word, arguments, answer),
+        "UserAgent" => call::<UserAgent>(word, arguments, answer),
+        "Vary" => call::<Vary>(word, arguments, answer),
+        _ => Err(Failure::NoCall),
+    }
+}
+
+// Adds the answer of a call by its name, which is `display` or a type, a dot and a word.
+fn make(name: &str, arguments: &mut Arguments<'_>, answer: &mut Answer) -> Result<(), Failure> {
+    if name == "display" {
+        return display(arguments.word()?, answer);
+    }
+    match name.split_once('.') {
+        Some((name, word)) => call_of_type(name, word, arguments, answer),
+        None => Err(Failure::NoCall),
+    }
+}
+
+/// What the port answers a call with arguments behind its name. It is `refused` where the port
+/// refuses.
+pub fn answer_of(alloc: Global, name: &str, arguments: &str) -> Result<Answer, Failure> {
+    let mut arguments = Arguments::new(alloc, arguments);
+    let mut answer = Answer::new(alloc);
+    match make(name, &mut arguments, &mut answer) {
+        Ok(()) if arguments.is_empty() => Ok(answer),
+        Ok(()) => Err(Failure::NoCall),
+        Err(Failure::Refused) => {
+            let mut refused = Answer::new(alloc);
+            refused.word("refused")?;
+            Ok(refused)
+        }
+        Err(failure) => Err(failure),
+    }
+}

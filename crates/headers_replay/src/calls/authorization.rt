@@ -1,0 +1,83 @@
+//! Calls of the headers of credentials.
+use crate::answer::Answer;
+use crate::arguments::Arguments;
+use crate::failure::Failure;
+use crate::replay::{Replay, eq, is_sensitive, show_back};
+use headers::authorization::{Authorization, Basic, Bearer, ProxyAuthorization};
+
+impl Replay for Authorization<Basic> {
+    fn getters(&self, answer: &mut Answer) -> Result<(), Failure> {
+        answer.bytes(self.username().as_bytes())?;
+        answer.bytes(self.password().as_bytes())?;
+        Ok(answer.word(is_sensitive(answer.alloc(), self)?)?)
+    }
+
+    fn call(call: &str, arguments: &mut Arguments<'_>, answer: &mut Answer) -> Result<(), Failure> {
+        match call {
+            "eq" => eq::<Authorization<Basic>>(arguments, answer),
+            _ => Err(Failure::NoCall),
+        }
+    }
+}
+
+impl Replay for Authorization<Bearer> {
+    fn getters(&self, answer: &mut Answer) -> Result<(), Failure> {
+        answer.bytes(self.token().as_bytes())?;
+        Ok(answer.word(is_sensitive(answer.alloc(), self)?)?)
+    }
+
+    fn call(call: &str, arguments: &mut Arguments<'_>, answer: &mut Answer) -> Result<(), Failure> {
+        match call {
+            "eq" => eq::<Authorization<Bearer>>(arguments, answer),
+            _ => Err(Failure::NoCall),
+        }
+    }
+}
+
+impl Replay for ProxyAuthorization<Basic> {
+    fn getters(&self, answer: &mut Answer) -> Result<(), Failure> {
+        answer.bytes(self.0.username().as_bytes())?;
+        answer.bytes(self.0.password().as_bytes())?;
+        Ok(answer.word(is_sensitive(answer.alloc(), self)?)?)
+    }
+
+    fn call(call: &str, arguments: &mut Arguments<'_>, answer: &mut Answer) -> Result<(), Failure> {
+        match call {
+            "eq" => eq::<ProxyAuthorization<Basic>>(arguments, answer),
+            _ => Err(Failure::NoCall),
+        }
+    }
+}
+
+impl Replay for ProxyAuthorization<Bearer> {
+    fn getters(&self, answer: &mut Answer) -> Result<(), Failure> {
+        answer.bytes(self.0.token().as_bytes())?;
+        Ok(answer.word(is_sensitive(answer.alloc(), self)?)?)
+    }
+
+    fn call(call: &str, arguments: &mut Arguments<'_>, answer: &mut Answer) -> Result<(), Failure> {
+        match call {
+            "eq" => eq::<ProxyAuthorization<Bearer>>(arguments, answer),
+            _ => Err(Failure::NoCall),
+        }
+    }
+}
+
+/// Adds the answer of a constructor of `Authorization`.
+pub fn call_authorization(
+    call: &str,
+    arguments: &mut Arguments<'_>,
+    answer: &mut Answer,
+) -> Result<(), Failure> {
+    let alloc = arguments.alloc();
+    match call {
+        "basic" => {
+            let user = arguments.text()?;
+            let password = arguments.text()?;
+            let header = Authorization::basic(alloc, user.as_str(), password.as_str())?;
+            show_back(&header, answer)
+        }
+        "bearer" => show_back(&Authorization::bearer(alloc, &arguments.text()?)?, answer),
+        _ => Err(Failure::NoCall),
+    }
+}

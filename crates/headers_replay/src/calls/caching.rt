@@ -1,0 +1,133 @@
+//! Calls of the caching headers.
+use crate::answer::Answer;
+use crate::arguments::Arguments;
+use crate::failure::Failure;
+use crate::replay::{Replay, cmp, eq, show, show_back};
+use headers::{Age, CacheControl, Expires, Pragma, Vary};
+use std::time::Duration;
+
+impl Replay for Age {
+    fn getters(&self, answer: &mut Answer) -> Result<(), Failure> {
+        answer.word(self.as_secs())?;
+        Ok(answer.word(Duration::from(*self).as_secs())?)
+    }
+
+    fn call(call: &str, arguments: &mut Arguments<'_>, answer: &mut Answer) -> Result<(), Failure> {
+        match call {
+            "eq" => eq::<Age>(arguments, answer),
+            "cmp" => cmp::<Age>(arguments, answer),
+            "from_secs" => show(&Age::from_secs(arguments.number()?), answer),
+            "from_duration" => show(&Age::from_duration(arguments.duration()?), answer),
+            _ => Err(Failure::NoCall),
+        }
+    }
+}
+
+// The value with the setters of the words, in their order.
+fn with_setters(arguments: &mut Arguments<'_>) -> Result<CacheControl, Failure> {
+    let mut value = CacheControl::new();
+    for word in arguments.rest().split_whitespace() {
+        let (setter, number) = word.split_once('=').unwrap_or((word, "0"));
+        let seconds = Duration::from_secs(number.parse().map_err(|_| Failure::NoCall)?);
+        value = match setter {
+            "no_cache" => value.with_no_cache(),
+            "no_store" => value.with_no_store(),
+            "no_transform" => value.with_no_transform(),
+            "only_if_cached" => value.with_only_if_cached(),
+            "public" => value.with_public(),
+            "private" => value.with_private(),
+            "immutable" => value.with_immutable(),
+            "must_revalidate" => value.with_must_revalidate(),
+            "must_understand" => value.with_must_understand(),
+            "max_age" => value.with_max_age(seconds),
+            "max_stale" => value.with_max_stale(seconds),
+            "min_fresh" => value.with_min_fresh(seconds),
+            "s_max_age" => value.with_s_max_age(seconds),
+            _ => return Err(Failure::NoCall),
+        };
+    }
+    Ok(value)
+}
+
+impl Replay for CacheControl {
+    fn getters(&self, answer: &mut Answer) -> Result<(), Failure> {
+        for flag in [
+            self.no_cache(),
+            self.no_store(),
+            self.no_transform(),
+            self.only_if_cached(),
+            self.public(),
+            self.private(),
+            self.immutable(),
+            self.must_revalidate(),
+            self.must_understand(),
+        ] {
+            answer.word(flag)?;
+        }
+        for number in [
+            self.max_age(),
+            self.max_stale(),
+            self.min_fresh(),
+            self.s_max_age(),
+        ] {
+            answer.option(number.map(|number| number.as_secs()))?;
+        }
+        Ok(())
+    }
+
+    fn call(call: &str, arguments: &mut Arguments<'_>, answer: &mut Answer) -> Result<(), Failure> {
+        match call {
+            "eq" => eq::<CacheControl>(arguments, answer),
+            "with" => show_back(&with_setters(arguments)?, answer),
+            _ => Err(Failure::NoCall),
+        }
+    }
+}
+
+impl Replay for Expires {
+    fn getters(&self, answer: &mut Answer) -> Result<(), Failure> {
+        Ok(answer.word(self.unix_secs())?)
+    }
+
+    fn call(call: &str, arguments: &mut Arguments<'_>, answer: &mut Answer) -> Result<(), Failure> {
+        match call {
+            "eq" => eq::<Expires>(arguments, answer),
+            "cmp" => cmp::<Expires>(arguments, answer),
+            "from_unix_secs" => show(&Expires::from_unix_secs(arguments.date()?), answer),
+            _ => Err(Failure::NoCall),
+        }
+    }
+}
+
+impl Replay for Pragma {
+    fn getters(&self, answer: &mut Answer) -> Result<(), Failure> {
+        Ok(answer.word(self.is_no_cache())?)
+    }
+
+    fn call(call: &str, arguments: &mut Arguments<'_>, answer: &mut Answer) -> Result<(), Failure> {
+        match call {
+            "eq" => eq::<Pragma>(arguments, answer),
+            "no_cache" => show(&Pragma::no_cache(), answer),
+            _ => Err(Failure::NoCall),
+        }
+    }
+}
+
+impl Replay for Vary {
+    fn getters(&self, answer: &mut Answer) -> Result<(), Failure> {
+        answer.word(self.is_any())?;
+        let names: Vec<&str> = self.iter_strs().collect(answer.alloc())?;
+        Ok(answer.list(names.as_slice())?)
+    }
+
+    fn call(call: &str, arguments: &mut Arguments<'_>, answer: &mut Answer) -> Result<(), Failure> {
+        let alloc = arguments.alloc();
+        match call {
+            "eq" => eq::<Vary>(arguments, answer),
+            "any" => show(&Vary::any(), answer),
+            "from_name" => show(&Vary::from_name(alloc, arguments.name()?)?, answer),
+            "from_iter" => show(&Vary::from_iter(alloc, arguments.names()?)?, answer),
+            _ => Err(Failure::NoCall),
+        }
+    }
+}

@@ -1,0 +1,152 @@
+//! Calls of the headers of conditional requests.
+use crate::answer::Answer;
+use crate::arguments::Arguments;
+use crate::failure::Failure;
+use crate::replay::{Replay, cmp, eq, show, show_back};
+use headers::{
+    ETag, IfMatch, IfModifiedSince, IfNoneMatch, IfRange, IfUnmodifiedSince, LastModified,
+};
+
+// What two tags are to each other, by each condition.
+fn compare(arguments: &mut Arguments<'_>, answer: &mut Answer) -> Result<(), Failure> {
+    let alloc = arguments.alloc();
+    let first = arguments.tag()?;
+    let second = arguments.tag()?;
+    answer.word(IfMatch::from(first.clone(alloc)?).precondition_passes(&second))?;
+    answer.word(IfNoneMatch::from(first.clone(alloc)?).precondition_passes(&second))?;
+    Ok(answer.word(IfRange::etag(first).is_modified(Some(&second), None))?)
+}
+
+impl Replay for ETag {
+    fn getters(&self, answer: &mut Answer) -> Result<(), Failure> {
+        Ok(answer.word(self.is_weak())?)
+    }
+
+    fn call(call: &str, arguments: &mut Arguments<'_>, answer: &mut Answer) -> Result<(), Failure> {
+        let alloc = arguments.alloc();
+        match call {
+            "eq" => eq::<ETag>(arguments, answer),
+            "from_str" => show_back(&ETag::from_str(alloc, &arguments.text()?)?, answer),
+            "compare" => compare(arguments, answer),
+            _ => Err(Failure::NoCall),
+        }
+    }
+}
+
+impl Replay for IfMatch {
+    fn getters(&self, answer: &mut Answer) -> Result<(), Failure> {
+        Ok(answer.word(self.is_any())?)
+    }
+
+    fn call(call: &str, arguments: &mut Arguments<'_>, answer: &mut Answer) -> Result<(), Failure> {
+        match call {
+            "eq" => eq::<IfMatch>(arguments, answer),
+            "any" => show(&IfMatch::any(), answer),
+            "from_etag" => show(&IfMatch::from(arguments.tag()?), answer),
+            "any_passes" => {
+                Ok(answer.word(IfMatch::any().precondition_passes(&arguments.tag()?))?)
+            }
+            "precondition_passes" => {
+                let tag = arguments.tag()?;
+                let header: IfMatch = arguments.header_of_rest()?;
+                Ok(answer.word(header.precondition_passes(&tag))?)
+            }
+            _ => Err(Failure::NoCall),
+        }
+    }
+}
+
+impl Replay for IfNoneMatch {
+    fn call(call: &str, arguments: &mut Arguments<'_>, answer: &mut Answer) -> Result<(), Failure> {
+        match call {
+            "eq" => eq::<IfNoneMatch>(arguments, answer),
+            "any" => show(&IfNoneMatch::any(), answer),
+            "from_etag" => show(&IfNoneMatch::from(arguments.tag()?), answer),
+            "any_passes" => {
+                Ok(answer.word(IfNoneMatch::any().precondition_passes(&arguments.tag()?))?)
+            }
+            "precondition_passes" => {
+                let tag = arguments.tag()?;
+                let header: IfNoneMatch = arguments.header_of_rest()?;
+                Ok(answer.word(header.precondition_passes(&tag))?)
+            }
+            _ => Err(Failure::NoCall),
+        }
+    }
+}
+
+impl Replay for IfRange {
+    fn call(call: &str, arguments: &mut Arguments<'_>, answer: &mut Answer) -> Result<(), Failure> {
+        match call {
+            "eq" => eq::<IfRange>(arguments, answer),
+            "etag" => show(&IfRange::etag(arguments.tag()?), answer),
+            "date" => show(&IfRange::date(arguments.date()?), answer),
+            "is_modified" => {
+                let header: IfRange = arguments.header()?;
+                let tag = arguments.optional_tag()?;
+                let date = arguments.optional_date()?;
+                let date = date.map(LastModified::from_unix_secs);
+                Ok(answer.word(header.is_modified(tag.as_ref(), date.as_ref()))?)
+            }
+            _ => Err(Failure::NoCall),
+        }
+    }
+}
+
+impl Replay for IfModifiedSince {
+    fn getters(&self, answer: &mut Answer) -> Result<(), Failure> {
+        Ok(answer.word(self.unix_secs())?)
+    }
+
+    fn call(call: &str, arguments: &mut Arguments<'_>, answer: &mut Answer) -> Result<(), Failure> {
+        match call {
+            "eq" => eq::<IfModifiedSince>(arguments, answer),
+            "cmp" => cmp::<IfModifiedSince>(arguments, answer),
+            "from_unix_secs" => show(&IfModifiedSince::from_unix_secs(arguments.date()?), answer),
+            "is_modified" => {
+                let header = IfModifiedSince::from_unix_secs(arguments.date()?);
+                Ok(answer.word(header.is_modified(arguments.number()?))?)
+            }
+            _ => Err(Failure::NoCall),
+        }
+    }
+}
+
+impl Replay for IfUnmodifiedSince {
+    fn getters(&self, answer: &mut Answer) -> Result<(), Failure> {
+        Ok(answer.word(self.unix_secs())?)
+    }
+
+    fn call(call: &str, arguments: &mut Arguments<'_>, answer: &mut Answer) -> Result<(), Failure> {
+        match call {
+            "eq" => eq::<IfUnmodifiedSince>(arguments, answer),
+            "cmp" => cmp::<IfUnmodifiedSince>(arguments, answer),
+            "from_unix_secs" => {
+                show(
+                    &IfUnmodifiedSince::from_unix_secs(arguments.date()?),
+                    answer,
+                )
+            }
+            "precondition_passes" => {
+                let header = IfUnmodifiedSince::from_unix_secs(arguments.date()?);
+                Ok(answer.word(header.precondition_passes(arguments.number()?))?)
+            }
+            _ => Err(Failure::NoCall),
+        }
+    }
+}
+
+impl Replay for LastModified {
+    fn getters(&self, answer: &mut Answer) -> Result<(), Failure> {
+        Ok(answer.word(self.unix_secs())?)
+    }
+
+    fn call(call: &str, arguments: &mut Arguments<'_>, answer: &mut Answer) -> Result<(), Failure> {
+        match call {
+            "eq" => eq::<LastModified>(arguments, answer),
+            "cmp" => cmp::<LastModified>(arguments, answer),
+            "from_unix_secs" => show(&LastModified::from_unix_secs(arguments.date()?), answer),
+            _ => Err(Failure::NoCall),
+        }
+    }
+}

@@ -1,0 +1,80 @@
+//! Calls of the headers of a connection.
+use crate::answer::Answer;
+use crate::arguments::Arguments;
+use crate::failure::Failure;
+use crate::replay::{Replay, eq, show};
+use headers::{Connection, Expect, HeaderName, Te, TransferEncoding, Upgrade};
+
+impl Replay for Connection {
+    fn call(call: &str, arguments: &mut Arguments<'_>, answer: &mut Answer) -> Result<(), Failure> {
+        let alloc = arguments.alloc();
+        match call {
+            "close" => show(&Connection::close(), answer),
+            "keep_alive" => show(&Connection::keep_alive(), answer),
+            "upgrade" => show(&Connection::upgrade(), answer),
+            "from_iter" => show(&Connection::from_iter(alloc, arguments.names()?)?, answer),
+            "contains" => {
+                let option = arguments.text()?;
+                let header: Connection = arguments.header_of_rest()?;
+                Ok(answer.word(header.contains(option.as_str()))?)
+            }
+            "contains_name" => {
+                let option: HeaderName = arguments.name()?;
+                let header: Connection = arguments.header_of_rest()?;
+                Ok(answer.word(header.contains(&option))?)
+            }
+            _ => Err(Failure::NoCall),
+        }
+    }
+}
+
+impl Replay for Expect {
+    fn getters(&self, answer: &mut Answer) -> Result<(), Failure> {
+        Ok(answer.word(*self == Expect::CONTINUE)?)
+    }
+
+    fn call(call: &str, arguments: &mut Arguments<'_>, answer: &mut Answer) -> Result<(), Failure> {
+        match call {
+            "eq" => eq::<Expect>(arguments, answer),
+            "CONTINUE" => show(&Expect::CONTINUE, answer),
+            _ => Err(Failure::NoCall),
+        }
+    }
+}
+
+impl Replay for Te {
+    fn call(call: &str, arguments: &mut Arguments<'_>, answer: &mut Answer) -> Result<(), Failure> {
+        match call {
+            "eq" => eq::<Te>(arguments, answer),
+            "trailers" => show(&Te::trailers(), answer),
+            _ => Err(Failure::NoCall),
+        }
+    }
+}
+
+impl Replay for TransferEncoding {
+    fn getters(&self, answer: &mut Answer) -> Result<(), Failure> {
+        Ok(answer.word(self.is_chunked())?)
+    }
+
+    fn call(
+        call: &str,
+        _arguments: &mut Arguments<'_>,
+        answer: &mut Answer,
+    ) -> Result<(), Failure> {
+        match call {
+            "chunked" => show(&TransferEncoding::chunked(), answer),
+            _ => Err(Failure::NoCall),
+        }
+    }
+}
+
+impl Replay for Upgrade {
+    fn call(call: &str, arguments: &mut Arguments<'_>, answer: &mut Answer) -> Result<(), Failure> {
+        match call {
+            "eq" => eq::<Upgrade>(arguments, answer),
+            "websocket" => show(&Upgrade::websocket(), answer),
+            _ => Err(Failure::NoCall),
+        }
+    }
+}

@@ -1,0 +1,33 @@
+//! Calls of the cookie headers.
+use crate::answer::Answer;
+use crate::arguments::Arguments;
+use crate::failure::Failure;
+use crate::replay::Replay;
+use headers::{Cookie, SetCookie};
+
+impl Replay for Cookie {
+    fn getters(&self, answer: &mut Answer) -> Result<(), Failure> {
+        answer.word(self.len())?;
+        for (key, text) in self.iter() {
+            answer.bytes(key.as_bytes())?;
+            answer.bytes(text.as_bytes())?;
+        }
+        Ok(())
+    }
+
+    fn call(call: &str, arguments: &mut Arguments<'_>, answer: &mut Answer) -> Result<(), Failure> {
+        match call {
+            "get" => {
+                let key = arguments.text()?;
+                let header: Cookie = arguments.header_of_rest()?;
+                match header.get(key.as_str()) {
+                    Some(text) => Ok(answer.bytes(text.as_bytes())?),
+                    None => Ok(answer.word("none")?),
+                }
+            }
+            _ => Err(Failure::NoCall),
+        }
+    }
+}
+
+impl Replay for SetCookie {}

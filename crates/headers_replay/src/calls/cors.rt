@@ -1,0 +1,170 @@
+//! Calls of the access control headers.
+use crate::answer::Answer;
+use crate::arguments::Arguments;
+use crate::calls::hosts::show_origin;
+use crate::failure::Failure;
+use crate::replay::{Replay, cmp, eq, show, show_methods, show_names};
+use headers::{
+    AccessControlAllowCredentials, AccessControlAllowHeaders, AccessControlAllowMethods,
+    AccessControlAllowOrigin, AccessControlExposeHeaders, AccessControlMaxAge,
+    AccessControlRequestHeaders, AccessControlRequestMethod,
+};
+use http::Method;
+use std::time::Duration;
+
+impl Replay for AccessControlAllowCredentials {
+    fn getters(&self, answer: &mut Answer) -> Result<(), Failure> {
+        Ok(answer.word(*self == AccessControlAllowCredentials)?)
+    }
+
+    fn call(call: &str, arguments: &mut Arguments<'_>, answer: &mut Answer) -> Result<(), Failure> {
+        match call {
+            "eq" => eq::<AccessControlAllowCredentials>(arguments, answer),
+            "unit" => show(&AccessControlAllowCredentials, answer),
+            _ => Err(Failure::NoCall),
+        }
+    }
+}
+
+impl Replay for AccessControlAllowHeaders {
+    fn getters(&self, answer: &mut Answer) -> Result<(), Failure> {
+        show_names(self.iter(answer.alloc()), answer)
+    }
+
+    fn call(call: &str, arguments: &mut Arguments<'_>, answer: &mut Answer) -> Result<(), Failure> {
+        let alloc = arguments.alloc();
+        match call {
+            "eq" => eq::<AccessControlAllowHeaders>(arguments, answer),
+            "from_iter" => {
+                show(
+                    &AccessControlAllowHeaders::from_iter(alloc, arguments.names()?)?,
+                    answer,
+                )
+            }
+            _ => Err(Failure::NoCall),
+        }
+    }
+}
+
+impl Replay for AccessControlAllowMethods {
+    fn getters(&self, answer: &mut Answer) -> Result<(), Failure> {
+        show_methods(self.iter(answer.alloc()), answer)
+    }
+
+    fn call(call: &str, arguments: &mut Arguments<'_>, answer: &mut Answer) -> Result<(), Failure> {
+        let alloc = arguments.alloc();
+        match call {
+            "eq" => eq::<AccessControlAllowMethods>(arguments, answer),
+            "from_iter" => {
+                show(
+                    &AccessControlAllowMethods::from_iter(alloc, arguments.methods()?)?,
+                    answer,
+                )
+            }
+            _ => Err(Failure::NoCall),
+        }
+    }
+}
+
+impl Replay for AccessControlAllowOrigin {
+    fn getters(&self, answer: &mut Answer) -> Result<(), Failure> {
+        match self.origin() {
+            Some(origin) => show_origin(origin, self, answer),
+            None => Ok(answer.word("none")?),
+        }
+    }
+
+    fn call(call: &str, arguments: &mut Arguments<'_>, answer: &mut Answer) -> Result<(), Failure> {
+        let alloc = arguments.alloc();
+        match call {
+            "eq" => eq::<AccessControlAllowOrigin>(arguments, answer),
+            "ANY" => show(&AccessControlAllowOrigin::ANY, answer),
+            "NULL" => show(&AccessControlAllowOrigin::NULL, answer),
+            "try_from_str" => {
+                show(
+                    &AccessControlAllowOrigin::try_from_str(alloc, &arguments.text()?)?,
+                    answer,
+                )
+            }
+            _ => Err(Failure::NoCall),
+        }
+    }
+}
+
+impl Replay for AccessControlExposeHeaders {
+    fn getters(&self, answer: &mut Answer) -> Result<(), Failure> {
+        show_names(self.iter(answer.alloc()), answer)
+    }
+
+    fn call(call: &str, arguments: &mut Arguments<'_>, answer: &mut Answer) -> Result<(), Failure> {
+        let alloc = arguments.alloc();
+        match call {
+            "from_iter" => {
+                show(
+                    &AccessControlExposeHeaders::from_iter(alloc, arguments.names()?)?,
+                    answer,
+                )
+            }
+            _ => Err(Failure::NoCall),
+        }
+    }
+}
+
+impl Replay for AccessControlMaxAge {
+    fn getters(&self, answer: &mut Answer) -> Result<(), Failure> {
+        Ok(answer.word(Duration::from(self.clone()?).as_secs())?)
+    }
+
+    fn call(call: &str, arguments: &mut Arguments<'_>, answer: &mut Answer) -> Result<(), Failure> {
+        match call {
+            "eq" => eq::<AccessControlMaxAge>(arguments, answer),
+            "cmp" => cmp::<AccessControlMaxAge>(arguments, answer),
+            "from_duration" => {
+                show(
+                    &AccessControlMaxAge::from_duration(arguments.duration()?),
+                    answer,
+                )
+            }
+            _ => Err(Failure::NoCall),
+        }
+    }
+}
+
+impl Replay for AccessControlRequestHeaders {
+    fn getters(&self, answer: &mut Answer) -> Result<(), Failure> {
+        show_names(self.iter(answer.alloc()), answer)
+    }
+
+    fn call(call: &str, arguments: &mut Arguments<'_>, answer: &mut Answer) -> Result<(), Failure> {
+        let alloc = arguments.alloc();
+        match call {
+            "from_iter" => {
+                show(
+                    &AccessControlRequestHeaders::from_iter(alloc, arguments.names()?)?,
+                    answer,
+                )
+            }
+            _ => Err(Failure::NoCall),
+        }
+    }
+}
+
+impl Replay for AccessControlRequestMethod {
+    fn getters(&self, answer: &mut Answer) -> Result<(), Failure> {
+        let method = Method::from(self.clone(answer.alloc())?);
+        Ok(answer.bytes(method.as_str().as_bytes())?)
+    }
+
+    fn call(call: &str, arguments: &mut Arguments<'_>, answer: &mut Answer) -> Result<(), Failure> {
+        let alloc = arguments.alloc();
+        match call {
+            "eq" => eq::<AccessControlRequestMethod>(arguments, answer),
+            "from_method" => {
+                let method = Method::from_bytes(alloc, &arguments.bytes()?);
+                let method = method.map_err(|_| Failure::Refused)?;
+                show(&AccessControlRequestMethod::from(method), answer)
+            }
+            _ => Err(Failure::NoCall),
+        }
+    }
+}

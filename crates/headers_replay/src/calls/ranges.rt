@@ -1,0 +1,84 @@
+//! Calls of the headers of ranges.
+use crate::answer::Answer;
+use crate::arguments::Arguments;
+use crate::failure::Failure;
+use crate::replay::{Replay, eq, show, show_back};
+use headers::{AcceptRanges, ContentRange, Range};
+
+impl Replay for AcceptRanges {
+    fn getters(&self, answer: &mut Answer) -> Result<(), Failure> {
+        answer.word(self.is_bytes())?;
+        Ok(answer.word(self.is_none())?)
+    }
+
+    fn call(call: &str, arguments: &mut Arguments<'_>, answer: &mut Answer) -> Result<(), Failure> {
+        match call {
+            "eq" => eq::<AcceptRanges>(arguments, answer),
+            "bytes" => show(&AcceptRanges::bytes(), answer),
+            "none" => show(&AcceptRanges::none(), answer),
+            _ => Err(Failure::NoCall),
+        }
+    }
+}
+
+// The ranges that a length satisfies.
+fn satisfiable_ranges(arguments: &mut Arguments<'_>, answer: &mut Answer) -> Result<(), Failure> {
+    let length = arguments.number()?;
+    let header: Range = arguments.header()?;
+    let mut ranges = Vec::new(arguments.alloc());
+    for range in header.satisfiable_ranges(length) {
+        ranges.push(range)?;
+    }
+    answer.word(ranges.len())?;
+    for (first, last) in ranges.iter() {
+        answer.bound(*first)?;
+        answer.bound(*last)?;
+    }
+    Ok(())
+}
+
+impl Replay for Range {
+    fn call(call: &str, arguments: &mut Arguments<'_>, answer: &mut Answer) -> Result<(), Failure> {
+        let alloc = arguments.alloc();
+        match call {
+            "eq" => eq::<Range>(arguments, answer),
+            "bytes" => {
+                let range = (arguments.bound()?, arguments.bound()?);
+                show(&Range::bytes(alloc, range)?, answer)
+            }
+            "satisfiable_ranges" => satisfiable_ranges(arguments, answer),
+            _ => Err(Failure::NoCall),
+        }
+    }
+}
+
+impl Replay for ContentRange {
+    fn getters(&self, answer: &mut Answer) -> Result<(), Failure> {
+        match self.bytes_range() {
+            Some((first, last)) => {
+                answer.word(first)?;
+                answer.word(last)?;
+            }
+            None => answer.word("none")?,
+        }
+        Ok(answer.option(self.bytes_len())?)
+    }
+
+    fn call(call: &str, arguments: &mut Arguments<'_>, answer: &mut Answer) -> Result<(), Failure> {
+        match call {
+            "eq" => eq::<ContentRange>(arguments, answer),
+            "bytes" => {
+                let range = (arguments.bound()?, arguments.bound()?);
+                let header = ContentRange::bytes(range, arguments.optional_number()?);
+                show_back(&header.map_err(|_| Failure::Refused)?, answer)
+            }
+            "unsatisfied_bytes" => {
+                show_back(
+                    &ContentRange::unsatisfied_bytes(arguments.number()?),
+                    answer,
+                )
+            }
+            _ => Err(Failure::NoCall),
+        }
+    }
+}

@@ -1,0 +1,76 @@
+//! Calls of the security headers.
+use crate::answer::Answer;
+use crate::arguments::Arguments;
+use crate::failure::Failure;
+use crate::replay::{Replay, eq, show};
+use headers::{ReferrerPolicy, StrictTransportSecurity};
+
+// The constants, by name.
+const POLICIES: [(&str, ReferrerPolicy); 8] = [
+    ("NO_REFERRER", ReferrerPolicy::NO_REFERRER),
+    (
+        "NO_REFERRER_WHEN_DOWNGRADE",
+        ReferrerPolicy::NO_REFERRER_WHEN_DOWNGRADE,
+    ),
+    ("SAME_ORIGIN", ReferrerPolicy::SAME_ORIGIN),
+    ("ORIGIN", ReferrerPolicy::ORIGIN),
+    (
+        "ORIGIN_WHEN_CROSS_ORIGIN",
+        ReferrerPolicy::ORIGIN_WHEN_CROSS_ORIGIN,
+    ),
+    ("UNSAFE_URL", ReferrerPolicy::UNSAFE_URL),
+    ("STRICT_ORIGIN", ReferrerPolicy::STRICT_ORIGIN),
+    (
+        "STRICT_ORIGIN_WHEN_CROSS_ORIGIN",
+        ReferrerPolicy::STRICT_ORIGIN_WHEN_CROSS_ORIGIN,
+    ),
+];
+
+impl Replay for ReferrerPolicy {
+    fn getters(&self, answer: &mut Answer) -> Result<(), Failure> {
+        for (name, policy) in POLICIES.iter() {
+            if policy == self {
+                answer.word(*name)?;
+            }
+        }
+        Ok(())
+    }
+
+    fn call(call: &str, arguments: &mut Arguments<'_>, answer: &mut Answer) -> Result<(), Failure> {
+        match call {
+            "eq" => eq::<ReferrerPolicy>(arguments, answer),
+            "const" => {
+                let wanted = arguments.word()?;
+                for (name, policy) in POLICIES.iter() {
+                    if *name == wanted {
+                        return show(policy, answer);
+                    }
+                }
+                Err(Failure::NoCall)
+            }
+            _ => Err(Failure::NoCall),
+        }
+    }
+}
+
+impl Replay for StrictTransportSecurity {
+    fn getters(&self, answer: &mut Answer) -> Result<(), Failure> {
+        answer.word(self.max_age().as_secs())?;
+        Ok(answer.word(self.include_subdomains())?)
+    }
+
+    fn call(call: &str, arguments: &mut Arguments<'_>, answer: &mut Answer) -> Result<(), Failure> {
+        match call {
+            "eq" => eq::<StrictTransportSecurity>(arguments, answer),
+            "including_subdomains" => {
+                let age = arguments.duration()?;
+                show(&StrictTransportSecurity::including_subdomains(age), answer)
+            }
+            "excluding_subdomains" => {
+                let age = arguments.duration()?;
+                show(&StrictTransportSecurity::excluding_subdomains(age), answer)
+            }
+            _ => Err(Failure::NoCall),
+        }
+    }
+}

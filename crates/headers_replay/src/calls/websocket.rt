@@ -1,0 +1,58 @@
+//! Calls of the WebSocket headers.
+use crate::answer::Answer;
+use crate::arguments::Arguments;
+use crate::failure::Failure;
+use crate::replay::{Replay, eq, is_sensitive, show};
+use headers::{SecWebsocketAccept, SecWebsocketKey, SecWebsocketVersion};
+use hex::FromHex;
+
+impl Replay for SecWebsocketKey {
+    fn getters(&self, answer: &mut Answer) -> Result<(), Failure> {
+        Ok(answer.word(is_sensitive(answer.alloc(), self)?)?)
+    }
+
+    fn call(call: &str, arguments: &mut Arguments<'_>, answer: &mut Answer) -> Result<(), Failure> {
+        match call {
+            "eq" => eq::<SecWebsocketKey>(arguments, answer),
+            "from_bytes16" => {
+                let bytes = <[u8; 16] as FromHex>::from_hex(arguments.word()?);
+                let bytes = bytes.map_err(|_| Failure::NoCall)?;
+                show(
+                    &SecWebsocketKey::from_bytes16(arguments.alloc(), bytes)?,
+                    answer,
+                )
+            }
+            _ => Err(Failure::NoCall),
+        }
+    }
+}
+
+impl Replay for SecWebsocketAccept {
+    fn call(call: &str, arguments: &mut Arguments<'_>, answer: &mut Answer) -> Result<(), Failure> {
+        match call {
+            "eq" => eq::<SecWebsocketAccept>(arguments, answer),
+            "from_key" => {
+                let key: SecWebsocketKey = arguments.header()?;
+                show(
+                    &SecWebsocketAccept::from_key(arguments.alloc(), &key)?,
+                    answer,
+                )
+            }
+            _ => Err(Failure::NoCall),
+        }
+    }
+}
+
+impl Replay for SecWebsocketVersion {
+    fn getters(&self, answer: &mut Answer) -> Result<(), Failure> {
+        Ok(answer.word(*self == SecWebsocketVersion::V13)?)
+    }
+
+    fn call(call: &str, arguments: &mut Arguments<'_>, answer: &mut Answer) -> Result<(), Failure> {
+        match call {
+            "eq" => eq::<SecWebsocketVersion>(arguments, answer),
+            "V13" => show(&SecWebsocketVersion::V13, answer),
+            _ => Err(Failure::NoCall),
+        }
+    }
+}
