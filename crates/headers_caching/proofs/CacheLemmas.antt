@@ -1,5 +1,7 @@
 -- What one entry more adds to what entries direct.
-use Rattle.std.proofs.Common.{◌≡◌, ℕ, ◌+◌, ◌<◌, Bool, true, false, not, ◌||◌, ◌&&◌, ◌==◌, ◌↔◌, IsTrue, List, [], ◌∷◌, ◌++◌, length, get_or, Option, Some, None, filter, is_none, codes, refl, sym, ◌∙◌, ap, inl, inr, arith}
+use Rattle.std.proofs.Common.{◌≡◌, ℕ, ◌+◌, ◌<◌, Bool, true, false, not, ◌||◌, ◌&&◌, ◌==◌, ◌↔◌, IsTrue, List, [], ◌∷◌}
+use Rattle.std.proofs.Common.{◌++◌, length, get_or, Option, Some, None, filter, is_none, codes, refl, sym, ◌∙◌, ap}
+use Rattle.std.proofs.Common.{inl, inr, arith}
 use Rattle.std.specs.List.{list_any, last_or, before_first, after_first, position_or_len}
 use Rattle.std.specs.Option.{option_or, option_and_then}
 use Rattle.std.proofs.lemmas.Bool.{cases_Bool, false_from_ne_true, and_right}
@@ -20,7 +22,8 @@ use Rattle.headers_items.specs.Pairs.{is_equals}
 use Rattle.headers_syntax.proofs.PartsLemmas.{last_or-append}
 
 -- a flag
-pub set_more : (flag : List ℕ) (es : List (List ℕ)) (entry : List ℕ) (before r : Bool) → before ≡ is_set flag es → (IsTrue r ↔ SameButForCase entry flag) → (before || r) ≡ is_set flag (es ++ entry ∷ [])
+pub set_more : (flag : List ℕ) (es : List (List ℕ)) (entry : List ℕ) (before r : Bool) → before ≡ is_set flag es
+    → (IsTrue r ↔ SameButForCase entry flag) → (before || r) ≡ is_set flag (es ++ entry ∷ [])
 set_more flag es entry before r e h =
     ap (λ v. v || r) e
     ∙ ap (λ v. is_set flag es || v) (same_name-is entry flag r h ∙ sym (or-false (same_name entry flag)))
@@ -32,10 +35,13 @@ given n None before e some = absurd (cc some)
 given n (Some k) before e some = ap (λ o. option_or o before) e
 
 -- a number
-pub number_more : (directive : List ℕ) (es : List (List ℕ)) (entry : List ℕ) (before n : Option ℕ) → before ≡ last_number directive es → n ≡ last_number directive (entry ∷ []) → is_bad_for directive entry ≡ false → option_or n before ≡ last_number directive (es ++ entry ∷ [])
+pub number_more : (directive : List ℕ) (es : List (List ℕ)) (entry : List ℕ) (before n : Option ℕ)
+    → before ≡ last_number directive es → n ≡ last_number directive (entry ∷ []) → is_bad_for directive entry ≡ false
+    → option_or n before ≡ last_number directive (es ++ entry ∷ [])
 number_more directive es entry before n e h good =
     let all = filter (carries directive) es in
-    let whole : last_number directive (es ++ entry ∷ []) ≡ option_and_then number_in (last_or (last_or None all) (filter (carries directive) (entry ∷ []))) =
+    let whole : last_number directive (es ++ entry ∷ [])
+    ≡ option_and_then number_in (last_or (last_or None all) (filter (carries directive) (entry ∷ []))) =
     ap (λ r. option_and_then number_in (last_or None r)) (filter-append (carries directive) es (entry ∷ []))
     ∙ ap (option_and_then number_in) (last_or-append None all (filter (carries directive) (entry ∷ []))) in
     elim (cases_Bool (carries directive entry)) [
@@ -51,10 +57,13 @@ number_more directive es entry before n e h good =
     ]
 
 -- what was not refused is not bad
-pub not_bad : (directive entry : List ℕ) → ((false ≡ true) ↔ IsTrue (is_bad_for directive entry)) → is_bad_for directive entry ≡ false
+pub not_bad : (directive entry : List ℕ) → ((false ≡ true) ↔ IsTrue (is_bad_for directive entry))
+    → is_bad_for directive entry ≡ false
 not_bad directive entry h = false_from_ne_true _ (λ e. let k = h.1 e in absurd (cc k))
 
-pub none_bad : (entry : List ℕ) → is_bad_for (codes "max-age") entry ≡ false → is_bad_for (codes "max-stale") entry ≡ false → is_bad_for (codes "min-fresh") entry ≡ false → is_bad_for (codes "s-maxage") entry ≡ false
+pub none_bad : (entry : List ℕ) → is_bad_for (codes "max-age") entry ≡ false
+    → is_bad_for (codes "max-stale") entry ≡ false → is_bad_for (codes "min-fresh") entry ≡ false
+    → is_bad_for (codes "s-maxage") entry ≡ false
     → (false ≡ true) ↔ IsTrue (is_bad entry)
 none_bad entry a b c d =
     let none : is_bad entry ≡ false = rw (a, b, c, d) refl in (λ e. absurd (cc e), λ e. absurd (cc (e, none)))
@@ -62,13 +71,18 @@ none_bad entry a b c d =
 -- ---- an entry that is cut at its first `=`, and one that has none
 
 -- it is no flag, whose name has no `=`
-pub set_cut : (flag : List ℕ) (es : List (List ℕ)) (entry : List ℕ) (before : Bool) → before ≡ is_set flag es → list_any is_equals (lowercase flag) ≡ false
+pub set_cut : (flag : List ℕ) (es : List (List ℕ)) (entry : List ℕ) (before : Bool) → before ≡ is_set flag es
+    → list_any is_equals (lowercase flag) ≡ false
     → position_or_len is_equals entry < length entry → before ≡ is_set flag (es ++ entry ∷ [])
 set_cut flag es entry before e plain cut =
-    let parts : entry ≡ before_first is_equals entry ++ (get_or entry (position_or_len is_equals entry) 61 ∷ after_first is_equals entry) = split_at_first is_equals entry 61 cut in
-    let at : get_or entry (position_or_len is_equals entry) 61 ≡ 61 = (Decides-eqb _ _).0 (passes_at_first is_equals entry 61 cut) in
+    let parts : entry ≡ before_first is_equals entry
+    ++ (get_or entry (position_or_len is_equals entry) 61 ∷ after_first is_equals entry) =
+    split_at_first is_equals entry 61 cut in
+    let at : get_or entry (position_or_len is_equals entry) 61 ≡ 61 =
+    (Decides-eqb _ _).0 (passes_at_first is_equals entry 61 cut) in
     let other : same_name entry flag ≡ false =
-    ap (λ (x : List ℕ). same_name x flag) (parts ∙ ap (λ (b : ℕ). before_first is_equals entry ++ (b ∷ after_first is_equals entry)) at)
+    ap (λ (x : List ℕ). same_name x flag) (parts
+    ∙ ap (λ (b : ℕ). before_first is_equals entry ++ (b ∷ after_first is_equals entry)) at)
     ∙ no_flag flag (before_first is_equals entry) (after_first is_equals entry) plain in
     e ∙ sym (or-false (is_set flag es))
     ∙ ap (λ v. is_set flag es || v) (sym (or-false (same_name entry flag) ∙ other))
@@ -78,20 +92,27 @@ set_cut flag es entry before e plain cut =
 nothing_after : (entry : List ℕ) → position_or_len is_equals entry ≡ length entry → after_first is_equals entry ≡ []
 nothing_after entry e = drop_all (position_or_len is_equals entry + 1) entry (omega (arith, e))
 
-pub carries_uncut : (directive entry : List ℕ) → position_or_len is_equals entry ≡ length entry → carries directive entry ≡ false
+pub carries_uncut : (directive entry : List ℕ) → position_or_len is_equals entry ≡ length entry
+    → carries directive entry ≡ false
 carries_uncut directive entry e =
-    ap (λ (x : List ℕ). same_name (before_first is_equals entry) directive && not (length x == 0)) (nothing_after entry e)
+    ap (λ (x : List ℕ). same_name (before_first is_equals entry) directive && not (length x == 0))
+    (nothing_after entry e)
     ∙ and_right _ false refl
 
 -- it carries no number
-pub number_uncut : (directive : List ℕ) (es : List (List ℕ)) (entry : List ℕ) (before : Option ℕ) → before ≡ last_number directive es
+pub number_uncut : (directive : List ℕ) (es : List (List ℕ)) (entry : List ℕ) (before : Option ℕ)
+    → before ≡ last_number directive es
     → position_or_len is_equals entry ≡ length entry → before ≡ last_number directive (es ++ entry ∷ [])
 number_uncut directive es entry before e none =
     let none_here : filter (carries directive) (entry ∷ []) ≡ [] = rw (carries_uncut directive entry none) refl in
-    e ∙ ap (λ r. option_and_then number_in (last_or None r)) (sym (filter-append (carries directive) es (entry ∷ []) ∙ ap (λ r. filter (carries directive) es ++ r) none_here ∙ append-nil _))
+    e ∙ ap (λ r. option_and_then number_in (last_or None r))
+    (sym (filter-append (carries directive) es (entry ∷ [])
+    ∙ ap (λ r. filter (carries directive) es ++ r) none_here ∙ append-nil _))
 
-pub uncut_not_bad : (entry : List ℕ) → position_or_len is_equals entry ≡ length entry → (false ≡ true) ↔ IsTrue (is_bad entry)
-uncut_not_bad entry none = none_bad entry (one (codes "max-age")) (one (codes "max-stale")) (one (codes "min-fresh")) (one (codes "s-maxage"))
+pub uncut_not_bad : (entry : List ℕ) → position_or_len is_equals entry ≡ length entry
+    → (false ≡ true) ↔ IsTrue (is_bad entry)
+uncut_not_bad entry none =
+    none_bad entry (one (codes "max-age")) (one (codes "max-stale")) (one (codes "min-fresh")) (one (codes "s-maxage"))
   where
     one : (directive : List ℕ) → is_bad_for directive entry ≡ false
     one directive = ap (λ b. b && is_none (number_in entry)) (carries_uncut directive entry none)

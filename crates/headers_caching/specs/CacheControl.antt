@@ -1,5 +1,6 @@
 -- The header `cache-control`: flags and numbers, each by the entries of all lines.
-use Rattle.std.specs.Prelude.{◌≡◌, ℕ, ◌*◌, option_map, Bool, ◌&&◌, not, ◌==◌, List, [], ◌∷◌, ◌++◌, length, filter, Option, Some, None, is_none, codes, decimal, if◌then◌else◌}
+use Rattle.std.specs.Prelude.{◌≡◌, ℕ, ◌*◌, option_map, Bool, ◌&&◌, not, ◌==◌, List, [], ◌∷◌, ◌++◌, length, filter}
+use Rattle.std.specs.Prelude.{Option, Some, None, is_none, codes, decimal, if◌then◌else◌}
 use Rattle.std.specs.List.{list_any, last_or, flat_map, before_first, after_first}
 use Rattle.std.specs.Option.{option_and_then}
 use Rattle.std.specs.Duration.{as_nanos}
@@ -34,7 +35,8 @@ pub record Directives : Type 0 where
 abbrev pub GivesSeconds : Option Duration → Option ℕ → Type 0
 GivesSeconds duration number = option_map as_nanos duration ≡ option_map (λ seconds. seconds * 1_000_000_000) number
 
--- an entry carries a directive where the slice before its first `=` is the directive's name, and the slice after it is not empty
+-- an entry carries a directive where the slice before its first `=` is the directive's name, and the slice after it
+-- is not empty
 abbrev pub carries : List ℕ → List ℕ → Bool
 carries directive entry =
     same_name (before_first is_equals entry) directive && not (length (after_first is_equals entry) == 0)
@@ -121,7 +123,8 @@ print_number directive (Some n) = (directive ++ 61 ∷ decimal n) ∷ []
 
 -- all directives that are printed
 abbrev pub printed : Directives → List (List ℕ)
-printed d = flat_map (λ row. print_flag row.0 (row.1 d)) flag_rows ++ flat_map (λ row. print_number row.0 (row.1 d)) number_rows
+printed d = flat_map (λ row. print_flag row.0 (row.1 d)) flag_rows
+    ++ flat_map (λ row. print_number row.0 (row.1 d)) number_rows
 
 -- they are joined by a comma and a space; the line is empty where nothing is printed
 abbrev pub lines_of_directives : Directives → List Line

@@ -1,12 +1,15 @@
 -- Each printed directive directs just itself.
-use Rattle.std.proofs.Common.{◌≡◌, ℕ, ◌^◌, ◌<◌, ◌≤◌, Bool, true, false, not, ◌||◌, ◌&&◌, ◌==◌, nat_lt, nat_le, cond, List, [], ◌∷◌, ◌++◌, length, filter, Option, Some, None, is_none, codes, refl, sym, ◌∙◌, ap, subst, inl, inr, arith}
+use Rattle.std.proofs.Common.{◌≡◌, ℕ, ◌^◌, ◌<◌, ◌≤◌, Bool, true, false, not, ◌||◌, ◌&&◌, ◌==◌, nat_lt, nat_le, cond}
+use Rattle.std.proofs.Common.{List, [], ◌∷◌, ◌++◌, length, filter, Option, Some, None, is_none, codes, refl, sym, ◌∙◌}
+use Rattle.std.proofs.Common.{ap, subst, inl, inr, arith}
 use Rattle.std.specs.Str.{all_ascii_digits}
 use Rattle.std.specs.Char.{is_ascii_digit, to_ascii_lowercase}
 use Rattle.std.specs.Fmt.{decimal}
 use Rattle.std.specs.List.{list_any, list_all, last_or, flat_map, AllByRecursion, before_first, after_first}
 use Rattle.std.specs.Option.{option_and_then}
 use Rattle.std.proofs.Math.Bool.{or-false}
-use Rattle.std.proofs.lemmas.Bool.{cases_Bool, and_parts, and_from, or_right, lt-ltb, leb-true, ne_eqb, false_from_ne_true}
+use Rattle.std.proofs.lemmas.Bool.{cases_Bool, and_parts, and_from, or_right, lt-ltb, leb-true, ne_eqb}
+use Rattle.std.proofs.lemmas.Bool.{false_from_ne_true}
 use Rattle.std.proofs.lemmas.List.{map-append}
 use Rattle.std.proofs.lemmas.List.Folds.{list_any-append, list_all-append}
 use Rattle.std.proofs.lemmas.List.Elements.{filter-append}
@@ -21,16 +24,55 @@ use Rattle.headers_syntax.proofs.NumberLemmas.{number-decimal, number-lt}
 use Rattle.headers_syntax.specs.Text.{without_quotes}
 use Rattle.headers_syntax.specs.AsciiCase.{same_name}
 use Rattle.headers_items.specs.Pairs.{is_equals}
-use Rattle.headers_caching.specs.CacheControl.{Directives, carries, number_in, is_bad_for, is_bad, number_names, is_set, last_number, directives, directives_of, lines_of_directives, flag_rows, number_rows, print_flag, print_number, printed}
+use Rattle.headers_caching.specs.CacheControl.{Directives, carries, number_in, is_bad_for, is_bad, number_names}
+use Rattle.headers_caching.specs.CacheControl.{is_set, last_number, directives, directives_of, lines_of_directives}
+use Rattle.headers_caching.specs.CacheControl.{flag_rows, number_rows, print_flag, print_number, printed}
 use Rattle.headers_syntax.proofs.PlainLemmas.{decimal_plain, is_plain, is_piece, unquoted_piece}
 use Rattle.headers_items.proofs.JoinedLemmas.{entries_joined}
 
 -- equal fields
-pub same_directives : (a0 b0 a1 b1 a2 b2 a3 b3 a4 b4 a5 b5 a6 b6 a7 b7 a8 b8 a9 b9 : Bool) (m0 n0 m1 n1 m2 n2 m3 n3 : Option ℕ)
-    → a0 ≡ b0 → a1 ≡ b1 → a2 ≡ b2 → a3 ≡ b3 → a4 ≡ b4 → a5 ≡ b5 → a6 ≡ b6 → a7 ≡ b7 → a8 ≡ b8 → a9 ≡ b9 → m0 ≡ n0 → m1 ≡ n1 → m2 ≡ n2 → m3 ≡ n3
-    → (let a : Directives = record { no_cache = a0; no_store = a1; no_transform = a2; only_if_cached = a3; must_revalidate = a4; public = a5; private = a6; immutable = a7; must_understand = a8; proxy_revalidate = a9; max_age = m0; max_stale = m1; min_fresh = m2; s_max_age = m3 } in
-    let b : Directives = record { no_cache = b0; no_store = b1; no_transform = b2; only_if_cached = b3; must_revalidate = b4; public = b5; private = b6; immutable = b7; must_understand = b8; proxy_revalidate = b9; max_age = n0; max_stale = n1; min_fresh = n2; s_max_age = n3 } in a ≡ b)
-same_directives a0 b0 a1 b1 a2 b2 a3 b3 a4 b4 a5 b5 a6 b6 a7 b7 a8 b8 a9 b9 m0 n0 m1 n1 m2 n2 m3 n3 e0 e1 e2 e3 e4 e5 e6 e7 e8 e9 f0 f1 f2 f3 = rw (e0, e1, e2, e3, e4, e5, e6, e7, e8, e9, f0, f1, f2, f3) refl
+pub same_directives : (a0 b0 a1 b1 a2 b2 a3 b3 a4 b4 a5 b5 a6 b6 a7 b7 a8 b8 a9 b9 : Bool)
+    (m0 n0 m1 n1 m2 n2 m3 n3 : Option ℕ)
+    → a0 ≡ b0 → a1 ≡ b1 → a2 ≡ b2 → a3 ≡ b3 → a4 ≡ b4 → a5 ≡ b5 → a6 ≡ b6 → a7 ≡ b7 → a8 ≡ b8 → a9 ≡ b9 → m0 ≡ n0
+    → m1 ≡ n1 → m2 ≡ n2 → m3 ≡ n3
+    → (let a : Directives =
+    record {
+      no_cache = a0;
+      no_store = a1;
+      no_transform = a2;
+      only_if_cached = a3;
+      must_revalidate = a4;
+      public =
+          a5;
+      private = a6;
+      immutable = a7;
+      must_understand = a8;
+      proxy_revalidate = a9;
+      max_age = m0;
+      max_stale = m1;
+      min_fresh = m2;
+      s_max_age = m3;
+    } in
+    let b : Directives =
+    record {
+      no_cache = b0;
+      no_store = b1;
+      no_transform = b2;
+      only_if_cached = b3;
+      must_revalidate = b4;
+      public =
+          b5;
+      private = b6;
+      immutable = b7;
+      must_understand = b8;
+      proxy_revalidate = b9;
+      max_age = n0;
+      max_stale = n1;
+      min_fresh = n2;
+      s_max_age = n3;
+    } in a ≡ b)
+same_directives a0 b0 a1 b1 a2 b2 a3 b3 a4 b4 a5 b5 a6 b6 a7 b7 a8 b8 a9 b9 m0 n0 m1 n1 m2 n2 m3 n3 e0 e1 e2 e3 e4 e5
+    e6 e7 e8 e9 f0 f1 f2 f3 = rw (e0, e1, e2, e3, e4, e5, e6, e7, e8, e9, f0, f1, f2, f3) refl
 
 -- the directives of some rows, printed
 abbrev pub flags_of : Directives → List (List ℕ × (Directives → Bool)) → List (List ℕ)
@@ -52,16 +94,20 @@ flag_piece : (name : List ℕ) (b : Bool) → is_piece name ≡ true → list_al
 flag_piece name true h = and_from (is_piece name) true h refl
 flag_piece name false h = refl
 
-flags_pieces : (d : Directives) (rows : List (List ℕ × (Directives → Bool))) → list_all (λ row. is_piece row.0) rows ≡ true → list_all is_piece (flags_of d rows) ≡ true
+flags_pieces : (d : Directives) (rows : List (List ℕ × (Directives → Bool)))
+    → list_all (λ row. is_piece row.0) rows ≡ true → list_all is_piece (flags_of d rows) ≡ true
 flags_pieces d [] h = refl
 flags_pieces d (row ∷ rows) h =
     let p = and_parts (is_piece row.0) (list_all (λ (r : List ℕ × (Directives → Bool)). is_piece r.0) rows) h in
-    list_all-append is_piece (print_flag row.0 (row.1 d)) (flags_of d rows) ∙ and_from _ _ (flag_piece row.0 (row.1 d) p.0) (flags_pieces d rows p.1)
+    list_all-append is_piece (print_flag row.0 (row.1 d)) (flags_of d rows)
+    ∙ and_from _ _ (flag_piece row.0 (row.1 d) p.0) (flags_pieces d rows p.1)
 
-number_piece : (name : List ℕ) (o : Option ℕ) → list_all is_plain name ≡ true → FitsOption o → list_all is_piece (print_number name o) ≡ true
+number_piece : (name : List ℕ) (o : Option ℕ) → list_all is_plain name ≡ true → FitsOption o
+    → list_all is_piece (print_number name o) ≡ true
 number_piece name None h f = refl
 number_piece name (Some n) h f =
-    let plain : list_all is_plain (name ++ 61 ∷ decimal n) ≡ true = list_all-append is_plain name (61 ∷ decimal n) ∙ and_from _ _ h (decimal_plain n (f n refl)) in
+    let plain : list_all is_plain (name ++ 61 ∷ decimal n) ≡ true = list_all-append is_plain name (61 ∷ decimal n)
+    ∙ and_from _ _ h (decimal_plain n (f n refl)) in
     let long : nat_lt 0 (length (name ++ 61 ∷ decimal n)) ≡ true = lt-ltb _ _ (some_bytes name (decimal n)) in
     and_from _ true (and_from _ _ long plain) refl
   where
@@ -69,11 +115,15 @@ number_piece name (Some n) h f =
     some_bytes [] ys = omega arith
     some_bytes (x ∷ xs) ys = omega arith
 
-numbers_pieces : (d : Directives) (rows : List (List ℕ × (Directives → Option ℕ))) → list_all (λ row. list_all is_plain row.0) rows ≡ true → FitRows d rows → list_all is_piece (numbers_of d rows) ≡ true
+numbers_pieces : (d : Directives) (rows : List (List ℕ × (Directives → Option ℕ)))
+    → list_all (λ row. list_all is_plain row.0) rows ≡ true → FitRows d rows
+    → list_all is_piece (numbers_of d rows) ≡ true
 numbers_pieces d [] h f = refl
 numbers_pieces d (row ∷ rows) h f =
-    let p = and_parts (list_all is_plain row.0) (list_all (λ (r : List ℕ × (Directives → Option ℕ)). list_all is_plain r.0) rows) h in
-    list_all-append is_piece (print_number row.0 (row.1 d)) (numbers_of d rows) ∙ and_from _ _ (number_piece row.0 (row.1 d) p.0 f.0) (numbers_pieces d rows p.1 f.1)
+    let p = and_parts (list_all is_plain row.0)
+    (list_all (λ (r : List ℕ × (Directives → Option ℕ)). list_all is_plain r.0) rows) h in
+    list_all-append is_piece (print_number row.0 (row.1 d)) (numbers_of d rows)
+    ∙ and_from _ _ (number_piece row.0 (row.1 d) p.0 f.0) (numbers_pieces d rows p.1 f.1)
 
 pub printed_pieces : (d : Directives) → FitRows d number_rows → list_all is_piece (printed d) ≡ true
 printed_pieces d f =
@@ -86,7 +136,8 @@ flag_set : (flag name : List ℕ) (b : Bool) → is_set flag (print_flag name b)
 flag_set flag name true = elim (cases_Bool (same_name name flag)) [ inl y ↦ rw y refl | inr n ↦ rw n refl ]
 flag_set flag name false = elim (cases_Bool (same_name name flag)) [ inl y ↦ rw y refl | inr n ↦ rw n refl ]
 
-flags_set : (flag : List ℕ) (d : Directives) (rows : List (List ℕ × (Directives → Bool))) → is_set flag (flags_of d rows) ≡ list_any (λ row. same_name row.0 flag && row.1 d) rows
+flags_set : (flag : List ℕ) (d : Directives) (rows : List (List ℕ × (Directives → Bool)))
+    → is_set flag (flags_of d rows) ≡ list_any (λ row. same_name row.0 flag && row.1 d) rows
 flags_set flag d [] = refl
 flags_set flag d (row ∷ rows) =
     list_any-append (λ (e : List ℕ). same_name e flag) (print_flag row.0 (row.1 d)) (flags_of d rows)
@@ -94,17 +145,20 @@ flags_set flag d (row ∷ rows) =
     ∙ ap (λ v. (same_name row.0 flag && row.1 d) || v) (flags_set flag d rows)
 
 -- a flag's name has no `=`, and what is printed of a number has one
-pub no_flag : (flag name ds : List ℕ) → list_any is_equals (lowercase flag) ≡ false → same_name (name ++ 61 ∷ ds) flag ≡ false
+pub no_flag : (flag name ds : List ℕ) → list_any is_equals (lowercase flag) ≡ false
+    → same_name (name ++ 61 ∷ ds) flag ≡ false
 no_flag flag name ds h =
     false_from_ne_true (same_name (name ++ 61 ∷ ds) flag)
     (λ e.
     let same = (bytes_eq-Decides (lowercase (name ++ 61 ∷ ds)) (lowercase flag)).0 e in
     let has : list_any is_equals (lowercase (name ++ 61 ∷ ds)) ≡ true =
     ap (list_any is_equals) (map-append to_ascii_lowercase name (61 ∷ ds))
-    ∙ list_any-append is_equals (lowercase name) (61 ∷ lowercase ds) ∙ or_right (list_any is_equals (lowercase name)) true refl in
+    ∙ list_any-append is_equals (lowercase name) (61 ∷ lowercase ds)
+    ∙ or_right (list_any is_equals (lowercase name)) true refl in
     absurd (cc (has, ap (list_any is_equals) same, h)))
 
-numbers_set : (flag : List ℕ) → list_any is_equals (lowercase flag) ≡ false → (d : Directives) (rows : List (List ℕ × (Directives → Option ℕ))) → is_set flag (numbers_of d rows) ≡ false
+numbers_set : (flag : List ℕ) → list_any is_equals (lowercase flag) ≡ false
+    → (d : Directives) (rows : List (List ℕ × (Directives → Option ℕ))) → is_set flag (numbers_of d rows) ≡ false
 numbers_set flag h d [] = refl
 numbers_set flag h d (row ∷ rows) =
     list_any-append (λ (e : List ℕ). same_name e flag) (print_number row.0 (row.1 d)) (numbers_of d rows)
@@ -114,7 +168,8 @@ numbers_set flag h d (row ∷ rows) =
     one name None = refl
     one name (Some n) = rw (no_flag flag name (decimal n) h) refl
 
-set_printed : (flag : List ℕ) (d : Directives) (b : Bool) → list_any is_equals (lowercase flag) ≡ false → list_any (λ row. same_name row.0 flag && row.1 d) flag_rows ≡ (b || false) → is_set flag (printed d) ≡ b
+set_printed : (flag : List ℕ) (d : Directives) (b : Bool) → list_any is_equals (lowercase flag) ≡ false
+    → list_any (λ row. same_name row.0 flag && row.1 d) flag_rows ≡ (b || false) → is_set flag (printed d) ≡ b
 set_printed flag d b h e =
     list_any-append (λ (x : List ℕ). same_name x flag) (flags_of d flag_rows) (numbers_of d number_rows)
     ∙ ap (λ v. v || is_set flag (numbers_of d number_rows)) (flags_set flag d flag_rows ∙ e ∙ or-false b)
@@ -124,16 +179,20 @@ set_printed flag d b h e =
 
 -- a name that ends at the first `=`
 abbrev Splits : List ℕ → Type 0
-Splits name = (ds : List ℕ) → (before_first is_equals (name ++ 61 ∷ ds) ≡ name) × (after_first is_equals (name ++ 61 ∷ ds) ≡ ds)
+Splits name = (ds : List ℕ) → (before_first is_equals (name ++ 61 ∷ ds) ≡ name)
+    × (after_first is_equals (name ++ 61 ∷ ds) ≡ ds)
 
 number_printed : (name : List ℕ) (n : ℕ) → Splits name → n < 2 ^ 64 → number_in (name ++ 61 ∷ decimal n) ≡ Some n
 number_printed name n s l =
-    ap (λ r. number (without_quotes r)) (s (decimal n)).1 ∙ ap number (unquoted_piece (decimal n) (decimal_plain n l)) ∙ number-decimal n l
+    ap (λ r. number (without_quotes r)) (s (decimal n)).1 ∙ ap number (unquoted_piece (decimal n) (decimal_plain n l))
+    ∙ number-decimal n l
 
-carries_printed : (directive name : List ℕ) (n : ℕ) → Splits name → n < 2 ^ 64 → carries directive (name ++ 61 ∷ decimal n) ≡ same_name name directive
+carries_printed : (directive name : List ℕ) (n : ℕ) → Splits name → n < 2 ^ 64
+    → carries directive (name ++ 61 ∷ decimal n) ≡ same_name name directive
 carries_printed directive name n s l =
     let parts = s (decimal n) in
-    let some : (length (decimal n) == 0) ≡ false = ne_eqb (length (decimal n)) 0 (λ e. let h = decimal_nonempty n l in omega (arith, e, h)) in
+    let some : (length (decimal n) == 0) ≡ false =
+    ne_eqb (length (decimal n)) 0 (λ e. let h = decimal_nonempty n l in omega (arith, e, h)) in
     ap (λ r. same_name r directive && not (length (after_first is_equals (name ++ 61 ∷ decimal n)) == 0)) parts.0
     ∙ ap (λ r. same_name name directive && not (length r == 0)) parts.1
     ∙ ap (λ b. same_name name directive && not b) some ∙ and-true (same_name name directive)
@@ -142,7 +201,8 @@ carries_printed directive name n s l =
     and-true true = refl
     and-true false = refl
 
-flag_carried : (directive name : List ℕ) (b : Bool) → carries directive name ≡ false → filter (carries directive) (print_flag name b) ≡ []
+flag_carried : (directive name : List ℕ) (b : Bool) → carries directive name ≡ false
+    → filter (carries directive) (print_flag name b) ≡ []
 flag_carried directive name true h = rw h refl
 flag_carried directive name false h = refl
 
@@ -150,10 +210,12 @@ or_parts' : (a b : Bool) → (a || b) ≡ false → (a ≡ false) × (b ≡ fals
 or_parts' true b h = absurd (cc h)
 or_parts' false b h = (refl, h)
 
-flags_carried : (directive : List ℕ) (d : Directives) (rows : List (List ℕ × (Directives → Bool))) → list_any (λ row. carries directive row.0) rows ≡ false → filter (carries directive) (flags_of d rows) ≡ []
+flags_carried : (directive : List ℕ) (d : Directives) (rows : List (List ℕ × (Directives → Bool)))
+    → list_any (λ row. carries directive row.0) rows ≡ false → filter (carries directive) (flags_of d rows) ≡ []
 flags_carried directive d [] h = refl
 flags_carried directive d (row ∷ rows) h =
-    let p = or_parts' (carries directive row.0) (list_any (λ (r : List ℕ × (Directives → Bool)). carries directive r.0) rows) h in
+    let p = or_parts' (carries directive row.0)
+    (list_any (λ (r : List ℕ × (Directives → Bool)). carries directive r.0) rows) h in
     filter-append (carries directive) (print_flag row.0 (row.1 d)) (flags_of d rows)
     ∙ ap (λ r. r ++ filter (carries directive) (flags_of d rows)) (flag_carried directive row.0 (row.1 d) p.0)
     ∙ flags_carried directive d rows p.1
@@ -161,14 +223,18 @@ flags_carried directive d (row ∷ rows) h =
 abbrev if_named : List ℕ → List ℕ → List (List ℕ) → List (List ℕ)
 if_named directive name xs = cond (same_name name directive) xs []
 
-number_carried : (directive name : List ℕ) (o : Option ℕ) → Splits name → FitsOption o → filter (carries directive) (print_number name o) ≡ if_named directive name (print_number name o)
-number_carried directive name None s f = elim (cases_Bool (same_name name directive)) [ inl y ↦ rw y refl | inr n ↦ rw n refl ]
+number_carried : (directive name : List ℕ) (o : Option ℕ) → Splits name → FitsOption o
+    → filter (carries directive) (print_number name o) ≡ if_named directive name (print_number name o)
+number_carried directive name None s f =
+    elim (cases_Bool (same_name name directive)) [ inl y ↦ rw y refl | inr n ↦ rw n refl ]
 number_carried directive name (Some n) s f =
     let e = carries_printed directive name n s (f n refl) in
     elim (cases_Bool (same_name name directive)) [ inl y ↦ rw (e, y) refl | inr other ↦ rw (e, other) refl ]
 
-numbers_carried : (directive : List ℕ) (d : Directives) (rows : List (List ℕ × (Directives → Option ℕ))) → AllByRecursion (λ row. Splits row.0) rows → FitRows d rows
-    → filter (carries directive) (numbers_of d rows) ≡ flat_map (λ row. if_named directive row.0 (print_number row.0 (row.1 d))) rows
+numbers_carried : (directive : List ℕ) (d : Directives) (rows : List (List ℕ × (Directives → Option ℕ)))
+    → AllByRecursion (λ row. Splits row.0) rows → FitRows d rows
+    → filter (carries directive) (numbers_of d rows)
+    ≡ flat_map (λ row. if_named directive row.0 (print_number row.0 (row.1 d))) rows
 numbers_carried directive d [] s f = refl
 numbers_carried directive d (row ∷ rows) s f =
     filter-append (carries directive) (print_number row.0 (row.1 d)) (numbers_of d rows)
@@ -178,7 +244,8 @@ numbers_carried directive d (row ∷ rows) s f =
 number_splits : AllByRecursion (λ row. Splits row.0) number_rows
 number_splits = ((λ ds. (refl, refl)), ((λ ds. (refl, refl)), ((λ ds. (refl, refl)), ((λ ds. (refl, refl)), tt))))
 
-last_printed : (name : List ℕ) (o : Option ℕ) → Splits name → FitsOption o → option_and_then number_in (last_or None (print_number name o ++ [])) ≡ o
+last_printed : (name : List ℕ) (o : Option ℕ) → Splits name → FitsOption o
+    → option_and_then number_in (last_or None (print_number name o ++ [])) ≡ o
 last_printed name None s f = refl
 last_printed name (Some n) s f = number_printed name n s (f n refl)
 
@@ -199,44 +266,53 @@ flag_good : (name : List ℕ) (b : Bool) → is_bad name ≡ false → list_any 
 flag_good name true h = rw h refl
 flag_good name false h = refl
 
-flags_good : (d : Directives) (rows : List (List ℕ × (Directives → Bool))) → list_any (λ row. is_bad row.0) rows ≡ false → list_any is_bad (flags_of d rows) ≡ false
+flags_good : (d : Directives) (rows : List (List ℕ × (Directives → Bool)))
+    → list_any (λ row. is_bad row.0) rows ≡ false → list_any is_bad (flags_of d rows) ≡ false
 flags_good d [] h = refl
 flags_good d (row ∷ rows) h =
     let p = or_parts' (is_bad row.0) (list_any (λ (r : List ℕ × (Directives → Bool)). is_bad r.0) rows) h in
     list_any-append is_bad (print_flag row.0 (row.1 d)) (flags_of d rows)
     ∙ ap (λ v. v || list_any is_bad (flags_of d rows)) (flag_good row.0 (row.1 d) p.0) ∙ flags_good d rows p.1
 
-none_bad_for : (entry : List ℕ) (n : ℕ) (names : List (List ℕ)) → number_in entry ≡ Some n → list_any (λ directive. is_bad_for directive entry) names ≡ false
+none_bad_for : (entry : List ℕ) (n : ℕ) (names : List (List ℕ)) → number_in entry ≡ Some n
+    → list_any (λ directive. is_bad_for directive entry) names ≡ false
 none_bad_for entry n [] h = refl
 none_bad_for entry n (name ∷ names) h =
-    let one : is_bad_for name entry ≡ false = ap (λ o. carries name entry && is_none o) h ∙ and-false (carries name entry) in
+    let one : is_bad_for name entry ≡ false = ap (λ o. carries name entry && is_none o) h
+    ∙ and-false (carries name entry) in
     rw one (none_bad_for entry n names h)
   where
     and-false : (b : Bool) → (b && false) ≡ false
     and-false true = refl
     and-false false = refl
 
-number_good : (name : List ℕ) (o : Option ℕ) → Splits name → FitsOption o → list_any is_bad (print_number name o) ≡ false
+number_good : (name : List ℕ) (o : Option ℕ) → Splits name → FitsOption o
+    → list_any is_bad (print_number name o) ≡ false
 number_good name None s f = refl
 number_good name (Some n) s f =
     ap (λ v. v || false) (none_bad_for (name ++ 61 ∷ decimal n) n number_names (number_printed name n s (f n refl)))
 
-numbers_good : (d : Directives) (rows : List (List ℕ × (Directives → Option ℕ))) → AllByRecursion (λ row. Splits row.0) rows → FitRows d rows → list_any is_bad (numbers_of d rows) ≡ false
+numbers_good : (d : Directives) (rows : List (List ℕ × (Directives → Option ℕ)))
+    → AllByRecursion (λ row. Splits row.0) rows → FitRows d rows → list_any is_bad (numbers_of d rows) ≡ false
 numbers_good d [] s f = refl
 numbers_good d (row ∷ rows) s f =
     list_any-append is_bad (print_number row.0 (row.1 d)) (numbers_of d rows)
-    ∙ ap (λ v. v || list_any is_bad (numbers_of d rows)) (number_good row.0 (row.1 d) s.0 f.0) ∙ numbers_good d rows s.1 f.1
+    ∙ ap (λ v. v || list_any is_bad (numbers_of d rows)) (number_good row.0 (row.1 d) s.0 f.0)
+    ∙ numbers_good d rows s.1 f.1
 
 printed_good : (d : Directives) → FitRows d number_rows → list_any is_bad (printed d) ≡ false
 printed_good d f =
     list_any-append is_bad (flags_of d flag_rows) (numbers_of d number_rows)
-    ∙ ap (λ v. v || list_any is_bad (numbers_of d number_rows)) (flags_good d flag_rows refl) ∙ numbers_good d number_rows number_splits f
+    ∙ ap (λ v. v || list_any is_bad (numbers_of d number_rows)) (flags_good d flag_rows refl)
+    ∙ numbers_good d number_rows number_splits f
 
 -- ---- all of it
 
 printed_directs : (d : Directives) → FitRows d number_rows → directives (printed d) ≡ d
 printed_directs d f =
-    same_directives _ d.no_cache _ d.no_store _ d.no_transform _ d.only_if_cached _ d.must_revalidate _ d.public _ d.private _ d.immutable _ d.must_understand _ d.proxy_revalidate _ d.max_age _ d.max_stale _ d.min_fresh _ d.s_max_age
+    same_directives _ d.no_cache _ d.no_store _ d.no_transform _ d.only_if_cached _ d.must_revalidate _ d.public _
+    d.private _ d.immutable _ d.must_understand _ d.proxy_revalidate _ d.max_age _ d.max_stale _ d.min_fresh _
+    d.s_max_age
     (set_printed (codes "no-cache") d d.no_cache refl refl)
     (set_printed (codes "no-store") d d.no_store refl refl)
     (set_printed (codes "no-transform") d d.no_transform refl refl)
@@ -274,14 +350,22 @@ read_fits lines d h =
       | inr n ↦ let some : Some (directives (entries lines)) ≡ Some d = rw n at h in
           let same : directives (entries lines) ≡ d = cc some in
           let F : Directives → Type 0 = λ v. FitRows v number_rows in
-          subst F same (number_fits (codes "max-age") (entries lines), (number_fits (codes "max-stale") (entries lines), (number_fits (codes "min-fresh") (entries lines), (number_fits (codes "s-maxage") (entries lines), tt))))
+          subst F same (
+            number_fits (codes "max-age") (entries lines),
+            (
+              number_fits (codes "max-stale") (entries lines),
+              (number_fits (codes "min-fresh") (entries lines), (number_fits (codes "s-maxage") (entries lines), tt)),
+            ),
+          )
     ]
 
-pub directives_back : (lines : List Line) (d : Directives) → directives_of lines ≡ Some d → directives_of (lines_of_directives d) ≡ Some d
+pub directives_back : (lines : List Line) (d : Directives) → directives_of lines ≡ Some d
+    → directives_of (lines_of_directives d) ≡ Some d
 directives_back lines d h = reads_written d (read_fits lines d h)
 
 -- directives that are written alike are equal
-pub same_by_lines : (v w : Directives) → FitRows v number_rows → FitRows w number_rows → lines_of_directives v ≡ lines_of_directives w → v ≡ w
+pub same_by_lines : (v w : Directives) → FitRows v number_rows → FitRows w number_rows
+    → lines_of_directives v ≡ lines_of_directives w → v ≡ w
 same_by_lines v w f g e =
     let a = reads_written v f in
     let b = reads_written w g in

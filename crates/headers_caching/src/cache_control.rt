@@ -1,5 +1,6 @@
 //! The header `cache-control`.
-ghost use Rattle.std.specs.Prelude.{◌≡◌, ◌↔◌, ◌<◌, ◌^◌, ◌/◌, ◌∷◌, ◌++◌, List, [], ℕ, true, Some, IfOk, OnOk, IsTrue, IsErr, string_bytes};
+ghost use Rattle.std.specs.Prelude.{◌≡◌, ◌↔◌, ◌<◌, ◌^◌, ◌/◌, ◌∷◌, ◌++◌, List, [], ℕ, true, Some, IfOk, OnOk, IsTrue};
+ghost use Rattle.std.specs.Prelude.{IsErr, string_bytes};
 ghost use Rattle.std.specs.Duration.{as_nanos};
 ghost use Rattle.std.specs.List.{list_any, before_first, after_first};
 ghost use Rattle.http_header.specs.FieldValue.{IsFieldValue};
@@ -9,7 +10,8 @@ ghost use Rattle.headers_items.specs.Entries.{line_entries};
 ghost use Rattle.headers_items.specs.Pairs.{is_equals};
 ghost use Rattle.headers_syntax.specs.HeaderLaws.{ReadsBy, written_by};
 ghost use Rattle.headers_items.specs.Merge.{merge};
-ghost use Rattle.headers_caching.specs.CacheControl.{GivesSeconds, directives, last_number, is_bad, is_bad_for, is_set, number_rows, print_flag, print_number, printed};
+ghost use Rattle.headers_caching.specs.CacheControl.{GivesSeconds, directives, last_number, is_bad, is_bad_for};
+ghost use Rattle.headers_caching.specs.CacheControl.{is_set, number_rows, print_flag, print_number, printed};
 ghost use Rattle.headers_caching.specs.CacheControlGrammar.{cache_grammar};
 ghost use Rattle.headers_caching.specs.CacheControlLaws.{FitRows, FitsOption};
 ghost use Rattle.headers_caching.specs.Printing.{separated, append_all};

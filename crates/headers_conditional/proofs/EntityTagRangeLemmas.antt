@@ -24,7 +24,8 @@ one_any P y = (forth, back)
     back p = (0, y, omega arith, refl, p)
 
 -- a tag that is text has an item of which R holds beside another tag exactly if R holds of their parts
-pub HasItem-tags : (R : TagParts → TagParts → Type 0) (bytes other : List ℕ) (parts others : TagParts) → IsTag bytes parts → IsTag other others → is_text bytes ≡ true
+pub HasItem-tags : (R : TagParts → TagParts → Type 0) (bytes other : List ℕ) (parts others : TagParts)
+    → IsTag bytes parts → IsTag other others → is_text bytes ≡ true
     → (HasItem R bytes other ↔ R parts others)
 HasItem-tags R bytes other parts others h k t = (forth, back)
   where
@@ -36,15 +37,19 @@ HasItem-tags R bytes other parts others h k t = (forth, back)
 
     forth : HasItem R bytes other → R parts others
     forth has =
-        let both : AreTags R bytes other = one.0 (subst (λ (xs : List (List ℕ)). Any (λ item. AreTags R item other) xs) whole has) in
+        let both : AreTags R bytes other =
+        one.0 (subst (λ (xs : List (List ℕ)). Any (λ item. AreTags R item other) xs) whole has) in
         subst (λ (q : TagParts). R q others) (parts_unique bytes both.0 parts both.2 h)
         (subst (λ (q : TagParts). R both.0 q) (parts_unique other both.1 others both.3 k) both.4)
 
     back : R parts others → HasItem R bytes other
-    back r = subst (λ (xs : List (List ℕ)). Any (λ item. AreTags R item other) xs) (sym whole) (one.1 (parts, others, h, k, r))
+    back r = subst (λ (xs : List (List ℕ)). Any (λ item. AreTags R item other) xs) (sym whole)
+        (one.1 (parts, others, h, k, r))
 
 -- a value that is no text has no item
-pub HasItem-no_text : (R : TagParts → TagParts → Type 0) (value tag : List ℕ) → is_text value ≡ false → ¬ (HasItem R value tag)
+pub HasItem-no_text : (R : TagParts → TagParts → Type 0) (value tag : List ℕ) → is_text value ≡ false
+    → ¬ (HasItem R value tag)
 HasItem-no_text R value tag t has =
-    let none : Any (λ item. AreTags R item tag) [] = subst (λ (xs : List (List ℕ)). Any (λ item. AreTags R item tag) xs) (items-no_text 44 value t) has in
+    let none : Any (λ item. AreTags R item tag) [] =
+    subst (λ (xs : List (List ℕ)). Any (λ item. AreTags R item tag) xs) (items-no_text 44 value t) has in
     absurd (omega (arith, none.2))

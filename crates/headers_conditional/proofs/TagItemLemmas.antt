@@ -1,5 +1,7 @@
 -- A tag as the one item of a list.
-use Rattle.std.proofs.Common.{◌≡◌, ◌≢◌, get_or, ℕ, ◌-◌, Bool, true, false, List, [], ◌∷◌, ◌++◌, length, length-append, take, map, ◌↔◌, refl, sym, ◌∙◌, ap, subst, arith, Option, Some, None, IsTrue, is_some, ◌↔◌}
+use Rattle.std.proofs.Common.{◌≡◌, ◌≢◌, get_or, ℕ, ◌-◌, Bool, true, false, List, [], ◌∷◌, ◌++◌, length, length-append}
+use Rattle.std.proofs.Common.{take, map, ◌↔◌, refl, sym, ◌∙◌, ap, subst, arith, Option, Some, None, IsTrue, is_some}
+use Rattle.std.proofs.Common.{◌↔◌}
 use Rattle.std.specs.List.{list_all, suffix_len, onto_first}
 use Rattle.std.proofs.lemmas.Bool.{and_parts, and_from, and_right, ne_eqb, false_from_ne_true}
 use Rattle.std.proofs.lemmas.List.{reverse-append, take_all}
@@ -11,14 +13,16 @@ use Rattle.headers_syntax.specs.Text.{quote, is_blank, is_text, trim, trim_end}
 use Rattle.headers_syntax.specs.Text.{is_quote}
 use Rattle.headers_items.specs.Places.{items, pieces, places}
 use Rattle.headers_items.specs.Separator.{comma_is_separator}
-use Rattle.headers_syntax.specs.EntityTag.{is_tag_byte, between_quotes, TagParts, tag_text, IsTag, IsSomeTag, FindsTag, is_tag, parts_of}
+use Rattle.headers_syntax.specs.EntityTag.{is_tag_byte, between_quotes, TagParts, tag_text, IsTag, IsSomeTag}
+use Rattle.headers_syntax.specs.EntityTag.{FindsTag, is_tag, parts_of}
 use Rattle.headers_conditional.specs.EntityTagRange.{star}
 use Rattle.headers_items.proofs.CutLemmas.{cuts, cuts_quote, cuts_byte, items_cuts, pieces_cuts}
 use Rattle.headers_items.proofs.CutLemmas.{cuts, cuts_quote, cuts_byte, items_cuts, pieces_cuts}
 
 -- a byte of a tag is no quote
 tag_byte_no_quote : (b : ℕ) → is_tag_byte b ≡ true → is_quote b ≡ false
-tag_byte_no_quote b h = ne_eqb _ _ (λ e. let no : is_tag_byte 34 ≡ true = subst (λ (n : ℕ). is_tag_byte n ≡ true) e h in absurd (cc no))
+tag_byte_no_quote b h =
+    ne_eqb _ _ (λ e. let no : is_tag_byte 34 ≡ true = subst (λ (n : ℕ). is_tag_byte n ≡ true) e h in absurd (cc no))
 
 -- nothing is one empty piece
 cuts_nothing : cuts 44 true [] ≡ [] ∷ []
@@ -26,34 +30,46 @@ unfolding pieces places
 cuts_nothing = sym (pieces_cuts 44 [] 0 0 comma_is_separator.no_quote refl)
 
 -- inside the quotes nothing is_counting_place
-cuts_inside : (opaque : List ℕ) → list_all is_tag_byte opaque ≡ true → cuts 44 false (opaque ++ quote ∷ []) ≡ (opaque ++ quote ∷ []) ∷ []
+cuts_inside : (opaque : List ℕ) → list_all is_tag_byte opaque ≡ true
+    → cuts 44 false (opaque ++ quote ∷ []) ≡ (opaque ++ quote ∷ []) ∷ []
 cuts_inside [] h = cuts_quote 44 false quote [] refl ∙ ap (onto_first quote) cuts_nothing
 cuts_inside (x ∷ xs) h =
     let parts = and_parts (is_tag_byte x) (list_all is_tag_byte xs) h in
-    cuts_byte 44 false x (xs ++ quote ∷ []) (tag_byte_no_quote x parts.0) (and_right _ _ refl) ∙ ap (onto_first x) (cuts_inside xs parts.1)
+    cuts_byte 44 false x (xs ++ quote ∷ []) (tag_byte_no_quote x parts.0) (and_right _ _ refl)
+    ∙ ap (onto_first x) (cuts_inside xs parts.1)
 
 -- so a tag is one piece
-cuts_quoted : (opaque : List ℕ) → list_all is_tag_byte opaque ≡ true → cuts 44 true (quote ∷ (opaque ++ quote ∷ [])) ≡ (quote ∷ (opaque ++ quote ∷ [])) ∷ []
-cuts_quoted opaque h = cuts_quote 44 true quote (opaque ++ quote ∷ []) refl ∙ ap (onto_first quote) (cuts_inside opaque h)
+cuts_quoted : (opaque : List ℕ) → list_all is_tag_byte opaque ≡ true
+    → cuts 44 true (quote ∷ (opaque ++ quote ∷ [])) ≡ (quote ∷ (opaque ++ quote ∷ [])) ∷ []
+cuts_quoted opaque h = cuts_quote 44 true quote (opaque ++ quote ∷ []) refl
+    ∙ ap (onto_first quote) (cuts_inside opaque h)
 
-cuts_tag : (is_weak : Bool) (opaque : List ℕ) → list_all is_tag_byte opaque ≡ true → cuts 44 true (tag_text (record { is_weak = is_weak; opaque = opaque })) ≡ tag_text (record { is_weak = is_weak; opaque = opaque }) ∷ []
+cuts_tag : (is_weak : Bool) (opaque : List ℕ) → list_all is_tag_byte opaque ≡ true
+    → cuts 44 true (tag_text (record { is_weak = is_weak; opaque = opaque }))
+    ≡ tag_text (record { is_weak = is_weak; opaque = opaque }) ∷ []
 cuts_tag true opaque h =
-    cuts_byte 44 true 87 _ refl refl ∙ ap (onto_first 87) (cuts_byte 44 true 47 _ refl refl ∙ ap (onto_first 47) (cuts_quoted opaque h))
+    cuts_byte 44 true 87 _ refl refl
+    ∙ ap (onto_first 87) (cuts_byte 44 true 47 _ refl refl ∙ ap (onto_first 47) (cuts_quoted opaque h))
 cuts_tag false opaque h = cuts_quoted opaque h
 
 -- a tag begins and ends with no blank
 trim_end_quote : (front : List ℕ) → trim_end (front ++ quote ∷ []) ≡ front ++ quote ∷ []
 trim_end_quote front =
     let none : suffix_len is_blank (front ++ quote ∷ []) ≡ 0 = rw (reverse-append front (quote ∷ [])) refl in
-    let whole : length (front ++ quote ∷ []) - suffix_len is_blank (front ++ quote ∷ []) ≡ length (front ++ quote ∷ []) = omega (arith, none) in
-    ap (λ n. take n (front ++ quote ∷ [])) whole ∙ take_all (length (front ++ quote ∷ [])) (front ++ quote ∷ []) (omega arith)
+    let whole : length (front ++ quote ∷ []) - suffix_len is_blank (front ++ quote ∷ [])
+    ≡ length (front ++ quote ∷ []) = omega (arith, none) in
+    ap (λ n. take n (front ++ quote ∷ [])) whole
+    ∙ take_all (length (front ++ quote ∷ [])) (front ++ quote ∷ []) (omega arith)
 
-trim_tag : (is_weak : Bool) (opaque : List ℕ) → trim (tag_text (record { is_weak = is_weak; opaque = opaque })) ≡ tag_text (record { is_weak = is_weak; opaque = opaque })
+trim_tag : (is_weak : Bool) (opaque : List ℕ)
+    → trim (tag_text (record { is_weak = is_weak; opaque = opaque }))
+    ≡ tag_text (record { is_weak = is_weak; opaque = opaque })
 trim_tag true opaque = trim_end_quote (87 ∷ 47 ∷ quote ∷ opaque)
 trim_tag false opaque = trim_end_quote (quote ∷ opaque)
 
 -- a tag that is text is the one item of itself
-pub items_tag : (bytes : List ℕ) (parts : TagParts) → IsTag bytes parts → is_text bytes ≡ true → items 44 bytes ≡ bytes ∷ []
+pub items_tag : (bytes : List ℕ) (parts : TagParts) → IsTag bytes parts → is_text bytes ≡ true
+    → items 44 bytes ≡ bytes ∷ []
 items_tag bytes parts h t =
     let o = list_all-from_AllPass is_tag_byte parts.opaque h.opaque in
     items_cuts 44 bytes comma_is_separator.no_quote t

@@ -24,8 +24,13 @@ pub built_back : (range : EntityTagRange)
 built_back Any = (λ h e. absurd (cc e), λ h. refl)
 built_back (Tags tags) =
     elim (cases_Bool (bytes_eq tags star)) [
-      | inl y ↦ (λ h e. let any : Some Any ≡ Some (Tags tags) = rw y at h in absurd (cc any),
-          λ other. absurd (other (ap Tags ((bytes_eq-Decides tags star).0 y))))
-      | inr n ↦ (λ h e. let same : tags ≡ star = cc e in
-          absurd (cc (sym n ∙ (bytes_eq-Decides tags star).1 same)), λ other. rw n refl)
+      | inl y ↦ (
+        λ h e. let any : Some Any ≡ Some (Tags tags) = rw y at h in absurd (cc any),
+        λ other. absurd (other (ap Tags ((bytes_eq-Decides tags star).0 y))),
+      )
+      | inr n ↦ (
+        λ h e. let same : tags ≡ star = cc e in
+            absurd (cc (sym n ∙ (bytes_eq-Decides tags star).1 same)),
+        λ other. rw n refl,
+      )
     ]

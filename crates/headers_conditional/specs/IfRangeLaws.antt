@@ -12,7 +12,8 @@ use Rattle.headers_conditional.specs.Validator.{Validator, Tag, Second, unmarked
 use Rattle.headers_conditional.specs.IfRange.{if_range_grammar}
 
 read_back : (line : Line) (tag : Bool) (d : Option ℕ) (v : Validator) → is_tag line ≡ tag → date line ≡ d
-    → (if tag then Some (Tag (plain_value line)) else option_map Second d) ≡ Some v → validator (validator_line v) ≡ Some v
+    → (if tag then Some (Tag (plain_value line)) else option_map Second d) ≡ Some v
+    → validator (validator_line v) ≡ Some v
 read_back line true d (Tag value) is shows e =
     let same : plain_value line ≡ value = cc e in
     rw (← same, is) refl

@@ -25,8 +25,10 @@ abbrev pub validator_line : Validator → Line
 validator_line (Tag value) = value.bytes
 validator_line (Second secs) = fixdate secs
 
--- a representation with this tag, if any, that was last modified at this second, if any, is not the one that is named: by
--- the second where that is earlier or none is given, and by the tag where the two are not strongly equal or none is given
+-- a representation with this tag, if any, that was last modified at this second, if any, is not the one that is
+-- named: by
+-- the second where that is earlier or none is given, and by the tag where the two are not strongly equal or none is
+-- given
 abbrev pub IsModified : Validator → Option (Bor FieldValue) → Option (Bor ℕ) → Type 0
 IsModified (Second secs) etag None = ⊤
 IsModified (Second secs) etag (Some modified) = secs < modified.now

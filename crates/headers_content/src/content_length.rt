@@ -11,7 +11,8 @@ pub struct ContentLength(pub u64);
 
 impl Header for ContentLength {
     ghost use Rattle.std.specs.Prelude.{true, codes};
-    ghost use Rattle.headers_content.specs.ContentLength.{content_length_same, content_length_reads, content_length_writes};
+    ghost use Rattle.headers_content.specs.ContentLength.{content_length_same, content_length_reads};
+    ghost use Rattle.headers_content.specs.ContentLength.{content_length_writes};
     ghost use Rattle.headers_content.specs.ContentLengthLaws.{content_length_laws};
 
     ghost field_name = { codes "content-length" };

@@ -10,7 +10,8 @@ use Rattle.headers_syntax.proofs.ShapeLemmas.{ReadsBackLine, one_line_laws}
 use Rattle.headers_context.specs.RetryTime.{RetryTime, Delay, Until, number_else_date, retry_time, retry_line}
 use Rattle.headers_context.specs.RetryAfter.{retry_after_grammar}
 
-read_back : (line : Line) (n d : Option ℕ) (t : RetryTime) → number line ≡ n → date line ≡ d → number_else_date n d ≡ Some t → retry_time (retry_line t) ≡ Some t
+read_back : (line : Line) (n d : Option ℕ) (t : RetryTime) → number line ≡ n → date line ≡ d
+    → number_else_date n d ≡ Some t → retry_time (retry_line t) ≡ Some t
 read_back line (Some secs) d (Delay m) is_number is_date e =
     let same : secs ≡ m = cc e in
     rw (← same, number-decimal secs (number-lt line secs is_number)) refl
@@ -24,5 +25,6 @@ read_back line None None t is_number is_date e = absurd (cc e)
 retry_back : ReadsBackLine retry_time retry_line
 retry_back line t e = read_back line (number line) (date line) t refl refl e
 
-pub retry_after_laws : HeaderLaws (SameBy retry_after_grammar) (ReadsBy retry_after_grammar) (written_by retry_after_grammar)
+pub retry_after_laws : HeaderLaws (SameBy retry_after_grammar) (ReadsBy retry_after_grammar)
+    (written_by retry_after_grammar)
 retry_after_laws = one_line_laws (λ v. v) first_line retry_time retry_line (λ line. refl) retry_back

@@ -9,12 +9,14 @@ use Rattle.headers_syntax.specs.declared.error.Refused.{Refused}
 use Rattle.headers_syntax.specs.declared.error.Refused.TheVariants.{Invalid, Memory}
 
 module _ {V F E : Type 0} (form : V → F) (reads : List Line → F → Type 0) where
-  refused_along : (lines : List Line) (r : Refused E) → DecodesTo {V = F} {E = E} reads lines (Err r) → DecodesTo {V = V} {E = E} (λ ls v. reads ls (form v)) lines (Err r)
+  refused_along : (lines : List Line) (r : Refused E) → DecodesTo {V = F} {E = E} reads lines (Err r)
+      → DecodesTo {V = V} {E = E} (λ ls v. reads ls (form v)) lines (Err r)
   refused_along lines (Invalid e) none = λ v. none (form v)
   refused_along lines (Memory e) none = tt
 
   -- lines that no form reads, no header reads
-  pub of_lines_along : {S A : Type 0} {shown : A → FieldValue} {steps : S → Option A → S → Type 0} {s t : S} (r : Refused E)
+  pub of_lines_along : {S A : Type 0} {shown : A → FieldValue} {steps : S → Option A → S → Type 0} {s t : S}
+      (r : Refused E)
       → OfLines shown steps s t (λ lines. DecodesTo {V = F} {E = E} reads lines (Err r))
       → OfLines shown steps s t (λ lines. DecodesTo {V = V} {E = E} (λ ls v. reads ls (form v)) lines (Err r))
   of_lines_along r seen =

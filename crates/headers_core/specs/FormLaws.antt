@@ -6,6 +6,12 @@ use Rattle.headers_syntax.specs.HeaderLaws.{HeaderLaws, Grammar, SameBy, ReadsBy
 
 -- the laws of the form hold of the headers that keep it
 pub laws_along : {V F A : Type 0} (form : V → F) (grammar : Grammar F A) → ReadsBack grammar
-    → HeaderLaws (λ (v w : V). SameBy grammar (form v) (form w)) (λ (lines : List Line) (v : V). ReadsBy grammar lines (form v)) (λ (v : V). written_by grammar (form v))
+    → HeaderLaws (λ (v w : V). SameBy grammar (form v) (form w))
+    (λ (lines : List Line) (v : V). ReadsBy grammar lines (form v)) (λ (v : V). written_by grammar (form v))
 laws_along form grammar back =
-    laws_by (record { kept = λ v. grammar.kept (form v); value_of = grammar.value_of; lines_of_value = grammar.lines_of_value }) back
+    laws_by (record {
+      kept = λ v. grammar.kept (form v);
+      value_of = grammar.value_of;
+      lines_of_value =
+          grammar.lines_of_value;
+    }) back

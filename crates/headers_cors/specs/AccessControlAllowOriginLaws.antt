@@ -10,7 +10,8 @@ use Rattle.headers_hosts.specs.OriginLaws.{origin_once, origin_back}
 use Rattle.headers_hosts.specs.declared.origin.Origin.{Origin}
 use Rattle.headers_hosts.specs.declared.origin.OriginOrNull.{OriginOrNull}
 use Rattle.headers_hosts.specs.declared.origin.OriginOrNull.TheVariants.{Tuple, Null}
-use Rattle.headers_cors.specs.AccessControlAllowOrigin.{IsKindLine, IsAllowedLine, kind_text, allowed_text, allow_origin_reads, allow_origin_writes}
+use Rattle.headers_cors.specs.AccessControlAllowOrigin.{IsKindLine, IsAllowedLine, kind_text, allowed_text}
+use Rattle.headers_cors.specs.AccessControlAllowOrigin.{allow_origin_reads, allow_origin_writes}
 use Rattle.headers_cors.specs.declared.access_control_allow_origin.AccessControlAllowOrigin.{AccessControlAllowOrigin}
 use Rattle.headers_cors.specs.declared.access_control_allow_origin.OriginOrAny.{OriginOrAny}
 use Rattle.headers_cors.specs.declared.access_control_allow_origin.OriginOrAny.TheVariants.{One, Any}

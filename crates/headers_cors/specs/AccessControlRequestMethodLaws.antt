@@ -5,7 +5,8 @@ use Rattle.http_header.specs.Token.{IsToken}
 use Rattle.headers_syntax.specs.Lines.{Line, first_line}
 use Rattle.headers_syntax.specs.HeaderLaws.{HeaderLaws}
 use Rattle.headers_hosts.specs.OneLine.{Same, line_laws}
-use Rattle.headers_cors.specs.AccessControlRequestMethod.{method_bytes, IsMethodLine, request_method_reads, request_method_writes}
+use Rattle.headers_cors.specs.AccessControlRequestMethod.{method_bytes, IsMethodLine, request_method_reads}
+use Rattle.headers_cors.specs.AccessControlRequestMethod.{request_method_writes}
 use Rattle.headers_cors.specs.declared.access_control_request_method.AccessControlRequestMethod.{AccessControlRequestMethod}
 
 method_once : (line : Line) (v w : AccessControlRequestMethod) → IsMethodLine line v → IsMethodLine line w → v ≡ w

@@ -2,7 +2,8 @@
 ghost use Rattle.std.specs.Prelude.{◌≡◌, IfOk};
 ghost use Rattle.http_header.specs.Token.{IsToken};
 ghost use Rattle.headers_hosts.specs.OneLine.{LineDecodesTo};
-ghost use Rattle.headers_cors.specs.AccessControlRequestMethod.{method_bytes, IsMethodLine, request_method_reads, request_method_writes};
+ghost use Rattle.headers_cors.specs.AccessControlRequestMethod.{method_bytes, IsMethodLine, request_method_reads};
+ghost use Rattle.headers_cors.specs.AccessControlRequestMethod.{request_method_writes};
 ghost use Rattle.headers_cors.specs.declared.access_control_request_method.AccessControlRequestMethod.{AccessControlRequestMethod as Seen};
 
 use headers_core::{AsHeaderValue, Error, Header, Refused, first};

@@ -1,8 +1,11 @@
 -- The laws of the header `origin`: a text is read as one URI at most, and an origin as it is written.
-use Rattle.std.specs.Prelude.{◌≡◌, ◌≢◌, ◌⊎◌, ℕ, suc, ◌+◌, ◌<◌, ◌≤◌, Bool, true, false, not, ◌||◌, List, [], ◌∷◌, ◌++◌, length, Option, Some, None, codes, bytes_eq, IsTrue, slice_index, count_by, refl, if◌then◌else◌}
+use Rattle.std.specs.Prelude.{◌≡◌, ◌≢◌, ◌⊎◌, ℕ, suc, ◌+◌, ◌<◌, ◌≤◌, Bool, true, false, not, ◌||◌, List, [], ◌∷◌, ◌++◌}
+use Rattle.std.specs.Prelude.{length, Option, Some, None, codes, bytes_eq, IsTrue, slice_index, count_by, refl}
+use Rattle.std.specs.Prelude.{if◌then◌else◌}
 use Rattle.std.specs.List.{prefix_len, list_all}
 use Rattle.std.specs.Char.{to_ascii_lowercase}
-use Rattle.std.proofs.Common.{sym, ◌∙◌, ap, subst, arith, inl, inr, append_assoc, append-nil, length-append, lit≤, ⊎_elim}
+use Rattle.std.proofs.Common.{sym, ◌∙◌, ap, subst, arith, inl, inr, append_assoc, append-nil, length-append, lit≤}
+use Rattle.std.proofs.Common.{⊎_elim}
 use Rattle.std.proofs.lemmas.Bool.{cases_Bool, and_parts, false≢true}
 use Rattle.std.proofs.lemmas.Bool.Decides.{nat_tests}
 use Rattle.std.proofs.lemmas.Slice.Eq.{bytes_eq-Decides}
@@ -10,11 +13,13 @@ use Rattle.std.proofs.lemmas.List.{length-map}
 use Rattle.std.proofs.lemmas.List.Folds.{list_all-append}
 use Rattle.std.proofs.lemmas.List.Sums.{AllPass-from_list_all, list_all-from_AllPass}
 use Rattle.http_uri.specs.ByteClasses.{lowercase, is_scheme_byte, is_authority_byte, is_delimiter, slash}
-use Rattle.http_uri.specs.Grammar.{IsScheme, IsAuthority, IsTail, IsAbsoluteForm, IsForm, IsUriText, StartsOrigin, IsPathInput, normal_scheme, without_fragment, AllPass}
+use Rattle.http_uri.specs.Grammar.{IsScheme, IsAuthority, IsTail, IsAbsoluteForm, IsForm, IsUriText, StartsOrigin}
+use Rattle.http_uri.specs.Grammar.{IsPathInput, normal_scheme, without_fragment, AllPass}
 use Rattle.headers_syntax.specs.Lines.{Line, only_line}
 use Rattle.headers_syntax.specs.HeaderLaws.{HeaderLaws}
 use Rattle.headers_hosts.specs.OneLine.{Same, line_laws}
-use Rattle.headers_hosts.specs.Origin.{IsOriginUri, IsKindLine, IsOriginLine, tuple_text, kind_text, origin_text, origin_reads, origin_writes}
+use Rattle.headers_hosts.specs.Origin.{IsOriginUri, IsKindLine, IsOriginLine, tuple_text, kind_text, origin_text}
+use Rattle.headers_hosts.specs.Origin.{origin_reads, origin_writes}
 use Rattle.headers_hosts.specs.declared.origin.Origin.{Origin}
 use Rattle.headers_hosts.specs.declared.origin.OriginOrNull.{OriginOrNull}
 use Rattle.headers_hosts.specs.declared.origin.OriginOrNull.TheVariants.{Tuple, Null}

@@ -3,7 +3,8 @@ ghost use Rattle.std.specs.Prelude.{◌≡◌, List, ℕ, IsTrue, IfOk, Some, Ma
 ghost use Rattle.http_uri.specs.declared.uri.Uri.{Uri as Target};
 ghost use Rattle.http_uri.specs.Port.{IsPortNumberOfSome};
 ghost use Rattle.headers_hosts.specs.OneLine.{LineDecodesTo};
-ghost use Rattle.headers_hosts.specs.Origin.{IsOriginLine, origin_text, origin_reads, origin_writes, origin_is_null, origin_scheme, origin_host, origin_authority, tuple_text, parts_text};
+ghost use Rattle.headers_hosts.specs.Origin.{IsOriginLine, origin_text, origin_reads, origin_writes, origin_is_null};
+ghost use Rattle.headers_hosts.specs.Origin.{origin_scheme, origin_host, origin_authority, tuple_text, parts_text};
 ghost use Rattle.headers_hosts.specs.OriginParts.{IsUriOrigin, IsOriginText};
 ghost use Rattle.headers_hosts.specs.declared.origin.Origin.{Origin as Seen};
 

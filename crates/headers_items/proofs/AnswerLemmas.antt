@@ -14,7 +14,8 @@ use Rattle.headers_items.specs.ItemsState.{is_entry}
 use Rattle.headers_items.specs.Merge.{merge}
 use Rattle.headers_items.specs.Places.{comma, semicolon, items, pieces}
 use Rattle.headers_items.specs.Separator.{IsSeparator, comma_is_separator, semicolon_is_separator}
-use Rattle.headers_items.proofs.CutLemmas.{IsCutInto, items_apart, items_cut_at, IsCutInto-pieces, zero_even, HasItemsOf-merge}
+use Rattle.headers_items.proofs.CutLemmas.{IsCutInto, items_apart, items_cut_at, IsCutInto-pieces, zero_even}
+use Rattle.headers_items.proofs.CutLemmas.{HasItemsOf-merge}
 
 -- equal values have the same answers
 pub same_answers : {A R : Type 0} (answers : A → R → Type 0) (v w : A) → v ≡ w → SameAnswers answers v w

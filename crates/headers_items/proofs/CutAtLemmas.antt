@@ -1,5 +1,6 @@
 -- The pieces of a value, one by one.
-use Rattle.std.proofs.Common.{◌≡◌, ℕ, ◌+◌, ◌<◌, ◌≤◌, List, [], ◌∷◌, ◌++◌, length, drop, get_or, sym, ◌∙◌, ap, subst, append_assoc}
+use Rattle.std.proofs.Common.{◌≡◌, ℕ, ◌+◌, ◌<◌, ◌≤◌, List, [], ◌∷◌, ◌++◌, length, drop, get_or, sym, ◌∙◌, ap, subst}
+use Rattle.std.proofs.Common.{append_assoc}
 use Rattle.std.specs.List.{slice_range}
 use Rattle.std.proofs.lemmas.List.{drop_more, drop_all, take_rest, map_push}
 use Rattle.http_header.specs.FieldValue.{FieldValue}
@@ -8,11 +9,15 @@ use Rattle.headers_syntax.specs.Lines.{lines_of}
 use Rattle.headers_items.specs.CutLaw.{AreCuts}
 
 -- a value more
-pub lines_of_push : (xs ys : List FieldValue) (x : FieldValue) (line : List ℕ) → ys ≡ xs ++ x ∷ [] → x.bytes ≡ line → lines_of ys ≡ lines_of xs ++ line ∷ []
-lines_of_push xs ys x line e f = ap lines_of e ∙ map_push (λ (v : FieldValue). v.bytes) xs x ∙ ap (λ r. lines_of xs ++ r ∷ []) f
+pub lines_of_push : (xs ys : List FieldValue) (x : FieldValue) (line : List ℕ) → ys ≡ xs ++ x ∷ [] → x.bytes ≡ line
+    → lines_of ys ≡ lines_of xs ++ line ∷ []
+lines_of_push xs ys x line e f = ap lines_of e ∙ map_push (λ (v : FieldValue). v.bytes) xs x
+    ∙ ap (λ r. lines_of xs ++ r ∷ []) f
 
 -- one piece more
-pub pieces_more : (s : List ℕ) (start p i : ℕ) (places : List ℕ) (before after all : List (List ℕ)) → i < length places → p ≡ get_or places i 0 → before ++ pieces s start (drop i places) ≡ all → after ≡ before ++ slice_range s start p ∷ [] → after ++ pieces s (p + 1) (drop (i + 1) places) ≡ all
+pub pieces_more : (s : List ℕ) (start p i : ℕ) (places : List ℕ) (before after all : List (List ℕ))
+    → i < length places → p ≡ get_or places i 0 → before ++ pieces s start (drop i places) ≡ all
+    → after ≡ before ++ slice_range s start p ∷ [] → after ++ pieces s (p + 1) (drop (i + 1) places) ≡ all
 unfolding pieces
 pieces_more s start p i places before after all l q so_far e =
     ap (λ r. r ++ pieces s (p + 1) (drop (i + 1) places)) e
@@ -21,11 +26,15 @@ pieces_more s start p i places before after all l q so_far e =
     ∙ sym (ap (λ ds. before ++ pieces s start ds) (drop_more places i 0 l)) ∙ so_far
 
 -- the last piece
-pub pieces_last : (s : List ℕ) (start i : ℕ) (places : List ℕ) (before after all : List (List ℕ)) → length places ≤ i → before ++ pieces s start (drop i places) ≡ all → after ≡ before ++ slice_range s start (length s) ∷ [] → after ≡ all
+pub pieces_last : (s : List ℕ) (start i : ℕ) (places : List ℕ) (before after all : List (List ℕ)) → length places ≤ i
+    → before ++ pieces s start (drop i places) ≡ all → after ≡ before ++ slice_range s start (length s) ∷ []
+    → after ≡ all
 unfolding pieces
 pieces_last s start i places before after all l so_far e =
-    e ∙ ap (λ r. before ++ r ∷ []) (take_rest s start) ∙ sym (ap (λ ds. before ++ pieces s start ds) (drop_all i places l)) ∙ so_far
+    e ∙ ap (λ r. before ++ r ∷ []) (take_rest s start)
+    ∙ sym (ap (λ ds. before ++ pieces s start ds) (drop_all i places l)) ∙ so_far
 
 -- the cuts that are left
-pub AreCuts-more : (sep : ℕ) (s : List ℕ) (start i : ℕ) (places : List ℕ) → i < length places → AreCuts sep s start (drop i places) → AreCuts sep s start (get_or places i 0 ∷ drop (i + 1) places)
+pub AreCuts-more : (sep : ℕ) (s : List ℕ) (start i : ℕ) (places : List ℕ) → i < length places
+    → AreCuts sep s start (drop i places) → AreCuts sep s start (get_or places i 0 ∷ drop (i + 1) places)
 AreCuts-more sep s start i places l h = subst (AreCuts sep s start) (drop_more places i 0 l) h

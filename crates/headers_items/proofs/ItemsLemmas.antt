@@ -1,5 +1,6 @@
 -- Facts on the counting places and the pieces that are left.
-use Rattle.std.proofs.Common.{◌≡◌, ◌≢◌, ⊎_elim, ℕ, zero, suc, ◌+◌, ◌-◌, ◌<◌, ◌≤◌, Bool, true, false, List, [], ◌∷◌, map, length, drop, refl, sym, ◌∙◌, ap, arith}
+use Rattle.std.proofs.Common.{◌≡◌, ◌≢◌, ⊎_elim, ℕ, zero, suc, ◌+◌, ◌-◌, ◌<◌, ◌≤◌, Bool, true, false, List, [], ◌∷◌}
+use Rattle.std.proofs.Common.{map, length, drop, refl, sym, ◌∙◌, ap, arith}
 use Rattle.std.specs.List.{filter, slice_range}
 use Rattle.headers_syntax.specs.Text.{quote, trim}
 use Rattle.headers_items.specs.Places.{is_counting_place, places, pieces, counting_from, items_from}
@@ -11,14 +12,16 @@ use Rattle.std.proofs.lemmas.Bool.{or_parts, cases_lt, cases_Bool}
 use Rattle.std.proofs.lemmas.List.{length-map}
 
 -- n places from i on, and what of them is_counting_place
-pub filter_places_none : (f : ℕ → Bool) (i n : ℕ) → ((k : ℕ) → i ≤ k → k < i + n → f k ≡ false) → filter f (places i n) ≡ []
+pub filter_places_none : (f : ℕ → Bool) (i n : ℕ) → ((k : ℕ) → i ≤ k → k < i + n → f k ≡ false)
+    → filter f (places i n) ≡ []
 unfolding places
 filter_places_none f i zero h = refl
 filter_places_none f i (suc n) h =
     rw (h i (omega arith) (omega arith)) (filter_places_none f (i + 1) n (λ k a b. h k (omega arith) (omega arith)))
 
 -- the first place that passes, n places on, of n + 1 + m
-filter_places_first : (f : ℕ → Bool) (i n m : ℕ) → ((k : ℕ) → i ≤ k → k < i + n → f k ≡ false) → f (i + n) ≡ true → filter f (places i (n + suc m)) ≡ (i + n) ∷ filter f (places ((i + n) + 1) m)
+filter_places_first : (f : ℕ → Bool) (i n m : ℕ) → ((k : ℕ) → i ≤ k → k < i + n → f k ≡ false) → f (i + n) ≡ true
+    → filter f (places i (n + suc m)) ≡ (i + n) ∷ filter f (places ((i + n) + 1) m)
 unfolding places
 filter_places_first f i zero m h here =
     let e : 0 + suc m ≡ suc m = omega arith in
@@ -28,36 +31,44 @@ filter_places_first f i zero m h here =
 filter_places_first f i (suc n) m h here =
     let e : suc n + suc m ≡ suc (n + suc m) = omega arith in
     let z : i + suc n ≡ (i + 1) + n = omega arith in
-    rw (e, z, h i (omega arith) (omega arith)) (filter_places_first f (i + 1) n m (λ k a b. h k (omega arith) (omega arith)) (ap f (sym z) ∙ here))
+    rw (e, z, h i (omega arith) (omega arith))
+    (filter_places_first f (i + 1) n m (λ k a b. h k (omega arith) (omega arith)) (ap f (sym z) ∙ here))
 
-pub counting_none : (sep : ℕ) (s : List ℕ) (i : ℕ) → i ≤ length s → NoCut sep s i (length s) → counting_from sep s i ≡ []
+pub counting_none : (sep : ℕ) (s : List ℕ) (i : ℕ) → i ≤ length s → NoCut sep s i (length s)
+    → counting_from sep s i ≡ []
 counting_none sep s i l h = filter_places_none (is_counting_place sep s) i (length s - i) (λ k a b. h k a (omega arith))
 
-pub counting_next : (sep : ℕ) (s : List ℕ) (i q : ℕ) → IsNextCut sep s i q → counting_from sep s i ≡ q ∷ counting_from sep s (q + 1)
+pub counting_next : (sep : ℕ) (s : List ℕ) (i q : ℕ) → IsNextCut sep s i q
+    → counting_from sep s i ≡ q ∷ counting_from sep s (q + 1)
 counting_next sep s i q f =
     let low = f.low in
     let high = f.high in
     let n : length s - i ≡ (q - i) + suc (length s - (q + 1)) = omega arith in
     let e : i + (q - i) ≡ q = omega arith in
     ap (λ k. filter (is_counting_place sep s) (places i k)) n
-    ∙ filter_places_first (is_counting_place sep s) i (q - i) (length s - (q + 1)) (λ k a b. f.before k a (omega arith)) (ap (is_counting_place sep s) e ∙ f.here)
+    ∙ filter_places_first (is_counting_place sep s) i (q - i) (length s - (q + 1))
+    (λ k a b. f.before k a (omega arith)) (ap (is_counting_place sep s) e ∙ f.here)
     ∙ ap (λ k. k ∷ filter (is_counting_place sep s) (places (k + 1) (length s - (q + 1)))) e
 
 -- the last item, and the next of several
-pub items_last : (sep : ℕ) (s : List ℕ) (i : ℕ) → i ≤ length s → NoCut sep s i (length s) → items_from sep s i ≡ trim (drop i s) ∷ []
+pub items_last : (sep : ℕ) (s : List ℕ) (i : ℕ) → i ≤ length s → NoCut sep s i (length s)
+    → items_from sep s i ≡ trim (drop i s) ∷ []
 unfolding pieces
 items_last sep s i l h = ap (λ ps. map trim (pieces s i ps)) (counting_none sep s i l h)
 
-pub items_next : (sep : ℕ) (s : List ℕ) (i q : ℕ) → IsNextCut sep s i q → items_from sep s i ≡ trim (slice_range s i q) ∷ items_from sep s (q + 1)
+pub items_next : (sep : ℕ) (s : List ℕ) (i q : ℕ) → IsNextCut sep s i q
+    → items_from sep s i ≡ trim (slice_range s i q) ∷ items_from sep s (q + 1)
 unfolding pieces
 items_next sep s i q f = ap (λ ps. map trim (pieces s i ps)) (counting_next sep s i q f)
 
 -- a quote is no cut
-pub NoCut-more_quote : (sep : ℕ) (s : List ℕ) (i p : ℕ) (m : Mark) → sep ≢ quote → NoCut sep s i p → IsNextMark sep s p m → m.quote ≡ true → NoCut sep s i (m.place + 1)
+pub NoCut-more_quote : (sep : ℕ) (s : List ℕ) (i p : ℕ) (m : Mark) → sep ≢ quote → NoCut sep s i p
+    → IsNextMark sep s p m → m.quote ≡ true → NoCut sep s i (m.place + 1)
 NoCut-more_quote sep s i p m ne h f y k low high =
     ⊎_elim (λ a. h k low a) (λ a.
     ⊎_elim (λ b. (or_parts _ _ (f.before k a b)).1)
-    (λ b. let e : m.place ≡ k = omega arith in ap (is_counting_place sep s) (sym e) ∙ counting_place_other sep s m.place (λ z. ne (sym z ∙ f.a_quote y)))
+    (λ b. let e : m.place ≡ k = omega arith in ap (is_counting_place sep s) (sym e)
+    ∙ counting_place_other sep s m.place (λ z. ne (sym z ∙ f.a_quote y)))
     (cases_lt k m.place))
     (cases_lt k p)
 
@@ -69,7 +80,9 @@ pub record PassesCuts (s t : ScanState) : Type 0 where
   pub high : t.place ≤ length s.bytes
   pub before : NoCut s.separator s.bytes s.place t.place
 
-pub passes_quote : (s t u : ScanState) (m : Mark) → s.separator ≢ quote → PassesCuts s t → IsNextMark t.separator t.bytes t.place m → m.quote ≡ true → u.place ≡ m.place + 1 → u.bytes ≡ t.bytes → u.separator ≡ t.separator → PassesCuts s u
+pub passes_quote : (s t u : ScanState) (m : Mark) → s.separator ≢ quote → PassesCuts s t
+    → IsNextMark t.separator t.bytes t.place m → m.quote ≡ true → u.place ≡ m.place + 1 → u.bytes ≡ t.bytes
+    → u.separator ≡ t.separator → PassesCuts s u
 passes_quote s t u m ne h f y p b c =
     let f' : IsNextMark s.separator s.bytes t.place m = rw (← h.separator, ← h.bytes) f in
     let low = h.low in

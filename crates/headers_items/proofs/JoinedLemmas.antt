@@ -1,5 +1,6 @@
 -- Pieces that are joined by comma and space have themselves as their entries.
-use Rattle.std.proofs.Common.{◌≡◌, ◌≢◌, ℕ, ◌+◌, ◌-◌, ◌<◌, Bool, true, false, not, ◌&&◌, ◌==◌, nat_lt, nat_le, cond, List, [], ◌∷◌, ◌++◌, length, take, drop, get_or, filter, refl, ◌∙◌, ap, arith}
+use Rattle.std.proofs.Common.{◌≡◌, ◌≢◌, ℕ, ◌+◌, ◌-◌, ◌<◌, Bool, true, false, not, ◌&&◌, ◌==◌, nat_lt, nat_le, cond}
+use Rattle.std.proofs.Common.{List, [], ◌∷◌, ◌++◌, length, take, drop, get_or, filter, refl, ◌∙◌, ap, arith}
 use Rattle.std.specs.List.{list_all, flat_map, prefix_len, suffix_len, count_by}
 use Rattle.std.proofs.lemmas.Bool.{and_parts, and_from, or_right, le-leb, lt-ltb, ltb-true, ne_eqb, eqb-false, not-true}
 use Rattle.std.proofs.lemmas.List.{append-nil, take_all}
@@ -17,7 +18,8 @@ use Rattle.headers_items.proofs.CutLemmas.{HasItemsOf-merge}
 use Rattle.headers_items.proofs.ItemsLemmas.{items_last}
 use Rattle.headers_items.proofs.PlacesLemmas.{counting_place_other}
 use Rattle.headers_syntax.specs.Text.{without_quotes}
-use Rattle.headers_syntax.proofs.PlainLemmas.{is_plain, is_piece, plain_bounds, piece_at, trim_piece, text_piece, no_quote}
+use Rattle.headers_syntax.proofs.PlainLemmas.{is_plain, is_piece, plain_bounds, piece_at, trim_piece, text_piece}
+use Rattle.headers_syntax.proofs.PlainLemmas.{no_quote}
 
 no_quotes : (p : List ℕ) → list_all is_plain p ≡ true → count_by is_quote p ≡ 0
 no_quotes [] h = refl
@@ -25,7 +27,8 @@ no_quotes (b ∷ p) h =
     let x = and_parts (is_plain b) (list_all is_plain p) h in
     let q = no_quote b (plain_bounds b x.0).0 in
     let rest = no_quotes p x.1 in
-    let one : count_by is_quote (b ∷ p) ≡ 0 + count_by is_quote p = sum_by-cons (λ y. cond (is_quote y) 1 0) b p ∙ ap (λ v. cond v 1 0 + count_by is_quote p) q in
+    let one : count_by is_quote (b ∷ p) ≡ 0 + count_by is_quote p = sum_by-cons (λ y. cond (is_quote y) 1 0) b p
+    ∙ ap (λ v. cond v 1 0 + count_by is_quote p) q in
     omega (arith, one, rest)
 
 items_piece : (p : List ℕ) → list_all is_plain p ≡ true → items 44 p ≡ p ∷ []
@@ -52,8 +55,10 @@ pieces_items [] h = refl
 pieces_items (x ∷ xs) h =
     let p = and_parts (is_piece x) (list_all is_piece xs) h in
     let q = and_parts (nat_lt 0 (length x)) (list_all is_plain x) p.0 in
-    let some : is_entry x ≡ true = ap not (ne_eqb (length x) 0 (λ e. let l = ltb-true _ _ q.0 in omega (arith, e, l))) in
-    ap (λ r. filter is_entry (r ++ flat_map (items 44) xs)) (items_piece x q.1) ∙ rw some (ap (λ r. x ∷ r) (pieces_items xs p.1))
+    let some : is_entry x ≡ true = ap not (ne_eqb (length x) 0 (λ e. let l = ltb-true _ _ q.0 in omega (arith, e, l)))
+    in
+    ap (λ r. filter is_entry (r ++ flat_map (items 44) xs)) (items_piece x q.1)
+    ∙ rw some (ap (λ r. x ∷ r) (pieces_items xs p.1))
 
 no_items : filter is_entry (items 44 []) ≡ []
 unfolding pieces places
@@ -63,5 +68,6 @@ pub entries_joined : (xs : List (List ℕ)) → list_all is_piece xs ≡ true �
 entries_joined [] h = append-nil (line_entries []) ∙ no_items
 entries_joined (x ∷ xs) h =
     append-nil (line_entries (merge 44 (x ∷ xs)))
-    ∙ ap (filter is_entry) (HasItemsOf-merge 44 (x ∷ xs) comma_is_separator (pieces_text (x ∷ xs) h) (pieces_even (x ∷ xs) h))
+    ∙ ap (filter is_entry)
+    (HasItemsOf-merge 44 (x ∷ xs) comma_is_separator (pieces_text (x ∷ xs) h) (pieces_even (x ∷ xs) h))
     ∙ pieces_items (x ∷ xs) h

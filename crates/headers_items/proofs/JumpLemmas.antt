@@ -1,5 +1,6 @@
 -- A search for the next mark by searches for bytes.
-use Rattle.std.proofs.Common.{◌≡◌, ⊎_elim, ℕ, ◌+◌, ◌-◌, ◌<◌, ◌≤◌, Bool, true, false, eqb, List, length, drop, get_or, sym, ◌∙◌, ap, arith, Option, None, Some}
+use Rattle.std.proofs.Common.{◌≡◌, ⊎_elim, ℕ, ◌+◌, ◌-◌, ◌<◌, ◌≤◌, Bool, true, false, eqb, List, length, drop, get_or}
+use Rattle.std.proofs.Common.{sym, ◌∙◌, ap, arith, Option, None, Some}
 use Rattle.std.specs.Option.{MatchOption}
 use Rattle.std.proofs.lemmas.Bool.{false_from_ne_true, or_parts, or_from, or_cases, eqb-true, eqb-false, false≢true}
 use Rattle.std.proofs.lemmas.List.{get_or-drop, length-drop}
@@ -7,7 +8,8 @@ use Rattle.memchr.specs.Find.{IsFirstByte, is_byte, is_byte2}
 use Rattle.headers_items.specs.Places.{is_even, quotes_before, NoHit}
 use Rattle.headers_items.specs.ScanState.{IsNextMark}
 use Rattle.headers_items.specs.declared.scan.Mark.{Mark}
-use Rattle.headers_items.proofs.PlacesLemmas.{NoQuote, quotes_along, counting_place_other, counting_place_inside, counting_place_from}
+use Rattle.headers_items.proofs.PlacesLemmas.{NoQuote, quotes_along, counting_place_other, counting_place_inside}
+use Rattle.headers_items.proofs.PlacesLemmas.{counting_place_from}
 
 -- the mark at place p
 abbrev pub mark_at : List ℕ → ℕ → Mark
@@ -15,31 +17,39 @@ mark_at s p = record { place = p; quote = eqb (get_or s p 0) 34 }
 
 -- r is how far from place i the next mark stands
 abbrev pub FindsAhead : ℕ → List ℕ → ℕ → Option ℕ → Type 0
-FindsAhead sep s i r = MatchOption r (NoHit sep s i (length s)) (λ k. (i + k < length s) × IsNextMark sep s i (mark_at s (i + k)))
+FindsAhead sep s i r =
+    MatchOption r (NoHit sep s i (length s)) (λ k. (i + k < length s) × IsNextMark sep s i (mark_at s (i + k)))
 
 -- what a test that fails in the rest of s says of s
-fails_upto : (test : ℕ → Bool) (s : List ℕ) (i n : ℕ) → ((k : ℕ) → 0 ≤ k → k < n → test (get_or (drop i s) k 0) ≡ true → ⊥) → (k : ℕ) → i ≤ k → k < i + n → test (get_or s k 0) ≡ false
+fails_upto : (test : ℕ → Bool) (s : List ℕ) (i n : ℕ)
+    → ((k : ℕ) → 0 ≤ k → k < n → test (get_or (drop i s) k 0) ≡ true → ⊥) → (k : ℕ) → i ≤ k → k < i + n
+    → test (get_or s k 0) ≡ false
 fails_upto test s i n h k low high =
     let e : i + (k - i) ≡ k = omega arith in
-    let no : test (get_or (drop i s) (k - i) 0) ≡ false = false_from_ne_true _ (h (k - i) (omega arith) (omega arith)) in
+    let no : test (get_or (drop i s) (k - i) 0) ≡ false = false_from_ne_true _ (h (k - i) (omega arith) (omega arith))
+    in
     ap (λ (j : ℕ). test (get_or s j 0)) (sym e) ∙ ap test (sym (get_or-drop i s (k - i) 0)) ∙ no
 
 -- neither byte, neither hit
-outside_none : (sep : ℕ) (s : List ℕ) (i j : ℕ) → ((k : ℕ) → i ≤ k → k < j → is_byte2 34 sep (get_or s k 0) ≡ false) → NoHit sep s i j
+outside_none : (sep : ℕ) (s : List ℕ) (i j : ℕ) → ((k : ℕ) → i ≤ k → k < j → is_byte2 34 sep (get_or s k 0) ≡ false)
+    → NoHit sep s i j
 outside_none sep s i j h k low high =
     let parts = or_parts _ _ (h k low high) in
     or_from _ _ parts.0 (counting_place_other sep s k (eqb-false _ _ parts.1))
 
 -- inside quotes nothing is_counting_place before the next quote
-inside_none : (sep : ℕ) (s : List ℕ) (i j : ℕ) → j ≤ length s → is_even (quotes_before s i) ≡ false → NoQuote s i j → NoHit sep s i j
+inside_none : (sep : ℕ) (s : List ℕ) (i j : ℕ) → j ≤ length s → is_even (quotes_before s i) ≡ false → NoQuote s i j
+    → NoHit sep s i j
 inside_none sep s i j l odd h k low high =
     let same = quotes_along s i k low (omega arith) (λ n a b. h n a (omega arith)) in
     or_from _ _ (h k low high) (counting_place_inside sep s k (ap is_even same ∙ odd))
 
-pub ahead_inside : (sep : ℕ) (s : List ℕ) (i : ℕ) (r : Option ℕ) → i ≤ length s → is_even (quotes_before s i) ≡ false → IsFirstByte (is_byte 34) (drop i s) r → FindsAhead sep s i r
+pub ahead_inside : (sep : ℕ) (s : List ℕ) (i : ℕ) (r : Option ℕ) → i ≤ length s → is_even (quotes_before s i) ≡ false
+    → IsFirstByte (is_byte 34) (drop i s) r → FindsAhead sep s i r
 ahead_inside sep s i None l odd h =
     let long = length-drop i s in
-    inside_none sep s i (length s) (omega arith) odd (λ k a b. fails_upto (is_byte 34) s i (length (drop i s)) h k a (omega arith))
+    inside_none sep s i (length s) (omega arith) odd
+    (λ k a b. fails_upto (is_byte 34) s i (length (drop i s)) h k a (omega arith))
 ahead_inside sep s i (Some k) l odd h =
     let long = length-drop i s in
     let inside : i + k < length s = omega (arith, h.0.high) in
@@ -54,7 +64,8 @@ ahead_inside sep s i (Some k) l odd h =
       },
     )
 
-pub ahead_outside : (sep : ℕ) (s : List ℕ) (i : ℕ) (r : Option ℕ) → i ≤ length s → is_even (quotes_before s i) ≡ true → IsFirstByte (is_byte2 34 sep) (drop i s) r → FindsAhead sep s i r
+pub ahead_outside : (sep : ℕ) (s : List ℕ) (i : ℕ) (r : Option ℕ) → i ≤ length s → is_even (quotes_before s i) ≡ true
+    → IsFirstByte (is_byte2 34 sep) (drop i s) r → FindsAhead sep s i r
 ahead_outside sep s i None l even h =
     let long = length-drop i s in
     outside_none sep s i (length s) (λ k a b. fails_upto (is_byte2 34 sep) s i (length (drop i s)) h k a (omega arith))
@@ -70,6 +81,7 @@ ahead_outside sep s i (Some k) l even h =
         high = inside;
         before = outside_none sep s i (i + k) none;
         a_quote = λ e. eqb-true _ _ e;
-        a_cut = λ e. ⊎_elim (λ q. absurd (false≢true (sym e ∙ q))) (λ q. counting_place_from sep s (i + k) (eqb-true _ _ q) (ap is_even same ∙ even)) (or_cases _ _ here);
+        a_cut = λ e. ⊎_elim (λ q. absurd (false≢true (sym e ∙ q)))
+            (λ q. counting_place_from sep s (i + k) (eqb-true _ _ q) (ap is_even same ∙ even)) (or_cases _ _ here);
       },
     )

@@ -1,5 +1,7 @@
 -- One line more.
-use Rattle.std.proofs.Common.{◌≡◌, ℕ, ◌<◌, Bool, true, false, List, [], ◌∷◌, ◌++◌, map, length, Option, None, Some, Result, Ok, Err, IfOk, refl, sym, ◌∙◌, ap, append_assoc, length-append, IsTrue, subst, arith}
+use Rattle.std.proofs.Common.{◌≡◌, ℕ, ◌<◌, Bool, true, false, List, [], ◌∷◌, ◌++◌, map, length, Option, None, Some}
+use Rattle.std.proofs.Common.{Result, Ok, Err, IfOk, refl, sym, ◌∙◌, ap, append_assoc, length-append, IsTrue, subst}
+use Rattle.std.proofs.Common.{arith}
 use Rattle.std.specs.Bool.{MatchBool}
 use Rattle.std.specs.Iterator.{Yields, YieldsThen}
 use Rattle.std.specs.Iterator.Adapters.{map_steps, map_source}
@@ -18,25 +20,30 @@ use Rattle.headers_items.specs.Merge.{merge, merged}
 use Rattle.headers_syntax.specs.HeaderLaws.{ReadsBack}
 
 -- a line behind at least one other
-pub merge_push : (sep : ℕ) (x : List ℕ) (xs : List (List ℕ)) (y : List ℕ) → merge sep (x ∷ xs ++ y ∷ []) ≡ merge sep (x ∷ xs) ++ sep ∷ 32 ∷ y
+pub merge_push : (sep : ℕ) (x : List ℕ) (xs : List (List ℕ)) (y : List ℕ)
+    → merge sep (x ∷ xs ++ y ∷ []) ≡ merge sep (x ∷ xs) ++ sep ∷ 32 ∷ y
 merge_push sep x [] y = refl
 merge_push sep x (z ∷ zs) y =
-    ap (λ r. x ++ (sep ∷ 32 ∷ r)) (merge_push sep z zs y) ∙ sym (append_assoc x (sep ∷ 32 ∷ merge sep (z ∷ zs)) (sep ∷ 32 ∷ y))
+    ap (λ r. x ++ (sep ∷ 32 ∷ r)) (merge_push sep z zs y)
+    ∙ sym (append_assoc x (sep ∷ 32 ∷ merge sep (z ∷ zs)) (sep ∷ 32 ∷ y))
 
 -- what the buffer holds once some lines have come
 abbrev pub MergedSoFar : ℕ → List ℕ → List (List ℕ) → Type 0
 MergedSoFar sep buffer lines = (0 < length lines) × (buffer ≡ merge sep lines)
 
-pub merged_first : (sep : ℕ) (x y buffer : List ℕ) → buffer ≡ x ++ sep ∷ 32 ∷ y → (lines : List (List ℕ)) → lines ≡ x ∷ [] → MergedSoFar sep buffer (lines ++ y ∷ [])
+pub merged_first : (sep : ℕ) (x y buffer : List ℕ) → buffer ≡ x ++ sep ∷ 32 ∷ y → (lines : List (List ℕ))
+    → lines ≡ x ∷ [] → MergedSoFar sep buffer (lines ++ y ∷ [])
 merged_first sep x y buffer e lines h = rw h (omega arith, e)
 
-pub merged_more : (sep : ℕ) (y before after : List ℕ) → after ≡ before ++ sep ∷ 32 ∷ y → (lines : List (List ℕ)) → MergedSoFar sep before lines → MergedSoFar sep after (lines ++ y ∷ [])
+pub merged_more : (sep : ℕ) (y before after : List ℕ) → after ≡ before ++ sep ∷ 32 ∷ y → (lines : List (List ℕ))
+    → MergedSoFar sep before lines → MergedSoFar sep after (lines ++ y ∷ [])
 merged_more sep y before after e [] h = absurd (omega (arith, h.0))
 merged_more sep y before after e (x ∷ xs) h =
     (omega (arith, length-append xs (y ∷ [])), e ∙ ap (λ r. r ++ sep ∷ 32 ∷ y) h.1 ∙ sym (merge_push sep x xs y))
 
 -- a value stays a value
-pub IsFieldValue-more : (sep : ℕ) (a b c : List ℕ) → IsSeparator sep → IsFieldValue a → IsFieldValue b → c ≡ a ++ sep ∷ 32 ∷ b → IsFieldValue c
+pub IsFieldValue-more : (sep : ℕ) (a b c : List ℕ) → IsSeparator sep → IsFieldValue a → IsFieldValue b
+    → c ≡ a ++ sep ∷ 32 ∷ b → IsFieldValue c
 IsFieldValue-more sep a b c f h k e =
     let P : ℕ → Type 0 = λ x. IsTrue (is_value_byte x) in
     let text = f.is_text in
@@ -44,17 +51,20 @@ IsFieldValue-more sep a b c f h k e =
     subst IsFieldValue (sym e) (All-append P a (sep ∷ 32 ∷ b) h (All-cons P sep (32 ∷ b) here (All-cons P 32 b refl k)))
 
 -- what an append leaves, in other words
-pub appended : (new old line bytes : List ℕ) (b sep : ℕ) → new ≡ old ++ b ∷ 32 ∷ line → b ≡ sep → line ≡ bytes → new ≡ old ++ sep ∷ 32 ∷ bytes
+pub appended : (new old line bytes : List ℕ) (b sep : ℕ) → new ≡ old ++ b ∷ 32 ∷ line → b ≡ sep → line ≡ bytes
+    → new ≡ old ++ sep ∷ 32 ∷ bytes
 appended new old line bytes b sep e f h = e ∙ ap (λ x. old ++ x ∷ 32 ∷ line) f ∙ ap (λ r. old ++ sep ∷ 32 ∷ r) h
 
 -- one line more makes a value longer
-pub merge_longer : (sep : ℕ) (lines : List (List ℕ)) → length (merge sep lines) < length (merge sep (lines ++ (sep ∷ []) ∷ []))
+pub merge_longer : (sep : ℕ) (lines : List (List ℕ))
+    → length (merge sep lines) < length (merge sep (lines ++ (sep ∷ []) ∷ []))
 merge_longer sep [] = omega arith
 merge_longer sep (x ∷ xs) =
     rw (merge_push sep x xs (sep ∷ [])) (rw (length-append (merge sep (x ∷ xs)) (sep ∷ 32 ∷ sep ∷ [])) (omega arith))
 
 -- a value that is the lines that calls gave, whatever may follow, was made once they had ended
-pub MergesItems-given : {S E : Type 0} (steps : S → Option FieldValue → S → Type 0) (s t : S) (sep : ℕ) (r : Result (List ℕ) E)
+pub MergesItems-given : {S E : Type 0} (steps : S → Option FieldValue → S → Type 0) (s t : S) (sep : ℕ)
+    (r : Result (List ℕ) E)
     → OfLines (λ v. v) steps s t (λ lines. IfOk r (λ c. IsMerged sep lines c)) → IfOk r (λ c. MergesItems steps s sep c)
 MergesItems-given steps s t sep (Err e) g = tt
 MergesItems-given {S} steps s t sep (Ok c) g = by g.ended g.calls g.holds
@@ -63,29 +73,46 @@ MergesItems-given {S} steps s t sep (Ok c) g = by g.ended g.calls g.holds
     lines = map (λ v. v.bytes) g.items
 
     by : (ended : Bool) → MatchBool ended (YieldsThen steps s g.items None t) (Yields steps s g.items t)
-        → ((rest : List (List ℕ)) → (IsTrue ended → rest ≡ []) → IsMerged sep (lines ++ rest) c) → MergesItems steps s sep c
-    by true calls holds =
-        (g.items, (t, calls), subst (λ (ls : List (List ℕ)). IsMerged sep ls c) (append-nil lines) (holds [] (λ _. refl)))
+        → ((rest : List (List ℕ)) → (IsTrue ended → rest ≡ []) → IsMerged sep (lines ++ rest) c)
+        → MergesItems steps s sep c
+    by true calls holds = (
+      g.items,
+      (t, calls),
+      subst (λ (ls : List (List ℕ)). IsMerged sep ls c) (append-nil lines) (holds [] (λ _. refl)),
+    )
     by false calls holds =
         let one : c ≡ merge sep (lines ++ []) = (holds [] (λ _. refl)).bytes in
         let more : c ≡ merge sep (lines ++ (sep ∷ []) ∷ []) = (holds ((sep ∷ []) ∷ []) (λ e. absurd (cc e))).bytes in
-        let same : merge sep lines ≡ merge sep (lines ++ (sep ∷ []) ∷ []) = ap (merge sep) (sym (append-nil lines)) ∙ sym one ∙ more in
+        let same : merge sep lines ≡ merge sep (lines ++ (sep ∷ []) ∷ []) = ap (merge sep) (sym (append-nil lines))
+        ∙ sym one ∙ more in
         absurd (omega (arith, merge_longer sep lines, ap length same))
 
 -- calls of a mapped iterator are calls of its source, of whose items each is the line of the value that was given
-module _ {S F : Type 0} (steps : S → Option (List ℕ) → S → Type 0) (g : Mut F (List ℕ × Unit {0}) FieldValue) (calls : (f f' : F) (x : List ℕ) (v : FieldValue) → Called g f (x, tt) v f' → v.bytes ≡ x) where
-  source_yields : (s t : Map S F) (given : List FieldValue) → Yields (map_steps steps g) s given t → Yields steps (map_source s) (lines_of given) (map_source t)
+module _ {S F : Type 0} (steps : S → Option (List ℕ) → S → Type 0) (g : Mut F (List ℕ × Unit {0}) FieldValue)
+    (calls : (f f' : F) (x : List ℕ) (v : FieldValue) → Called g f (x, tt) v f' → v.bytes ≡ x) where
+  source_yields : (s t : Map S F) (given : List FieldValue) → Yields (map_steps steps g) s given t
+      → Yields steps (map_source s) (lines_of given) (map_source t)
   source_yields s t [] e = ap (λ (m : Map S F). map_source m) e
-  source_yields s t (v ∷ given) (j, call, later) =
-      (map_source j, subst (λ (x : List ℕ). steps (map_source s) (Some x) (map_source j)) (sym (calls _ _ call.0 v call.2)) call.1, source_yields j t given later)
+  source_yields s t (v ∷ given) (j, call, later) = (
+    map_source j,
+    subst (λ (x : List ℕ). steps (map_source s) (Some x) (map_source j)) (sym (calls _ _ call.0 v call.2))
+        call.1,
+    source_yields j t given later,
+  )
 
   pub MergesLines-mapped : {E : Type 0} (s : Map S F) (i : S) (sep : ℕ) (r : Result (List ℕ) E) → map_source s ≡ i
       → IfOk r (λ c. MergesItems (map_steps steps g) s sep c) → IfOk r (λ c. MergesLines steps i sep c)
   MergesLines-mapped s i sep (Err e) h m = tt
   MergesLines-mapped s i sep (Ok c) h m =
       let drained = m.1 in
-      subst (λ (j : S). MergesLines steps j sep c) h
-      (lines_of m.0, (map_source drained.0, (map_source drained.1.0, source_yields s drained.1.0 m.0 drained.1.1, drained.1.2.0)), m.2)
+      subst (λ (j : S). MergesLines steps j sep c) h (
+        lines_of m.0,
+        (
+          map_source drained.0,
+          (map_source drained.1.0, source_yields s drained.1.0 m.0 drained.1.1, drained.1.2.0),
+        ),
+        m.2,
+      )
 
 -- a merged value, as the one line, is itself again
 pub merged_back : {V : Type 0} (separator : ℕ) (kept : V → Line) → ReadsBack (merged separator kept)

@@ -1,5 +1,6 @@
 -- The halves of an item, found by a search.
-use Rattle.std.proofs.Common.{◌≡◌, ℕ, ◌+◌, ◌-◌, ◌≤◌, true, false, List, [], ◌∷◌, length, take, Option, None, Some, refl, sym, ◌∙◌, ap, arith, ltb}
+use Rattle.std.proofs.Common.{◌≡◌, ℕ, ◌+◌, ◌-◌, ◌≤◌, true, false, List, [], ◌∷◌, length, take, Option, None, Some}
+use Rattle.std.proofs.Common.{refl, sym, ◌∙◌, ap, arith, ltb}
 use Rattle.std.specs.List.{slice_range, cons_option}
 use Rattle.std.specs.Prelude.{position, option_map}
 use Rattle.std.proofs.lemmas.Bool.{false_from_ne_true}
@@ -12,14 +13,16 @@ use Rattle.headers_items.specs.Pairs.{Pair, is_equals, halves_at, pair_of, pairs
 
 position_none : (item : List ℕ) → IsFirstByte (is_byte 61) item None → position is_equals item ≡ None
 position_none item h =
-    let e = position_or_len_is is_equals item (length item) 0 (omega arith) (λ k l. false_from_ne_true _ (h k (omega arith) l)) (λ l. absurd (omega (arith, l))) in
+    let e = position_or_len_is is_equals item (length item) 0 (omega arith)
+    (λ k l. false_from_ne_true _ (h k (omega arith) l)) (λ l. absurd (omega (arith, l))) in
     let no : ltb (length item) (length item) ≡ false = grind (arith, nat_tests) in
     rw (e, no) refl
 
 position_some : (item : List ℕ) (k : ℕ) → IsFirstByte (is_byte 61) item (Some k) → position is_equals item ≡ Some k
 position_some item k h =
     let l = h.0.high in
-    let e = position_or_len_is is_equals item k 0 (omega arith) (λ j b. false_from_ne_true _ (h.0.before j (omega arith) b)) (λ b. h.1) in
+    let e = position_or_len_is is_equals item k 0 (omega arith)
+    (λ j b. false_from_ne_true _ (h.0.before j (omega arith) b)) (λ b. h.1) in
     let yes : ltb k (length item) ≡ true = grind (arith, nat_tests) in
     rw (e, yes) refl
 
@@ -30,7 +33,8 @@ pair_of-none item bytes same h = ap (option_map (halves_at bytes)) (sym (positio
 
 -- an item whose first `=` stands at place k, and its halves as they were cut
 pub pair_of-some : (item bytes name value : List ℕ) (k : ℕ) → bytes ≡ item → IsFirstByte (is_byte 61) bytes (Some k)
-    → name ≡ trim (slice_range bytes 0 k) → value ≡ trim (slice_range bytes (k + 1) (length bytes)) → Some (name, value) ≡ pair_of item
+    → name ≡ trim (slice_range bytes 0 k) → value ≡ trim (slice_range bytes (k + 1) (length bytes))
+    → Some (name, value) ≡ pair_of item
 unfolding pair_of
 pair_of-some item bytes name value k same h front back =
     let z : k - 0 ≡ k = omega arith in

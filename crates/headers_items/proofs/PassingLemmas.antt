@@ -1,5 +1,6 @@
 -- A walk that hands out only some of the items: those that it passes over.
-use Rattle.std.proofs.Common.{◌≡◌, ℕ, ◌≤◌, ◌-◌, Bool, true, false, List, [], ◌∷◌, ◌++◌, length, drop, map, ◌≢◌, Some, refl, sym, ◌∙◌, ap, arith, inl, inr, ⊎_elim, append_assoc}
+use Rattle.std.proofs.Common.{◌≡◌, ℕ, ◌≤◌, ◌-◌, Bool, true, false, List, [], ◌∷◌, ◌++◌, length, drop, map, ◌≢◌, Some}
+use Rattle.std.proofs.Common.{refl, sym, ◌∙◌, ap, arith, inl, inr, ⊎_elim, append_assoc}
 use denote.Ref.{Bor}
 use Rattle.headers_items.specs.Places.{items_from}
 use Rattle.headers_items.specs.ItemsState.{ItemsState, items_left, BeginsPiece, NoCut, ScansPiece, GivesPiece}
@@ -22,7 +23,16 @@ pub record PassesUnwanted (wanted : List ℕ → Bool) (s t : ItemsState) : Type
 
 pub PassesUnwanted-none : (wanted : List ℕ → Bool) (s : ItemsState) → PassesUnwanted wanted s s
 PassesUnwanted-none wanted s =
-    record { text = refl; separator = refl; begins = λ _. inl refl; skipped = []; split = refl; passed = refl; stays = λ _. refl }
+    record {
+      text = refl;
+      separator = refl;
+      begins = λ _. inl refl;
+      skipped = [];
+      split = refl;
+      passed = refl;
+      stays =
+          λ _. refl;
+    }
 
 -- one that gave an item was not done
 gave_open : (s t : ItemsState) (item : List ℕ) → items_left s ≡ item ∷ items_left t → s.is_done ≡ false
@@ -42,15 +52,18 @@ some_item : (sep : ℕ) (s : List ℕ) (i : ℕ) → items_from sep s i ≢ []
 some_item sep s i e = some_piece s i (counting_from sep s i) e
 
 -- after the last piece nothing is left
-last_item : (sep : ℕ) (s : List ℕ) (i : ℕ) (item : List ℕ) (rest : List (List ℕ)) → NoCut sep s i (length s) → items_from sep s i ≡ item ∷ rest → rest ≡ []
+last_item : (sep : ℕ) (s : List ℕ) (i : ℕ) (item : List ℕ) (rest : List (List ℕ)) → NoCut sep s i (length s)
+    → items_from sep s i ≡ item ∷ rest → rest ≡ []
 unfolding pieces
 last_item sep s i item rest nocut e =
-    let none : counting_from sep s i ≡ [] = filter_places_none (is_counting_place sep s) i (length s - i) (λ k a b. nocut k a (omega arith)) in
+    let none : counting_from sep s i ≡ [] =
+    filter_places_none (is_counting_place sep s) i (length s - i) (λ k a b. nocut k a (omega arith)) in
     let one : trim (drop i s) ∷ [] ≡ item ∷ rest = ap (λ ps. map trim (pieces s i ps)) (sym none) ∙ e in
     cc one
 
 -- where a piece ended, the next begins
-begins_after : (sep : ℕ) (s : List ℕ) (i j p : ℕ) (item : List ℕ) (rest : List (List ℕ)) → BeginsPiece sep s i j → GivesPiece sep s j item p → items_from sep s j ≡ item ∷ rest → rest ≢ [] → BeginsPiece sep s i p
+begins_after : (sep : ℕ) (s : List ℕ) (i j p : ℕ) (item : List ℕ) (rest : List (List ℕ)) → BeginsPiece sep s i j
+    → GivesPiece sep s j item p → items_from sep s j ≡ item ∷ rest → rest ≢ [] → BeginsPiece sep s i p
 begins_after sep s i j p item rest b g e some =
     ⊎_elim
     (λ w.
@@ -61,14 +74,20 @@ begins_after sep s i j p item rest b g e some =
     (λ w. absurd (some (last_item sep s j item rest w.0 e)))
     g
 
-begins_next : (wanted : List ℕ → Bool) (s t u : ItemsState) (item : Bor (List ℕ)) → PassesUnwanted wanted s t → ScansPiece t (Some item) u → items_left t ≡ item.now ∷ items_left u → t.is_done ≡ false → u.is_done ≡ false → u.start ≡ u.place → BeginsPiece s.separator s.text s.start u.start
+begins_next : (wanted : List ℕ → Bool) (s t u : ItemsState) (item : Bor (List ℕ)) → PassesUnwanted wanted s t
+    → ScansPiece t (Some item) u → items_left t ≡ item.now ∷ items_left u → t.is_done ≡ false → u.is_done ≡ false
+    → u.start ≡ u.place → BeginsPiece s.separator s.text s.start u.start
 begins_next wanted s t u item h f e opn opn' at =
     let some : items_left u ≢ [] = λ z. some_item u.separator u.text u.start (sym (items_left_open u opn') ∙ z) in
-    let left : items_from s.separator s.text t.start ≡ item.now ∷ items_left u = rw (← h.text, ← h.separator) (sym (items_left_open t opn) ∙ e) in
+    let left : items_from s.separator s.text t.start ≡ item.now ∷ items_left u =
+    rw (← h.text, ← h.separator) (sym (items_left_open t opn) ∙ e) in
     let gives : GivesPiece s.separator s.text t.start item.now u.place = rw (← h.text, ← h.separator) f.place in
-    rw at (begins_after s.separator s.text s.start t.start u.place item.now (items_left u) (h.begins opn) gives left some)
+    rw at (begins_after s.separator s.text s.start t.start u.place item.now (items_left u) (h.begins opn) gives left
+    some)
 
-pub PassesUnwanted-more : (wanted : List ℕ → Bool) (s t u : ItemsState) (item : Bor (List ℕ)) → PassesUnwanted wanted s t → ScansPiece t (Some item) u → items_left t ≡ item.now ∷ items_left u → (u.is_done ≡ false → u.start ≡ u.place) → wanted item.now ≡ false → PassesUnwanted wanted s u
+pub PassesUnwanted-more : (wanted : List ℕ → Bool) (s t u : ItemsState) (item : Bor (List ℕ))
+    → PassesUnwanted wanted s t → ScansPiece t (Some item) u → items_left t ≡ item.now ∷ items_left u
+    → (u.is_done ≡ false → u.start ≡ u.place) → wanted item.now ≡ false → PassesUnwanted wanted s u
 PassesUnwanted-more wanted s t u item h f e at none =
     record {
       text = f.text ∙ h.text;

@@ -1,7 +1,9 @@
 -- Facts on quotes, counting places and hits.
-use Rattle.std.proofs.Common.{◌≡◌, ◌≢◌, ⊎_elim, ℕ, zero, suc, ◌+◌, ◌-◌, ◌<◌, ◌≤◌, Bool, true, false, not, cond, List, [], ◌∷◌, ◌++◌, length, get_or, refl, sym, ◌∙◌, ap, subst, arith, take, eqb}
+use Rattle.std.proofs.Common.{◌≡◌, ◌≢◌, ⊎_elim, ℕ, zero, suc, ◌+◌, ◌-◌, ◌<◌, ◌≤◌, Bool, true, false, not, cond, List}
+use Rattle.std.proofs.Common.{[], ◌∷◌, ◌++◌, length, get_or, refl, sym, ◌∙◌, ap, subst, arith, take, eqb}
 use Rattle.std.specs.List.{count_by, sum_by}
-use Rattle.std.proofs.lemmas.Bool.{or_parts, and_parts, and_left, and_right, and_from, eqb-true, eq-eqb, ne_eqb, cases_Bool}
+use Rattle.std.proofs.lemmas.Bool.{or_parts, and_parts, and_left, and_right, and_from, eqb-true, eq-eqb, ne_eqb}
+use Rattle.std.proofs.lemmas.Bool.{cases_Bool}
 use Rattle.std.proofs.lemmas.Bool.Decides.{nat_tests}
 use Rattle.std.proofs.lemmas.List.Sums.{count_by_more_yes, count_by_more_no, sum_by_push, sum_by-take-le, sum_by_more}
 use Rattle.headers_syntax.specs.Text.{is_text, quote}
@@ -17,9 +19,11 @@ pub places_more : (i n : ℕ) → places i (suc n) ≡ places i n ++ (i + n) ∷
 unfolding places
 places_more i zero = ap (λ k. k ∷ []) (let e : i ≡ i + 0 = omega arith in e)
 places_more i (suc n) =
-    ap (λ ks. i ∷ ks) (places_more (i + 1) n ∙ ap (λ k. places (i + 1) n ++ k ∷ []) (let e : (i + 1) + n ≡ i + suc n = omega arith in e))
+    ap (λ ks. i ∷ ks) (places_more (i + 1) n
+    ∙ ap (λ k. places (i + 1) n ++ k ∷ []) (let e : (i + 1) + n ≡ i + suc n = omega arith in e))
 
-pub count_places_more : (f : ℕ → Bool) (n : ℕ) → count_by f (places 0 (n + 1)) ≡ count_by f (places 0 n) + cond (f n) 1 0
+pub count_places_more : (f : ℕ → Bool) (n : ℕ)
+    → count_by f (places 0 (n + 1)) ≡ count_by f (places 0 n) + cond (f n) 1 0
 count_places_more f n =
     let e : n + 1 ≡ suc n = omega arith in
     let z : 0 + n ≡ n = omega arith in
@@ -30,13 +34,15 @@ abbrev pub NoQuote : List ℕ → ℕ → ℕ → Type 0
 NoQuote s i j = (k : ℕ) → i ≤ k → k < j → is_quote (get_or s k 0) ≡ false
 
 -- where no quote stands from i on, their number stays
-pub quotes_same : (s : List ℕ) (i n : ℕ) → i + n ≤ length s → NoQuote s i (i + n) → quotes_before s (i + n) ≡ quotes_before s i
+pub quotes_same : (s : List ℕ) (i n : ℕ) → i + n ≤ length s → NoQuote s i (i + n)
+    → quotes_before s (i + n) ≡ quotes_before s i
 quotes_same s i zero l h = ap (quotes_before s) (let e : i + 0 ≡ i = omega arith in e)
 quotes_same s i (suc n) l h =
     let e : i + suc n ≡ (i + n) + 1 = omega arith in
     let lt : i + n < length s = omega arith in
     let no = h (i + n) (omega arith) (omega arith) in
-    ap (quotes_before s) e ∙ count_by_more_no is_quote s (i + n) 0 lt no ∙ quotes_same s i n (omega arith) (λ k a b. h k a (omega arith))
+    ap (quotes_before s) e ∙ count_by_more_no is_quote s (i + n) 0 lt no
+    ∙ quotes_same s i n (omega arith) (λ k a b. h k a (omega arith))
 
 pub quotes_along : (s : List ℕ) (i j : ℕ) → i ≤ j → j ≤ length s → NoQuote s i j → quotes_before s j ≡ quotes_before s i
 quotes_along s i j le l h =
@@ -44,7 +50,8 @@ quotes_along s i j le l h =
     ap (quotes_before s) (sym e) ∙ quotes_same s i (j - i) (omega arith) (λ k a b. h k a (omega arith))
 
 -- and so do the hits
-pub hits_same : (sep : ℕ) (s : List ℕ) (i n : ℕ) → i + n ≤ length s → NoHit sep s i (i + n) → hits sep s (i + n) ≡ hits sep s i
+pub hits_same : (sep : ℕ) (s : List ℕ) (i n : ℕ) → i + n ≤ length s → NoHit sep s i (i + n)
+    → hits sep s (i + n) ≡ hits sep s i
 unfolding hits
 hits_same sep s i zero l h = ap (hits sep s) (let e : i + 0 ≡ i = omega arith in e)
 hits_same sep s i (suc n) l h =
@@ -52,12 +59,15 @@ hits_same sep s i (suc n) l h =
     let lt : i + n < length s = omega arith in
     let here = or_parts _ _ (h (i + n) (omega arith) (omega arith)) in
     let q = count_by_more_no is_quote s (i + n) 0 lt here.0 in
-    let c : count_by (is_counting_place sep s) (places 0 ((i + n) + 1)) ≡ count_by (is_counting_place sep s) (places 0 (i + n)) = count_places_more (is_counting_place sep s) (i + n) ∙ rw here.1 (omega arith) in
+    let c : count_by (is_counting_place sep s) (places 0 ((i + n) + 1))
+    ≡ count_by (is_counting_place sep s) (places 0 (i + n)) = count_places_more (is_counting_place sep s) (i + n)
+    ∙ rw here.1 (omega arith) in
     ap (hits sep s) e ∙ (let both : hits sep s ((i + n) + 1) ≡ hits sep s (i + n) = omega (arith, q, c) in both)
     ∙ hits_same sep s i n (omega arith) (λ k a b. h k a (omega arith))
 
 -- the same, from i up to j
-pub quotes_upto : (sep : ℕ) (s : List ℕ) (i j : ℕ) → i ≤ j → j ≤ length s → NoHit sep s i j → quotes_before s j ≡ quotes_before s i
+pub quotes_upto : (sep : ℕ) (s : List ℕ) (i j : ℕ) → i ≤ j → j ≤ length s → NoHit sep s i j
+    → quotes_before s j ≡ quotes_before s i
 quotes_upto sep s i j le l h = quotes_along s i j le l (λ k a b. (or_parts _ _ (h k a b)).0)
 
 pub hits_upto : (sep : ℕ) (s : List ℕ) (i j : ℕ) → i ≤ j → j ≤ length s → NoHit sep s i j → hits sep s j ≡ hits sep s i
@@ -72,11 +82,13 @@ hits_zero sep [] = refl
 hits_zero sep (x ∷ s) = refl
 
 -- a place is_counting_place by its byte and the parity before it
-pub counting_place_parts : (sep : ℕ) (s : List ℕ) (p : ℕ) → is_counting_place sep s p ≡ true → (get_or s p 0 ≡ sep) × (is_even (quotes_before s p) ≡ true)
+pub counting_place_parts : (sep : ℕ) (s : List ℕ) (p : ℕ) → is_counting_place sep s p ≡ true → (get_or s p 0 ≡ sep)
+    × (is_even (quotes_before s p) ≡ true)
 unfolding is_counting_place
 counting_place_parts sep s p h = let both = and_parts _ _ h in (eqb-true _ _ both.0, both.1)
 
-pub counting_place_from : (sep : ℕ) (s : List ℕ) (p : ℕ) → get_or s p 0 ≡ sep → is_even (quotes_before s p) ≡ true → is_counting_place sep s p ≡ true
+pub counting_place_from : (sep : ℕ) (s : List ℕ) (p : ℕ) → get_or s p 0 ≡ sep → is_even (quotes_before s p) ≡ true
+    → is_counting_place sep s p ≡ true
 unfolding is_counting_place
 counting_place_from sep s p a b = and_from _ _ (eq-eqb _ _ a) b
 
@@ -84,39 +96,48 @@ pub counting_place_other : (sep : ℕ) (s : List ℕ) (p : ℕ) → get_or s p 0
 unfolding is_counting_place
 counting_place_other sep s p a = and_left _ _ (ne_eqb _ _ a)
 
-pub counting_place_inside : (sep : ℕ) (s : List ℕ) (p : ℕ) → is_even (quotes_before s p) ≡ false → is_counting_place sep s p ≡ false
+pub counting_place_inside : (sep : ℕ) (s : List ℕ) (p : ℕ) → is_even (quotes_before s p) ≡ false
+    → is_counting_place sep s p ≡ false
 unfolding is_counting_place
 counting_place_inside sep s p a = and_right _ _ a
 
 -- one hit more, at a quote and at a counting place
-pub hits_quote : (sep : ℕ) (s : List ℕ) (p : ℕ) → sep ≢ quote → p < length s → get_or s p 0 ≡ quote → hits sep s (p + 1) ≡ hits sep s p + 1
+pub hits_quote : (sep : ℕ) (s : List ℕ) (p : ℕ) → sep ≢ quote → p < length s → get_or s p 0 ≡ quote
+    → hits sep s (p + 1) ≡ hits sep s p + 1
 unfolding hits
 hits_quote sep s p ne l q =
     let a = count_by_more_yes is_quote s p 0 l (eq-eqb _ _ q) in
     let no : is_counting_place sep s p ≡ false = counting_place_other sep s p (λ e. ne (sym e ∙ q)) in
-    let c : count_by (is_counting_place sep s) (places 0 (p + 1)) ≡ count_by (is_counting_place sep s) (places 0 p) = count_places_more (is_counting_place sep s) p ∙ rw no (omega arith) in
+    let c : count_by (is_counting_place sep s) (places 0 (p + 1)) ≡ count_by (is_counting_place sep s) (places 0 p) =
+    count_places_more (is_counting_place sep s) p ∙ rw no (omega arith) in
     omega (arith, a, c)
 
-pub hits_cut : (sep : ℕ) (s : List ℕ) (p : ℕ) → sep ≢ quote → p < length s → is_counting_place sep s p ≡ true → hits sep s (p + 1) ≡ hits sep s p + 1
+pub hits_cut : (sep : ℕ) (s : List ℕ) (p : ℕ) → sep ≢ quote → p < length s → is_counting_place sep s p ≡ true
+    → hits sep s (p + 1) ≡ hits sep s p + 1
 unfolding hits
 hits_cut sep s p ne l here =
     let byte = (counting_place_parts sep s p here).0 in
     let a = count_by_more_no is_quote s p 0 l (ne_eqb _ _ (λ e. ne (sym byte ∙ e))) in
-    let c : count_by (is_counting_place sep s) (places 0 (p + 1)) ≡ count_by (is_counting_place sep s) (places 0 p) + 1 = count_places_more (is_counting_place sep s) p ∙ rw here refl in
+    let c : count_by (is_counting_place sep s) (places 0 (p + 1))
+    ≡ count_by (is_counting_place sep s) (places 0 p) + 1 = count_places_more (is_counting_place sep s) p
+    ∙ rw here refl in
     omega (arith, a, c)
 
 -- the parity after a quote, and after a separator
-pub parity_quote : (s : List ℕ) (p : ℕ) → p < length s → get_or s p 0 ≡ quote → is_even (quotes_before s (p + 1)) ≡ not (is_even (quotes_before s p))
+pub parity_quote : (s : List ℕ) (p : ℕ) → p < length s → get_or s p 0 ≡ quote
+    → is_even (quotes_before s (p + 1)) ≡ not (is_even (quotes_before s p))
 parity_quote s p l q = ap is_even (count_by_more_yes is_quote s p 0 l (eq-eqb _ _ q)) ∙ is_even-more (quotes_before s p)
 
-pub parity_other : (s : List ℕ) (p : ℕ) → p < length s → get_or s p 0 ≢ quote → is_even (quotes_before s (p + 1)) ≡ is_even (quotes_before s p)
+pub parity_other : (s : List ℕ) (p : ℕ) → p < length s → get_or s p 0 ≢ quote
+    → is_even (quotes_before s (p + 1)) ≡ is_even (quotes_before s p)
 parity_other s p l q = ap is_even (count_by_more_no is_quote s p 0 l (ne_eqb _ _ q))
 
 sum_by-take-le' : (f : ℕ → ℕ) (s : List ℕ) (p : ℕ) → p < length s → sum_by f (take p s) ≤ sum_by f (take (p + 1) s)
 sum_by-take-le' f s p l = omega (arith, sum_by_more f s p 0 l)
 
 -- no more places count than hold the separator
-count_counts : (sep : ℕ) (s : List ℕ) (p : ℕ) → p ≤ length s → count_by (is_counting_place sep s) (places 0 p) ≤ count_by (λ b. eqb b sep) (take p s)
+count_counts : (sep : ℕ) (s : List ℕ) (p : ℕ) → p ≤ length s
+    → count_by (is_counting_place sep s) (places 0 p) ≤ count_by (λ b. eqb b sep) (take p s)
 unfolding places
 count_counts sep s zero l = omega arith
 count_counts sep s (suc p) l =
@@ -128,10 +149,12 @@ count_counts sep s (suc p) l =
     ⊎_elim
     (λ here.
     let yes' = count_by_more_yes (λ b. eqb b sep) s p 0 lt (eq-eqb _ _ (counting_place_parts sep s p here).0) in
-    let one' : count_by (is_counting_place sep s) (places 0 (p + 1)) ≡ count_by (is_counting_place sep s) (places 0 p) + 1 = one ∙ rw here refl in
+    let one' : count_by (is_counting_place sep s) (places 0 (p + 1))
+    ≡ count_by (is_counting_place sep s) (places 0 p) + 1 = one ∙ rw here refl in
     subst Q (sym e) (let h : Q (p + 1) = omega (arith, one', yes', before) in h))
     (λ here.
-    let one' : count_by (is_counting_place sep s) (places 0 (p + 1)) ≡ count_by (is_counting_place sep s) (places 0 p) + 0 = one ∙ rw here refl in
+    let one' : count_by (is_counting_place sep s) (places 0 (p + 1))
+    ≡ count_by (is_counting_place sep s) (places 0 p) + 0 = one ∙ rw here refl in
     let more = sum_by-take-le' (λ b. cond (eqb b sep) 1 0) s p lt in
     subst Q (sym e) (let h : Q (p + 1) = omega (arith, one', more, before) in h))
     (cases_Bool (is_counting_place sep s p))
@@ -140,7 +163,12 @@ count_counts sep s (suc p) l =
 pub hits-le-marks : (sep : ℕ) (s : List ℕ) (p : ℕ) → p ≤ length s → hits sep s p ≤ marks sep s
 unfolding hits
 hits-le-marks sep s p l =
-    omega (arith, count_counts sep s p l, sum_by-take-le (λ b. cond (eqb b sep) 1 0) s p, sum_by-take-le (λ b. cond (is_quote b) 1 0) s p)
+    omega (
+      arith,
+      count_counts sep s p l,
+      sum_by-take-le (λ b. cond (eqb b sep) 1 0) s p,
+      sum_by-take-le (λ b. cond (is_quote b) 1 0) s p,
+    )
 
 -- a value that is no text has no item
 pub items-no_text : (sep : ℕ) (s : List ℕ) → is_text s ≡ false → items sep s ≡ []

@@ -15,21 +15,25 @@ EvenButLast [] = Unit {0}
 EvenButLast (x ∷ []) = Unit {0}
 EvenButLast (x ∷ y ∷ ys) = (is_even (count_by is_quote x) ≡ true) × EvenButLast (y ∷ ys)
 
--- the items of a value are those of the lines, one line after the other, where there is a line, all are text and each but the last has an even number of quotes
+-- the items of a value are those of the lines, one line after the other, where there is a line, all are text and each
+-- but the last has an even number of quotes
 abbrev pub HasItemsOf : ℕ → List (List ℕ) → List ℕ → Type 0
 HasItemsOf sep [] value = Unit {0}
-HasItemsOf sep (x ∷ xs) value = list_all is_text (x ∷ xs) ≡ true → EvenButLast (x ∷ xs) → items sep value ≡ flat_map (items sep) (x ∷ xs)
+HasItemsOf sep (x ∷ xs) value = list_all is_text (x ∷ xs) ≡ true → EvenButLast (x ∷ xs)
+    → items sep value ≡ flat_map (items sep) (x ∷ xs)
 
 -- ps increase from place i on and are counting places of s
 abbrev pub AreCuts : ℕ → List ℕ → ℕ → List ℕ → Type 0
 AreCuts sep s i [] = Unit {0}
 AreCuts sep s i (p ∷ ps) = (i ≤ p) × (p < length s) × (is_counting_place sep s p ≡ true) × AreCuts sep s (p + 1) ps
 
--- a value is the lines, merged; so it has their items, and if they are a text cut at counting places, the items of that text
+-- a value is the lines, merged; so it has their items, and if they are a text cut at counting places, the items of
+-- that text
 pub record IsMerged (sep : ℕ) (lines : List (List ℕ)) (value : List ℕ) : Type 0 where
   pub bytes : value ≡ merge sep lines
   pub items_kept : HasItemsOf sep lines value
-  pub cuts_kept : (s ps : List ℕ) → is_text s ≡ true → AreCuts sep s 0 ps → lines ≡ pieces s 0 ps → items sep value ≡ items sep s
+  pub cuts_kept : (s ps : List ℕ) → is_text s ≡ true → AreCuts sep s 0 ps → lines ≡ pieces s 0 ps
+      → items sep value ≡ items sep s
 
 -- the iterator gave values from s on until it ended, and they are merged
 abbrev pub MergesItems : {S : Type 0} → (S → Option FieldValue → S → Type 0) → S → ℕ → List ℕ → Type 0

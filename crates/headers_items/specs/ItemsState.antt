@@ -1,12 +1,14 @@
 -- What a contract sees of a walk over the items of a value.
-use Rattle.std.specs.Prelude.{◌≡◌, ◌⊎◌, ℕ, ◌+◌, ◌<◌, ◌≤◌, Bool, true, false, List, [], ◌++◌, length, drop, not, ◌==◌, filter, Option, None, Some, MatchOption, ⊤, if◌then◌else◌}
+use Rattle.std.specs.Prelude.{◌≡◌, ◌⊎◌, ℕ, ◌+◌, ◌<◌, ◌≤◌, Bool, true, false, List, [], ◌++◌, length, drop, not, ◌==◌}
+use Rattle.std.specs.Prelude.{filter, Option, None, Some, MatchOption, ⊤, if◌then◌else◌}
 use Rattle.std.specs.List.{slice_range}
 use denote.Ref.{Bor}
 use Rattle.headers_syntax.specs.Text.{is_text, trim}
 use Rattle.headers_items.specs.Places.{is_counting_place, hits, items_from}
 use Rattle.headers_items.specs.ScanState.{ScanState, end_search}
 
--- the text and the separator, where the next piece begins, whether the last piece was given, and how far the scan has come
+-- the text and the separator, where the next piece begins, whether the last piece was given, and how far the scan has
+-- come
 pub record ItemsState : Type 0 where
   pub text : List ℕ
   pub separator : ℕ
@@ -48,17 +50,20 @@ pub record IsNextCut (sep : ℕ) (s : List ℕ) (i q : ℕ) : Type 0 where
 abbrev pub FindsCut : ℕ → List ℕ → ℕ → Option ℕ → Type 0
 FindsCut sep s i r = MatchOption r (NoCut sep s i (length s)) (IsNextCut sep s i)
 
--- the piece of s from place i gave `item`: it ends at a counting place, and p is just past that, or it ends where s does, and so is p
+-- the piece of s from place i gave `item`: it ends at a counting place, and p is just past that, or it ends where s
+-- does, and so is p
 abbrev pub GivesPiece : ℕ → List ℕ → ℕ → List ℕ → ℕ → Type 0
 GivesPiece sep s i item p =
     ((q : ℕ) × IsNextCut sep s i q × (item ≡ trim (slice_range s i q)) × (p ≡ q + 1))
     ⊎ (NoCut sep s i (length s) × (item ≡ trim (drop i s)) × (p ≡ length s))
 
--- a call from s that gave r and left t: the scan stands just past the piece that was handed out, and stays at the end of the text where none is left; so far it made one search for each hit before its place, and one more for the end
+-- a call from s that gave r and left t: the scan stands just past the piece that was handed out, and stays at the end
+-- of the text where none is left; so far it made one search for each hit before its place, and one more for the end
 pub record ScansPiece (s : ItemsState) (r : Option (Bor (List ℕ))) (t : ItemsState) : Type 0 where
   pub text : t.text ≡ s.text
   pub separator : t.separator ≡ s.separator
-  pub place : MatchOption r ((t.place ≡ s.place) × (t.place ≡ length s.text)) (λ item. GivesPiece s.separator s.text s.start item.now t.place)
+  pub place : MatchOption r ((t.place ≡ s.place) × (t.place ≡ length s.text))
+      (λ item. GivesPiece s.separator s.text s.start item.now t.place)
   pub searches : t.searches ≡ hits t.separator t.text t.place + end_search t.is_ended
   pub stops : MatchOption r ((t.searches ≡ s.searches) × (t.is_done ≡ true)) (λ _. ⊤)
 
@@ -67,7 +72,8 @@ abbrev pub after_cut : List ℕ → Option ℕ → ℕ
 after_cut s None = length s
 after_cut s (Some q) = q + 1
 
--- a walk's fields: the scan is over the text, and as long as the walk is not done it stands where the next piece begins, and then at the end
+-- a walk's fields: the scan is over the text, and as long as the walk is not done it stands where the next piece
+-- begins, and then at the end
 pub record ItemsInvariant (sep : ℕ) (text : List ℕ) (scan : ScanState) (start : ℕ) (is_done : Bool) : Type 0 where
   pub plain : is_text text ≡ true
   pub bytes : scan.bytes ≡ text
@@ -88,9 +94,11 @@ entries_left s = filter is_entry (items_left s)
 
 -- a piece of s begins at place j when one begins at i: j is i, or it is just past a counting place at or after i
 abbrev pub BeginsPiece : ℕ → List ℕ → ℕ → ℕ → Type 0
-BeginsPiece sep s i j = (j ≡ i) ⊎ ((q : ℕ) × (i ≤ q) × (q < length s) × (is_counting_place sep s q ≡ true) × (j ≡ q + 1))
+BeginsPiece sep s i j =
+    (j ≡ i) ⊎ ((q : ℕ) × (i ≤ q) × (q < length s) × (is_counting_place sep s q ≡ true) × (j ≡ q + 1))
 
--- item is what the piece from place `begin` gives, p stands just past that piece, and no item of the walk s before it is wanted
+-- item is what the piece from place `begin` gives, p stands just past that piece, and no item of the walk s before it
+-- is wanted
 pub record GivesWanted (wanted : List ℕ → Bool) (s : ItemsState) (item : List ℕ) (p : ℕ) : Type 0 where
   pub begin : ℕ
   pub begins : BeginsPiece s.separator s.text s.start begin
@@ -99,11 +107,15 @@ pub record GivesWanted (wanted : List ℕ → Bool) (s : ItemsState) (item : Lis
   pub passed : filter wanted skipped ≡ []
   pub gives : GivesPiece s.separator s.text begin item p
 
--- a call of a walk that hands out only the wanted items, from s to t, gave r, which shows an item: the scan stands just past its piece, or at the end of the text where none was left; so far it made one search for each hit before its place, and one more for the end, and a walk that was done makes none
-pub record ScansWanted {A : Type 0} (wanted : List ℕ → Bool) (Shows : A → List ℕ → Type 0) (s : ItemsState) (r : Option A) (t : ItemsState) : Type 0 where
+-- a call of a walk that hands out only the wanted items, from s to t, gave r, which shows an item: the scan stands
+-- just past its piece, or at the end of the text where none was left; so far it made one search for each hit before
+-- its place, and one more for the end, and a walk that was done makes none
+pub record ScansWanted {A : Type 0} (wanted : List ℕ → Bool) (Shows : A → List ℕ → Type 0) (s : ItemsState)
+    (r : Option A) (t : ItemsState) : Type 0 where
   pub text : t.text ≡ s.text
   pub separator : t.separator ≡ s.separator
-  pub place : MatchOption r ((t.is_done ≡ true) × (t.place ≡ length s.text)) (λ shown. (item : List ℕ) × GivesWanted wanted s item t.place × Shows shown item)
+  pub place : MatchOption r ((t.is_done ≡ true) × (t.place ≡ length s.text)) (λ shown. (item : List ℕ)
+      × GivesWanted wanted s item t.place × Shows shown item)
   pub searches : t.searches ≡ hits t.separator t.text t.place + end_search t.is_ended
   pub stays : s.is_done ≡ true → (t.is_done ≡ true) × (t.searches ≡ s.searches)
 

@@ -1,5 +1,6 @@
 -- Quotes, separators and the places at which a list is cut.
-use Rattle.std.specs.Prelude.{◌≡◌, ℕ, zero, suc, ◌+◌, ◌-◌, ◌%◌, ◌<◌, ◌≤◌, Bool, false, ◌&&◌, ◌||◌, ◌==◌, List, [], ◌∷◌, map, length, take, drop, filter, count_by, slice_index, if◌then◌else◌}
+use Rattle.std.specs.Prelude.{◌≡◌, ℕ, zero, suc, ◌+◌, ◌-◌, ◌%◌, ◌<◌, ◌≤◌, Bool, false, ◌&&◌, ◌||◌, ◌==◌, List, []}
+use Rattle.std.specs.Prelude.{◌∷◌, map, length, take, drop, filter, count_by, slice_index, if◌then◌else◌}
 use Rattle.std.specs.List.{slice_range}
 use Rattle.headers_syntax.specs.Text.{is_quote, is_text, trim}
 

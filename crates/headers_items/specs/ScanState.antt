@@ -1,10 +1,12 @@
 -- What a contract sees of a `Scan`, and of what it finds.
-use Rattle.std.specs.Prelude.{◌≡◌, ℕ, ◌+◌, ◌<◌, ◌≤◌, Bool, true, false, List, length, slice_index, Option, None, Some, MatchOption, if◌then◌else◌}
+use Rattle.std.specs.Prelude.{◌≡◌, ℕ, ◌+◌, ◌<◌, ◌≤◌, Bool, true, false, List, length, slice_index, Option, None, Some}
+use Rattle.std.specs.Prelude.{MatchOption, if◌then◌else◌}
 use Rattle.headers_syntax.specs.Text.{quote}
 use Rattle.headers_items.specs.Places.{is_counting_place, NoHit}
 use Rattle.headers_items.specs.declared.scan.Mark.{Mark}
 
--- the bytes and the separator, the place that the scan has reached, whether it has come to the end, and how many searches it took
+-- the bytes and the separator, the place that the scan has reached, whether it has come to the end, and how many
+-- searches it took
 pub record ScanState : Type 0 where
   pub bytes : List ℕ
   pub separator : ℕ

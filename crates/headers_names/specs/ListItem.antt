@@ -1,5 +1,6 @@
 -- Names and methods as the items of a list.
-use Rattle.std.specs.Prelude.{◌≡◌, ℕ, ◌<◌, Bool, ◌&&◌, List, [], ◌∷◌, map, length, nat_lt, nat_le, Option, Some, None, is_some, Result, Ok, Err, if◌then◌else◌}
+use Rattle.std.specs.Prelude.{◌≡◌, ℕ, ◌<◌, Bool, ◌&&◌, List, [], ◌∷◌, map, length, nat_lt, nat_le, Option, Some, None}
+use Rattle.std.specs.Prelude.{is_some, Result, Ok, Err, if◌then◌else◌}
 use Rattle.std.specs.List.{list_all, filter_map, take_while}
 use Rattle.std.specs.Iterator.{Drains}
 use Rattle.std.specs.declared.alloc.AllocError.{AllocError}

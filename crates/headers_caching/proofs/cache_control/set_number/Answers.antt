@@ -7,4 +7,5 @@ returns-clause-ok c es entry name value e =
     let directive = c.args.directive.now in
     c.or.ensures
     ∙ number_more directive es entry c.args.number.now _ e
-    (c.in_ok-given.ensures.ok entry name value) (not_bad directive entry (c.in_ok-given.ensures.refused entry name value))
+    (c.in_ok-given.ensures.ok entry name value)
+    (not_bad directive entry (c.in_ok-given.ensures.refused entry name value))

@@ -13,4 +13,5 @@ returns-in-None-clause-items g c =
     ap items_left c.none.ensures ∙ sym (items-no_text g.S.Separator.BYTE c.args.value.now.bytes c.in-None.ensures.cases)
 
 pub returns-in-None-clause-fresh : goal.returns-in-None-clause-fresh
-returns-in-None-clause-fresh g c = c.none.ensures ∙ sym (walk_over-no_text g.S.Separator.BYTE c.args.value.now.bytes c.in-None.ensures.cases)
+returns-in-None-clause-fresh g c = c.none.ensures
+    ∙ sym (walk_over-no_text g.S.Separator.BYTE c.args.value.now.bytes c.in-None.ensures.cases)

@@ -3,8 +3,13 @@ use Rattle.headers_caching.proofs.cache_control.CacheControl.print.Goals as goal
 
 pub returns-clause-text : goal.returns-clause-text
 returns-clause-text c =
-    printed_text _ c.args.self.now c.self.view_is
-    (c.in_ok-push_number.ensures.range, (c.in_ok-push_number-2.ensures.range, (c.in_ok-push_number-3.ensures.range, (c.in_ok-push_number-4.ensures.range, tt))))
+    printed_text _ c.args.self.now c.self.view_is (
+      c.in_ok-push_number.ensures.range,
+      (
+        c.in_ok-push_number-2.ensures.range,
+        (c.in_ok-push_number-3.ensures.range, (c.in_ok-push_number-4.ensures.range, tt)),
+      ),
+    )
     _ _ _ _ _ _ _ _ _ _ _ _ _ _ _ c.new-text.ensures.bytes
     c.in_ok-push_flag.ensures
     c.in_ok-push_flag-2.ensures
@@ -23,6 +28,11 @@ returns-clause-text c =
 
 pub returns-clause-valid : goal.returns-clause-valid
 returns-clause-valid c =
-    printed_value _ c.args.self.now c.self.view_is
-    (c.in_ok-push_number.ensures.range, (c.in_ok-push_number-2.ensures.range, (c.in_ok-push_number-3.ensures.range, (c.in_ok-push_number-4.ensures.range, tt))))
+    printed_value _ c.args.self.now c.self.view_is (
+      c.in_ok-push_number.ensures.range,
+      (
+        c.in_ok-push_number-2.ensures.range,
+        (c.in_ok-push_number-3.ensures.range, (c.in_ok-push_number-4.ensures.range, tt)),
+      ),
+    )
     _ (returns-clause-text c)

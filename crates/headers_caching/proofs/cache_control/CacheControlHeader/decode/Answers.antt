@@ -14,15 +14,18 @@ loop-line-preserved g c =
     let line = (shown c.in-Some.line).bytes in
     let progress = c.in-Some.ensures.goes.on c.loop-line.invariant.finite in
     let good : list_any is_bad (line_entries line) ≡ false =
-    ap (λ (v : FieldValue). list_any is_bad (line_entries v.bytes)) (sym c.as_header_value.ensures) ∙ not_refused _ c.in_ok-directives.ensures.refused in
+    ap (λ (v : FieldValue). list_any is_bad (line_entries v.bytes)) (sym c.as_header_value.ensures)
+    ∙ not_refused _ c.in_ok-directives.ensures.refused in
     record {
       can = progress.0;
       finite = progress.1;
       so_far =
-          OfLinesSoFar-more shown g.I.Iterator.next_gives _ _ _ _ (DirectSoFar c.loop-line.directives) (DirectSoFar c.in_ok-directives.directives)
+          OfLinesSoFar-more shown g.I.Iterator.next_gives _ _ _ _ (DirectSoFar c.loop-line.directives)
+          (DirectSoFar c.in_ok-directives.directives)
           c.loop-line.invariant.so_far c.in-Some.ensures.steps
           (line_more c.loop-line.directives c.in_ok-directives.directives line
-          (λ es e. c.in_ok-directives.ensures.ok es e ∙ ap (λ (v : FieldValue). directives (es ++ line_entries v.bytes)) c.as_header_value.ensures) good);
+          (λ es e. c.in_ok-directives.ensures.ok es e
+          ∙ ap (λ (v : FieldValue). directives (es ++ line_entries v.bytes)) c.as_header_value.ensures) good);
     }
 
 pub returns-in_err-directives-clause-value : goal.returns-in_err-directives-clause-value
@@ -30,7 +33,9 @@ returns-in_err-directives-clause-value g c =
     let shown = g.I.Item.AsHeaderValue.shown in
     let line = (shown c.in-Some.line).bytes in
     let bad : list_any is_bad (line_entries line) ≡ true =
-    ap (λ (v : FieldValue). list_any is_bad (line_entries v.bytes)) (sym c.as_header_value.ensures) ∙ c.in_err-directives.ensures.refused.0 refl in
+    ap (λ (v : FieldValue). list_any is_bad (line_entries v.bytes)) (sym c.as_header_value.ensures)
+    ∙ c.in_err-directives.ensures.refused.0 refl in
     OfLines-stopped shown g.I.Iterator.next_gives _ _ _ _ (DirectSoFar c.loop-line.directives) _
     c.loop-line.invariant.so_far c.in-Some.ensures.steps
-    (λ lines rest _. let p = err_from_is_err_and c.from_residual.result c.from_residual.ensures.1 in rw (p.1, p.2) (λ v. directs_nothing line bad lines rest v))
+    (λ lines rest _. let p = err_from_is_err_and c.from_residual.result c.from_residual.ensures.1 in
+    rw (p.1, p.2) (λ v. directs_nothing line bad lines rest v))

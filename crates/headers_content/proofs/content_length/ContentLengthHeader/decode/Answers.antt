@@ -3,7 +3,8 @@ use Rattle.headers_syntax.specs.Number.{number}
 use Rattle.headers_syntax.proofs.OfLinesLemmas.{OfLines-stopped, OfLinesSoFar-more}
 use Rattle.headers_content.proofs.ContentLengthLemmas.{NumberSoFar, no_number, other_number, first_number, same_number}
 use Rattle.headers_content.proofs.content_length.ContentLengthHeader.decode.Goals as goal
-use Rattle.headers_content.proofs.content_length.ContentLengthHeader.decode.Goals.{in-None, in-Some-length+else-before-next}
+use Rattle.headers_content.proofs.content_length.ContentLengthHeader.decode.Goals.{in-None}
+use Rattle.headers_content.proofs.content_length.ContentLengthHeader.decode.Goals.{in-Some-length+else-before-next}
 
 pub returns-in_default-read_number-clause-value : goal.returns-in_default-read_number-clause-value
 returns-in_default-read_number-clause-value g c =
@@ -16,7 +17,8 @@ pub returns-then-before-next-clause-value : goal.returns-then-before-next-clause
 returns-then-before-next-clause-value g c =
     let some : number (g.I.Item.AsHeaderValue.shown c.in-Some.item).bytes ≡ Some c.in-Some-read_number.next =
     rw (← c.as_header_value.ensures) (sym c.read_number.ensures ∙ c.in-Some-read_number.is) in
-    OfLines-stopped g.I.Item.AsHeaderValue.shown g.I.Iterator.next_gives _ _ _ _ (NumberSoFar (Some c.in-Some-length.before)) _
+    OfLines-stopped g.I.Item.AsHeaderValue.shown g.I.Iterator.next_gives _ _ _ _
+    (NumberSoFar (Some c.in-Some-length.before)) _
     (rw c.in-Some-length.is at c.loop-item.invariant.so_far) c.in-Some.ensures.steps
     (other_number c.in-Some-length.before c.in-Some-read_number.next _ some c.if-before-next.true)
 
@@ -31,11 +33,14 @@ loop-item-preserved g c =
       so_far =
           elim c.match-length.branch [
             | in-None w ↦
-                rw w.length-is (OfLinesSoFar-more g.I.Item.AsHeaderValue.shown g.I.Iterator.next_gives _ _ _ _ (NumberSoFar None) _
+                rw w.length-is
+                (OfLinesSoFar-more g.I.Item.AsHeaderValue.shown g.I.Iterator.next_gives _ _ _ _ (NumberSoFar None) _
                 (rw w.in-None.is at c.loop-item.invariant.so_far) c.in-Some.ensures.steps (first_number _ _ some))
             | in-Some-length+else-before-next w ↦
                 rw (w.length-is, w.if-before-next.false)
-                (OfLinesSoFar-more g.I.Item.AsHeaderValue.shown g.I.Iterator.next_gives _ _ _ _ (NumberSoFar (Some c.in-Some-read_number.next)) _
-                (rw (w.in-Some-length.is, w.if-before-next.false) at c.loop-item.invariant.so_far) c.in-Some.ensures.steps (same_number _ _ some))
+                (OfLinesSoFar-more g.I.Item.AsHeaderValue.shown g.I.Iterator.next_gives _ _ _ _
+                (NumberSoFar (Some c.in-Some-read_number.next)) _
+                (rw (w.in-Some-length.is, w.if-before-next.false) at c.loop-item.invariant.so_far)
+                c.in-Some.ensures.steps (same_number _ _ some))
           ];
     }

@@ -7,5 +7,6 @@ invariant-loop-item g l =
     record {
       can : (goal.iterator-loop-item g).can_next l.values;
       finite : (goal.iterator-loop-item g).is_finite l.values;
-      so_far : OfLinesSoFar g.I.Item.AsHeaderValue.shown g.I.Iterator.next_gives l.fn.values l.values (NumberSoFar l.length);
+      so_far : OfLinesSoFar g.I.Item.AsHeaderValue.shown g.I.Iterator.next_gives l.fn.values l.values
+          (NumberSoFar l.length);
     }

@@ -3,4 +3,5 @@ use Rattle.headers_items.specs.Pairs.{pairs_left, first_value}
 use Rattle.headers_cookies.proofs.cookie.Cookie.get.Given as goal
 
 abbrev pub invariant-loop-key : goal.invariant-loop-key
-invariant-loop-key l = first_value l.name (pairs_left l.initial.key-iterator) ≡ first_value l.name (pairs_left l.key-iterator)
+invariant-loop-key l =
+    first_value l.name (pairs_left l.initial.key-iterator) ≡ first_value l.name (pairs_left l.key-iterator)

@@ -8,7 +8,8 @@ use Rattle.headers_cookies.proofs.set_cookie.SetCookieHeader.decode.Goals as goa
 
 pub returns-in_err-push_clone-clause-value : goal.returns-in_err-push_clone-clause-value
 returns-in_err-push_clone-clause-value g c =
-    OfLines-stopped g.I.Item.AsHeaderValue.shown g.I.Iterator.next_gives _ _ _ _ (λ lines. lines_of c.loop-line.lines.items ≡ lines) _
+    OfLines-stopped g.I.Item.AsHeaderValue.shown g.I.Iterator.next_gives _ _ _ _
+    (λ lines. lines_of c.loop-line.lines.items ≡ lines) _
     c.loop-line.invariant.so_far c.in-Some.ensures.steps
     (λ lines rest _. let p = err_from_is_err_and c.from_residual.result c.from_residual.ensures.1 in rw (p.1, p.2) tt)
 
@@ -19,9 +20,11 @@ loop-line-preserved g c =
       can = progress.0;
       finite = progress.1;
       so_far =
-          OfLinesSoFar-more g.I.Item.AsHeaderValue.shown g.I.Iterator.next_gives _ _ _ _ (λ lines. lines_of c.loop-line.lines.items ≡ lines) _
+          OfLinesSoFar-more g.I.Item.AsHeaderValue.shown g.I.Iterator.next_gives _ _ _ _
+          (λ lines. lines_of c.loop-line.lines.items ≡ lines) _
           c.loop-line.invariant.so_far c.in-Some.ensures.steps
           (λ lines e.
-          lines_of_push _ _ _ _ c.in_ok-push_clone.ensures.ok (ap (λ (v : FieldValue). v.bytes) c.as_header_value.ensures)
+          lines_of_push _ _ _ _ c.in_ok-push_clone.ensures.ok
+          (ap (λ (v : FieldValue). v.bytes) c.as_header_value.ensures)
           ∙ ap (λ (ls : List Line). ls ++ (g.I.Item.AsHeaderValue.shown c.in-Some.line).bytes ∷ []) e);
     }

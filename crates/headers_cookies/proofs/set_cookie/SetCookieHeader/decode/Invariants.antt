@@ -8,5 +8,6 @@ invariant-loop-line g l =
     record {
       can : (goal.iterator-loop-line g).can_next l.values;
       finite : (goal.iterator-loop-line g).is_finite l.values;
-      so_far : OfLinesSoFar g.I.Item.AsHeaderValue.shown g.I.Iterator.next_gives l.fn.values l.values (λ lines. lines_of l.lines.items ≡ lines);
+      so_far : OfLinesSoFar g.I.Item.AsHeaderValue.shown g.I.Iterator.next_gives l.fn.values l.values
+          (λ lines. lines_of l.lines.items ≡ lines);
     }

@@ -9,5 +9,6 @@ invariant-loop-line g l =
       can : (goal.iterator-loop-line g).can_next l.lines;
       finite : (goal.iterator-loop-line g).is_finite l.lines;
       valid : IsFieldValue l.buffer.items;
-      so_far : OfLinesSoFar g.I.Item.AsHeaderValue.shown g.I.Iterator.next_gives l.fn.lines l.lines (MergedSoFar g.S.Separator.BYTE l.buffer.items);
+      so_far : OfLinesSoFar g.I.Item.AsHeaderValue.shown g.I.Iterator.next_gives l.fn.lines l.lines
+          (MergedSoFar g.S.Separator.BYTE l.buffer.items);
     }
