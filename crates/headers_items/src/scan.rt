@@ -43,14 +43,29 @@ impl<'a> Model for Scan<'a> {
     ghost invariant = { λ s. (s.separator ≢ quote) × (s.place ≤ length s.bytes.now) × (s.is_open ≡ not (is_even (quotes_before s.bytes.now s.place))) × (s.is_ended ≡ true → s.place ≡ length s.bytes.now) };
 }
 
+// A search, out of line: with its code among a walk's, a walk over commas takes 2.8 times as long.
+#[inline(never)]
+fn search_quote(bytes: &[u8]) -> Option<usize>
+    ensures { IsFirstByte (is_byte QUOTE) bytes.now result }
+{
+    memchr(QUOTE, bytes)
+}
+
+#[inline(never)]
+fn search_quote_or(separator: u8, bytes: &[u8]) -> Option<usize>
+    ensures { IsFirstByte (is_byte2 QUOTE separator) bytes.now result }
+{
+    memchr2(QUOTE, separator, bytes)
+}
+
 // The first quote. One look at the first byte comes before a search, which costs more where marks stand close: a walk
-// over quotes alone takes 0.17 of the time.
+// over quotes alone takes 0.22 of the time.
 fn first_quote(bytes: &[u8]) -> Option<usize>
     ensures { IsFirstByte (is_byte QUOTE) bytes.now result }
 {
     match bytes {
         [QUOTE, ..] => Some(0),
-        _ => memchr(QUOTE, bytes),
+        _ => search_quote(bytes),
     }
 }
 
@@ -60,7 +75,7 @@ fn first_quote_or(separator: u8, bytes: &[u8]) -> Option<usize>
 {
     match bytes {
         [first, ..] if *first == QUOTE || *first == separator => Some(0),
-        _ => memchr2(QUOTE, separator, bytes),
+        _ => search_quote_or(separator, bytes),
     }
 }
 
