@@ -108,11 +108,3 @@ number_uncut directive es entry before e none =
     e ∙ ap (λ r. option_and_then number_in (last_or None r))
     (sym (filter-append (carries directive) es (entry ∷ [])
     ∙ ap (λ r. filter (carries directive) es ++ r) none_here ∙ append-nil _))
-
-pub uncut_not_bad : (entry : List ℕ) → position_or_len is_equals entry ≡ length entry
-    → (false ≡ true) ↔ IsTrue (is_bad entry)
-uncut_not_bad entry none =
-    none_bad entry (one (codes "max-age")) (one (codes "max-stale")) (one (codes "min-fresh")) (one (codes "s-maxage"))
-  where
-    one : (directive : List ℕ) → is_bad_for directive entry ≡ false
-    one directive = ap (λ b. b && is_none (number_in entry)) (carries_uncut directive entry none)

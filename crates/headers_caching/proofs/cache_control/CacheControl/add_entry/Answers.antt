@@ -1,8 +1,8 @@
-use Rattle.std.proofs.Common.{◌≡◌, ◌<◌, ℕ, length, ap, refl, sym, ◌∙◌, codes, arith}
-use Rattle.std.specs.List.{position_or_len, before_first, after_first}
+use Rattle.std.proofs.Common.{◌≡◌, length, ap, refl, sym, ◌∙◌, codes, arith}
+use Rattle.std.specs.List.{position_or_len}
 use Rattle.headers_items.specs.Pairs.{is_equals}
 use Rattle.headers_caching.specs.CacheControl.{Directives}
-use Rattle.headers_caching.proofs.CacheLemmas.{set_cut, number_uncut, uncut_not_bad, not_bad, none_bad}
+use Rattle.headers_caching.proofs.CacheLemmas.{set_cut, number_uncut, not_bad, none_bad}
 use Rattle.headers_caching.specs.CacheControlLaws.{same_directives}
 use Rattle.headers_caching.proofs.cache_control.CacheControl.add_entry.Goals as goal
 
