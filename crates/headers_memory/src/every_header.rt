@@ -207,7 +207,8 @@ fn access_control_request_headers(rt: HostRuntime) {
 
 #[test]
 fn access_control_request_method(rt: HostRuntime) {
-    row!(rt, AccessControlRequestMethod, ["A-METHOD-OF-MORE-THAN-15-BYTES"] => ["A-METHOD-OF-MORE-THAN-15-BYTES"], clone(rt.alloc()));
+    let method = "A-METHOD-OF-MORE-THAN-15-BYTES";
+    row!(rt, AccessControlRequestMethod, [method] => [method], clone(rt.alloc()));
 }
 
 #[test]

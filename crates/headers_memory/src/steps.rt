@@ -1,8 +1,9 @@
 //! Steps over a map, and pieces of a list.
 use crate::calls::{Host, are, begun, holds, map_with, values};
-use headers::{ApplyError, Encoded, InsertError, Step, apply};
+use headers::{ApplyError, Encoded, HeaderValue, InsertError, Step, apply};
 use headers_items::{Comma, FlatCsv};
 use http_header::{ACCEPT, SET_COOKIE};
+use std::alloc::{AllocError, Global};
 use std::process::Abort;
 
 const LINES: [&str; 3] = ["a=1", "b=2", "c=3"];
@@ -34,13 +35,15 @@ fn applied(rt: HostRuntime) {
     holds(&rt, &map, &ACCEPT, &[]);
 }
 
+// A list cut at its one comma that counts.
+fn pieces(alloc: Global) -> Result<Vec<HeaderValue>, AllocError> {
+    let value: FlatCsv<Comma> = FlatCsv::from_word("a, \"b,c\" ,d");
+    value.cut_at(alloc, &[9])
+}
+
 #[test]
 fn cut(rt: HostRuntime) {
-    let value: FlatCsv<Comma> = FlatCsv::from_word("a, \"b,c\" ,d");
-    let pieces = again!(&rt, "cut_at", value.cut_at(rt.alloc(), &[9]), Err(_));
-    are(
-        &rt,
-        pieces.expect(&rt, "pieces").as_slice(),
-        &["a, \"b,c\" ", "d"],
-    );
+    let answer = again!(&rt, "cut_at", pieces(rt.alloc()), Err(_));
+    let lines = answer.expect(&rt, "pieces");
+    are(&rt, lines.as_slice(), &["a, \"b,c\" ", "d"]);
 }
