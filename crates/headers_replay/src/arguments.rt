@@ -1,7 +1,7 @@
 //! The arguments of a call.
 ghost use Rattle.std.specs.Prelude.{IfOk, IfSome};
-ghost use Rattle.headers.specs.Date.{IsDated};
-ghost use Rattle.headers.specs.Durations.{IsWholeSeconds};
+ghost use Rattle.headers_syntax.specs.Date.{IsDated};
+ghost use Rattle.headers_syntax.specs.Durations.{IsWholeSeconds};
 
 use crate::failure::Failure;
 use headers::{ETag, Header, HeaderName, HeaderValue, decode_values};
