@@ -2,7 +2,7 @@
 
 pub use headers_caching::{cache_control_survives_cuts, directives_read_back};
 pub use headers_conditional::{
-    if_match_of_own_tag, if_none_match_of_own_tag, tag_ranges_read_back,
+    if_match_of_own_tag, if_none_match_of_own_tag, if_range_reads_back, tag_ranges_read_back,
 };
 pub use headers_content::content_type_reads_back;
 pub use headers_core::{

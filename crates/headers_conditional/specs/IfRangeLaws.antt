@@ -1,7 +1,7 @@
 -- The laws of the header `if-range`.
 use Rattle.std.specs.Prelude.{◌≡◌, ℕ, Bool, true, false, Option, Some, None, option_map, if◌then◌else◌, refl}
-use Rattle.http_header.specs.FieldValue.{plain_value}
-use Rattle.headers_syntax.specs.Date.{date}
+use Rattle.http_header.specs.FieldValue.{FieldValue, plain_value}
+use Rattle.headers_syntax.specs.Date.{date, fixdate}
 use Rattle.headers_syntax.specs.EntityTag.{is_tag}
 use Rattle.headers_syntax.specs.HeaderLaws.{HeaderLaws, SameBy, ReadsBy, written_by}
 use Rattle.headers_syntax.specs.Lines.{Line, first_line}
@@ -26,6 +26,13 @@ read_back line false None v is shows e = absurd (cc e)
 
 validator_back : ReadsBackLine validator validator_line
 validator_back line v e = read_back line (is_tag line) (date line) v refl refl e
+
+-- a tag and a date that was built are read back
+pub tag_back : (value : FieldValue) → is_tag value.bytes ≡ true → validator value.bytes ≡ Some (unmarked (Tag value))
+tag_back value tag = rw tag refl
+
+pub second_back : (secs : ℕ) → date (fixdate secs) ≡ Some secs → validator (fixdate secs) ≡ Some (Second secs)
+second_back secs shows = rw (is_tag-fixdate (fixdate secs) secs shows, shows) refl
 
 pub if_range_laws : HeaderLaws (SameBy if_range_grammar) (ReadsBy if_range_grammar) (written_by if_range_grammar)
 if_range_laws = one_line_laws unmarked first_line validator validator_line (λ line. refl) validator_back

@@ -1,6 +1,10 @@
 //! The header `if-range`.
-ghost use Rattle.std.specs.Prelude.{◌≡◌, ◌↔◌, IsTrue, IfOk, option_map};
-ghost use Rattle.headers_syntax.specs.Date.{IsDated};
+ghost use Rattle.std.specs.Prelude.{◌≡◌, ◌↔◌, ℕ, true, Some, IsTrue, IfOk, option_map};
+ghost use Rattle.http_header.specs.FieldValue.{FieldValue};
+ghost use Rattle.headers_syntax.specs.Date.{IsDated, date, fixdate};
+ghost use Rattle.headers_syntax.specs.EntityTag.{is_tag};
+ghost use Rattle.headers_syntax.specs.HeaderLaws.{ReadsBy, written_by};
+ghost use Rattle.headers_conditional.specs.IfRange.{if_range_grammar};
 ghost use Rattle.headers_conditional.specs.Validator.{Tag, Second, unmarked, validator, IsModified};
 
 use crate::etag::{ETag, into_tag, tag_of};
@@ -110,8 +114,7 @@ impl IfRange {
 
 impl Header for IfRange {
     ghost use Rattle.std.specs.Prelude.{false, codes};
-    ghost use Rattle.headers_syntax.specs.HeaderLaws.{SameBy, ReadsBy, written_by};
-    ghost use Rattle.headers_conditional.specs.IfRange.{if_range_grammar};
+    ghost use Rattle.headers_syntax.specs.HeaderLaws.{SameBy};
     ghost use Rattle.headers_conditional.specs.IfRangeLaws.{if_range_laws};
 
     ghost field_name = { codes "if-range" };
@@ -145,3 +148,12 @@ impl Header for IfRange {
         }
     }
 }
+
+/// What is written of a tag whose bytes are one, and of a date that reads as it stands, is read back as it.
+#[tactic(auto, using(crate::specs::IfRangeLaws::tag_back, crate::specs::IfRangeLaws::second_back))]
+pub fn if_range_reads_back()
+    ensures tag { (value : FieldValue) → is_tag value.bytes ≡ true
+        → ReadsBy if_range_grammar (written_by if_range_grammar (Tag value)) (Tag value) }
+    ensures date { (seconds : ℕ) → date (fixdate seconds) ≡ Some seconds
+        → ReadsBy if_range_grammar (written_by if_range_grammar (Second seconds)) (Second seconds) }
+{}

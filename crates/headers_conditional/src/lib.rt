@@ -15,6 +15,6 @@ pub use crate::etag::{ETag, InvalidETag, into_tag, tag_of};
 pub use crate::if_match::{IfMatch, if_match_of_own_tag};
 pub use crate::if_modified_since::IfModifiedSince;
 pub use crate::if_none_match::{IfNoneMatch, if_none_match_of_own_tag};
-pub use crate::if_range::IfRange;
+pub use crate::if_range::{IfRange, if_range_reads_back};
 pub use crate::if_unmodified_since::IfUnmodifiedSince;
 pub use crate::last_modified::LastModified;
