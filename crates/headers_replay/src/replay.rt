@@ -8,13 +8,17 @@ use headers::{Header, HeaderMap, HeaderMapExt, HeaderName, HeaderValue, Methods,
 use std::alloc::{AllocError, Global};
 use std::cmp::Ordering;
 
-/// A header with the words of its getters and the calls that it has beside those of every header.
-pub trait Replay {
+/// A header with the words of its getters.
+pub trait Getters {
     /// Adds what its getters give.
     fn getters(&self, _answer: &mut Answer) -> Result<(), Failure> {
         Ok(())
     }
+}
 
+/// A header with the calls that it has beside those of every header. These show headers of its type, so
+/// its getters are another trait's.
+pub trait Replay {
     /// Adds the answer of a call of its own.
     fn call(
         _call: &str,
@@ -51,14 +55,14 @@ pub fn is_sensitive<H: Header>(alloc: Global, header: &H) -> Result<bool, AllocE
 }
 
 /// Adds the lines that a header writes, and what its getters give.
-pub fn show<H: Header + Replay>(header: &H, answer: &mut Answer) -> Result<(), Failure> {
+pub fn show<H: Header + Getters>(header: &H, answer: &mut Answer) -> Result<(), Failure> {
     let lines = written(answer.alloc(), header)?;
     answer.list(lines.as_slice())?;
     header.getters(answer)
 }
 
 /// The same, and whether the lines read an equal header.
-pub fn show_back<H: Header + Replay + PartialEq>(
+pub fn show_back<H: Header + Getters + PartialEq>(
     header: &H,
     answer: &mut Answer,
 ) -> Result<(), Failure> {
@@ -126,7 +130,7 @@ pub fn cmp<H: Header + PartialOrd>(
 }
 
 // The header of the lines under its name in a map that has other names before and behind it.
-fn typed_try_get<H: Header + Replay>(
+fn typed_try_get<H: Header + Getters>(
     arguments: &mut Arguments<'_>,
     answer: &mut Answer,
 ) -> Result<(), Failure> {
@@ -150,7 +154,7 @@ fn typed_try_get<H: Header + Replay>(
 
 // The lines under the header's name once the header of the first lines is put in a map that has the
 // others.
-fn typed_insert<H: Header + Replay>(
+fn typed_insert<H: Header>(
     arguments: &mut Arguments<'_>,
     answer: &mut Answer,
 ) -> Result<(), Failure> {
@@ -179,7 +183,7 @@ fn typed_insert<H: Header + Replay>(
 
 /// Adds the answer of a call of a header. No hint of an iterator is read, so that of a wrong one is
 /// that of none.
-pub fn call<H: Header + Replay>(
+pub fn call<H: Header + Getters + Replay>(
     call: &str,
     arguments: &mut Arguments<'_>,
     answer: &mut Answer,

@@ -2,16 +2,18 @@
 use crate::answer::Answer;
 use crate::arguments::Arguments;
 use crate::failure::Failure;
-use crate::replay::{Replay, eq, is_sensitive, show_back};
+use crate::replay::{Getters, Replay, eq, is_sensitive, show_back};
 use headers::authorization::{Authorization, Basic, Bearer, ProxyAuthorization};
 
-impl Replay for Authorization<Basic> {
+impl Getters for Authorization<Basic> {
     fn getters(&self, answer: &mut Answer) -> Result<(), Failure> {
         answer.bytes(self.username().as_bytes())?;
         answer.bytes(self.password().as_bytes())?;
         Ok(answer.word(is_sensitive(answer.alloc(), self)?)?)
     }
+}
 
+impl Replay for Authorization<Basic> {
     fn call(call: &str, arguments: &mut Arguments<'_>, answer: &mut Answer) -> Result<(), Failure> {
         match call {
             "eq" => eq::<Authorization<Basic>>(arguments, answer),
@@ -20,12 +22,14 @@ impl Replay for Authorization<Basic> {
     }
 }
 
-impl Replay for Authorization<Bearer> {
+impl Getters for Authorization<Bearer> {
     fn getters(&self, answer: &mut Answer) -> Result<(), Failure> {
         answer.bytes(self.token().as_bytes())?;
         Ok(answer.word(is_sensitive(answer.alloc(), self)?)?)
     }
+}
 
+impl Replay for Authorization<Bearer> {
     fn call(call: &str, arguments: &mut Arguments<'_>, answer: &mut Answer) -> Result<(), Failure> {
         match call {
             "eq" => eq::<Authorization<Bearer>>(arguments, answer),
@@ -34,13 +38,15 @@ impl Replay for Authorization<Bearer> {
     }
 }
 
-impl Replay for ProxyAuthorization<Basic> {
+impl Getters for ProxyAuthorization<Basic> {
     fn getters(&self, answer: &mut Answer) -> Result<(), Failure> {
         answer.bytes(self.0.username().as_bytes())?;
         answer.bytes(self.0.password().as_bytes())?;
         Ok(answer.word(is_sensitive(answer.alloc(), self)?)?)
     }
+}
 
+impl Replay for ProxyAuthorization<Basic> {
     fn call(call: &str, arguments: &mut Arguments<'_>, answer: &mut Answer) -> Result<(), Failure> {
         match call {
             "eq" => eq::<ProxyAuthorization<Basic>>(arguments, answer),
@@ -49,12 +55,14 @@ impl Replay for ProxyAuthorization<Basic> {
     }
 }
 
-impl Replay for ProxyAuthorization<Bearer> {
+impl Getters for ProxyAuthorization<Bearer> {
     fn getters(&self, answer: &mut Answer) -> Result<(), Failure> {
         answer.bytes(self.0.token().as_bytes())?;
         Ok(answer.word(is_sensitive(answer.alloc(), self)?)?)
     }
+}
 
+impl Replay for ProxyAuthorization<Bearer> {
     fn call(call: &str, arguments: &mut Arguments<'_>, answer: &mut Answer) -> Result<(), Failure> {
         match call {
             "eq" => eq::<ProxyAuthorization<Bearer>>(arguments, answer),

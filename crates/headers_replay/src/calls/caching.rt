@@ -2,16 +2,18 @@
 use crate::answer::Answer;
 use crate::arguments::Arguments;
 use crate::failure::Failure;
-use crate::replay::{Replay, cmp, eq, show, show_back};
+use crate::replay::{Getters, Replay, cmp, eq, show, show_back};
 use headers::{Age, CacheControl, Expires, Pragma, Vary};
 use std::time::Duration;
 
-impl Replay for Age {
+impl Getters for Age {
     fn getters(&self, answer: &mut Answer) -> Result<(), Failure> {
         answer.word(self.as_secs())?;
         Ok(answer.word(Duration::from(*self).as_secs())?)
     }
+}
 
+impl Replay for Age {
     fn call(call: &str, arguments: &mut Arguments<'_>, answer: &mut Answer) -> Result<(), Failure> {
         match call {
             "eq" => eq::<Age>(arguments, answer),
@@ -49,7 +51,7 @@ fn with_setters(arguments: &mut Arguments<'_>) -> Result<CacheControl, Failure> 
     Ok(value)
 }
 
-impl Replay for CacheControl {
+impl Getters for CacheControl {
     fn getters(&self, answer: &mut Answer) -> Result<(), Failure> {
         for flag in [
             self.no_cache(),
@@ -74,7 +76,9 @@ impl Replay for CacheControl {
         }
         Ok(())
     }
+}
 
+impl Replay for CacheControl {
     fn call(call: &str, arguments: &mut Arguments<'_>, answer: &mut Answer) -> Result<(), Failure> {
         match call {
             "eq" => eq::<CacheControl>(arguments, answer),
@@ -84,11 +88,13 @@ impl Replay for CacheControl {
     }
 }
 
-impl Replay for Expires {
+impl Getters for Expires {
     fn getters(&self, answer: &mut Answer) -> Result<(), Failure> {
         Ok(answer.word(self.unix_secs())?)
     }
+}
 
+impl Replay for Expires {
     fn call(call: &str, arguments: &mut Arguments<'_>, answer: &mut Answer) -> Result<(), Failure> {
         match call {
             "eq" => eq::<Expires>(arguments, answer),
@@ -99,11 +105,13 @@ impl Replay for Expires {
     }
 }
 
-impl Replay for Pragma {
+impl Getters for Pragma {
     fn getters(&self, answer: &mut Answer) -> Result<(), Failure> {
         Ok(answer.word(self.is_no_cache())?)
     }
+}
 
+impl Replay for Pragma {
     fn call(call: &str, arguments: &mut Arguments<'_>, answer: &mut Answer) -> Result<(), Failure> {
         match call {
             "eq" => eq::<Pragma>(arguments, answer),
@@ -113,13 +121,15 @@ impl Replay for Pragma {
     }
 }
 
-impl Replay for Vary {
+impl Getters for Vary {
     fn getters(&self, answer: &mut Answer) -> Result<(), Failure> {
         answer.word(self.is_any())?;
         let names: Vec<&str> = self.iter_strs().collect(answer.alloc())?;
         Ok(answer.list(names.as_slice())?)
     }
+}
 
+impl Replay for Vary {
     fn call(call: &str, arguments: &mut Arguments<'_>, answer: &mut Answer) -> Result<(), Failure> {
         let alloc = arguments.alloc();
         match call {

@@ -2,7 +2,7 @@
 use crate::answer::Answer;
 use crate::arguments::Arguments;
 use crate::failure::Failure;
-use crate::replay::{Replay, cmp, eq, show, show_back};
+use crate::replay::{Getters, Replay, cmp, eq, show, show_back};
 use headers::{
     ETag, IfMatch, IfModifiedSince, IfNoneMatch, IfRange, IfUnmodifiedSince, LastModified,
 };
@@ -17,11 +17,13 @@ fn compare(arguments: &mut Arguments<'_>, answer: &mut Answer) -> Result<(), Fai
     Ok(answer.word(IfRange::etag(first).is_modified(Some(&second), None))?)
 }
 
-impl Replay for ETag {
+impl Getters for ETag {
     fn getters(&self, answer: &mut Answer) -> Result<(), Failure> {
         Ok(answer.word(self.is_weak())?)
     }
+}
 
+impl Replay for ETag {
     fn call(call: &str, arguments: &mut Arguments<'_>, answer: &mut Answer) -> Result<(), Failure> {
         let alloc = arguments.alloc();
         match call {
@@ -33,11 +35,13 @@ impl Replay for ETag {
     }
 }
 
-impl Replay for IfMatch {
+impl Getters for IfMatch {
     fn getters(&self, answer: &mut Answer) -> Result<(), Failure> {
         Ok(answer.word(self.is_any())?)
     }
+}
 
+impl Replay for IfMatch {
     fn call(call: &str, arguments: &mut Arguments<'_>, answer: &mut Answer) -> Result<(), Failure> {
         match call {
             "eq" => eq::<IfMatch>(arguments, answer),
@@ -55,6 +59,8 @@ impl Replay for IfMatch {
         }
     }
 }
+
+impl Getters for IfNoneMatch {}
 
 impl Replay for IfNoneMatch {
     fn call(call: &str, arguments: &mut Arguments<'_>, answer: &mut Answer) -> Result<(), Failure> {
@@ -75,6 +81,8 @@ impl Replay for IfNoneMatch {
     }
 }
 
+impl Getters for IfRange {}
+
 impl Replay for IfRange {
     fn call(call: &str, arguments: &mut Arguments<'_>, answer: &mut Answer) -> Result<(), Failure> {
         match call {
@@ -93,11 +101,13 @@ impl Replay for IfRange {
     }
 }
 
-impl Replay for IfModifiedSince {
+impl Getters for IfModifiedSince {
     fn getters(&self, answer: &mut Answer) -> Result<(), Failure> {
         Ok(answer.word(self.unix_secs())?)
     }
+}
 
+impl Replay for IfModifiedSince {
     fn call(call: &str, arguments: &mut Arguments<'_>, answer: &mut Answer) -> Result<(), Failure> {
         match call {
             "eq" => eq::<IfModifiedSince>(arguments, answer),
@@ -112,11 +122,13 @@ impl Replay for IfModifiedSince {
     }
 }
 
-impl Replay for IfUnmodifiedSince {
+impl Getters for IfUnmodifiedSince {
     fn getters(&self, answer: &mut Answer) -> Result<(), Failure> {
         Ok(answer.word(self.unix_secs())?)
     }
+}
 
+impl Replay for IfUnmodifiedSince {
     fn call(call: &str, arguments: &mut Arguments<'_>, answer: &mut Answer) -> Result<(), Failure> {
         match call {
             "eq" => eq::<IfUnmodifiedSince>(arguments, answer),
@@ -136,11 +148,13 @@ impl Replay for IfUnmodifiedSince {
     }
 }
 
-impl Replay for LastModified {
+impl Getters for LastModified {
     fn getters(&self, answer: &mut Answer) -> Result<(), Failure> {
         Ok(answer.word(self.unix_secs())?)
     }
+}
 
+impl Replay for LastModified {
     fn call(call: &str, arguments: &mut Arguments<'_>, answer: &mut Answer) -> Result<(), Failure> {
         match call {
             "eq" => eq::<LastModified>(arguments, answer),

@@ -2,8 +2,10 @@
 use crate::answer::Answer;
 use crate::arguments::Arguments;
 use crate::failure::Failure;
-use crate::replay::{Replay, eq, show};
+use crate::replay::{Getters, Replay, eq, show};
 use headers::{Connection, Expect, HeaderName, Te, TransferEncoding, Upgrade};
+
+impl Getters for Connection {}
 
 impl Replay for Connection {
     fn call(call: &str, arguments: &mut Arguments<'_>, answer: &mut Answer) -> Result<(), Failure> {
@@ -28,11 +30,13 @@ impl Replay for Connection {
     }
 }
 
-impl Replay for Expect {
+impl Getters for Expect {
     fn getters(&self, answer: &mut Answer) -> Result<(), Failure> {
         Ok(answer.word(*self == Expect::CONTINUE)?)
     }
+}
 
+impl Replay for Expect {
     fn call(call: &str, arguments: &mut Arguments<'_>, answer: &mut Answer) -> Result<(), Failure> {
         match call {
             "eq" => eq::<Expect>(arguments, answer),
@@ -41,6 +45,8 @@ impl Replay for Expect {
         }
     }
 }
+
+impl Getters for Te {}
 
 impl Replay for Te {
     fn call(call: &str, arguments: &mut Arguments<'_>, answer: &mut Answer) -> Result<(), Failure> {
@@ -52,11 +58,13 @@ impl Replay for Te {
     }
 }
 
-impl Replay for TransferEncoding {
+impl Getters for TransferEncoding {
     fn getters(&self, answer: &mut Answer) -> Result<(), Failure> {
         Ok(answer.word(self.is_chunked())?)
     }
+}
 
+impl Replay for TransferEncoding {
     fn call(
         call: &str,
         _arguments: &mut Arguments<'_>,
@@ -68,6 +76,8 @@ impl Replay for TransferEncoding {
         }
     }
 }
+
+impl Getters for Upgrade {}
 
 impl Replay for Upgrade {
     fn call(call: &str, arguments: &mut Arguments<'_>, answer: &mut Answer) -> Result<(), Failure> {

@@ -2,18 +2,20 @@
 use crate::answer::Answer;
 use crate::arguments::Arguments;
 use crate::failure::Failure;
-use crate::replay::{Replay, eq, show, writes};
+use crate::replay::{Getters, Replay, eq, show, writes};
 use headers::{
     ContentDisposition, ContentEncoding, ContentLength, ContentLocation, ContentType, Mime,
 };
 
-impl Replay for ContentDisposition {
+impl Getters for ContentDisposition {
     fn getters(&self, answer: &mut Answer) -> Result<(), Failure> {
         answer.word(self.is_inline())?;
         answer.word(self.is_attachment())?;
         Ok(answer.word(self.is_form_data())?)
     }
+}
 
+impl Replay for ContentDisposition {
     fn call(
         call: &str,
         _arguments: &mut Arguments<'_>,
@@ -25,6 +27,8 @@ impl Replay for ContentDisposition {
         }
     }
 }
+
+impl Getters for ContentEncoding {}
 
 impl Replay for ContentEncoding {
     fn call(call: &str, arguments: &mut Arguments<'_>, answer: &mut Answer) -> Result<(), Failure> {
@@ -42,11 +46,13 @@ impl Replay for ContentEncoding {
     }
 }
 
-impl Replay for ContentLength {
+impl Getters for ContentLength {
     fn getters(&self, answer: &mut Answer) -> Result<(), Failure> {
         Ok(answer.word(self.0)?)
     }
+}
 
+impl Replay for ContentLength {
     fn call(call: &str, arguments: &mut Arguments<'_>, answer: &mut Answer) -> Result<(), Failure> {
         match call {
             "eq" => eq::<ContentLength>(arguments, answer),
@@ -55,6 +61,8 @@ impl Replay for ContentLength {
         }
     }
 }
+
+impl Getters for ContentLocation {}
 
 impl Replay for ContentLocation {
     fn call(call: &str, arguments: &mut Arguments<'_>, answer: &mut Answer) -> Result<(), Failure> {
@@ -65,7 +73,7 @@ impl Replay for ContentLocation {
     }
 }
 
-impl Replay for ContentType {
+impl Getters for ContentType {
     fn getters(&self, answer: &mut Answer) -> Result<(), Failure> {
         let alloc = answer.alloc();
         let mime = Mime::from(self.clone(alloc)?);
@@ -73,7 +81,9 @@ impl Replay for ContentType {
         let is_displayed = writes(alloc, self, self.to_string(alloc)?.as_str())?;
         Ok(answer.word(is_displayed && mime.to_string(alloc)?.as_str() == mime.as_str())?)
     }
+}
 
+impl Replay for ContentType {
     fn call(call: &str, arguments: &mut Arguments<'_>, answer: &mut Answer) -> Result<(), Failure> {
         let alloc = arguments.alloc();
         match call {

@@ -2,14 +2,16 @@
 use crate::answer::Answer;
 use crate::arguments::Arguments;
 use crate::failure::Failure;
-use crate::replay::{Replay, cmp, eq, show, show_back, show_methods, writes};
+use crate::replay::{Getters, Replay, cmp, eq, show, show_back, show_methods, writes};
 use headers::{Allow, Date, Location, Referer, RetryAfter, Server, UserAgent};
 
-impl Replay for Allow {
+impl Getters for Allow {
     fn getters(&self, answer: &mut Answer) -> Result<(), Failure> {
         show_methods(self.iter(answer.alloc()), answer)
     }
+}
 
+impl Replay for Allow {
     fn call(call: &str, arguments: &mut Arguments<'_>, answer: &mut Answer) -> Result<(), Failure> {
         let alloc = arguments.alloc();
         match call {
@@ -20,11 +22,13 @@ impl Replay for Allow {
     }
 }
 
-impl Replay for Date {
+impl Getters for Date {
     fn getters(&self, answer: &mut Answer) -> Result<(), Failure> {
         Ok(answer.word(self.unix_secs())?)
     }
+}
 
+impl Replay for Date {
     fn call(call: &str, arguments: &mut Arguments<'_>, answer: &mut Answer) -> Result<(), Failure> {
         match call {
             "eq" => eq::<Date>(arguments, answer),
@@ -35,6 +39,8 @@ impl Replay for Date {
     }
 }
 
+impl Getters for Location {}
+
 impl Replay for Location {
     fn call(call: &str, arguments: &mut Arguments<'_>, answer: &mut Answer) -> Result<(), Failure> {
         match call {
@@ -44,12 +50,14 @@ impl Replay for Location {
     }
 }
 
-impl Replay for Referer {
+impl Getters for Referer {
     fn getters(&self, answer: &mut Answer) -> Result<(), Failure> {
         let text = self.to_string(answer.alloc())?;
         Ok(answer.word(writes(answer.alloc(), self, text.as_str())?)?)
     }
+}
 
+impl Replay for Referer {
     fn call(call: &str, arguments: &mut Arguments<'_>, answer: &mut Answer) -> Result<(), Failure> {
         let alloc = arguments.alloc();
         match call {
@@ -59,6 +67,8 @@ impl Replay for Referer {
         }
     }
 }
+
+impl Getters for RetryAfter {}
 
 impl Replay for RetryAfter {
     fn call(call: &str, arguments: &mut Arguments<'_>, answer: &mut Answer) -> Result<(), Failure> {
@@ -71,13 +81,15 @@ impl Replay for RetryAfter {
     }
 }
 
-impl Replay for Server {
+impl Getters for Server {
     fn getters(&self, answer: &mut Answer) -> Result<(), Failure> {
         answer.bytes(self.as_str().as_bytes())?;
         let text = self.to_string(answer.alloc())?;
         Ok(answer.word(writes(answer.alloc(), self, text.as_str())?)?)
     }
+}
 
+impl Replay for Server {
     fn call(call: &str, arguments: &mut Arguments<'_>, answer: &mut Answer) -> Result<(), Failure> {
         let alloc = arguments.alloc();
         match call {
@@ -89,13 +101,15 @@ impl Replay for Server {
     }
 }
 
-impl Replay for UserAgent {
+impl Getters for UserAgent {
     fn getters(&self, answer: &mut Answer) -> Result<(), Failure> {
         answer.bytes(self.as_str().as_bytes())?;
         let text = self.to_string(answer.alloc())?;
         Ok(answer.word(writes(answer.alloc(), self, text.as_str())?)?)
     }
+}
 
+impl Replay for UserAgent {
     fn call(call: &str, arguments: &mut Arguments<'_>, answer: &mut Answer) -> Result<(), Failure> {
         let alloc = arguments.alloc();
         match call {

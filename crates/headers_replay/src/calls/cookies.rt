@@ -2,10 +2,10 @@
 use crate::answer::Answer;
 use crate::arguments::Arguments;
 use crate::failure::Failure;
-use crate::replay::Replay;
+use crate::replay::{Getters, Replay};
 use headers::{Cookie, SetCookie};
 
-impl Replay for Cookie {
+impl Getters for Cookie {
     fn getters(&self, answer: &mut Answer) -> Result<(), Failure> {
         answer.word(self.len())?;
         for (key, text) in self.iter() {
@@ -14,7 +14,9 @@ impl Replay for Cookie {
         }
         Ok(())
     }
+}
 
+impl Replay for Cookie {
     fn call(call: &str, arguments: &mut Arguments<'_>, answer: &mut Answer) -> Result<(), Failure> {
         match call {
             "get" => {
@@ -29,5 +31,7 @@ impl Replay for Cookie {
         }
     }
 }
+
+impl Getters for SetCookie {}
 
 impl Replay for SetCookie {}

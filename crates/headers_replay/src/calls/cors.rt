@@ -3,7 +3,7 @@ use crate::answer::Answer;
 use crate::arguments::Arguments;
 use crate::calls::hosts::show_origin;
 use crate::failure::Failure;
-use crate::replay::{Replay, cmp, eq, show, show_methods, show_names};
+use crate::replay::{Getters, Replay, cmp, eq, show, show_methods, show_names};
 use headers::{
     AccessControlAllowCredentials, AccessControlAllowHeaders, AccessControlAllowMethods,
     AccessControlAllowOrigin, AccessControlExposeHeaders, AccessControlMaxAge,
@@ -12,11 +12,13 @@ use headers::{
 use http::Method;
 use std::time::Duration;
 
-impl Replay for AccessControlAllowCredentials {
+impl Getters for AccessControlAllowCredentials {
     fn getters(&self, answer: &mut Answer) -> Result<(), Failure> {
         Ok(answer.word(*self == AccessControlAllowCredentials)?)
     }
+}
 
+impl Replay for AccessControlAllowCredentials {
     fn call(call: &str, arguments: &mut Arguments<'_>, answer: &mut Answer) -> Result<(), Failure> {
         match call {
             "eq" => eq::<AccessControlAllowCredentials>(arguments, answer),
@@ -26,11 +28,13 @@ impl Replay for AccessControlAllowCredentials {
     }
 }
 
-impl Replay for AccessControlAllowHeaders {
+impl Getters for AccessControlAllowHeaders {
     fn getters(&self, answer: &mut Answer) -> Result<(), Failure> {
         show_names(self.iter(answer.alloc()), answer)
     }
+}
 
+impl Replay for AccessControlAllowHeaders {
     fn call(call: &str, arguments: &mut Arguments<'_>, answer: &mut Answer) -> Result<(), Failure> {
         let alloc = arguments.alloc();
         match call {
@@ -46,11 +50,13 @@ impl Replay for AccessControlAllowHeaders {
     }
 }
 
-impl Replay for AccessControlAllowMethods {
+impl Getters for AccessControlAllowMethods {
     fn getters(&self, answer: &mut Answer) -> Result<(), Failure> {
         show_methods(self.iter(answer.alloc()), answer)
     }
+}
 
+impl Replay for AccessControlAllowMethods {
     fn call(call: &str, arguments: &mut Arguments<'_>, answer: &mut Answer) -> Result<(), Failure> {
         let alloc = arguments.alloc();
         match call {
@@ -66,14 +72,16 @@ impl Replay for AccessControlAllowMethods {
     }
 }
 
-impl Replay for AccessControlAllowOrigin {
+impl Getters for AccessControlAllowOrigin {
     fn getters(&self, answer: &mut Answer) -> Result<(), Failure> {
         match self.origin() {
             Some(origin) => show_origin(origin, self, answer),
             None => Ok(answer.word("none")?),
         }
     }
+}
 
+impl Replay for AccessControlAllowOrigin {
     fn call(call: &str, arguments: &mut Arguments<'_>, answer: &mut Answer) -> Result<(), Failure> {
         let alloc = arguments.alloc();
         match call {
@@ -91,11 +99,13 @@ impl Replay for AccessControlAllowOrigin {
     }
 }
 
-impl Replay for AccessControlExposeHeaders {
+impl Getters for AccessControlExposeHeaders {
     fn getters(&self, answer: &mut Answer) -> Result<(), Failure> {
         show_names(self.iter(answer.alloc()), answer)
     }
+}
 
+impl Replay for AccessControlExposeHeaders {
     fn call(call: &str, arguments: &mut Arguments<'_>, answer: &mut Answer) -> Result<(), Failure> {
         let alloc = arguments.alloc();
         match call {
@@ -110,11 +120,13 @@ impl Replay for AccessControlExposeHeaders {
     }
 }
 
-impl Replay for AccessControlMaxAge {
+impl Getters for AccessControlMaxAge {
     fn getters(&self, answer: &mut Answer) -> Result<(), Failure> {
         Ok(answer.word(Duration::from(self.clone()?).as_secs())?)
     }
+}
 
+impl Replay for AccessControlMaxAge {
     fn call(call: &str, arguments: &mut Arguments<'_>, answer: &mut Answer) -> Result<(), Failure> {
         match call {
             "eq" => eq::<AccessControlMaxAge>(arguments, answer),
@@ -130,11 +142,13 @@ impl Replay for AccessControlMaxAge {
     }
 }
 
-impl Replay for AccessControlRequestHeaders {
+impl Getters for AccessControlRequestHeaders {
     fn getters(&self, answer: &mut Answer) -> Result<(), Failure> {
         show_names(self.iter(answer.alloc()), answer)
     }
+}
 
+impl Replay for AccessControlRequestHeaders {
     fn call(call: &str, arguments: &mut Arguments<'_>, answer: &mut Answer) -> Result<(), Failure> {
         let alloc = arguments.alloc();
         match call {
@@ -149,12 +163,14 @@ impl Replay for AccessControlRequestHeaders {
     }
 }
 
-impl Replay for AccessControlRequestMethod {
+impl Getters for AccessControlRequestMethod {
     fn getters(&self, answer: &mut Answer) -> Result<(), Failure> {
         let method = Method::from(self.clone(answer.alloc())?);
         Ok(answer.bytes(method.as_str().as_bytes())?)
     }
+}
 
+impl Replay for AccessControlRequestMethod {
     fn call(call: &str, arguments: &mut Arguments<'_>, answer: &mut Answer) -> Result<(), Failure> {
         let alloc = arguments.alloc();
         match call {

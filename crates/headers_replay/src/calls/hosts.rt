@@ -2,7 +2,7 @@
 use crate::answer::Answer;
 use crate::arguments::Arguments;
 use crate::failure::Failure;
-use crate::replay::{Replay, cmp, eq, show, writes};
+use crate::replay::{Getters, Replay, cmp, eq, show, writes};
 use headers::{Header, Host, Origin};
 use http_uri::Authority;
 
@@ -20,14 +20,16 @@ pub fn show_origin<H: Header>(
     Ok(answer.word(writes(answer.alloc(), header, text.as_str())?)?)
 }
 
-impl Replay for Host {
+impl Getters for Host {
     fn getters(&self, answer: &mut Answer) -> Result<(), Failure> {
         answer.bytes(self.hostname().as_bytes())?;
         answer.option(self.port())?;
         let text = self.to_string(answer.alloc())?;
         Ok(answer.word(writes(answer.alloc(), self, text.as_str())?)?)
     }
+}
 
+impl Replay for Host {
     fn call(call: &str, arguments: &mut Arguments<'_>, answer: &mut Answer) -> Result<(), Failure> {
         let alloc = arguments.alloc();
         match call {
@@ -51,11 +53,13 @@ fn from_parts(arguments: &mut Arguments<'_>) -> Result<Origin, Failure> {
     Ok(Origin::try_from_parts(arguments.alloc(), scheme.as_str(), host.as_str(), port)?)
 }
 
-impl Replay for Origin {
+impl Getters for Origin {
     fn getters(&self, answer: &mut Answer) -> Result<(), Failure> {
         show_origin(self, self, answer)
     }
+}
 
+impl Replay for Origin {
     fn call(call: &str, arguments: &mut Arguments<'_>, answer: &mut Answer) -> Result<(), Failure> {
         match call {
             "eq" => eq::<Origin>(arguments, answer),

@@ -2,15 +2,17 @@
 use crate::answer::Answer;
 use crate::arguments::Arguments;
 use crate::failure::Failure;
-use crate::replay::{Replay, eq, show, show_back};
+use crate::replay::{Getters, Replay, eq, show, show_back};
 use headers::{AcceptRanges, ContentRange, Range};
 
-impl Replay for AcceptRanges {
+impl Getters for AcceptRanges {
     fn getters(&self, answer: &mut Answer) -> Result<(), Failure> {
         answer.word(self.is_bytes())?;
         Ok(answer.word(self.is_none())?)
     }
+}
 
+impl Replay for AcceptRanges {
     fn call(call: &str, arguments: &mut Arguments<'_>, answer: &mut Answer) -> Result<(), Failure> {
         match call {
             "eq" => eq::<AcceptRanges>(arguments, answer),
@@ -37,6 +39,8 @@ fn satisfiable_ranges(arguments: &mut Arguments<'_>, answer: &mut Answer) -> Res
     Ok(())
 }
 
+impl Getters for Range {}
+
 impl Replay for Range {
     fn call(call: &str, arguments: &mut Arguments<'_>, answer: &mut Answer) -> Result<(), Failure> {
         let alloc = arguments.alloc();
@@ -52,7 +56,7 @@ impl Replay for Range {
     }
 }
 
-impl Replay for ContentRange {
+impl Getters for ContentRange {
     fn getters(&self, answer: &mut Answer) -> Result<(), Failure> {
         match self.bytes_range() {
             Some((first, last)) => {
@@ -63,7 +67,9 @@ impl Replay for ContentRange {
         }
         Ok(answer.option(self.bytes_len())?)
     }
+}
 
+impl Replay for ContentRange {
     fn call(call: &str, arguments: &mut Arguments<'_>, answer: &mut Answer) -> Result<(), Failure> {
         match call {
             "eq" => eq::<ContentRange>(arguments, answer),

@@ -2,7 +2,7 @@
 use crate::answer::Answer;
 use crate::arguments::Arguments;
 use crate::failure::Failure;
-use crate::replay::{Replay, eq, show};
+use crate::replay::{Getters, Replay, eq, show};
 use headers::{ReferrerPolicy, StrictTransportSecurity};
 
 // The constants, by name.
@@ -26,7 +26,7 @@ const POLICIES: [(&str, ReferrerPolicy); 8] = [
     ),
 ];
 
-impl Replay for ReferrerPolicy {
+impl Getters for ReferrerPolicy {
     fn getters(&self, answer: &mut Answer) -> Result<(), Failure> {
         for (name, policy) in POLICIES.iter() {
             if policy == self {
@@ -35,7 +35,9 @@ impl Replay for ReferrerPolicy {
         }
         Ok(())
     }
+}
 
+impl Replay for ReferrerPolicy {
     fn call(call: &str, arguments: &mut Arguments<'_>, answer: &mut Answer) -> Result<(), Failure> {
         match call {
             "eq" => eq::<ReferrerPolicy>(arguments, answer),
@@ -53,12 +55,14 @@ impl Replay for ReferrerPolicy {
     }
 }
 
-impl Replay for StrictTransportSecurity {
+impl Getters for StrictTransportSecurity {
     fn getters(&self, answer: &mut Answer) -> Result<(), Failure> {
         answer.word(self.max_age().as_secs())?;
         Ok(answer.word(self.include_subdomains())?)
     }
+}
 
+impl Replay for StrictTransportSecurity {
     fn call(call: &str, arguments: &mut Arguments<'_>, answer: &mut Answer) -> Result<(), Failure> {
         match call {
             "eq" => eq::<StrictTransportSecurity>(arguments, answer),

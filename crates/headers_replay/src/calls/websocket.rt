@@ -2,15 +2,17 @@
 use crate::answer::Answer;
 use crate::arguments::Arguments;
 use crate::failure::Failure;
-use crate::replay::{Replay, eq, is_sensitive, show};
+use crate::replay::{Getters, Replay, eq, is_sensitive, show};
 use headers::{SecWebsocketAccept, SecWebsocketKey, SecWebsocketVersion};
 use hex::FromHex;
 
-impl Replay for SecWebsocketKey {
+impl Getters for SecWebsocketKey {
     fn getters(&self, answer: &mut Answer) -> Result<(), Failure> {
         Ok(answer.word(is_sensitive(answer.alloc(), self)?)?)
     }
+}
 
+impl Replay for SecWebsocketKey {
     fn call(call: &str, arguments: &mut Arguments<'_>, answer: &mut Answer) -> Result<(), Failure> {
         match call {
             "eq" => eq::<SecWebsocketKey>(arguments, answer),
@@ -26,6 +28,8 @@ impl Replay for SecWebsocketKey {
         }
     }
 }
+
+impl Getters for SecWebsocketAccept {}
 
 impl Replay for SecWebsocketAccept {
     fn call(call: &str, arguments: &mut Arguments<'_>, answer: &mut Answer) -> Result<(), Failure> {
@@ -43,11 +47,13 @@ impl Replay for SecWebsocketAccept {
     }
 }
 
-impl Replay for SecWebsocketVersion {
+impl Getters for SecWebsocketVersion {
     fn getters(&self, answer: &mut Answer) -> Result<(), Failure> {
         Ok(answer.word(*self == SecWebsocketVersion::V13)?)
     }
+}
 
+impl Replay for SecWebsocketVersion {
     fn call(call: &str, arguments: &mut Arguments<'_>, answer: &mut Answer) -> Result<(), Failure> {
         match call {
             "eq" => eq::<SecWebsocketVersion>(arguments, answer),
