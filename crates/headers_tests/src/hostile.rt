@@ -1,5 +1,5 @@
 //! Lines that mean harm: each header answers, and reads again what it writes.
-use crate::rows::{lines, writes};
+use crate::rows::{lines, names, writes};
 use headers::authorization::{Authorization, Basic, Bearer, ProxyAuthorization};
 use headers::{
     AcceptRanges, AccessControlAllowCredentials, AccessControlAllowHeaders,
@@ -12,43 +12,63 @@ use headers::{
     SecWebsocketKey, SecWebsocketVersion, Server, SetCookie, StrictTransportSecurity, Te,
     TransferEncoding, Upgrade, UserAgent, Vary, decode_values,
 };
-use http_header::HeaderValue;
+use http::Method;
+use http_header::{HeaderName, HeaderValue};
 use std::process::Abort;
 use std::test::Fail;
 
-// Gives values, and hints that nothing is sure to be left, whatever is.
-#[derive(Drop)]
-struct Hinted {
-    values: std::vec::IntoIter<HeaderValue>,
+// What an iterator says of how much is left, whatever is.
+#[derive(Clone, Copy, Drop)]
+enum Hint {
+    Unknown,
+    TooMuch,
 }
 
-impl Iterator for Hinted {
-    type Item = HeaderValue;
+const HINTS: [Hint; 2] = [Hint::Unknown, Hint::TooMuch];
 
-    ghost can_next = { λ s. ⟦<std::vec::IntoIter<HeaderValue> as Iterator>⟧.can_next s.values };
+// Gives elements, and hints as it is told.
+#[derive(Drop)]
+struct Hinted<T: Drop> {
+    elements: std::vec::IntoIter<T>,
+    hint: Hint,
+}
 
-    ghost next_gives = { λ s r t. ⟦<std::vec::IntoIter<HeaderValue> as Iterator>⟧.next_gives s.values r t.values };
+impl<T: Drop> Iterator for Hinted<T> {
+    type Item = T;
 
-    ghost remaining = { λ s. ⟦<std::vec::IntoIter<HeaderValue> as Iterator>⟧.remaining s.values };
+    ghost can_next = { λ s. ⟦<std::vec::IntoIter<T> as Iterator>⟧.can_next s.elements };
 
-    fn next(&mut self) -> Option<HeaderValue> {
-        self.values.next()
+    ghost next_gives = { λ s r t. ⟦<std::vec::IntoIter<T> as Iterator>⟧.next_gives s.elements r t.elements };
+
+    ghost remaining = { λ s. ⟦<std::vec::IntoIter<T> as Iterator>⟧.remaining s.elements };
+
+    fn next(&mut self) -> Option<T> {
+        self.elements.next()
     }
 
     fn size_hint(&self) -> (usize, Option<usize>) {
-        (0, None)
+        let (_, upper) = self.elements.size_hint();
+        match self.hint {
+            Hint::Unknown => (0, None),
+            Hint::TooMuch => (0, upper.map(|_| usize::MAX)),
+        }
     }
 }
 
-// The same values, behind these hints.
-fn with_hint(rt: &(impl Abort + AllocGlobal), values: &[HeaderValue]) -> Hinted {
+// The same values, with this hint.
+fn with_hint(
+    rt: &(impl Abort + AllocGlobal),
+    values: &[HeaderValue],
+    hint: Hint,
+) -> Hinted<HeaderValue> {
     let mut copies = Vec::new(rt.alloc());
     for value in values {
         let copy = value.clone().expect(rt, "a value");
         copies.push(copy).expect(rt, "a value");
     }
     Hinted {
-        values: copies.into_iter(),
+        elements: copies.into_iter(),
+        hint,
     }
 }
 
@@ -74,8 +94,10 @@ fn rewritten<H: Header>(
 // The values are a header or none, whatever the iterator hints; and what is written of it reads as it.
 fn judged<H: Header>(rt: &(impl Abort + AllocGlobal), values: &[HeaderValue]) {
     let written = rewritten::<H>(rt, decode_values(rt.alloc(), values));
-    let answer = H::decode(rt.alloc(), &mut with_hint(rt, values));
-    assert!(rt; rewritten::<H>(rt, answer) == written, "{}", H::name());
+    for hint in HINTS {
+        let answer = H::decode(rt.alloc(), &mut with_hint(rt, values, hint));
+        assert!(rt; rewritten::<H>(rt, answer) == written, "{}", H::name());
+    }
     if let Some(lines) = written {
         let again = rewritten::<H>(rt, decode_values(rt.alloc(), &lines));
         assert!(rt; again == Some(lines), "{}", H::name());
@@ -178,11 +200,70 @@ fn many_lines(rt: HostRuntime) -> Result<(), Fail> {
 }
 
 #[test]
+fn hints_are_wrong(rt: HostRuntime) -> Result<(), Fail> {
+    let values = lines(&rt, &["a"]);
+    assert!(rt; with_hint(&rt, &values, Hint::Unknown).size_hint() == (0, None));
+    assert!(rt; with_hint(&rt, &values, Hint::TooMuch).size_hint() == (0, Some(usize::MAX)));
+    Ok(())
+}
+
+#[test]
 fn vary_of_hinted_lines(rt: HostRuntime) -> Result<(), Fail> {
     let rows: [(&[&str], &str); 2] = [(&["a", "b"], "a, b"), (&[], "")];
     for (texts, line) in rows {
-        let mut values = with_hint(&rt, &lines(&rt, texts));
-        writes(&rt, &Vary::decode(rt.alloc(), &mut values)?, &[line]);
+        for hint in HINTS {
+            let mut values = with_hint(&rt, &lines(&rt, texts), hint);
+            writes(&rt, &Vary::decode(rt.alloc(), &mut values)?, &[line]);
+        }
+    }
+    Ok(())
+}
+
+// The names `a` and `b`, with this hint.
+fn hinted_names(rt: &(impl Abort + AllocGlobal), hint: Hint) -> Hinted<HeaderName> {
+    Hinted {
+        elements: names(rt, &["a", "b"]),
+        hint,
+    }
+}
+
+#[test]
+fn lists_of_hinted_names(rt: HostRuntime) -> Result<(), Fail> {
+    let line = &["a, b"];
+    for hint in HINTS {
+        let vary = Vary::from_iter(rt.alloc(), hinted_names(&rt, hint))?;
+        writes(&rt, &vary, line);
+        let connection = Connection::from_iter(rt.alloc(), hinted_names(&rt, hint))?;
+        writes(&rt, &connection, line);
+        let allowed = AccessControlAllowHeaders::from_iter(rt.alloc(), hinted_names(&rt, hint))?;
+        writes(&rt, &allowed, line);
+        let exposed = AccessControlExposeHeaders::from_iter(rt.alloc(), hinted_names(&rt, hint))?;
+        writes(&rt, &exposed, line);
+        let asked = AccessControlRequestHeaders::from_iter(rt.alloc(), hinted_names(&rt, hint))?;
+        writes(&rt, &asked, line);
+    }
+    Ok(())
+}
+
+// The methods GET and PUT, with this hint.
+fn hinted_methods(rt: &(impl Abort + AllocGlobal), hint: Hint) -> Hinted<Method> {
+    let mut methods = Vec::new(rt.alloc());
+    methods.push(Method::GET).expect(rt, "a method");
+    methods.push(Method::PUT).expect(rt, "a method");
+    Hinted {
+        elements: methods.into_iter(),
+        hint,
+    }
+}
+
+#[test]
+fn lists_of_hinted_methods(rt: HostRuntime) -> Result<(), Fail> {
+    let line = &["GET, PUT"];
+    for hint in HINTS {
+        let allow = Allow::from_iter(rt.alloc(), hinted_methods(&rt, hint))?;
+        writes(&rt, &allow, line);
+        let allowed = AccessControlAllowMethods::from_iter(rt.alloc(), hinted_methods(&rt, hint))?;
+        writes(&rt, &allowed, line);
     }
     Ok(())
 }
