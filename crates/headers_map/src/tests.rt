@@ -183,7 +183,7 @@ fn typed_get_of_a_copy(rt: HostRuntime) -> Result<(), Fail> {
     Ok(())
 }
 
-fn is_marked(map: &HeaderMap) -> bool {
+fn is_sensitive(map: &HeaderMap) -> bool {
     match map.get("set-cookie") {
         Some(value) => value.is_sensitive(),
         None => false,
@@ -191,17 +191,17 @@ fn is_marked(map: &HeaderMap) -> bool {
 }
 
 #[test]
-fn marked_lines_stay_marked(rt: HostRuntime) -> Result<(), Fail> {
+fn sensitive_lines_stay_sensitive(rt: HostRuntime) -> Result<(), Fail> {
     let alloc = rt.alloc();
     let mut line = HeaderValue::from_static("c=3");
     line.set_sensitive(true);
     let mut map = filled(alloc)?;
-    assert!(rt; !is_marked(&map));
+    assert!(rt; !is_sensitive(&map));
     let step = Step::Put(encoding(alloc, &Cookie { line })?);
     let mut steps = Vec::new(alloc);
     steps.push(step)?;
     apply(&mut map, steps)?;
-    assert!(rt; is_marked(&map));
+    assert!(rt; is_sensitive(&map));
     Ok(())
 }
 

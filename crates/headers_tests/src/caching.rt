@@ -17,7 +17,7 @@ fn ages(rt: HostRuntime) {
     rows!(rt, Age, "age",
         ["3600"] => "3600", ["+007"] => "7", ["18446744073709551615"] => "18446744073709551615";
         refuses ["18446744073709551616"], [], ["5", "5"], [" 5"], ["-1"], ["1.5"], ["\u{e9}"]);
-    marks!(rt, Age, "7" => false, clone());
+    stays_sensitive!(rt, Age, "7" => false, clone());
     differ::<Age>(&rt, &["5", "6"]);
 }
 
@@ -61,7 +61,7 @@ fn flags_of_cache_control(rt: HostRuntime) {
         ["\"a, no-store"] => "", ["No-Cache=\"a\""] => "",
         ["\"a, no-cache", "no-store"] => "no-store", ["\"a", "no-store"] => "no-store",
         ["no-cache", "private"] => "no-cache, private", [] => "", [FLAGS] => FLAGS);
-    marks!(rt, CacheControl, "no-cache" => false, clone());
+    stays_sensitive!(rt, CacheControl, "no-cache" => false, clone());
     differ::<CacheControl>(
         &rt,
         &[
@@ -170,7 +170,7 @@ fn equal_directives(rt: HostRuntime) -> Result<(), Fail> {
 fn expiry_dates(rt: HostRuntime) {
     let last = "Fri, 31 Dec 9999 23:59:59 GMT";
     rows!(rt, Expires, "expires", [last] => last; refuses ["0"]);
-    marks!(rt, Expires, last => false, clone());
+    stays_sensitive!(rt, Expires, last => false, clone());
     differ::<Expires>(&rt, &[last, "Fri, 31 Dec 9999 23:59:58 GMT"]);
     assert_eq!(rt; decoded::<Expires>(&rt, &[last]).unix_secs(), 253402300799);
     writes(&rt, &Expires::from_unix_secs(253402300799), &[last]);
@@ -179,7 +179,7 @@ fn expiry_dates(rt: HostRuntime) {
 #[test]
 fn pragmas(rt: HostRuntime) -> Result<(), Fail> {
     rows!(rt, Pragma, "pragma", ["dexter", "no-cache"] => "dexter"; refuses []);
-    marks!(rt, Pragma, "a" => true, clone(rt.alloc()));
+    stays_sensitive!(rt, Pragma, "a" => true, clone(rt.alloc()));
     differ::<Pragma>(&rt, &["no-cache", "No-Cache"]);
     for line in ["dexter", "No-Cache", "no-cache ", "no-cache, x"] {
         assert!(rt; !decoded::<Pragma>(&rt, &[line]).is_no_cache());
@@ -195,7 +195,7 @@ fn pragmas(rt: HostRuntime) -> Result<(), Fail> {
 fn vary(rt: HostRuntime) {
     rows!(rt, Vary, "vary",
         ["a", "*"] => "a, *", ["\"a, *\""] => "\"a, *\"", [] => "", TWELVE => TWELVE_MERGED);
-    marks!(rt, Vary, "a" => true, clone(rt.alloc()));
+    stays_sensitive!(rt, Vary, "a" => true, clone(rt.alloc()));
     differ::<Vary>(&rt, &["*", "a", "\"a, *\""]);
     assert!(rt; decoded::<Vary>(&rt, &["a", "*"]).is_any());
     let twelve: Vary = decoded(&rt, &[TWELVE_MERGED]);

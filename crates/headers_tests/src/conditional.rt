@@ -24,7 +24,7 @@ fn etags(rt: HostRuntime) {
         ["W/\"\""] => "W/\"\"", ["\"\u{e9}\""] => "\"\u{e9}\"";
         refuses ["\""], ["W/\""], ["w/\"a\""], ["\"a b\""], ["no-dquote"], [""], ["\"unmatched-dquotes1"],
         ["unmatched-dquotes2\""], ["\"inner\"quotes\""], [], ["\"a\"", "\"a\""]);
-    marks!(rt, ETag, "W/\"a\"" => true, clone(rt.alloc()));
+    stays_sensitive!(rt, ETag, "W/\"a\"" => true, clone(rt.alloc()));
     differ::<ETag>(&rt, &["\"a\"", "\"b\"", "W/\"a\""]);
 }
 
@@ -67,8 +67,8 @@ fn no_etags(rt: HostRuntime) -> Result<(), Fail> {
 fn if_range(rt: HostRuntime) {
     rows!(rt, IfRange, "if-range",
         ["W/\"a\""] => "W/\"a\"", ["Sunday, 06-Nov-94 08:49:37 GMT"] => DATE; refuses ["xyzzy"], []);
-    marks!(rt, IfRange, "\"a\"" => true, clone(rt.alloc()));
-    marks!(rt, IfRange, DATE => false, clone(rt.alloc()));
+    stays_sensitive!(rt, IfRange, "\"a\"" => true, clone(rt.alloc()));
+    stays_sensitive!(rt, IfRange, DATE => false, clone(rt.alloc()));
     differ::<IfRange>(&rt, &["\"a\"", "\"b\"", "W/\"a\"", DATE, NEXT_SECOND]);
 }
 
@@ -122,8 +122,8 @@ fn none_match_passes(
 fn if_match(rt: HostRuntime) -> Result<(), Fail> {
     rows!(rt, IfMatch, "if-match",
         ["*"] => "*", ["\"a\"", "*"] => "\"a\", *", TWELVE => TWELVE_MERGED);
-    marks!(rt, IfMatch, "*" => false, clone(rt.alloc()));
-    marks!(rt, IfMatch, "\"a\"" => true, clone(rt.alloc()));
+    stays_sensitive!(rt, IfMatch, "*" => false, clone(rt.alloc()));
+    stays_sensitive!(rt, IfMatch, "\"a\"" => true, clone(rt.alloc()));
     differ::<IfMatch>(&rt, &["*", "\"a\"", "\"b\""]);
     let any = IfMatch::any();
     assert!(rt; any.clone(rt.alloc())? == any);
@@ -168,8 +168,8 @@ fn if_match_of_a_tag(rt: HostRuntime) {
 fn if_none_match(rt: HostRuntime) -> Result<(), Fail> {
     rows!(rt, IfNoneMatch, "if-none-match",
         ["*"] => "*", ["\"a\"", "W/\"b\""] => "\"a\", W/\"b\"", TWELVE => TWELVE_MERGED);
-    marks!(rt, IfNoneMatch, "*" => false, clone(rt.alloc()));
-    marks!(rt, IfNoneMatch, "\"a\"" => true, clone(rt.alloc()));
+    stays_sensitive!(rt, IfNoneMatch, "*" => false, clone(rt.alloc()));
+    stays_sensitive!(rt, IfNoneMatch, "\"a\"" => true, clone(rt.alloc()));
     differ::<IfNoneMatch>(&rt, &["*", "\"a\"", "\"b\""]);
     let any = IfNoneMatch::any();
     assert!(rt; any.clone(rt.alloc())? == any);
@@ -214,7 +214,7 @@ fn ranges_of_tags(rt: HostRuntime) -> Result<(), Fail> {
 #[test]
 fn last_modified(rt: HostRuntime) {
     rows!(rt, LastModified, "last-modified", [DATE] => DATE; refuses []);
-    marks!(rt, LastModified, DATE => false, clone());
+    stays_sensitive!(rt, LastModified, DATE => false, clone());
     differ::<LastModified>(&rt, &[DATE, NEXT_SECOND]);
     let last_modified = LastModified::from_unix_secs(784111777);
     assert_eq!(rt; decoded::<LastModified>(&rt, &[DATE]), last_modified);
@@ -225,7 +225,7 @@ fn last_modified(rt: HostRuntime) {
 fn modified_since(rt: HostRuntime) {
     let line = "Thu, 01 Jan 1970 00:01:40 GMT";
     rows!(rt, IfModifiedSince, "if-modified-since", [line] => line; refuses []);
-    marks!(rt, IfModifiedSince, line => false, clone());
+    stays_sensitive!(rt, IfModifiedSince, line => false, clone());
     differ::<IfModifiedSince>(&rt, &[line, DATE]);
     let since = IfModifiedSince::from_unix_secs(100);
     for (secs, modified) in [(102, true), (100, false), (98, false), (u64::MAX, true)] {
@@ -239,7 +239,7 @@ fn modified_since(rt: HostRuntime) {
 fn unmodified_since(rt: HostRuntime) {
     let line = "Thu, 01 Jan 1970 00:01:40 GMT";
     rows!(rt, IfUnmodifiedSince, "if-unmodified-since", [line] => line; refuses []);
-    marks!(rt, IfUnmodifiedSince, line => false, clone());
+    stays_sensitive!(rt, IfUnmodifiedSince, line => false, clone());
     differ::<IfUnmodifiedSince>(&rt, &[line, DATE]);
     let since = IfUnmodifiedSince::from_unix_secs(100);
     for (secs, passes) in [(102, false), (100, true), (98, true)] {

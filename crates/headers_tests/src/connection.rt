@@ -9,7 +9,7 @@ use std::test::Fail;
 fn connections(rt: HostRuntime) {
     rows!(rt, Connection, "connection",
         [] => "", ["Keep-Alive", "Upgrade"] => "Keep-Alive, Upgrade", TWELVE => TWELVE_MERGED);
-    marks!(rt, Connection, "close" => true, clone(rt.alloc()));
+    stays_sensitive!(rt, Connection, "close" => true, clone(rt.alloc()));
 }
 
 #[test]
@@ -61,7 +61,7 @@ fn connection_options(rt: HostRuntime) {
 fn expectations(rt: HostRuntime) -> Result<(), Fail> {
     rows!(rt, Expect, "expect", ["100-continue"] => "100-continue";
         refuses ["100-continue", "100-continue"], ["100-Continue"], ["sandwich"], []);
-    marks!(rt, Expect, "100-continue" => false, clone());
+    stays_sensitive!(rt, Expect, "100-continue" => false, clone());
     let read: Expect = decoded(&rt, &["100-continue"]);
     assert_eq!(rt; read.clone()?, Expect::CONTINUE);
     Ok(())
@@ -70,7 +70,7 @@ fn expectations(rt: HostRuntime) -> Result<(), Fail> {
 #[test]
 fn te(rt: HostRuntime) -> Result<(), Fail> {
     rows!(rt, Te, "te", ["trailers"] => "trailers", TWELVE => TWELVE_MERGED);
-    marks!(rt, Te, "trailers" => true, clone(rt.alloc()));
+    stays_sensitive!(rt, Te, "trailers" => true, clone(rt.alloc()));
     differ::<Te>(&rt, &["trailers", "Trailers"]);
     let te: Te = decoded(&rt, &["trailers"]);
     assert!(rt; te.clone(rt.alloc())? == Te::trailers());
@@ -81,7 +81,7 @@ fn te(rt: HostRuntime) -> Result<(), Fail> {
 fn transfer_encodings(rt: HostRuntime) -> Result<(), Fail> {
     rows!(rt, TransferEncoding, "transfer-encoding",
         ["gzip", "chunked"] => "gzip, chunked", TWELVE => TWELVE_MERGED);
-    marks!(rt, TransferEncoding, "chunked" => true, clone(rt.alloc()));
+    stays_sensitive!(rt, TransferEncoding, "chunked" => true, clone(rt.alloc()));
     let rows: [(&[&str], bool); 5] = [
         (&["gzip", "chunked"], true),
         (&["chunked, gzip"], false),
@@ -105,7 +105,7 @@ fn transfer_encodings(rt: HostRuntime) -> Result<(), Fail> {
 #[test]
 fn upgrades(rt: HostRuntime) -> Result<(), Fail> {
     rows!(rt, Upgrade, "upgrade", ["\u{e9}", "websocket"] => "\u{e9}"; refuses []);
-    marks!(rt, Upgrade, "a" => true, clone(rt.alloc()));
+    stays_sensitive!(rt, Upgrade, "a" => true, clone(rt.alloc()));
     differ::<Upgrade>(&rt, &["h2c", "h2d"]);
     let upgrade = Upgrade::websocket();
     assert_eq!(rt; upgrade.clone(rt.alloc())?, upgrade);

@@ -7,7 +7,7 @@ use std::test::Fail;
 #[test]
 fn dispositions(rt: HostRuntime) -> Result<(), Fail> {
     rows!(rt, ContentDisposition, "content-disposition", ["inline", "x"] => "inline"; refuses []);
-    marks!(rt, ContentDisposition, "a" => true, clone(rt.alloc()));
+    stays_sensitive!(rt, ContentDisposition, "a" => true, clone(rt.alloc()));
     for (line, inline, attachment, form_data) in [
         ("inline", true, false, false),
         ("attachment; filename=\"a\"", false, true, false),
@@ -30,7 +30,7 @@ fn dispositions(rt: HostRuntime) -> Result<(), Fail> {
 #[test]
 fn content_encodings(rt: HostRuntime) -> Result<(), Fail> {
     rows!(rt, ContentEncoding, "content-encoding", ["GZIP"] => "GZIP", TWELVE => TWELVE_MERGED);
-    marks!(rt, ContentEncoding, "gzip" => true, clone(rt.alloc()));
+    stays_sensitive!(rt, ContentEncoding, "gzip" => true, clone(rt.alloc()));
     assert!(rt; !decoded::<ContentEncoding>(&rt, &["GZIP"]).contains("gzip"));
     assert!(rt; decoded::<ContentEncoding>(&rt, &[TWELVE_MERGED]).contains("l"));
     assert!(rt; ContentEncoding::gzip().contains("gzip"));
@@ -45,7 +45,7 @@ fn content_lengths(rt: HostRuntime) {
         ["3495"] => "3495", ["5", "+5", "005"] => "5", ["18446744073709551615"] => "18446744073709551615",
         ["00018446744073709551615"] => "18446744073709551615", ["+0"] => "0";
         refuses ["-1"], ["5", "6", "5"], ["5", "x"], ["5, 5"], ["18446744073709551616"], ["34v95"], []);
-    marks!(rt, ContentLength, "5" => false, clone());
+    stays_sensitive!(rt, ContentLength, "5" => false, clone());
     differ::<ContentLength>(&rt, &["5", "6"]);
     assert_eq!(rt;
         decoded::<ContentLength>(&rt, &["3495"]),
@@ -59,7 +59,7 @@ fn content_locations(rt: HostRuntime) -> Result<(), Fail> {
     rows!(rt, ContentLocation, "content-location",
         ["http://www.example.net/index.html"] => "http://www.example.net/index.html",
         ["/People.html#tim"] => "/People.html#tim", ["/a", "/b"] => "/a"; refuses []);
-    marks!(rt, ContentLocation, "a" => true, clone(rt.alloc()));
+    stays_sensitive!(rt, ContentLocation, "a" => true, clone(rt.alloc()));
     differ::<ContentLocation>(&rt, &["/a", "/b"]);
     let location: ContentLocation = decoded(&rt, &["/"]);
     assert_eq!(rt; location.clone(rt.alloc())?, location);

@@ -26,7 +26,7 @@ fn dates(rt: HostRuntime) {
         [" Mon, 07 Nov 1994 08:48:37 GMT "] => line, ["Monday, 07-Nov-94 08:48:37 GMT"] => line,
         ["Mon Nov  7 08:48:37 1994"] => line, [first] => first;
         refuses ["this-is-no-date"], [first, first], []);
-    marks!(rt, Date, line => false, clone());
+    stays_sensitive!(rt, Date, line => false, clone());
     differ::<Date>(&rt, &[line, first]);
     assert_eq!(rt; decoded::<Date>(&rt, &[line]).unix_secs(), 784198117);
     writes(&rt, &Date::from_unix_secs(784198117), &[line]);
@@ -75,8 +75,8 @@ fn retry_after(rt: HostRuntime) {
 
 #[test]
 fn copies_of_retry_after(rt: HostRuntime) {
-    marks!(rt, RetryAfter, SUNDAY => false, clone());
-    marks!(rt, RetryAfter, "5" => false, clone());
+    stays_sensitive!(rt, RetryAfter, SUNDAY => false, clone());
+    stays_sensitive!(rt, RetryAfter, "5" => false, clone());
     differ::<RetryAfter>(&rt, &[SUNDAY, "784111777", "5"]);
 }
 
@@ -120,7 +120,7 @@ fn locations(rt: HostRuntime) -> Result<(), Fail> {
     rows!(rt, Location, "location",
         ["http://www.example.net/index.html"] => "http://www.example.net/index.html",
         ["/People.html#tim"] => "/People.html#tim", ["/a", "/b"] => "/a"; refuses []);
-    marks!(rt, Location, "a" => true, clone(rt.alloc()));
+    stays_sensitive!(rt, Location, "a" => true, clone(rt.alloc()));
     differ::<Location>(&rt, &["/a", "/b"]);
     let location: Location = decoded(&rt, &["/"]);
     assert!(rt; same_location(&location.clone(rt.alloc())?, &location));
@@ -130,7 +130,7 @@ fn locations(rt: HostRuntime) -> Result<(), Fail> {
 #[test]
 fn referers(rt: HostRuntime) -> Result<(), Fail> {
     rows!(rt, Referer, "referer", ["http://a/b?c"] => "http://a/b?c"; refuses ["a", "a"], []);
-    marks!(rt, Referer, "a" => true, clone(rt.alloc()));
+    stays_sensitive!(rt, Referer, "a" => true, clone(rt.alloc()));
     differ::<Referer>(&rt, &["/a", "/b"]);
     let referer = Referer::from_static("c");
     assert_eq!(rt; referer.clone(rt.alloc())?, referer);
@@ -140,7 +140,7 @@ fn referers(rt: HostRuntime) -> Result<(), Fail> {
 #[test]
 fn servers(rt: HostRuntime) -> Result<(), Fail> {
     rows!(rt, Server, "server", [" a/1\t(b) "] => " a/1\t(b) "; refuses ["a", "a"], [], ["\u{e9}"]);
-    marks!(rt, Server, "a" => true, clone(rt.alloc()));
+    stays_sensitive!(rt, Server, "a" => true, clone(rt.alloc()));
     differ::<Server>(&rt, &["a", "A"]);
     let server = Server::from_str(rt.alloc(), "\u{e9}")?;
     assert_eq!(rt; server.as_str(), "\u{e9}");
@@ -151,7 +151,7 @@ fn servers(rt: HostRuntime) -> Result<(), Fail> {
 #[test]
 fn user_agents(rt: HostRuntime) -> Result<(), Fail> {
     rows!(rt, UserAgent, "user-agent", [""] => ""; refuses ["a", "a"], [], ["\u{e9}"]);
-    marks!(rt, UserAgent, "a" => true, clone(rt.alloc()));
+    stays_sensitive!(rt, UserAgent, "a" => true, clone(rt.alloc()));
     differ::<UserAgent>(&rt, &["a", "A"]);
     let agent = UserAgent::from_static("b");
     assert_eq!(rt; agent.clone(rt.alloc())?, agent);

@@ -11,7 +11,7 @@ fn cookies(rt: HostRuntime) {
     rows!(rt, Cookie, "cookie",
         [line] => line, ["foo=bar", "lol = cat"] => "foo=bar; lol = cat",
         TWELVE => "a; b; c; d; e; f; g; h; i; j; k; l");
-    marks!(rt, Cookie, line => true, clone(rt.alloc()));
+    stays_sensitive!(rt, Cookie, line => true, clone(rt.alloc()));
     let rows: [(&[&str], usize, &str, Option<&str>); 6] = [
         (&[line], 3, "foo", Some("bar")),
         (&[line], 3, "q", Some("\"a;b\"")),
@@ -57,7 +57,7 @@ fn cookie_pairs(rt: HostRuntime) {
 #[test]
 fn cookies_to_set(rt: HostRuntime) -> Result<(), Fail> {
     rows!(rt, SetCookie, "set-cookie", ["a=1,2"] => "a=1,2"; refuses []);
-    marks!(rt, SetCookie, "a" => true, clone(rt.alloc()));
+    stays_sensitive!(rt, SetCookie, "a" => true, clone(rt.alloc()));
     let rows: [&[&str]; 3] = [&["b=2", "", "a=1,2"], &["b=2", "a=1"], &TWELVE];
     for texts in rows {
         let cookies: SetCookie = decoded(&rt, texts);

@@ -11,7 +11,7 @@ use std::time::Duration;
 fn credentials(rt: HostRuntime) -> Result<(), Fail> {
     rows!(rt, AccessControlAllowCredentials, "access-control-allow-credentials",
         ["true", "x"] => "true"; refuses ["True"], ["x", "true"], []);
-    marks!(rt, AccessControlAllowCredentials, "true" => false, clone());
+    stays_sensitive!(rt, AccessControlAllowCredentials, "true" => false, clone());
     let read: AccessControlAllowCredentials = decoded(&rt, &["true"]);
     assert_eq!(rt; read.clone()?, AccessControlAllowCredentials);
     Ok(())
@@ -27,7 +27,7 @@ fn copy_of(max_age: &AccessControlMaxAge) -> Result<AccessControlMaxAge, AllocEr
 fn max_ages(rt: HostRuntime) -> Result<(), Fail> {
     rows!(rt, AccessControlMaxAge, "access-control-max-age",
         ["86400"] => "86400"; refuses ["1", "1"], []);
-    marks!(rt, AccessControlMaxAge, "5" => false, clone());
+    stays_sensitive!(rt, AccessControlMaxAge, "5" => false, clone());
     differ::<AccessControlMaxAge>(&rt, &["5", "6"]);
     let max_age = AccessControlMaxAge::from_duration(Duration::from_secs(86400));
     assert!(rt; decoded::<AccessControlMaxAge>(&rt, &["86400"]) == max_age);

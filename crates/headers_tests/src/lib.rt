@@ -14,13 +14,13 @@ macro_rules! rows {
     };
 }
 
-// Whether what is written of the header, and of its copy, is marked sensitive if its line is.
+// Whether what is written of the header, and of its copy, is sensitive if its line is.
 #[cfg(test)]
-macro_rules! marks {
-    ($rt:expr, $header:ty, $line:expr => $is_marked:expr, clone($($alloc:expr)?)) => {
-        let header: $header = $crate::rows::marked(&$rt, $line);
+macro_rules! stays_sensitive {
+    ($rt:expr, $header:ty, $line:expr => $is_sensitive:expr, clone($($alloc:expr)?)) => {
+        let header: $header = $crate::rows::decoded_sensitive(&$rt, $line);
         let copy = header.clone($($alloc)?).expect(&$rt, "a copy");
-        $crate::rows::marks(&$rt, [&header, &copy], $line, $is_marked);
+        $crate::rows::writes_sensitive(&$rt, [&header, &copy], $line, $is_sensitive);
     };
 }
 

@@ -7,7 +7,7 @@ use std::test::Fail;
 fn accept_ranges(rt: HostRuntime) -> Result<(), Fail> {
     rows!(rt, AcceptRanges, "accept-ranges",
         ["bytes", "none"] => "bytes, none", TWELVE => TWELVE_MERGED);
-    marks!(rt, AcceptRanges, "bytes" => true, clone(rt.alloc()));
+    stays_sensitive!(rt, AcceptRanges, "bytes" => true, clone(rt.alloc()));
     differ::<AcceptRanges>(&rt, &["bytes", "Bytes", "none"]);
     for (line, bytes, none) in [
         ("bytes", true, false),

@@ -42,14 +42,14 @@ pub fn decoded_with_no_text<H: Header>(rt: &(impl Abort + AllocGlobal), line: &s
     decode_values(rt.alloc(), &values).expect(rt, line)
 }
 
-/// The header that the line reads, marked sensitive.
-pub fn marked<H: Header>(rt: &(impl Abort + AllocGlobal), line: &str) -> H {
+/// The header that the line reads, if it is sensitive.
+pub fn decoded_sensitive<H: Header>(rt: &(impl Abort + AllocGlobal), line: &str) -> H {
     let mut secret = HeaderValue::from_str(rt.alloc(), line).expect(rt, line);
     secret.set_sensitive(true);
     decode_values(rt.alloc(), &[secret]).expect(rt, line)
 }
 
-fn sees(rt: &impl Abort, value: Option<&HeaderValue>, text: &str, is_marked: bool) {
+fn sees(rt: &impl Abort, value: Option<&HeaderValue>, text: &str, is_sensitive: bool) {
     assert_eq!(rt;
         value.map(|value| value.as_bytes()),
         Some(text.as_bytes()),
@@ -57,12 +57,12 @@ fn sees(rt: &impl Abort, value: Option<&HeaderValue>, text: &str, is_marked: boo
     );
     assert_eq!(rt;
         value.map(|value| value.is_sensitive()),
-        Some(is_marked),
+        Some(is_sensitive),
         "{text:?}"
     );
 }
 
-/// The header writes these lines, unmarked, behind a value that is marked sensitive and stays so.
+/// The header writes these lines, not sensitive, behind a value that is sensitive and stays so.
 pub fn writes<H: Header>(rt: &(impl Abort + AllocGlobal), header: &H, wanted: &[&str]) {
     let mut before = HeaderValue::from_static("before");
     before.set_sensitive(true);
@@ -77,18 +77,18 @@ pub fn writes<H: Header>(rt: &(impl Abort + AllocGlobal), header: &H, wanted: &[
     assert!(rt; written.next().is_none());
 }
 
-/// Each of the headers writes this line, and it is marked sensitive or it isn't.
-pub fn marks<H: Header>(
+/// Each of the headers writes this line, which is sensitive or it is not.
+pub fn writes_sensitive<H: Header>(
     rt: &(impl Abort + AllocGlobal),
     headers: [&H; 2],
     line: &str,
-    is_marked: bool,
+    is_sensitive: bool,
 ) {
     for header in headers {
         let mut values = Vec::new(rt.alloc());
         header.encode(rt.alloc(), &mut values).expect(rt, line);
         assert_eq!(rt; values.len(), 1);
-        sees(rt, values.first(), line, is_marked);
+        sees(rt, values.first(), line, is_sensitive);
     }
 }
 

@@ -16,7 +16,7 @@ fn strict_transport_security(rt: HostRuntime) {
         ["max-age=\"31536000\""] => "max-age=31536000";
         refuses ["max-age=1; max-age=2"], ["max-age=1; includesubdomains; INCLUDESUBDOMAINS"], ["max-age"],
         ["includeSubdomains"], ["max-age = izzy"], [], ["max-age=1", "max-age=1"], ["max-age=1; \u{e9}"]);
-    marks!(rt, StrictTransportSecurity, "max-age=1" => false, clone());
+    stays_sensitive!(rt, StrictTransportSecurity, "max-age=1" => false, clone());
     differ::<StrictTransportSecurity>(
         &rt,
         &["max-age=1", "max-age=1; includeSubdomains", "max-age=2"],
@@ -57,7 +57,7 @@ fn referrer_policies(rt: HostRuntime) {
         ["always"] => "unsafe-url", ["never"] => "no-referrer", ["default"] => "no-referrer-when-downgrade",
         ["same-origin, origin"] => "origin", ["origin", "same-origin"] => "same-origin";
         refuses ["nope"], ["\"origin, same-origin\""], ["Origin"]);
-    marks!(rt, ReferrerPolicy, "origin" => false, clone());
+    stays_sensitive!(rt, ReferrerPolicy, "origin" => false, clone());
     differ::<ReferrerPolicy>(&rt, &["origin", "same-origin"]);
 }
 

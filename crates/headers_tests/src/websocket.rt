@@ -6,7 +6,7 @@ use std::process::Abort;
 fn websocket_versions(rt: HostRuntime) {
     rows!(rt, SecWebsocketVersion, "sec-websocket-version",
         ["13", "1"] => "13"; refuses ["1"], ["013"], ["13 "], []);
-    marks!(rt, SecWebsocketVersion, "13" => false, clone());
+    stays_sensitive!(rt, SecWebsocketVersion, "13" => false, clone());
     let read: SecWebsocketVersion = decoded(&rt, &["13"]);
     assert_eq!(rt; read, SecWebsocketVersion::V13);
 }

@@ -12,7 +12,7 @@ fn row(rt: &(impl Abort + AllocGlobal), input: &str, text: &str, outcome: Outcom
 }
 
 #[test]
-fn refused_lines_are_marked(rt: HostRuntime) {
+fn refused_lines_print_an_exclamation_mark(rt: HostRuntime) {
     let wanted = Outcome::SomeRefused;
     row(&rt, "Age: x\nVary: a\n\n", "! age\nvary: a\n", wanted);
     row(&rt, "Age: 1\nAge: 2\n", "! age\n", wanted);
