@@ -74,7 +74,7 @@ impl IfRange {
                 None => true,
             },
             Named::Tag(own) => match etag {
-                Some(etag) => !own.view().strong_eq(&tag_of(etag).view()),
+                Some(etag) => !own.strong_eq(tag_of(etag)),
                 None => true,
             },
         }

@@ -165,7 +165,14 @@ impl EntityTag {
         ensures { IsTrue result ↔ AreTags StronglyEqual bytes.now self.now.bytes }
     {
         // What equals a tag is one.
-        !self.view().is_weak() && bytes == self.value.as_bytes()
+        bytes == self.value.as_bytes() && !self.view().is_weak()
+    }
+
+    /// Whether the two are strongly equal.
+    pub fn strong_eq(&self, other: &EntityTag) -> bool
+        ensures { IsTrue result ↔ AreTags StronglyEqual self.now.bytes other.now.bytes }
+    {
+        other.strong_eq_bytes(self.value.as_bytes())
     }
 
     /// Whether the bytes are an entity tag that is weakly equal to this one.
