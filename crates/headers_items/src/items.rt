@@ -26,7 +26,15 @@ impl<'a, S: Separator> Model for Items<'a, S> {
 
     ghost Value = { ItemsState };
 
-    ghost view = { λ s. record { text = s.text.now; separator = S.BYTE; start = s.start; is_done = s.is_done; place = s.scan.place; is_ended = s.scan.is_ended; searches = s.scan.searches } };
+    ghost view = { λ s. record {
+      text = s.text.now;
+      separator = S.BYTE;
+      start = s.start;
+      is_done = s.is_done;
+      place = s.scan.place;
+      is_ended = s.scan.is_ended;
+      searches = s.scan.searches;
+    } };
 
     ghost invariant = { λ s. ItemsInvariant S.BYTE s.text.now s.scan s.start s.is_done };
 }
@@ -38,7 +46,8 @@ fn next_cut(scan: &mut Scan<'_>) -> Option<usize>
     ensures found { FindsCut scan.old.separator scan.old.bytes scan.old.place result }
     ensures place { scan.new.place ≡ after_cut scan.old.bytes result }
     ensures is_ended { scan.new.is_ended ≡ is_none result }
-    ensures so_far { scan.new.searches ≡ hits scan.old.separator scan.old.bytes scan.new.place + end_search scan.new.is_ended }
+    ensures so_far { scan.new.searches
+        ≡ hits scan.old.separator scan.old.bytes scan.new.place + end_search scan.new.is_ended }
     ensures bytes { scan.new.bytes ≡ scan.old.bytes }
     ensures separator { scan.new.separator ≡ scan.old.separator }
 {
@@ -69,7 +78,15 @@ impl<'a, S: Separator> Items<'a, S> {
 
     /// What a value that is no text has.
     pub(crate) fn none() -> Items<'a, S>
-        ensures { result ≡ record { text = []; separator = S.BYTE; start = 0; is_done = true; place = 0; is_ended = false; searches = 0 } }
+        ensures { result ≡ record {
+          text = [];
+          separator = S.BYTE;
+          start = 0;
+          is_done = true;
+          place = 0;
+          is_ended = false;
+          searches = 0;
+        } }
     {
         Items {
             text: "",

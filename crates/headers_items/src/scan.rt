@@ -38,9 +38,17 @@ impl<'a> Model for Scan<'a> {
 
     ghost Value = { ScanState };
 
-    ghost view = { λ s. record { bytes = s.bytes.now; separator = s.separator; place = s.place; is_ended = s.is_ended; searches = hits s.separator s.bytes.now s.place + end_search s.is_ended } };
+    ghost view = { λ s. record {
+      bytes = s.bytes.now;
+      separator = s.separator;
+      place = s.place;
+      is_ended = s.is_ended;
+      searches = hits s.separator s.bytes.now s.place + end_search s.is_ended;
+    } };
 
-    ghost invariant = { λ s. (s.separator ≢ quote) × (s.place ≤ length s.bytes.now) × (s.is_open ≡ not (is_even (quotes_before s.bytes.now s.place))) × (s.is_ended ≡ true → s.place ≡ length s.bytes.now) };
+    ghost invariant = { λ s. (s.separator ≢ quote) × (s.place ≤ length s.bytes.now)
+        × (s.is_open ≡ not (is_even (quotes_before s.bytes.now s.place)))
+        × (s.is_ended ≡ true → s.place ≡ length s.bytes.now) };
 }
 
 // A search, out of line: with its code among a walk's, a walk over commas takes 2.8 times as long.
@@ -108,7 +116,13 @@ impl<'a> Scan<'a> {
     /// A scan from the first byte on, for a separator that is no quote.
     pub fn new(bytes: &'a [u8], separator: u8) -> Scan<'a>
         requires { separator ≢ QUOTE }
-        ensures { result ≡ record { bytes = bytes.now; separator = separator; place = 0; is_ended = false; searches = 0 } }
+        ensures { result ≡ record {
+          bytes = bytes.now;
+          separator = separator;
+          place = 0;
+          is_ended = false;
+          searches = 0;
+        } }
     {
         Scan {
             bytes,
@@ -126,7 +140,8 @@ impl<'a> Scan<'a> {
         ensures place { self.new.place ≡ place_after self.old.bytes result }
         ensures is_ended { self.new.is_ended ≡ is_none result }
         ensures searches { self.new.searches ≡ self.old.searches + (if self.old.is_ended then 0 else 1) }
-        ensures so_far { self.new.searches ≡ hits self.new.separator self.new.bytes self.new.place + end_search self.new.is_ended }
+        ensures so_far { self.new.searches
+            ≡ hits self.new.separator self.new.bytes self.new.place + end_search self.new.is_ended }
         ensures bytes { self.new.bytes ≡ self.old.bytes }
         ensures separator { self.new.separator ≡ self.old.separator }
     {

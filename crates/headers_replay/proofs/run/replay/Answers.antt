@@ -14,5 +14,10 @@ returns g c =
     let held : vec_len c.in_ok-records.records ≡ length c.in_ok-records.records.items =
     c.in_ok-records.ensures.ran.2.1 ∙ ap length (sym c.in_ok-records.ensures.ran.2.0) in
     let all : c.loop-record.record-index ≡ length c.in_ok-records.records.items =
-    omega (arith, c.loop-record-test.false, c.loop-record.auto.record-index-end, ap length c.deref-record-items.ensures.value) in
+    omega (
+      arith,
+      c.loop-record-test.false,
+      c.loop-record.auto.record-index-end,
+      ap length c.deref-record-items.ensures.value,
+    ) in
     c.loop-record.invariant.0 ∙ all ∙ sym held ∙ count
