@@ -29,7 +29,7 @@ cuts_nothing : cuts 44 true [] ≡ [] ∷ []
 unfolding pieces places
 cuts_nothing = sym (pieces_cuts 44 [] 0 0 comma_is_separator.no_quote refl)
 
--- inside the quotes nothing is_counting_place
+-- no place inside the quotes is a counting place
 cuts_inside : (opaque : List ℕ) → list_all is_tag_byte opaque ≡ true
     → cuts 44 false (opaque ++ quote ∷ []) ≡ (opaque ++ quote ∷ []) ∷ []
 cuts_inside [] h = cuts_quote 44 false quote [] refl ∙ ap (onto_first quote) cuts_nothing

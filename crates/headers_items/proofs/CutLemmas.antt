@@ -56,7 +56,7 @@ onto-append : (x : ℕ) (ps qs : List (List ℕ)) → HasPiece ps → onto_first
 unfolding HasPiece
 onto-append x ps qs h = rw (h.2) refl
 
--- a step of the pass: at a quote, at a separator that is_counting_place, at another byte
+-- a step of the pass: at a quote, at a separator at a counting place, at another byte
 pub cuts_quote : (sep : ℕ) (even : Bool) (x : ℕ) (xs : List ℕ) → is_quote x ≡ true
     → cuts sep even (x ∷ xs) ≡ onto_first x (cuts sep (not even) xs)
 unfolding cuts

@@ -72,7 +72,7 @@ NoCut-more_quote sep s i p m ne h f y k low high =
     (cases_lt k m.place))
     (cases_lt k p)
 
--- a scan went from s to t, and passed no place that is_counting_place
+-- a scan went from s to t, and passed no counting place
 pub record PassesCuts (s t : ScanState) : Type 0 where
   pub bytes : t.bytes ≡ s.bytes
   pub separator : t.separator ≡ s.separator

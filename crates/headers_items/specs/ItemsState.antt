@@ -35,7 +35,7 @@ walk_over sep s =
       searches = 0;
     }
 
--- no place from i up to j is_counting_place
+-- no place from i up to j is a counting place
 abbrev pub NoCut : ℕ → List ℕ → ℕ → ℕ → Type 0
 NoCut sep s i j = (k : ℕ) → i ≤ k → k < j → is_counting_place sep s k ≡ false
 

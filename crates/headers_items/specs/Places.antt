@@ -19,7 +19,7 @@ quotes_before s p = count_by is_quote (take p s)
 abbrev pub is_even : ℕ → Bool
 is_even n = n % 2 == 0
 
--- place p of s is_counting_place: the separator stands there, with an even number of quotes before it
+-- place p of s is a counting place: the separator stands there, with an even number of quotes before it
 unfoldable pub is_counting_place : ℕ → List ℕ → ℕ → Bool
 is_counting_place sep s p = slice_index s p == sep && is_even (quotes_before s p)
 
@@ -53,7 +53,7 @@ marks sep s = count_by is_quote s + count_by (λ b. b == sep) s
 unfoldable pub hits : ℕ → List ℕ → ℕ → ℕ
 hits sep s p = quotes_before s p + count_by (is_counting_place sep s) (places 0 p)
 
--- place k of s is a quote or is_counting_place
+-- place k of s is a quote or a counting place
 abbrev pub is_hit : ℕ → List ℕ → ℕ → Bool
 is_hit sep s k = is_quote (slice_index s k) || is_counting_place sep s k
 

@@ -39,7 +39,7 @@ impl<'a, S: Separator> Model for Items<'a, S> {
     ghost invariant = { λ s. ItemsInvariant S.BYTE s.text.now s.scan s.start s.is_done };
 }
 
-// The next separator that is_counting_place; the scan passes over the quotes before it.
+// The next separator at a counting place; the scan passes over the quotes before it.
 fn next_cut(scan: &mut Scan<'_>) -> Option<usize>
     requires separator { scan.old.separator ≢ quote }
     requires within { scan.old.place ≤ length scan.old.bytes }

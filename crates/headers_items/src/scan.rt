@@ -9,7 +9,7 @@ use std::marker::Model;
 
 const QUOTE: u8 = b'"';
 
-/// A quote, or a separator that is_counting_place.
+/// A quote, or a separator at a counting place.
 #[derive(Clone, Copy, Debug, PartialEq, Eq)]
 pub struct Mark {
     /// Where it stands, counted in bytes from 0.
@@ -87,7 +87,7 @@ fn first_quote_or(separator: u8, bytes: &[u8]) -> Option<usize>
     }
 }
 
-// The next quote or separator that is_counting_place, from a place on that stands inside quotes or outside.
+// The next quote, or separator at a counting place, from a place on that stands inside quotes or outside.
 fn find_mark(bytes: &[u8], separator: u8, from: usize, is_open: bool) -> Option<Mark>
     requires separator { separator ≢ QUOTE }
     requires from { from ≤ length bytes.now }

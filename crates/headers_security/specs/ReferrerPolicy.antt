@@ -58,7 +58,7 @@ policy_named word = option_map (λ row. row.1) (find (λ row. bytes_eq word row.
 abbrev pub policies : List Line → List Policy
 policies lines = filter_map policy_named (parts_of_lines comma lines)
 
--- the last of them is_counting_place, and its word is written
+-- the last of them is read, and its word is written
 abbrev pub referrer_grammar : Grammar ReferrerPolicy Policy
 referrer_grammar =
     record {

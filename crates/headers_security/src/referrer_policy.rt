@@ -23,7 +23,7 @@ enum Policy {
 }
 
 /// How much a request tells of the page that it comes from (W3C Referrer Policy, section 8.1). Of all
-/// lines that are text, cut at every comma, the last known word is_counting_place; with none it is refused.
+/// lines that are text, cut at every comma, the last known word is read; with none it is refused.
 #[derive(Clone, Debug, PartialEq, Eq, Hash, Drop)]
 pub struct ReferrerPolicy {
     policy: Policy,
