@@ -11,7 +11,7 @@ use Rattle.headers_items.proofs.PlacesLemmas.{counting_place_other}
 use Rattle.std.proofs.lemmas.Bool.{or_parts, cases_lt, cases_Bool}
 use Rattle.std.proofs.lemmas.List.{length-map}
 
--- n places from i on, and what of them is_counting_place
+-- n places from i on, and those of them that are counting places
 pub filter_places_none : (f : ℕ → Bool) (i n : ℕ) → ((k : ℕ) → i ≤ k → k < i + n → f k ≡ false)
     → filter f (places i n) ≡ []
 unfolding places

@@ -37,7 +37,7 @@ outside_none sep s i j h k low high =
     let parts = or_parts _ _ (h k low high) in
     or_from _ _ parts.0 (counting_place_other sep s k (eqb-false _ _ parts.1))
 
--- inside quotes nothing is_counting_place before the next quote
+-- inside quotes no place before the next quote is a counting place
 inside_none : (sep : ℕ) (s : List ℕ) (i j : ℕ) → j ≤ length s → is_even (quotes_before s i) ≡ false → NoQuote s i j
     → NoHit sep s i j
 inside_none sep s i j l odd h k low high =

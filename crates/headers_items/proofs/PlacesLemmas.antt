@@ -81,7 +81,7 @@ unfolding hits places
 hits_zero sep [] = refl
 hits_zero sep (x ∷ s) = refl
 
--- a place is_counting_place by its byte and the parity before it
+-- a place is a counting place by its byte and the parity before it
 pub counting_place_parts : (sep : ℕ) (s : List ℕ) (p : ℕ) → is_counting_place sep s p ≡ true → (get_or s p 0 ≡ sep)
     × (is_even (quotes_before s p) ≡ true)
 unfolding is_counting_place
