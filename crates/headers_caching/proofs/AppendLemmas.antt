@@ -1,7 +1,7 @@
 -- Pieces put one behind the other are the pieces joined.
 use Rattle.std.proofs.Common.{◌≡◌, ℕ, ◌<◌, true, false, ◌==◌, ◌&&◌, nat_lt, nat_le, not, List, [], ◌∷◌, ◌++◌, length}
-use Rattle.std.proofs.Common.{codes, refl, sym, ◌∙◌, ap, subst, arith, append_assoc, length-append}
-use Rattle.std.specs.List.{list_all}
+use Rattle.std.proofs.Common.{refl, sym, ◌∙◌, ap, subst, arith, append_assoc, length-append}
+use Rattle.std.specs.List.{list_all, flat_map}
 use Rattle.std.proofs.lemmas.Bool.{and_parts, and_from, or_right, le-leb, ne_eqb, ltb-true}
 use Rattle.std.proofs.lemmas.List.{append-nil}
 use Rattle.std.proofs.lemmas.List.Folds.{list_all-append}
@@ -15,13 +15,22 @@ use Rattle.headers_caching.specs.Printing.{separated, append_all}
 use Rattle.headers_syntax.proofs.PlainLemmas.{is_plain, is_piece, plain_bounds, list_all-weaker}
 
 -- some pieces first, and then the others
-pub append_then : (text next last : List ℕ) (xs ys : List (List ℕ)) → next ≡ append_all text xs
-    → last ≡ append_all next ys → last ≡ append_all text (xs ++ ys)
-append_then text next last xs ys e h = h ∙ ap (λ t. append_all t ys) e ∙ sym (both text xs ys)
-  where
-    both : (t : List ℕ) (xs ys : List (List ℕ)) → append_all t (xs ++ ys) ≡ append_all (append_all t xs) ys
-    both t [] ys = refl
-    both t (x ∷ xs) ys = both (separated t ++ x) xs ys
+append_all-append : (text : List ℕ) (xs ys : List (List ℕ))
+    → append_all text (xs ++ ys) ≡ append_all (append_all text xs) ys
+append_all-append text [] ys = refl
+append_all-append text (x ∷ xs) ys = append_all-append (separated text ++ x) xs ys
+
+-- the pieces of each row behind a text, row by row
+abbrev pub row_by_row : {X : Type 0} → (X → List (List ℕ)) → List ℕ → List X → List ℕ
+row_by_row pieces text [] = text
+row_by_row pieces text (row ∷ rows) = row_by_row pieces (append_all text (pieces row)) rows
+
+row_by_row-is : {X : Type 0} (pieces : X → List (List ℕ)) (text : List ℕ) (rows : List X)
+    → row_by_row pieces text rows ≡ append_all text (flat_map pieces rows)
+row_by_row-is pieces text [] = refl
+row_by_row-is pieces text (row ∷ rows) =
+    row_by_row-is pieces (append_all text (pieces row)) rows
+    ∙ sym (append_all-append text (pieces row) (flat_map pieces rows))
 
 -- what follows the first of several pieces
 abbrev tail_of : List (List ℕ) → List ℕ
@@ -74,187 +83,24 @@ merge_value (x ∷ y ∷ ys) h =
 pub merge_IsFieldValue : (xs : List (List ℕ)) → list_all is_piece xs ≡ true → IsFieldValue (merge 44 xs)
 merge_IsFieldValue xs h = AllPass-from_list_all is_value_byte (merge 44 xs) (merge_value xs h)
 
--- the directives, pushed one after the other
-pub printed_text : (v d : Directives) → v ≡ d → FitRows v number_rows
-    → (t0 t1 t2 t3 t4 t5 t6 t7 t8 t9 t10 t11 t12 t13 t14 : List ℕ) → t0 ≡ []
-    → t1 ≡ append_all t0 (print_flag (codes "no-cache") v.no_cache)
-    → t2 ≡ append_all t1 (print_flag (codes "no-store") v.no_store)
-    → t3 ≡ append_all t2 (print_flag (codes "no-transform") v.no_transform)
-    → t4 ≡ append_all t3 (print_flag (codes "only-if-cached") v.only_if_cached)
-    → t5 ≡ append_all t4 (print_flag (codes "must-revalidate") v.must_revalidate)
-    → t6 ≡ append_all t5 (print_flag (codes "public") v.public)
-    → t7 ≡ append_all t6 (print_flag (codes "private") v.private)
-    → t8 ≡ append_all t7 (print_flag (codes "immutable") v.immutable)
-    → t9 ≡ append_all t8 (print_flag (codes "must-understand") v.must_understand)
-    → t10 ≡ append_all t9 (print_flag (codes "proxy-revalidate") v.proxy_revalidate)
-    → t11 ≡ append_all t10 (print_number (codes "max-age") v.max_age)
-    → t12 ≡ append_all t11 (print_number (codes "max-stale") v.max_stale)
-    → t13 ≡ append_all t12 (print_number (codes "min-fresh") v.min_fresh)
-    → t14 ≡ append_all t13 (print_number (codes "s-maxage") v.s_max_age)
-    → t14 ≡ merge 44 (printed d)
-printed_text v d same fits t0 t1 t2 t3 t4 t5 t6 t7 t8 t9 t10 t11 t12 t13 t14 start e1 e2 e3 e4 e5 e6 e7 e8 e9 e10 e11
-    e12 e13 e14 =
-    let g10 : t10 ≡ append_all t9 ((print_flag (codes "proxy-revalidate") v.proxy_revalidate) ++ []) =
-    append_then t9 t10 t10 (print_flag (codes "proxy-revalidate") v.proxy_revalidate) ([]) e10 refl in
-    let g9 : t10
-    ≡ append_all t8
-    ((print_flag (codes "must-understand") v.must_understand)
-    ++ ((print_flag (codes "proxy-revalidate") v.proxy_revalidate) ++ [])) =
-    append_then t8 t9 t10 (print_flag (codes "must-understand") v.must_understand)
-    (((print_flag (codes "proxy-revalidate") v.proxy_revalidate) ++ [])) e9 g10 in
-    let g8 : t10
-    ≡ append_all t7
-    ((print_flag (codes "immutable") v.immutable)
-    ++ ((print_flag (codes "must-understand") v.must_understand)
-    ++ ((print_flag (codes "proxy-revalidate") v.proxy_revalidate) ++ []))) =
-    append_then t7 t8 t10 (print_flag (codes "immutable") v.immutable)
-    (((print_flag (codes "must-understand") v.must_understand)
-    ++ ((print_flag (codes "proxy-revalidate") v.proxy_revalidate) ++ []))) e8 g9 in
-    let g7 : t10
-    ≡ append_all t6
-    ((print_flag (codes "private") v.private)
-    ++ ((print_flag (codes "immutable") v.immutable)
-    ++ ((print_flag (codes "must-understand") v.must_understand)
-    ++ ((print_flag (codes "proxy-revalidate") v.proxy_revalidate) ++ [])))) =
-    append_then t6 t7 t10 (print_flag (codes "private") v.private)
-    (((print_flag (codes "immutable") v.immutable)
-    ++ ((print_flag (codes "must-understand") v.must_understand)
-    ++ ((print_flag (codes "proxy-revalidate") v.proxy_revalidate) ++ [])))) e7 g8 in
-    let g6 : t10
-    ≡ append_all t5
-    ((print_flag (codes "public") v.public)
-    ++ ((print_flag (codes "private") v.private)
-    ++ ((print_flag (codes "immutable") v.immutable)
-    ++ ((print_flag (codes "must-understand") v.must_understand)
-    ++ ((print_flag (codes "proxy-revalidate") v.proxy_revalidate) ++ []))))) =
-    append_then t5 t6 t10 (print_flag (codes "public") v.public)
-    (((print_flag (codes "private") v.private)
-    ++ ((print_flag (codes "immutable") v.immutable)
-    ++ ((print_flag (codes "must-understand") v.must_understand)
-    ++ ((print_flag (codes "proxy-revalidate") v.proxy_revalidate) ++ []))))) e6 g7 in
-    let g5 : t10
-    ≡ append_all t4
-    ((print_flag (codes "must-revalidate") v.must_revalidate)
-    ++ ((print_flag (codes "public") v.public)
-    ++ ((print_flag (codes "private") v.private)
-    ++ ((print_flag (codes "immutable") v.immutable)
-    ++ ((print_flag (codes "must-understand") v.must_understand)
-    ++ ((print_flag (codes "proxy-revalidate") v.proxy_revalidate) ++ [])))))) =
-    append_then t4 t5 t10 (print_flag (codes "must-revalidate") v.must_revalidate)
-    (((print_flag (codes "public") v.public)
-    ++ ((print_flag (codes "private") v.private)
-    ++ ((print_flag (codes "immutable") v.immutable)
-    ++ ((print_flag (codes "must-understand") v.must_understand)
-    ++ ((print_flag (codes "proxy-revalidate") v.proxy_revalidate) ++ [])))))) e5 g6 in
-    let g4 : t10
-    ≡ append_all t3
-    ((print_flag (codes "only-if-cached") v.only_if_cached)
-    ++ ((print_flag (codes "must-revalidate") v.must_revalidate)
-    ++ ((print_flag (codes "public") v.public)
-    ++ ((print_flag (codes "private") v.private)
-    ++ ((print_flag (codes "immutable") v.immutable)
-    ++ ((print_flag (codes "must-understand") v.must_understand)
-    ++ ((print_flag (codes "proxy-revalidate") v.proxy_revalidate) ++ []))))))) =
-    append_then t3 t4 t10 (print_flag (codes "only-if-cached") v.only_if_cached)
-    (((print_flag (codes "must-revalidate") v.must_revalidate)
-    ++ ((print_flag (codes "public") v.public)
-    ++ ((print_flag (codes "private") v.private)
-    ++ ((print_flag (codes "immutable") v.immutable)
-    ++ ((print_flag (codes "must-understand") v.must_understand)
-    ++ ((print_flag (codes "proxy-revalidate") v.proxy_revalidate) ++ []))))))) e4 g5 in
-    let g3 : t10
-    ≡ append_all t2
-    ((print_flag (codes "no-transform") v.no_transform)
-    ++ ((print_flag (codes "only-if-cached") v.only_if_cached)
-    ++ ((print_flag (codes "must-revalidate") v.must_revalidate)
-    ++ ((print_flag (codes "public") v.public)
-    ++ ((print_flag (codes "private") v.private)
-    ++ ((print_flag (codes "immutable") v.immutable)
-    ++ ((print_flag (codes "must-understand") v.must_understand)
-    ++ ((print_flag (codes "proxy-revalidate") v.proxy_revalidate) ++ [])))))))) =
-    append_then t2 t3 t10 (print_flag (codes "no-transform") v.no_transform)
-    (((print_flag (codes "only-if-cached") v.only_if_cached)
-    ++ ((print_flag (codes "must-revalidate") v.must_revalidate)
-    ++ ((print_flag (codes "public") v.public)
-    ++ ((print_flag (codes "private") v.private)
-    ++ ((print_flag (codes "immutable") v.immutable)
-    ++ ((print_flag (codes "must-understand") v.must_understand)
-    ++ ((print_flag (codes "proxy-revalidate") v.proxy_revalidate) ++ [])))))))) e3 g4 in
-    let g2 : t10
-    ≡ append_all t1
-    ((print_flag (codes "no-store") v.no_store)
-    ++ ((print_flag (codes "no-transform") v.no_transform)
-    ++ ((print_flag (codes "only-if-cached") v.only_if_cached)
-    ++ ((print_flag (codes "must-revalidate") v.must_revalidate)
-    ++ ((print_flag (codes "public") v.public)
-    ++ ((print_flag (codes "private") v.private)
-    ++ ((print_flag (codes "immutable") v.immutable)
-    ++ ((print_flag (codes "must-understand") v.must_understand)
-    ++ ((print_flag (codes "proxy-revalidate") v.proxy_revalidate) ++ []))))))))) =
-    append_then t1 t2 t10 (print_flag (codes "no-store") v.no_store)
-    (((print_flag (codes "no-transform") v.no_transform)
-    ++ ((print_flag (codes "only-if-cached") v.only_if_cached)
-    ++ ((print_flag (codes "must-revalidate") v.must_revalidate)
-    ++ ((print_flag (codes "public") v.public)
-    ++ ((print_flag (codes "private") v.private)
-    ++ ((print_flag (codes "immutable") v.immutable)
-    ++ ((print_flag (codes "must-understand") v.must_understand)
-    ++ ((print_flag (codes "proxy-revalidate") v.proxy_revalidate) ++ []))))))))) e2 g3 in
-    let g1 : t10
-    ≡ append_all t0
-    ((print_flag (codes "no-cache") v.no_cache)
-    ++ ((print_flag (codes "no-store") v.no_store)
-    ++ ((print_flag (codes "no-transform") v.no_transform)
-    ++ ((print_flag (codes "only-if-cached") v.only_if_cached)
-    ++ ((print_flag (codes "must-revalidate") v.must_revalidate)
-    ++ ((print_flag (codes "public") v.public)
-    ++ ((print_flag (codes "private") v.private)
-    ++ ((print_flag (codes "immutable") v.immutable)
-    ++ ((print_flag (codes "must-understand") v.must_understand)
-    ++ ((print_flag (codes "proxy-revalidate") v.proxy_revalidate) ++ [])))))))))) =
-    append_then t0 t1 t10 (print_flag (codes "no-cache") v.no_cache)
-    (((print_flag (codes "no-store") v.no_store)
-    ++ ((print_flag (codes "no-transform") v.no_transform)
-    ++ ((print_flag (codes "only-if-cached") v.only_if_cached)
-    ++ ((print_flag (codes "must-revalidate") v.must_revalidate)
-    ++ ((print_flag (codes "public") v.public)
-    ++ ((print_flag (codes "private") v.private)
-    ++ ((print_flag (codes "immutable") v.immutable)
-    ++ ((print_flag (codes "must-understand") v.must_understand)
-    ++ ((print_flag (codes "proxy-revalidate") v.proxy_revalidate) ++ [])))))))))) e1 g2 in
-    let g14 : t14 ≡ append_all t13 ((print_number (codes "s-maxage") v.s_max_age) ++ []) =
-    append_then t13 t14 t14 (print_number (codes "s-maxage") v.s_max_age) ([]) e14 refl in
-    let g13 : t14
-    ≡ append_all t12
-    ((print_number (codes "min-fresh") v.min_fresh) ++ ((print_number (codes "s-maxage") v.s_max_age) ++ [])) =
-    append_then t12 t13 t14 (print_number (codes "min-fresh") v.min_fresh)
-    (((print_number (codes "s-maxage") v.s_max_age) ++ [])) e13 g14 in
-    let g12 : t14
-    ≡ append_all t11
-    ((print_number (codes "max-stale") v.max_stale)
-    ++ ((print_number (codes "min-fresh") v.min_fresh)
-    ++ ((print_number (codes "s-maxage") v.s_max_age) ++ []))) =
-    append_then t11 t12 t14 (print_number (codes "max-stale") v.max_stale)
-    (((print_number (codes "min-fresh") v.min_fresh) ++ ((print_number (codes "s-maxage") v.s_max_age) ++ [])))
-    e12 g13 in
-    let g11 : t14
-    ≡ append_all t10
-    ((print_number (codes "max-age") v.max_age)
-    ++ ((print_number (codes "max-stale") v.max_stale)
-    ++ ((print_number (codes "min-fresh") v.min_fresh)
-    ++ ((print_number (codes "s-maxage") v.s_max_age) ++ [])))) =
-    append_then t10 t11 t14 (print_number (codes "max-age") v.max_age)
-    (((print_number (codes "max-stale") v.max_stale)
-    ++ ((print_number (codes "min-fresh") v.min_fresh) ++ ((print_number (codes "s-maxage") v.s_max_age) ++ []))))
-    e11 g12 in
-    append_then t0 t10 t14 (flags_of v flag_rows) (numbers_of v number_rows) g1 g11
-    ∙ ap (λ t. append_all t (printed v)) start
-    ∙ append_merge (printed v) (printed_pieces v fits)
-    ∙ ap (λ x. merge 44 (printed x)) same
+-- the text of all rows, one behind the other
+abbrev pub all_rows : Directives → List ℕ
+all_rows d =
+    row_by_row (λ row. print_number row.0 (row.1 d)) (row_by_row (λ row. print_flag row.0 (row.1 d)) [] flag_rows)
+    number_rows
+
+pub printed_text : (v d : Directives) (text : List ℕ) → v ≡ d → FitRows d number_rows → text ≡ all_rows v
+    → text ≡ merge 44 (printed d)
+printed_text v d text same fits e =
+    e ∙ ap all_rows same
+    ∙ row_by_row-is (λ row. print_number row.0 (row.1 d))
+    (row_by_row (λ row. print_flag row.0 (row.1 d)) [] flag_rows) number_rows
+    ∙ ap (λ t. append_all t (numbers_of d number_rows))
+    (row_by_row-is (λ row. print_flag row.0 (row.1 d)) [] flag_rows)
+    ∙ sym (append_all-append [] (flags_of d flag_rows) (numbers_of d number_rows))
+    ∙ append_merge (printed d) (printed_pieces d fits)
 
 -- and they are a value
-pub printed_value : (v d : Directives) → v ≡ d → FitRows v number_rows → (t : List ℕ) → t ≡ merge 44 (printed d)
-    → IsFieldValue t
-printed_value v d same fits t e =
-    let whole : IsFieldValue (merge 44 (printed v)) = merge_IsFieldValue (printed v) (printed_pieces v fits) in
-    subst IsFieldValue (ap (λ x. merge 44 (printed x)) same ∙ sym e) whole
+pub printed_value : (d : Directives) (text : List ℕ) → FitRows d number_rows → text ≡ merge 44 (printed d)
+    → IsFieldValue text
+printed_value d text fits e = subst IsFieldValue (sym e) (merge_IsFieldValue (printed d) (printed_pieces d fits))

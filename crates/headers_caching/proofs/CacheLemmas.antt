@@ -1,8 +1,8 @@
 -- What one entry more adds to what entries direct.
 use Rattle.std.proofs.Common.{◌≡◌, ℕ, ◌+◌, ◌<◌, Bool, true, false, not, ◌||◌, ◌&&◌, ◌==◌, ◌↔◌, IsTrue, List, [], ◌∷◌}
-use Rattle.std.proofs.Common.{◌++◌, length, get_or, Option, Some, None, filter, is_none, codes, refl, sym, ◌∙◌, ap}
+use Rattle.std.proofs.Common.{◌++◌, length, get_or, Option, Some, None, filter, is_none, refl, sym, ◌∙◌, ap}
 use Rattle.std.proofs.Common.{inl, inr, arith}
-use Rattle.std.specs.List.{list_any, last_or, before_first, after_first, position_or_len}
+use Rattle.std.specs.List.{AllByRecursion, list_any, last_or, before_first, after_first, position_or_len}
 use Rattle.std.specs.Option.{option_or, option_and_then}
 use Rattle.std.proofs.lemmas.Bool.{cases_Bool, false_from_ne_true, and_right}
 use Rattle.std.proofs.lemmas.Bool.Decides.{Decides-eqb}
@@ -12,12 +12,12 @@ use Rattle.std.proofs.Math.Bool.{or-false}
 use Rattle.http_header.specs.Token.{lowercase}
 use Rattle.std.proofs.lemmas.List.Folds.{list_any-append}
 use Rattle.std.proofs.lemmas.List.Elements.{filter-append}
-use Rattle.std.proofs.lemmas.Slice.Eq.{bytes_eq-Decides}
 use Rattle.headers_syntax.specs.AsciiCase.{SameButForCase}
 use Rattle.headers_syntax.specs.AsciiCase.{same_name}
 use Rattle.headers_syntax.proofs.AsciiCaseLemmas.{same_name-is}
-use Rattle.headers_caching.specs.CacheControl.{carries, number_in, is_bad_for, is_bad, is_set, last_number}
-use Rattle.headers_caching.specs.CacheControlLaws.{no_flag}
+use Rattle.headers_caching.specs.CacheControl.{carries, number_in, is_bad_for, is_bad, is_set, last_number, number_rows}
+use Rattle.headers_caching.specs.CacheControl.{Directives, Keeps, TakesIn, directives, flag_rows}
+use Rattle.headers_caching.specs.CacheControlLaws.{no_flag, or_parts, rows_same, same_rows}
 use Rattle.headers_items.specs.Pairs.{is_equals}
 use Rattle.headers_syntax.proofs.PartsLemmas.{last_or-append}
 
@@ -61,12 +61,15 @@ pub not_bad : (directive entry : List ℕ) → ((false ≡ true) ↔ IsTrue (is_
     → is_bad_for directive entry ≡ false
 not_bad directive entry h = false_from_ne_true _ (λ e. let k = h.1 e in absurd (cc k))
 
-pub none_bad : (entry : List ℕ) → is_bad_for (codes "max-age") entry ≡ false
-    → is_bad_for (codes "max-stale") entry ≡ false → is_bad_for (codes "min-fresh") entry ≡ false
-    → is_bad_for (codes "s-maxage") entry ≡ false
+-- an entry that is bad for no directive is not bad
+pub none_bad : (entry : List ℕ) → AllByRecursion (λ row. is_bad_for row.0 entry ≡ false) number_rows
     → (false ≡ true) ↔ IsTrue (is_bad entry)
-none_bad entry a b c d =
-    let none : is_bad entry ≡ false = rw (a, b, c, d) refl in (λ e. absurd (cc e), λ e. absurd (cc (e, none)))
+none_bad entry good = (λ e. absurd (cc e), λ bad. absurd (cc (bad, none number_rows good)))
+  where
+    none : {V : Type 0} (rows : List (List ℕ × V)) → AllByRecursion (λ row. is_bad_for row.0 entry ≡ false) rows
+        → list_any (λ row. is_bad_for row.0 entry) rows ≡ false
+    none [] good = refl
+    none (row ∷ rows) good = rw good.0 (none rows good.1)
 
 -- ---- an entry that is cut at its first `=`, and one that has none
 
@@ -108,3 +111,43 @@ number_uncut directive es entry before e none =
     e ∙ ap (λ r. option_and_then number_in (last_or None r))
     (sym (filter-append (carries directive) es (entry ∷ [])
     ∙ ap (λ r. filter (carries directive) es ++ r) none_here ∙ append-nil _))
+
+-- ---- rows
+
+-- an entry that is cut sets no flag
+pub flags_cut : (d : Directives) (es : List (List ℕ)) (entry : List ℕ) → d ≡ directives es
+    → position_or_len is_equals entry < length entry
+    → AllByRecursion (λ row. row.1 d ≡ is_set row.0 (es ++ entry ∷ [])) flag_rows
+flags_cut d es entry was cut = each flag_rows refl (rows_same d (directives es) was flag_rows)
+  where
+    each : (rows : List (List ℕ × (Directives → Bool)))
+        → list_any (λ row. list_any is_equals (lowercase row.0)) rows ≡ false
+        → AllByRecursion (λ row. row.1 d ≡ is_set row.0 es) rows
+        → AllByRecursion (λ row. row.1 d ≡ is_set row.0 (es ++ entry ∷ [])) rows
+    each [] plain e = tt
+    each (row ∷ rows) plain e =
+        let p = or_parts (list_any is_equals (lowercase row.0))
+        (list_any (λ (r : List ℕ × (Directives → Bool)). list_any is_equals (lowercase r.0)) rows) plain in
+        (set_cut row.0 es entry (row.1 d) e.0 p.0 cut, each rows p.1 e.1)
+
+-- an entry that has no `=` adds to the flags alone
+pub flags_taken : (old new : Directives) (es : List (List ℕ)) (entry : List ℕ) → old ≡ directives es
+    → position_or_len is_equals entry ≡ length entry → TakesIn is_set flag_rows old new entry
+    → Keeps number_rows old new → new ≡ directives (es ++ entry ∷ [])
+flags_taken old new es entry was uncut takes keeps =
+    same_rows new (directives (es ++ entry ∷ []))
+    (flags flag_rows takes (rows_same old (directives es) was flag_rows))
+    (numbers number_rows keeps (rows_same old (directives es) was number_rows))
+  where
+    flags : (rows : List (List ℕ × (Directives → Bool))) → TakesIn is_set rows old new entry
+        → AllByRecursion (λ row. row.1 old ≡ is_set row.0 es) rows
+        → AllByRecursion (λ row. row.1 new ≡ is_set row.0 (es ++ entry ∷ [])) rows
+    flags [] takes e = tt
+    flags (row ∷ rows) takes e = (takes.0 es e.0, flags rows takes.1 e.1)
+
+    numbers : (rows : List (List ℕ × (Directives → Option ℕ))) → Keeps rows old new
+        → AllByRecursion (λ row. row.1 old ≡ last_number row.0 es) rows
+        → AllByRecursion (λ row. row.1 new ≡ last_number row.0 (es ++ entry ∷ [])) rows
+    numbers [] keeps e = tt
+    numbers (row ∷ rows) keeps e =
+        (number_uncut row.0 es entry (row.1 new) (keeps.0 ∙ e.0) uncut, numbers rows keeps.1 e.1)

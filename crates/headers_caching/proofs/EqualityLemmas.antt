@@ -1,12 +1,14 @@
 -- Values of `cache-control` are equal exactly if what is written of them is.
-use Rattle.std.proofs.Common.{◌≡◌, ℕ, nat_eq, Bool, ◌&&◌, ◌↔◌, IsTrue, Option, Some, None, refl, sym, ◌∙◌, ap}
+use Rattle.std.proofs.Common.{◌≡◌, ℕ, nat_eq, Bool, true, ◌&&◌, List, [], ◌∷◌, ◌↔◌, IsTrue, Option, Some, None, refl}
+use Rattle.std.proofs.Common.{sym, ◌∙◌, ap}
 use mathlib.Core.Bool.{beq}
 use Rattle.std.specs.Bool.{Decides}
+use Rattle.std.specs.List.{AllByRecursion}
 use Rattle.std.specs.Cmp.{booleans_Decides}
 use Rattle.std.specs.Option.{option_eq}
 use Rattle.std.proofs.lemmas.Bool.Decides.{Decides-and, Decides-eqb}
-use Rattle.headers_caching.specs.CacheControl.{Directives, number_rows, lines_of_directives}
-use Rattle.headers_caching.specs.CacheControlLaws.{FitRows, same_by_lines, same_directives}
+use Rattle.headers_caching.specs.CacheControl.{Directives, flag_rows, number_rows, lines_of_directives}
+use Rattle.headers_caching.specs.CacheControlLaws.{FitRows, same_by_lines, same_rows, rows_same}
 
 same_number : (o p : Option ℕ) → Decides (option_eq nat_eq o p) (o ≡ p)
 same_number None None = (λ _. refl, λ _. refl)
@@ -15,79 +17,31 @@ same_number (Some n) None = (λ h. absurd (cc h), λ e. absurd (cc e))
 same_number (Some n) (Some m) =
     let one = Decides-eqb n m in (λ h. ap (λ (k : ℕ). Some k) (one.0 h), λ e. one.1 (cc e))
 
--- values are equal exactly if all fields are
-pub fields_equal : (v w : Directives) (r : Bool)
-    → r ≡ (beq v.no_cache w.no_cache &&
-    (beq v.no_store w.no_store &&
-    (beq v.no_transform w.no_transform &&
-    (beq v.only_if_cached w.only_if_cached &&
-    (beq v.must_revalidate w.must_revalidate &&
-    (beq v.public w.public &&
-    (beq v.private w.private &&
-    (beq v.immutable w.immutable &&
-    (beq v.must_understand w.must_understand &&
-    (beq v.proxy_revalidate w.proxy_revalidate &&
-    (option_eq nat_eq v.max_age w.max_age &&
-    (option_eq nat_eq v.max_stale w.max_stale &&
-    (option_eq nat_eq v.min_fresh w.min_fresh && (option_eq nat_eq v.s_max_age w.s_max_age))))))))))))))
-    → (IsTrue r ↔ v ≡ w)
-fields_equal v w r h =
-    let each = Decides-and _ _ (booleans_Decides v.no_cache w.no_cache)
-    (Decides-and _ _ (booleans_Decides v.no_store w.no_store)
-    (Decides-and _ _ (booleans_Decides v.no_transform w.no_transform)
-    (Decides-and _ _ (booleans_Decides v.only_if_cached w.only_if_cached)
-    (Decides-and _ _ (booleans_Decides v.must_revalidate w.must_revalidate)
-    (Decides-and _ _ (booleans_Decides v.public w.public)
-    (Decides-and _ _ (booleans_Decides v.private w.private)
-    (Decides-and _ _ (booleans_Decides v.immutable w.immutable)
-    (Decides-and _ _ (booleans_Decides v.must_understand w.must_understand)
-    (Decides-and _ _ (booleans_Decides v.proxy_revalidate w.proxy_revalidate)
-    (Decides-and _ _ (same_number v.max_age w.max_age)
-    (Decides-and _ _ (same_number v.max_stale w.max_stale)
-    (Decides-and _ _ (same_number v.min_fresh w.min_fresh) (same_number v.s_max_age w.s_max_age))))))))))))) in (
-      λ t.
-          let p = each.0 (sym h ∙ t) in
-          same_directives _ _ _ _ _ _ _ _ _ _ _ _ _ _ _ _ _ _ _ _ _ _ _ _ _ _ _ _
-          p.0 p.1.0 p.1.1.0 p.1.1.1.0 p.1.1.1.1.0 p.1.1.1.1.1.0 p.1.1.1.1.1.1.0 p.1.1.1.1.1.1.1.0 p.1.1.1.1.1.1.1.1.0
-          p.1.1.1.1.1.1.1.1.1.0 p.1.1.1.1.1.1.1.1.1.1.0 p.1.1.1.1.1.1.1.1.1.1.1.0 p.1.1.1.1.1.1.1.1.1.1.1.1.0
-          p.1.1.1.1.1.1.1.1.1.1.1.1.1,
-      λ e. h ∙ each.1 (
-        ap (λ (d : Directives). d.no_cache) e,
-        (
-          ap (λ (d : Directives). d.no_store) e,
-          (
-            ap (λ (d : Directives). d.no_transform) e,
-            (
-              ap (λ (d : Directives). d.only_if_cached) e,
-              (
-                ap (λ (d : Directives). d.must_revalidate) e,
-                (
-                  ap (λ (d : Directives). d.public) e,
-                  (
-                    ap (λ (d : Directives). d.private) e,
-                    (
-                      ap (λ (d : Directives). d.immutable) e,
-                      (
-                        ap (λ (d : Directives). d.must_understand) e,
-                        (
-                          ap (λ (d : Directives). d.proxy_revalidate) e,
-                          (
-                            ap (λ (d : Directives). d.max_age) e,
-                            (
-                              ap (λ (d : Directives). d.max_stale) e,
-                              (ap (λ (d : Directives). d.min_fresh) e, ap (λ (d : Directives). d.s_max_age) e),
-                            ),
-                          ),
-                        ),
-                      ),
-                    ),
-                  ),
-                ),
-              ),
-            ),
-          ),
-        ),
-      ),
+-- the rows of two values are equal, and what comes then holds
+abbrev pub equal_then : {V : Type 0} → (V → V → Bool) → Directives → Directives → List (List ℕ × (Directives → V))
+    → Bool → Bool
+equal_then eq v w [] rest = rest
+equal_then eq v w (row ∷ rows) rest = eq (row.1 v) (row.1 w) && equal_then eq v w rows rest
+
+equal_then-Decides : {V P : Type 0} (eq : V → V → Bool) → ((x y : V) → Decides (eq x y) (x ≡ y)) → (v w : Directives)
+    (rows : List (List ℕ × (Directives → V))) (rest : Bool) → Decides rest P
+    → Decides (equal_then eq v w rows rest) (AllByRecursion (λ row. row.1 v ≡ row.1 w) rows × P)
+equal_then-Decides eq each v w [] rest then = (λ t. (tt, then.0 t), λ p. then.1 p.1)
+equal_then-Decides eq each v w (row ∷ rows) rest then =
+    let both = Decides-and _ _ (each (row.1 v) (row.1 w)) (equal_then-Decides eq each v w rows rest then) in (
+      λ t. let p = both.0 t in ((p.0, p.1.0), p.1.1),
+      λ p. both.1 (p.0.0, (p.0.1, p.1)),
+    )
+
+-- values are equal exactly if all rows are
+pub rows_equal : (v w : Directives) (r : Bool)
+    → r ≡ equal_then beq v w flag_rows (equal_then (option_eq nat_eq) v w number_rows true) → (IsTrue r ↔ v ≡ w)
+rows_equal v w r h =
+    let none : Decides true (Unit {0}) = (λ _. tt, λ _. refl) in
+    let each = equal_then-Decides beq booleans_Decides v w flag_rows _
+    (equal_then-Decides (option_eq nat_eq) same_number v w number_rows true none) in (
+      λ t. let p = each.0 (sym h ∙ t) in same_rows v w p.0 p.1.0,
+      λ e. h ∙ each.1 (rows_same v w e flag_rows, (rows_same v w e number_rows, tt)),
     )
 
 -- values whose numbers fit are equal exactly if what is written of them is

@@ -1,7 +1,7 @@
 -- The header `cache-control`: flags and numbers, each by the entries of all lines.
 use Rattle.std.specs.Prelude.{◌≡◌, ℕ, ◌*◌, option_map, Bool, ◌&&◌, not, ◌==◌, List, [], ◌∷◌, ◌++◌, length, filter}
 use Rattle.std.specs.Prelude.{Option, Some, None, is_none, codes, decimal, if◌then◌else◌}
-use Rattle.std.specs.List.{list_any, last_or, flat_map, before_first, after_first}
+use Rattle.std.specs.List.{AllByRecursion, list_any, last_or, flat_map, before_first, after_first}
 use Rattle.std.specs.Option.{option_and_then}
 use Rattle.std.specs.Duration.{as_nanos}
 use Rattle.std.specs.declared.time.Duration.{Duration}
@@ -31,6 +31,29 @@ pub record Directives : Type 0 where
   pub min_fresh : Option ℕ
   pub s_max_age : Option ℕ
 
+-- the flags and the numbers with their names, in the order in which they are printed
+abbrev pub flag_rows : List (List ℕ × (Directives → Bool))
+flag_rows =
+    (codes "no-cache", λ d. d.no_cache)
+    ∷ (codes "no-store", λ d. d.no_store)
+    ∷ (codes "no-transform", λ d. d.no_transform)
+    ∷ (codes "only-if-cached", λ d. d.only_if_cached)
+    ∷ (codes "must-revalidate", λ d. d.must_revalidate)
+    ∷ (codes "public", λ d. d.public)
+    ∷ (codes "private", λ d. d.private)
+    ∷ (codes "immutable", λ d. d.immutable)
+    ∷ (codes "must-understand", λ d. d.must_understand)
+    ∷ (codes "proxy-revalidate", λ d. d.proxy_revalidate)
+    ∷ []
+
+abbrev pub number_rows : List (List ℕ × (Directives → Option ℕ))
+number_rows =
+    (codes "max-age", λ d. d.max_age)
+    ∷ (codes "max-stale", λ d. d.max_stale)
+    ∷ (codes "min-fresh", λ d. d.min_fresh)
+    ∷ (codes "s-maxage", λ d. d.s_max_age)
+    ∷ []
+
 -- a duration of so many seconds, where a number is given
 abbrev pub GivesSeconds : Option Duration → Option ℕ → Type 0
 GivesSeconds duration number = option_map as_nanos duration ≡ option_map (λ seconds. seconds * 1_000_000_000) number
@@ -49,13 +72,9 @@ number_in entry = number (without_quotes (after_first is_equals entry))
 abbrev pub is_bad_for : List ℕ → List ℕ → Bool
 is_bad_for directive entry = carries directive entry && is_none (number_in entry)
 
--- the directives that carry numbers
-abbrev pub number_names : List (List ℕ)
-number_names = codes "max-age" ∷ codes "max-stale" ∷ codes "min-fresh" ∷ codes "s-maxage" ∷ []
-
--- an entry is bad where it is for some directive
+-- an entry is bad where it is for some directive that carries a number
 abbrev pub is_bad : List ℕ → Bool
-is_bad entry = list_any (λ directive. is_bad_for directive entry) number_names
+is_bad entry = list_any (λ row. is_bad_for row.0 entry) number_rows
 
 -- some entry is the flag's name
 abbrev pub is_set : List ℕ → List (List ℕ) → Bool
@@ -64,6 +83,17 @@ is_set flag es = list_any (λ entry. same_name entry flag) es
 -- the number in the last entry that carries the directive
 abbrev pub last_number : List ℕ → List (List ℕ) → Option ℕ
 last_number directive es = option_and_then number_in (last_or None (filter (carries directive) es))
+
+-- where a row was the value of some entries, it now is that of them and one more
+abbrev pub TakesIn : {V : Type 0} → (List ℕ → List (List ℕ) → V) → List (List ℕ × (Directives → V)) → Directives
+    → Directives → List ℕ → Type 0
+TakesIn value rows old new entry =
+    AllByRecursion (λ row. (es : List (List ℕ)) → row.1 old ≡ value row.0 es
+    → row.1 new ≡ value row.0 (es ++ entry ∷ [])) rows
+
+-- no row has changed
+abbrev pub Keeps : {V : Type 0} → List (List ℕ × (Directives → V)) → Directives → Directives → Type 0
+Keeps rows old new = AllByRecursion (λ row. row.1 new ≡ row.1 old) rows
 
 -- what entries direct
 abbrev pub directives : List (List ℕ) → Directives
@@ -88,29 +118,6 @@ directives es =
 -- lines direct what their entries do, if no entry is bad
 abbrev pub directives_of : List Line → Option Directives
 directives_of lines = if list_any is_bad (entries lines) then None else Some (directives (entries lines))
-
--- the flags and the numbers with their names, in the order in which they are printed
-abbrev pub flag_rows : List (List ℕ × (Directives → Bool))
-flag_rows =
-    (codes "no-cache", λ d. d.no_cache)
-    ∷ (codes "no-store", λ d. d.no_store)
-    ∷ (codes "no-transform", λ d. d.no_transform)
-    ∷ (codes "only-if-cached", λ d. d.only_if_cached)
-    ∷ (codes "must-revalidate", λ d. d.must_revalidate)
-    ∷ (codes "public", λ d. d.public)
-    ∷ (codes "private", λ d. d.private)
-    ∷ (codes "immutable", λ d. d.immutable)
-    ∷ (codes "must-understand", λ d. d.must_understand)
-    ∷ (codes "proxy-revalidate", λ d. d.proxy_revalidate)
-    ∷ []
-
-abbrev pub number_rows : List (List ℕ × (Directives → Option ℕ))
-number_rows =
-    (codes "max-age", λ d. d.max_age)
-    ∷ (codes "max-stale", λ d. d.max_stale)
-    ∷ (codes "min-fresh", λ d. d.min_fresh)
-    ∷ (codes "s-maxage", λ d. d.s_max_age)
-    ∷ []
 
 -- a flag that is set is printed as its name
 abbrev pub print_flag : List ℕ → Bool → List (List ℕ)

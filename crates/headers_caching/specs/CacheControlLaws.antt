@@ -1,21 +1,19 @@
 -- Each printed directive directs just itself.
-use Rattle.std.proofs.Common.{◌≡◌, ℕ, ◌^◌, ◌<◌, ◌≤◌, Bool, true, false, not, ◌||◌, ◌&&◌, ◌==◌, nat_lt, nat_le, cond}
-use Rattle.std.proofs.Common.{List, [], ◌∷◌, ◌++◌, length, filter, Option, Some, None, is_none, codes, refl, sym, ◌∙◌}
+use Rattle.std.proofs.Common.{◌≡◌, ℕ, ◌^◌, ◌<◌, Bool, true, false, not, ◌||◌, ◌&&◌, ◌==◌, nat_lt, cond}
+use Rattle.std.proofs.Common.{List, [], ◌∷◌, ◌++◌, length, filter, Option, Some, None, is_none, refl, sym, ◌∙◌}
 use Rattle.std.proofs.Common.{ap, subst, inl, inr, arith}
-use Rattle.std.specs.Str.{all_ascii_digits}
-use Rattle.std.specs.Char.{is_ascii_digit, to_ascii_lowercase}
+use Rattle.std.specs.Char.{to_ascii_lowercase}
 use Rattle.std.specs.Fmt.{decimal}
 use Rattle.std.specs.List.{list_any, list_all, last_or, flat_map, AllByRecursion, before_first, after_first}
 use Rattle.std.specs.Option.{option_and_then}
 use Rattle.std.proofs.Math.Bool.{or-false}
-use Rattle.std.proofs.lemmas.Bool.{cases_Bool, and_parts, and_from, or_right, lt-ltb, leb-true, ne_eqb}
+use Rattle.std.proofs.lemmas.Bool.{cases_Bool, and_parts, and_from, or_right, lt-ltb, ne_eqb}
 use Rattle.std.proofs.lemmas.Bool.{false_from_ne_true}
 use Rattle.std.proofs.lemmas.List.{map-append}
 use Rattle.std.proofs.lemmas.List.Folds.{list_any-append, list_all-append}
 use Rattle.std.proofs.lemmas.List.Elements.{filter-append}
 use Rattle.std.proofs.lemmas.Slice.Eq.{bytes_eq-Decides}
-use Rattle.std.proofs.lemmas.Str.Parse.{numerals_by_value, tells_all_ascii_digits}
-use Rattle.std.proofs.lemmas.Fmt.{digits_decimal, decimal_nonempty}
+use Rattle.std.proofs.lemmas.Fmt.{decimal_nonempty}
 use Rattle.http_header.specs.Token.{lowercase}
 use Rattle.headers_syntax.specs.Lines.{Line}
 use Rattle.headers_items.specs.Entries.{entries}
@@ -24,55 +22,63 @@ use Rattle.headers_syntax.proofs.NumberLemmas.{number-decimal, number-lt}
 use Rattle.headers_syntax.specs.Text.{without_quotes}
 use Rattle.headers_syntax.specs.AsciiCase.{same_name}
 use Rattle.headers_items.specs.Pairs.{is_equals}
-use Rattle.headers_caching.specs.CacheControl.{Directives, carries, number_in, is_bad_for, is_bad, number_names}
+use Rattle.headers_caching.specs.CacheControl.{Directives, carries, number_in, is_bad_for, is_bad}
 use Rattle.headers_caching.specs.CacheControl.{is_set, last_number, directives, directives_of, lines_of_directives}
 use Rattle.headers_caching.specs.CacheControl.{flag_rows, number_rows, print_flag, print_number, printed}
 use Rattle.headers_syntax.proofs.PlainLemmas.{decimal_plain, is_plain, is_piece, unquoted_piece}
 use Rattle.headers_items.proofs.JoinedLemmas.{entries_joined}
 
--- equal fields
-pub same_directives : (a0 b0 a1 b1 a2 b2 a3 b3 a4 b4 a5 b5 a6 b6 a7 b7 a8 b8 a9 b9 : Bool)
-    (m0 n0 m1 n1 m2 n2 m3 n3 : Option ℕ)
-    → a0 ≡ b0 → a1 ≡ b1 → a2 ≡ b2 → a3 ≡ b3 → a4 ≡ b4 → a5 ≡ b5 → a6 ≡ b6 → a7 ≡ b7 → a8 ≡ b8 → a9 ≡ b9 → m0 ≡ n0
-    → m1 ≡ n1 → m2 ≡ n2 → m3 ≡ n3
-    → (let a : Directives =
+-- directives are equal where each row is
+pub same_rows : (a b : Directives) → AllByRecursion (λ row. row.1 a ≡ row.1 b) flag_rows
+    → AllByRecursion (λ row. row.1 a ≡ row.1 b) number_rows → a ≡ b
+same_rows a b (
+  no_cache,
+  (
+    no_store,
+    (
+      no_transform,
+      (
+        only_if_cached,
+        (
+          must_revalidate,
+          (
+            public,
+            (
+              private,
+              (
+                immutable,
+                (must_understand, (proxy_revalidate, _)),
+              ),
+            ),
+          ),
+        ),
+      ),
+    ),
+  ),
+)
+    (max_age, (max_stale, (min_fresh, (s_max_age, _)))) = λ i.
     record {
-      no_cache = a0;
-      no_store = a1;
-      no_transform = a2;
-      only_if_cached = a3;
-      must_revalidate = a4;
-      public =
-          a5;
-      private = a6;
-      immutable = a7;
-      must_understand = a8;
-      proxy_revalidate = a9;
-      max_age = m0;
-      max_stale = m1;
-      min_fresh = m2;
-      s_max_age = m3;
-    } in
-    let b : Directives =
-    record {
-      no_cache = b0;
-      no_store = b1;
-      no_transform = b2;
-      only_if_cached = b3;
-      must_revalidate = b4;
-      public =
-          b5;
-      private = b6;
-      immutable = b7;
-      must_understand = b8;
-      proxy_revalidate = b9;
-      max_age = n0;
-      max_stale = n1;
-      min_fresh = n2;
-      s_max_age = n3;
-    } in a ≡ b)
-same_directives a0 b0 a1 b1 a2 b2 a3 b3 a4 b4 a5 b5 a6 b6 a7 b7 a8 b8 a9 b9 m0 n0 m1 n1 m2 n2 m3 n3 e0 e1 e2 e3 e4 e5
-    e6 e7 e8 e9 f0 f1 f2 f3 = rw (e0, e1, e2, e3, e4, e5, e6, e7, e8, e9, f0, f1, f2, f3) refl
+      no_cache = no_cache i;
+      no_store = no_store i;
+      no_transform = no_transform i;
+      only_if_cached = only_if_cached i;
+      must_revalidate = must_revalidate i;
+      public = public i;
+      private = private i;
+      immutable = immutable i;
+      must_understand = must_understand i;
+      proxy_revalidate = proxy_revalidate i;
+      max_age = max_age i;
+      max_stale = max_stale i;
+      min_fresh = min_fresh i;
+      s_max_age = s_max_age i;
+    }
+
+-- and each row is where they are
+pub rows_same : {V : Type 0} (a b : Directives) → a ≡ b → (rows : List (List ℕ × (Directives → V)))
+    → AllByRecursion (λ row. row.1 a ≡ row.1 b) rows
+rows_same a b e [] = tt
+rows_same a b e (row ∷ rows) = (ap row.1 e, rows_same a b e rows)
 
 -- the directives of some rows, printed
 abbrev pub flags_of : Directives → List (List ℕ × (Directives → Bool)) → List (List ℕ)
@@ -206,15 +212,15 @@ flag_carried : (directive name : List ℕ) (b : Bool) → carries directive name
 flag_carried directive name true h = rw h refl
 flag_carried directive name false h = refl
 
-or_parts' : (a b : Bool) → (a || b) ≡ false → (a ≡ false) × (b ≡ false)
-or_parts' true b h = absurd (cc h)
-or_parts' false b h = (refl, h)
+pub or_parts : (a b : Bool) → (a || b) ≡ false → (a ≡ false) × (b ≡ false)
+or_parts true b h = absurd (cc h)
+or_parts false b h = (refl, h)
 
 flags_carried : (directive : List ℕ) (d : Directives) (rows : List (List ℕ × (Directives → Bool)))
     → list_any (λ row. carries directive row.0) rows ≡ false → filter (carries directive) (flags_of d rows) ≡ []
 flags_carried directive d [] h = refl
 flags_carried directive d (row ∷ rows) h =
-    let p = or_parts' (carries directive row.0)
+    let p = or_parts (carries directive row.0)
     (list_any (λ (r : List ℕ × (Directives → Bool)). carries directive r.0) rows) h in
     filter-append (carries directive) (print_flag row.0 (row.1 d)) (flags_of d rows)
     ∙ ap (λ r. r ++ filter (carries directive) (flags_of d rows)) (flag_carried directive row.0 (row.1 d) p.0)
@@ -270,17 +276,17 @@ flags_good : (d : Directives) (rows : List (List ℕ × (Directives → Bool)))
     → list_any (λ row. is_bad row.0) rows ≡ false → list_any is_bad (flags_of d rows) ≡ false
 flags_good d [] h = refl
 flags_good d (row ∷ rows) h =
-    let p = or_parts' (is_bad row.0) (list_any (λ (r : List ℕ × (Directives → Bool)). is_bad r.0) rows) h in
+    let p = or_parts (is_bad row.0) (list_any (λ (r : List ℕ × (Directives → Bool)). is_bad r.0) rows) h in
     list_any-append is_bad (print_flag row.0 (row.1 d)) (flags_of d rows)
     ∙ ap (λ v. v || list_any is_bad (flags_of d rows)) (flag_good row.0 (row.1 d) p.0) ∙ flags_good d rows p.1
 
-none_bad_for : (entry : List ℕ) (n : ℕ) (names : List (List ℕ)) → number_in entry ≡ Some n
-    → list_any (λ directive. is_bad_for directive entry) names ≡ false
+none_bad_for : (entry : List ℕ) (n : ℕ) (rows : List (List ℕ × (Directives → Option ℕ))) → number_in entry ≡ Some n
+    → list_any (λ row. is_bad_for row.0 entry) rows ≡ false
 none_bad_for entry n [] h = refl
-none_bad_for entry n (name ∷ names) h =
-    let one : is_bad_for name entry ≡ false = ap (λ o. carries name entry && is_none o) h
-    ∙ and-false (carries name entry) in
-    rw one (none_bad_for entry n names h)
+none_bad_for entry n (row ∷ rows) h =
+    let one : is_bad_for row.0 entry ≡ false = ap (λ o. carries row.0 entry && is_none o) h
+    ∙ and-false (carries row.0 entry) in
+    rw one (none_bad_for entry n rows h)
   where
     and-false : (b : Bool) → (b && false) ≡ false
     and-false true = refl
@@ -290,7 +296,7 @@ number_good : (name : List ℕ) (o : Option ℕ) → Splits name → FitsOption 
     → list_any is_bad (print_number name o) ≡ false
 number_good name None s f = refl
 number_good name (Some n) s f =
-    ap (λ v. v || false) (none_bad_for (name ++ 61 ∷ decimal n) n number_names (number_printed name n s (f n refl)))
+    ap (λ v. v || false) (none_bad_for (name ++ 61 ∷ decimal n) n number_rows (number_printed name n s (f n refl)))
 
 numbers_good : (d : Directives) (rows : List (List ℕ × (Directives → Option ℕ)))
     → AllByRecursion (λ row. Splits row.0) rows → FitRows d rows → list_any is_bad (numbers_of d rows) ≡ false
@@ -308,32 +314,42 @@ printed_good d f =
 
 -- ---- all of it
 
-printed_directs : (d : Directives) → FitRows d number_rows → directives (printed d) ≡ d
-printed_directs d f =
-    same_directives _ d.no_cache _ d.no_store _ d.no_transform _ d.only_if_cached _ d.must_revalidate _ d.public _
-    d.private _ d.immutable _ d.must_understand _ d.proxy_revalidate _ d.max_age _ d.max_stale _ d.min_fresh _
-    d.s_max_age
-    (set_printed (codes "no-cache") d d.no_cache refl refl)
-    (set_printed (codes "no-store") d d.no_store refl refl)
-    (set_printed (codes "no-transform") d d.no_transform refl refl)
-    (set_printed (codes "only-if-cached") d d.only_if_cached refl refl)
-    (set_printed (codes "must-revalidate") d d.must_revalidate refl refl)
-    (set_printed (codes "public") d d.public refl refl)
-    (set_printed (codes "private") d d.private refl refl)
-    (set_printed (codes "immutable") d d.immutable refl refl)
-    (set_printed (codes "must-understand") d d.must_understand refl refl)
-    (set_printed (codes "proxy-revalidate") d d.proxy_revalidate refl refl)
-    (number_again (codes "max-age") d d.max_age f (λ ds. (refl, refl)) f.0 refl refl)
-    (number_again (codes "max-stale") d d.max_stale f (λ ds. (refl, refl)) f.1.0 refl refl)
-    (number_again (codes "min-fresh") d d.min_fresh f (λ ds. (refl, refl)) f.1.1.0 refl refl)
-    (number_again (codes "s-maxage") d d.s_max_age f (λ ds. (refl, refl)) f.1.1.1.0 refl refl)
+printed_flags : (d : Directives) → AllByRecursion (λ row. is_set row.0 (printed d) ≡ row.1 d) flag_rows
+printed_flags d = each flag_rows refl (refl, (refl, (refl, (refl, (refl, (refl, (refl, (refl, (refl, (refl, tt))))))))))
+  where
+    each : (rows : List (List ℕ × (Directives → Bool)))
+        → list_any (λ row. list_any is_equals (lowercase row.0)) rows ≡ false
+        → AllByRecursion (λ row. list_any (λ one. same_name one.0 row.0 && one.1 d) flag_rows ≡ (row.1 d || false)) rows
+        → AllByRecursion (λ row. is_set row.0 (printed d) ≡ row.1 d) rows
+    each [] plain found = tt
+    each (row ∷ rows) plain found =
+        let p = or_parts (list_any is_equals (lowercase row.0))
+        (list_any (λ (r : List ℕ × (Directives → Bool)). list_any is_equals (lowercase r.0)) rows) plain in
+        (set_printed row.0 d (row.1 d) p.0 found.0, each rows p.1 found.1)
+
+printed_numbers : (d : Directives) → FitRows d number_rows
+    → AllByRecursion (λ row. last_number row.0 (printed d) ≡ row.1 d) number_rows
+printed_numbers d f =
+    each number_rows number_splits f (refl, (refl, (refl, (refl, tt)))) (refl, (refl, (refl, (refl, tt))))
+  where
+    each : (rows : List (List ℕ × (Directives → Option ℕ))) → AllByRecursion (λ row. Splits row.0) rows → FitRows d rows
+        → AllByRecursion (λ row. list_any (λ flag. carries row.0 flag.0) flag_rows ≡ false) rows
+        → AllByRecursion (λ row. flat_map (λ one. if_named row.0 one.0 (print_number one.0 (one.1 d))) number_rows
+        ≡ print_number row.0 (row.1 d) ++ []) rows
+        → AllByRecursion (λ row. last_number row.0 (printed d) ≡ row.1 d) rows
+    each [] splits fits none one = tt
+    each (row ∷ rows) splits fits none one = (
+      number_again row.0 d (row.1 d) f splits.0 fits.0 none.0 one.0,
+      each rows splits.1 fits.1 none.1 one.1,
+    )
 
 -- what is written of directives whose numbers fit reads as them
 pub reads_written : (d : Directives) → FitRows d number_rows → directives_of (lines_of_directives d) ≡ Some d
 reads_written d f =
     let es : entries (lines_of_directives d) ≡ printed d = entries_joined (printed d) (printed_pieces d f) in
+    let back = same_rows (directives (printed d)) d (printed_flags d) (printed_numbers d f) in
     ap (λ xs. cond (list_any is_bad xs) None (Some (directives xs))) es
-    ∙ rw (printed_good d f) (ap (λ (x : Directives). Some x) (printed_directs d f))
+    ∙ rw (printed_good d f) (ap (λ (x : Directives). Some x) back)
 
 -- a number that was read fits
 number_fits : (name : List ℕ) (es : List (List ℕ)) → FitsOption (last_number name es)
@@ -343,6 +359,11 @@ number_fits name es n e = by (last_or None (filter (carries name) es)) e
     by None h = absurd (cc h)
     by (Some entry) h = number-lt (without_quotes (after_first is_equals entry)) n h
 
+all_fit : (es : List (List ℕ)) (rows : List (List ℕ × (Directives → Option ℕ)))
+    → AllByRecursion (λ row. FitsOption (last_number row.0 es)) rows
+all_fit es [] = tt
+all_fit es (row ∷ rows) = (number_fits row.0 es, all_fit es rows)
+
 read_fits : (lines : List Line) (d : Directives) → directives_of lines ≡ Some d → FitRows d number_rows
 read_fits lines d h =
     elim (cases_Bool (list_any is_bad (entries lines))) [
@@ -350,13 +371,7 @@ read_fits lines d h =
       | inr n ↦ let some : Some (directives (entries lines)) ≡ Some d = rw n at h in
           let same : directives (entries lines) ≡ d = cc some in
           let F : Directives → Type 0 = λ v. FitRows v number_rows in
-          subst F same (
-            number_fits (codes "max-age") (entries lines),
-            (
-              number_fits (codes "max-stale") (entries lines),
-              (number_fits (codes "min-fresh") (entries lines), (number_fits (codes "s-maxage") (entries lines), tt)),
-            ),
-          )
+          subst F same (all_fit (entries lines) number_rows)
     ]
 
 pub directives_back : (lines : List Line) (d : Directives) → directives_of lines ≡ Some d

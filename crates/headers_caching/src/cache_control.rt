@@ -11,7 +11,8 @@ ghost use Rattle.headers_items.specs.Pairs.{is_equals};
 ghost use Rattle.headers_syntax.specs.HeaderLaws.{ReadsBy, written_by};
 ghost use Rattle.headers_items.specs.Merge.{merge};
 ghost use Rattle.headers_caching.specs.CacheControl.{GivesSeconds, directives, last_number, is_bad, is_bad_for};
-ghost use Rattle.headers_caching.specs.CacheControl.{is_set, number_rows, print_flag, print_number, printed};
+ghost use Rattle.headers_caching.specs.CacheControl.{flag_rows, is_set, number_rows, print_flag, print_number, printed};
+ghost use Rattle.headers_caching.specs.CacheControl.{Keeps, TakesIn};
 ghost use Rattle.headers_caching.specs.CacheControlGrammar.{cache_grammar};
 ghost use Rattle.headers_caching.specs.CacheControlLaws.{FitRows, FitsOption};
 ghost use Rattle.headers_caching.specs.Printing.{separated, append_all};
@@ -55,17 +56,47 @@ impl Model for CacheControl {
 
     ghost Value = { Directives };
 
-    ghost view = { λ c. record { no_cache = c.no_cache; no_store = c.no_store; no_transform = c.no_transform; only_if_cached = c.only_if_cached; must_revalidate = c.must_revalidate; public = c.public; private = c.private; immutable = c.immutable; must_understand = c.must_understand; proxy_revalidate = c.proxy_revalidate; max_age = c.max_age; max_stale = c.max_stale; min_fresh = c.min_fresh; s_max_age = c.s_max_age } };
+    ghost view = { λ c. record {
+      no_cache = c.no_cache;
+      no_store = c.no_store;
+      no_transform = c.no_transform;
+      only_if_cached = c.only_if_cached;
+      must_revalidate = c.must_revalidate;
+      public = c.public;
+      private = c.private;
+      immutable = c.immutable;
+      must_understand = c.must_understand;
+      proxy_revalidate = c.proxy_revalidate;
+      max_age = c.max_age;
+      max_stale = c.max_stale;
+      min_fresh = c.min_fresh;
+      s_max_age = c.s_max_age;
+    } };
 
-    ghost inverse = { λ d. record { no_cache = d.no_cache; no_store = d.no_store; no_transform = d.no_transform; only_if_cached = d.only_if_cached; must_revalidate = d.must_revalidate; public = d.public; private = d.private; immutable = d.immutable; must_understand = d.must_understand; proxy_revalidate = d.proxy_revalidate; max_age = d.max_age; max_stale = d.max_stale; min_fresh = d.min_fresh; s_max_age = d.s_max_age } };
+    ghost inverse = { λ d. record {
+      no_cache = d.no_cache;
+      no_store = d.no_store;
+      no_transform = d.no_transform;
+      only_if_cached = d.only_if_cached;
+      must_revalidate = d.must_revalidate;
+      public = d.public;
+      private = d.private;
+      immutable = d.immutable;
+      must_understand = d.must_understand;
+      proxy_revalidate = d.proxy_revalidate;
+      max_age = d.max_age;
+      max_stale = d.max_stale;
+      min_fresh = d.min_fresh;
+      s_max_age = d.s_max_age;
+    } };
 }
 
 // The number that an entry carries for the directive, if it does, by what stands round its first `=`.
 fn number_for(directive: &str, name: &str, value: &str) -> Result<Option<u64>, Error>
-    ensures ok { IfOk result (λ n. (entry : List ℕ) → before_first is_equals entry ≡ name.now → after_first is_equals entry ≡ value.now
-        → n ≡ last_number directive.now (entry ∷ [])) }
-    ensures refused { (entry : List ℕ) → before_first is_equals entry ≡ name.now → after_first is_equals entry ≡ value.now
-        → (IsErr result ↔ IsTrue (is_bad_for directive.now entry)) }
+    ensures ok { IfOk result (λ n. (entry : List ℕ) → before_first is_equals entry ≡ name.now
+        → after_first is_equals entry ≡ value.now → n ≡ last_number directive.now (entry ∷ [])) }
+    ensures refused { (entry : List ℕ) → before_first is_equals entry ≡ name.now
+        → after_first is_equals entry ≡ value.now → (IsErr result ↔ IsTrue (is_bad_for directive.now entry)) }
 {
     if value.is_empty() || !same_but_for_case(name, directive) {
         return Ok(None);
@@ -90,10 +121,11 @@ fn set_number(
     name: &str,
     value: &str,
 ) -> Result<(), Error>
-    ensures ok { IfOk result (λ _. (es : List (List ℕ)) (entry : List ℕ) → before_first is_equals entry ≡ name.now → after_first is_equals entry ≡ value.now
-        → number.old ≡ last_number directive.now es → number.new ≡ last_number directive.now (es ++ entry ∷ [])) }
-    ensures refused { (entry : List ℕ) → before_first is_equals entry ≡ name.now → after_first is_equals entry ≡ value.now
-        → (IsErr result ↔ IsTrue (is_bad_for directive.now entry)) }
+    ensures ok { IfOk result (λ _. (es : List (List ℕ)) (entry : List ℕ) → before_first is_equals entry ≡ name.now
+        → after_first is_equals entry ≡ value.now → number.old ≡ last_number directive.now es
+        → number.new ≡ last_number directive.now (es ++ entry ∷ [])) }
+    ensures refused { (entry : List ℕ) → before_first is_equals entry ≡ name.now
+        → after_first is_equals entry ≡ value.now → (IsErr result ↔ IsTrue (is_bad_for directive.now entry)) }
 {
     let given = number_for(directive, name, value)?;
     *number = given.or(*number);
@@ -348,23 +380,32 @@ impl CacheControl {
         }
     }
 
+    // Sets the flag where the entry is the name of one.
+    fn add_flag(&mut self, entry: &str)
+        ensures flags { TakesIn is_set flag_rows self.old self.new entry.now }
+        ensures numbers { Keeps number_rows self.old self.new }
+    {
+        set_flag(&mut self.no_cache, "no-cache", entry);
+        set_flag(&mut self.no_store, "no-store", entry);
+        set_flag(&mut self.no_transform, "no-transform", entry);
+        set_flag(&mut self.only_if_cached, "only-if-cached", entry);
+        set_flag(&mut self.must_revalidate, "must-revalidate", entry);
+        set_flag(&mut self.public, "public", entry);
+        set_flag(&mut self.private, "private", entry);
+        set_flag(&mut self.immutable, "immutable", entry);
+        set_flag(&mut self.must_understand, "must-understand", entry);
+        set_flag(&mut self.proxy_revalidate, "proxy-revalidate", entry);
+    }
+
     // Takes in what an entry directs. It is cut once, in place of once for each number, and is compared with names of
     // its kind alone.
     fn add_entry(&mut self, entry: &str) -> Result<(), Error>
-        ensures ok { IfOk result (λ _. (es : List (List ℕ)) → self.old ≡ directives es → self.new ≡ directives (es ++ entry.now ∷ [])) }
+        ensures ok { IfOk result (λ _. (es : List (List ℕ)) → self.old ≡ directives es
+            → self.new ≡ directives (es ++ entry.now ∷ [])) }
         ensures refused { IsErr result ↔ IsTrue (is_bad entry.now) }
     {
         let Some((name, value)) = entry.split_once('=') else {
-            set_flag(&mut self.no_cache, "no-cache", entry);
-            set_flag(&mut self.no_store, "no-store", entry);
-            set_flag(&mut self.no_transform, "no-transform", entry);
-            set_flag(&mut self.only_if_cached, "only-if-cached", entry);
-            set_flag(&mut self.must_revalidate, "must-revalidate", entry);
-            set_flag(&mut self.public, "public", entry);
-            set_flag(&mut self.private, "private", entry);
-            set_flag(&mut self.immutable, "immutable", entry);
-            set_flag(&mut self.must_understand, "must-understand", entry);
-            set_flag(&mut self.proxy_revalidate, "proxy-revalidate", entry);
+            self.add_flag(entry);
             return Ok(());
         };
         set_number(&mut self.max_age, "max-age", name, value)?;
@@ -376,7 +417,8 @@ impl CacheControl {
 
     // What the entries before direct, and those of this line.
     fn with_line(self, line: &HeaderValue) -> Result<CacheControl, Error>
-        ensures ok { IfOk result (λ after. (es : List (List ℕ)) → self ≡ directives es → after ≡ directives (es ++ line_entries line.now.bytes)) }
+        ensures ok { IfOk result (λ after. (es : List (List ℕ)) → self ≡ directives es
+            → after ≡ directives (es ++ line_entries line.now.bytes)) }
         ensures refused { IsErr result ↔ IsTrue (list_any is_bad (line_entries line.now.bytes)) }
     {
         let mut after = self;
@@ -401,6 +443,7 @@ impl CacheControl {
         ensures text { IfOk result (λ text. string_bytes text ≡ merge comma (printed self.now)) }
         ensures valid { IfOk result (λ text. IsFieldValue (string_bytes text)) }
     {
+        self.numbers_fit();
         let mut text = String::new(alloc);
         push_flag(&mut text, "no-cache", self.no_cache)?;
         push_flag(&mut text, "no-store", self.no_store)?;
@@ -466,8 +509,8 @@ fn push_flag(text: &mut String, flag: &str, set: bool) -> Result<(), AllocError>
 
 // The directive and its number, where there is one.
 fn push_number(text: &mut String, directive: &str, number: Option<u64>) -> Result<(), AllocError>
-    ensures ok { OnOk result (string_bytes text.new ≡ append_all (string_bytes text.old) (print_number directive.now number)) }
-    ensures range { (n : ℕ) → number ≡ Some n → n < 2 ^ 64 }
+    ensures { OnOk result (string_bytes text.new
+        ≡ append_all (string_bytes text.old) (print_number directive.now number)) }
 {
     if let Some(number) = number {
         separate(text)?;

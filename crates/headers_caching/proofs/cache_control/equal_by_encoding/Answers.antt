@@ -1,8 +1,9 @@
-use Rattle.headers_caching.proofs.EqualityLemmas.{fields_equal, written_equal}
+use Rattle.std.proofs.Math.Bool.{and-true}
+use Rattle.headers_caching.proofs.EqualityLemmas.{rows_equal, written_equal}
 use Rattle.headers_caching.proofs.cache_control.equal_by_encoding.Goals as goal
 
 pub returns-clause-equal : goal.returns-clause-equal
-returns-clause-equal c = fields_equal c.args.a.now c.args.b.now _ c.eq.ensures
+returns-clause-equal c = rows_equal c.args.a.now c.args.b.now _ (rw and-true c.eq.ensures)
 
 pub returns-clause-encoded : goal.returns-clause-encoded
 returns-clause-encoded c =
