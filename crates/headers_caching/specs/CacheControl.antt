@@ -84,7 +84,7 @@ is_set flag es = list_any (λ entry. same_name entry flag) es
 abbrev pub last_number : List ℕ → List (List ℕ) → Option ℕ
 last_number directive es = option_and_then number_in (last_or None (filter (carries directive) es))
 
--- where a row was the value of some entries, it now is that of them and one more
+-- each row that was the value of some entries is now that of them and one more
 abbrev pub TakesIn : {V : Type 0} → (List ℕ → List (List ℕ) → V) → List (List ℕ × (Directives → V)) → Directives
     → Directives → List ℕ → Type 0
 TakesIn value rows old new entry =

@@ -31,47 +31,22 @@ use Rattle.headers_items.proofs.JoinedLemmas.{entries_joined}
 -- directives are equal where each row is
 pub same_rows : (a b : Directives) → AllByRecursion (λ row. row.1 a ≡ row.1 b) flag_rows
     → AllByRecursion (λ row. row.1 a ≡ row.1 b) number_rows → a ≡ b
-same_rows a b (
-  no_cache,
-  (
-    no_store,
-    (
-      no_transform,
-      (
-        only_if_cached,
-        (
-          must_revalidate,
-          (
-            public,
-            (
-              private,
-              (
-                immutable,
-                (must_understand, (proxy_revalidate, _)),
-              ),
-            ),
-          ),
-        ),
-      ),
-    ),
-  ),
-)
-    (max_age, (max_stale, (min_fresh, (s_max_age, _)))) = λ i.
+same_rows a b flags numbers = λ i.
     record {
-      no_cache = no_cache i;
-      no_store = no_store i;
-      no_transform = no_transform i;
-      only_if_cached = only_if_cached i;
-      must_revalidate = must_revalidate i;
-      public = public i;
-      private = private i;
-      immutable = immutable i;
-      must_understand = must_understand i;
-      proxy_revalidate = proxy_revalidate i;
-      max_age = max_age i;
-      max_stale = max_stale i;
-      min_fresh = min_fresh i;
-      s_max_age = s_max_age i;
+      no_cache = flags.0 i;
+      no_store = flags.1.0 i;
+      no_transform = flags.1.1.0 i;
+      only_if_cached = flags.1.1.1.0 i;
+      must_revalidate = flags.1.1.1.1.0 i;
+      public = flags.1.1.1.1.1.0 i;
+      private = flags.1.1.1.1.1.1.0 i;
+      immutable = flags.1.1.1.1.1.1.1.0 i;
+      must_understand = flags.1.1.1.1.1.1.1.1.0 i;
+      proxy_revalidate = flags.1.1.1.1.1.1.1.1.1.0 i;
+      max_age = numbers.0 i;
+      max_stale = numbers.1.0 i;
+      min_fresh = numbers.1.1.0 i;
+      s_max_age = numbers.1.1.1.0 i;
     }
 
 -- and each row is where they are
