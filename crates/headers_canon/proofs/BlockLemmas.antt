@@ -1,5 +1,6 @@
 -- A text that is printed block by block.
-use Rattle.std.proofs.Common.{◌≡◌, ℕ, ◌+◌, ◌<◌, ◌≤◌, ◌||◌, Bool, true, false, not, List, [], ◌∷◌, ◌++◌, length, take, get_or, flat_map, Option, Some, None, is_none, option_map, refl, sym, ◌∙◌, ap, subst}
+use Rattle.std.proofs.Common.{◌≡◌, ℕ, ◌+◌, ◌<◌, ◌≤◌, ◌||◌, Bool, true, false, not, List, [], ◌∷◌, ◌++◌, length, take}
+use Rattle.std.proofs.Common.{get_or, flat_map, Option, Some, None, is_none, option_map, refl, sym, ◌∙◌, ap, subst}
 use Rattle.std.specs.List.{list_any}
 use Rattle.std.proofs.lemmas.List.{append-nil, map-append, take_more, take_all}
 use Rattle.std.proofs.lemmas.List.Concat.{flat_map-append}
@@ -15,53 +16,64 @@ or_false : (b : Bool) → (b || false) ≡ b
 or_false true = refl
 or_false false = refl
 
-pub HasBlocks-push : (lines : List ℕ → List Line) (order : List (List ℕ)) (text : List ℕ) (some_refused : Bool) (name : List ℕ) (block : Block)
-    → HasBlocks lines order text some_refused → IsBlock name (lines name) block
+pub HasBlocks-push : (lines : List ℕ → List Line) (order : List (List ℕ)) (text : List ℕ) (some_refused : Bool)
+    (name : List ℕ) (block : Block) → HasBlocks lines order text some_refused → IsBlock name (lines name) block
     → HasBlocks lines (order ++ name ∷ []) (text ++ block_text name block) (some_refused || is_none block)
 HasBlocks-push lines order text some_refused name block has is =
+    let text_of : List ℕ × Block → List ℕ = λ pair. block_text pair.0 pair.1 in
+    let is_refused : List ℕ × Block → Bool = λ pair. is_none pair.1 in
     record {
       blocks = has.blocks ++ (name, block) ∷ [];
-      in_order = map-append (λ (b : List ℕ × Block). b.0) has.blocks ((name, block) ∷ []) ∙ ap (λ (ns : List (List ℕ)). ns ++ name ∷ []) has.in_order;
-      each = All-push (λ (b : List ℕ × Block). IsBlock b.0 (lines b.0) b.1) has.blocks (name, block) has.each is;
+      in_order =
+          map-append (λ (pair : List ℕ × Block). pair.0) has.blocks ((name, block) ∷ [])
+          ∙ ap (λ (names : List (List ℕ)). names ++ name ∷ []) has.in_order;
+      each = All-push (λ (pair : List ℕ × Block). IsBlock pair.0 (lines pair.0) pair.1) has.blocks _ has.each is;
       text_is =
-          ap (λ (t : List ℕ). t ++ block_text name block) has.text_is
-          ∙ ap (λ (t : List ℕ). flat_map (λ (b : List ℕ × Block). block_text b.0 b.1) has.blocks ++ t) (sym (append-nil (block_text name block)))
-          ∙ sym (flat_map-append (λ (b : List ℕ × Block). block_text b.0 b.1) has.blocks ((name, block) ∷ []));
+          ap (λ (before : List ℕ). before ++ block_text name block) has.text_is
+          ∙ ap (λ (last : List ℕ). flat_map text_of has.blocks ++ last) (sym (append-nil (block_text name block)))
+          ∙ sym (flat_map-append text_of has.blocks ((name, block) ∷ []));
       refused_is =
-          ap (λ (r : Bool). r || is_none block) has.refused_is
-          ∙ ap (λ (r : Bool). list_any (λ (b : List ℕ × Block). is_none b.1) has.blocks || r) (sym (or_false (is_none block)))
-          ∙ sym (list_any-append (λ (b : List ℕ × Block). is_none b.1) has.blocks ((name, block) ∷ []));
+          ap (λ (before : Bool). before || is_none block) has.refused_is
+          ∙ ap (λ (last : Bool). list_any is_refused has.blocks || last) (sym (or_false (is_none block)))
+          ∙ sym (list_any-append is_refused has.blocks ((name, block) ∷ []));
     }
 
 -- the same lines under each name
 pub HasBlocks-same : (lines others : List ℕ → List Line) (order : List (List ℕ)) (text : List ℕ) (some_refused : Bool)
-    → ((name : List ℕ) → lines name ≡ others name) → HasBlocks lines order text some_refused → HasBlocks others order text some_refused
+    → ((name : List ℕ) → lines name ≡ others name) → HasBlocks lines order text some_refused
+    → HasBlocks others order text some_refused
 HasBlocks-same lines others order text some_refused same has =
     record {
       blocks = has.blocks;
       in_order = has.in_order;
       each =
-          All-weaker (λ (b : List ℕ × Block). IsBlock b.0 (lines b.0) b.1) (λ (b : List ℕ × Block). IsBlock b.0 (others b.0) b.1)
-          (λ b is. subst (λ (ls : List Line). IsBlock b.0 ls b.1) (same b.0) is) has.blocks has.each;
+          All-weaker (λ (pair : List ℕ × Block). IsBlock pair.0 (lines pair.0) pair.1)
+          (λ (pair : List ℕ × Block). IsBlock pair.0 (others pair.0) pair.1)
+          (λ pair is. subst (λ (own : List Line). IsBlock pair.0 own pair.1) (same pair.0) is) has.blocks has.each;
       text_is = has.text_is;
       refused_is = has.refused_is;
     }
 
 -- the block of the next name was printed
-pub HasBlocks-more : (lines : List ℕ → List Line) (order : List (List ℕ)) (i : ℕ) (name : List ℕ) (text more : List ℕ) (before after : Bool) (block : Block)
-    → i < length order → name ≡ get_or order i name → HasBlocks lines (take i order) text before → IsBlock name (lines name) block
-    → more ≡ text ++ block_text name block → after ≡ (before || is_none block) → HasBlocks lines (take (i + 1) order) more after
-HasBlocks-more lines order i name text more before after block within at has is printed marked =
-    let names : take (i + 1) order ≡ take i order ++ name ∷ [] = take_more order i name within ∙ ap (λ (n : List ℕ). take i order ++ n ∷ []) (sym at) in
-    rw (names, printed, marked) (HasBlocks-push lines (take i order) text before name block has is)
+pub HasBlocks-more : (lines : List ℕ → List Line) (order : List (List ℕ)) (place : ℕ) (name text more : List ℕ)
+    (before after : Bool) (block : Block) → place < length order → name ≡ get_or order place name
+    → HasBlocks lines (take place order) text before → IsBlock name (lines name) block
+    → more ≡ text ++ block_text name block → after ≡ (before || is_none block)
+    → HasBlocks lines (take (place + 1) order) more after
+HasBlocks-more lines order place name text more before after block within at has is printed marked =
+    let names : take (place + 1) order ≡ take place order ++ name ∷ [] =
+    take_more order place name within ∙ ap (λ (last : List ℕ). take place order ++ last ∷ []) (sym at) in
+    rw (names, printed, marked) (HasBlocks-push lines (take place order) text before name block has is)
 
-pub HasBlocks-start : (lines : List ℕ → List Line) (order : List (List ℕ)) (text : List ℕ) → text ≡ [] → HasBlocks lines (take 0 order) text false
-HasBlocks-start lines order text e = rw e (HasBlocks-none lines)
+pub HasBlocks-start : (lines : List ℕ → List Line) (order : List (List ℕ)) (text : List ℕ) → text ≡ []
+    → HasBlocks lines (take 0 order) text false
+HasBlocks-start lines order text empty = rw empty (HasBlocks-none lines)
 
-pub HasBlocks-all : (lines : List ℕ → List Line) (order : List (List ℕ)) (i : ℕ) (text : List ℕ) (some_refused : Bool) → length order ≤ i
-    → HasBlocks lines (take i order) text some_refused → HasBlocks lines order text some_refused
-HasBlocks-all lines order i text some_refused all has =
-    subst (λ (ns : List (List ℕ)). HasBlocks lines ns text some_refused) (take_all i order all) has
+pub HasBlocks-all : (lines : List ℕ → List Line) (order : List (List ℕ)) (place : ℕ) (text : List ℕ)
+    (some_refused : Bool) → length order ≤ place → HasBlocks lines (take place order) text some_refused
+    → HasBlocks lines order text some_refused
+HasBlocks-all lines order place text some_refused all has =
+    subst (λ (names : List (List ℕ)). HasBlocks lines names text some_refused) (take_all place order all) has
 
 pub is_none-map : {A : Type 0} (f : A → List Line) (o : Option A) → is_none (option_map f o) ≡ is_none o
 is_none-map f None = refl

@@ -16,22 +16,30 @@ pub record IsCollected (all before left : List Field) (map : Entries FieldValue)
   pub fits : ¬ (FillsMap before)
 
 -- the field that is next
-module _ (all before ahead : List Field) (map : Entries FieldValue) (order : List (List ℕ)) (so_far : IsCollected all before ahead map order)
-    (field : Field) (left : List Field) (next : ahead ≡ field ∷ left) where
+module _ (all before ahead : List Field) (map : Entries FieldValue) (order : List (List ℕ))
+    (so_far : IsCollected all before ahead map order) (field : Field) (left : List Field)
+    (next : ahead ≡ field ∷ left) where
   -- the map takes it
   pub IsCollected-more : (after : Entries FieldValue) (named : List (List ℕ)) → after ≡ append map field.0 field.1
-      → ¬ (RefusesAppend map field.0) → named ≡ with_name order field.0 → IsCollected all (before ++ field ∷ []) left after named
+      → ¬ (RefusesAppend map field.0) → named ≡ with_name order field.0
+      → IsCollected all (before ++ field ∷ []) left after named
   IsCollected-more after named appended room is =
       record {
-        whole = append_assoc before (field ∷ []) left ∙ ap (λ (fs : List Field). before ++ fs) (sym next) ∙ so_far.whole;
+        whole =
+            append_assoc before (field ∷ []) left
+            ∙ ap (λ (rest : List Field). before ++ rest) (sym next)
+            ∙ so_far.whole;
         held =
             appended
             ∙ ap (λ (m : Entries FieldValue). append m field.0 field.1) so_far.held
             ∙ sym (append_all-push [] before field);
-        in_order = is ∙ ap (λ (ns : List (List ℕ)). with_name ns field.0) so_far.in_order ∙ sym (names_more before field);
+        in_order =
+            is
+            ∙ ap (λ (list : List (List ℕ)). with_name list field.0) so_far.in_order
+            ∙ sym (names_more before field);
         same =
             is
-            ∙ ap (λ (ns : List (List ℕ)). with_name ns field.0) so_far.same
+            ∙ ap (λ (list : List (List ℕ)). with_name list field.0) so_far.same
             ∙ sym (keys-append map field.0 field.1)
             ∙ ap (λ (m : Entries FieldValue). keys m) (sym appended);
         fits = fits_more before field map so_far.held room so_far.fits;
@@ -40,5 +48,5 @@ module _ (all before ahead : List Field) (map : Entries FieldValue) (order : Lis
   -- the map refuses it
   pub FillsMap-from_collected : RefusesAppend map field.0 → FillsMap all
   FillsMap-from_collected full =
-      subst FillsMap (ap (λ (fs : List Field). before ++ fs) (sym next) ∙ so_far.whole)
+      subst FillsMap (ap (λ (rest : List Field). before ++ rest) (sym next) ∙ so_far.whole)
       (FillsMap-from_refusal before field left map so_far.held full)

@@ -1,5 +1,7 @@
 -- Names at their first appearance, and the values under them, in a map to which the fields were appended.
-use Rattle.std.proofs.Common.{◌≡◌, ℕ, ◌<◌, ◌||◌, Bool, true, false, not, List, [], ◌∷◌, ◌++◌, length, map, filter, bytes_eq, if◌then◌else◌, All, Contains, IsTrue, refl, sym, ◌∙◌, ap, subst, inl, inr, arith}
+use Rattle.std.proofs.Common.{◌≡◌, ℕ, ◌<◌, ◌||◌, Bool, true, false, not, List, [], ◌∷◌, ◌++◌, length, map, filter}
+use Rattle.std.proofs.Common.{bytes_eq, if◌then◌else◌, All, Contains, IsTrue, refl, sym, ◌∙◌, ap, subst, inl, inr}
+use Rattle.std.proofs.Common.{arith}
 use Rattle.std.specs.List.{list_any}
 use Rattle.std.proofs.lemmas.Bool.{cases_Bool}
 use Rattle.std.proofs.lemmas.List.{append-nil, append_assoc, map-append}
@@ -26,7 +28,8 @@ abbrev pub with_name : List (List ℕ) → List ℕ → List (List ℕ)
 with_name list name = if has name list then list else list ++ name ∷ []
 
 -- append to a map
-pub keys-append : (m : Entries FieldValue) (name : List ℕ) (value : FieldValue) → keys (append m name value) ≡ with_name (keys m) name
+pub keys-append : (m : Entries FieldValue) (name : List ℕ) (value : FieldValue)
+    → keys (append m name value) ≡ with_name (keys m) name
 keys-append [] name value = refl
 keys-append (e ∷ m) name value =
     elim (cases_Bool (bytes_eq e.0 name)) [
@@ -37,7 +40,8 @@ keys-append (e ∷ m) name value =
                 let rest : keys (append m name value) ≡ keys m = keys-append m name value ∙ (rw old refl) in
                 rw (f, old) (ap (λ (ks : List (List ℕ)). e.0 ∷ ks) rest)
             | inr new ↦
-                let rest : keys (append m name value) ≡ keys m ++ name ∷ [] = keys-append m name value ∙ (rw new refl) in
+                let rest : keys (append m name value) ≡ keys m ++ name ∷ [] =
+                keys-append m name value ∙ (rw new refl) in
                 rw (f, new) (ap (λ (ks : List (List ℕ)). e.0 ∷ ks) rest)
           ]
     ]
@@ -63,11 +67,13 @@ has-filter name left_out (x ∷ list) apart =
     ]
 
 -- one more name
-pub first_appearances-push : (list : List (List ℕ)) (name : List ℕ) → first_appearances (list ++ name ∷ []) ≡ with_name (first_appearances list) name
+pub first_appearances-push : (list : List (List ℕ)) (name : List ℕ)
+    → first_appearances (list ++ name ∷ []) ≡ with_name (first_appearances list) name
 first_appearances-push [] name = refl
 first_appearances-push (x ∷ list) name =
     let P : List ℕ → Bool = λ other. not (bytes_eq other x) in
-    let rest : first_appearances (list ++ name ∷ []) ≡ with_name (first_appearances list) name = first_appearances-push list name in
+    let rest : first_appearances (list ++ name ∷ []) ≡ with_name (first_appearances list) name =
+    first_appearances-push list name in
     elim (cases_Bool (has name (first_appearances list))) [
       | inl old ↦
           let same : first_appearances (list ++ name ∷ []) ≡ first_appearances list = rest ∙ rw old refl in
@@ -77,15 +83,23 @@ first_appearances-push (x ∷ list) name =
           ]
       | inr new ↦
           let more : first_appearances (list ++ name ∷ []) ≡ first_appearances list ++ name ∷ [] = rest ∙ rw new refl in
-          let cut : filter P (first_appearances (list ++ name ∷ [])) ≡ filter P (first_appearances list) ++ filter P (name ∷ []) = ap (filter P) more ∙ filter-append P (first_appearances list) (name ∷ []) in
+          let cut : filter P (first_appearances (list ++ name ∷ []))
+          ≡ filter P (first_appearances list) ++ filter P (name ∷ []) =
+          ap (filter P) more ∙ filter-append P (first_appearances list) (name ∷ []) in
           elim (cases_Bool (bytes_eq x name)) [
             | inl t ↦
-                let gone : filter P (name ∷ []) ≡ [] = let s : bytes_eq name x ≡ true = (bytes_eq-Decides name x).1 (sym ((bytes_eq-Decides x name).0 t)) in rw s refl in
-                rw t (ap (λ (ns : List (List ℕ)). x ∷ ns) (cut ∙ ap (λ (ns : List (List ℕ)). filter P (first_appearances list) ++ ns) gone ∙ append-nil _))
+                let same : bytes_eq name x ≡ true =
+                (bytes_eq-Decides name x).1 (sym ((bytes_eq-Decides x name).0 t)) in
+                let gone : filter P (name ∷ []) ≡ [] = rw same refl in
+                rw t (ap (λ (later : List (List ℕ)). x ∷ later) (cut
+                ∙ ap (λ (last : List (List ℕ)). filter P (first_appearances list) ++ last) gone
+                ∙ append-nil _))
             | inr f ↦
                 let kept = has-filter name x (first_appearances list) f in
-                let stays : filter P (name ∷ []) ≡ name ∷ [] = let s : bytes_eq name x ≡ false = apart-sym x name f in rw s refl in
-                rw (f, kept, new) (ap (λ (ns : List (List ℕ)). x ∷ ns) (cut ∙ ap (λ (ns : List (List ℕ)). filter P (first_appearances list) ++ ns) stays))
+                let apart : bytes_eq name x ≡ false = apart-sym x name f in
+                let stays : filter P (name ∷ []) ≡ name ∷ [] = rw apart refl in
+                rw (f, kept, new) (ap (λ (later : List (List ℕ)). x ∷ later) (cut
+                ∙ ap (λ (last : List (List ℕ)). filter P (first_appearances list) ++ last) stays))
           ]
     ]
 
@@ -99,18 +113,20 @@ Contains-from_has name list h =
     subst (λ (n : List ℕ). Contains list n) ((bytes_eq-Decides any.1 name).0 any.4) (any.0, any.2, any.3)
 
 -- a name that was found, and one that was not
-pub with_name-found : (found : Bool) (name : List ℕ) (list : List (List ℕ)) → (IsTrue found → Contains list name) → found ≡ true → with_name list name ≡ list
+pub with_name-found : (found : Bool) (name : List ℕ) (list : List (List ℕ)) → (IsTrue found → Contains list name)
+    → found ≡ true → with_name list name ≡ list
 with_name-found found name list h t = let old = has-from_Contains name list (h t) in rw old refl
 
-pub with_name-new : (found : Bool) (name : List ℕ) (list : List (List ℕ)) → (Contains list name → IsTrue found) → found ≡ false
-    → with_name list name ≡ list ++ name ∷ []
+pub with_name-new : (found : Bool) (name : List ℕ) (list : List (List ℕ)) → (Contains list name → IsTrue found)
+    → found ≡ false → with_name list name ≡ list ++ name ∷ []
 with_name-new found name list h f =
     elim (cases_Bool (has name list)) [
       | inl old ↦ let t = h (Contains-from_has name list old) in absurd (cc (t, f))
       | inr new ↦ rw new refl
     ]
 
-pub append_all-push : (m : Entries FieldValue) (fields : List Field) (field : Field) → append_all m (fields ++ field ∷ []) ≡ append (append_all m fields) field.0 field.1
+pub append_all-push : (m : Entries FieldValue) (fields : List Field) (field : Field)
+    → append_all m (fields ++ field ∷ []) ≡ append (append_all m fields) field.0 field.1
 append_all-push m [] field = refl
 append_all-push m (f ∷ fields) field = append_all-push (append m f.0 f.1) fields field
 
@@ -123,19 +139,25 @@ names_more before field =
 
 -- what a map holds under a name
 pub get_all-append_all : (m : Entries FieldValue) (fields : List Field) (name : List ℕ)
-    → get_all (append_all m fields) name ≡ get_all m name ++ map (λ field. field.1) (filter (λ field. bytes_eq field.0 name) fields)
+    → get_all (append_all m fields) name
+    ≡ get_all m name ++ map (λ field. field.1) (filter (λ field. bytes_eq field.0 name) fields)
 get_all-append_all m [] name = sym (append-nil (get_all m name))
 get_all-append_all m (f ∷ fields) name =
     let rest = get_all-append_all (append m f.0 f.1) fields name in
+    let later : List FieldValue = map (λ field. field.1) (filter (λ field. bytes_eq field.0 name) fields) in
     elim (cases_Bool (bytes_eq f.0 name)) [
       | inl t ↦
           let same : f.0 ≡ name = (bytes_eq-Decides f.0 name).0 t in
           let own : get_all (append m f.0 f.1) name ≡ get_all m name ++ f.1 ∷ [] =
-          subst (λ (n : List ℕ). get_all (append m f.0 f.1) n ≡ get_all m n ++ f.1 ∷ []) same (get_all-append_same m f.0 f.1) in
-          rw t (rest ∙ ap (λ (vs : List FieldValue). vs ++ map (λ field. field.1) (filter (λ field. bytes_eq field.0 name) fields)) own ∙ append_assoc (get_all m name) (f.1 ∷ []) _)
+          subst (λ (one : List ℕ). get_all (append m f.0 f.1) one ≡ get_all m one ++ f.1 ∷ []) same
+          (get_all-append_same m f.0 f.1) in
+          rw t (rest ∙ ap (λ (values : List FieldValue). values ++ later) own
+          ∙ append_assoc (get_all m name) (f.1 ∷ []) _)
       | inr n ↦
-          let other : get_all (append m f.0 f.1) name ≡ get_all m name = get_all-append_other m f.0 name f.1 (λ e. let t = (bytes_eq-Decides f.0 name).1 e in absurd (cc (t, n))) in
-          rw n (rest ∙ ap (λ (vs : List FieldValue). vs ++ map (λ field. field.1) (filter (λ field. bytes_eq field.0 name) fields)) other)
+          let other : get_all (append m f.0 f.1) name ≡ get_all m name =
+          get_all-append_other m f.0 name f.1
+          (λ same. let t = (bytes_eq-Decides f.0 name).1 same in absurd (cc (t, n))) in
+          rw n (rest ∙ ap (λ (values : List FieldValue). values ++ later) other)
     ]
 
 map-bytes : (fields : List Field) → lines_of (map (λ field. field.1) fields) ≡ map (λ field. field.1.bytes) fields
@@ -143,14 +165,18 @@ map-bytes [] = refl
 map-bytes (f ∷ fields) = ap (λ (ls : List Line). f.1.bytes ∷ ls) (map-bytes fields)
 
 -- the lines under a name of the map that holds the fields
-pub lines_held : (fields : List Field) (name : List ℕ) → lines_of (get_all (append_all [] fields) name) ≡ lines_under fields name
+pub lines_held : (fields : List Field) (name : List ℕ)
+    → lines_of (get_all (append_all [] fields) name) ≡ lines_under fields name
 lines_held fields name =
     ap lines_of (get_all-append_all [] fields name) ∙ map-bytes (filter (λ field. bytes_eq field.0 name) fields)
 
-has_line : (fields : List Field) (name : List ℕ) → has name (names fields) ≡ true → 0 < length (get_all (append_all [] fields) name)
-has_line fields name h = subst (λ (vs : List FieldValue). 0 < length vs) (sym (get_all-append_all [] fields name)) (by fields h)
+has_line : (fields : List Field) (name : List ℕ) → has name (names fields) ≡ true
+    → 0 < length (get_all (append_all [] fields) name)
+has_line fields name h =
+    subst (λ (values : List FieldValue). 0 < length values) (sym (get_all-append_all [] fields name)) (by fields h)
   where
-    by : (fields : List Field) → has name (names fields) ≡ true → 0 < length (map (λ field. field.1) (filter (λ field. bytes_eq field.0 name) fields))
+    by : (fields : List Field) → has name (names fields) ≡ true
+        → 0 < length (map (λ field. field.1) (filter (λ field. bytes_eq field.0 name) fields))
     by [] e = absurd (cc e)
     by (f ∷ fields) e =
         elim (cases_Bool (bytes_eq f.0 name)) [
@@ -163,15 +189,19 @@ first_has [] = All-nil _
 first_has (x ∷ list) =
     All-cons (λ name. has name (x ∷ list) ≡ true) x _ (let same = (bytes_eq-Decides x x).1 refl in rw same refl)
     (All-filter (λ other. not (bytes_eq other x)) (λ name. has name (x ∷ list) ≡ true) (first_appearances list)
-    (All-weaker (λ name. has name list ≡ true) (λ name. has name (x ∷ list) ≡ true) (λ name h. more (bytes_eq x name) (has name list) h) (first_appearances list) (first_has list)))
+    (All-weaker (λ name. has name list ≡ true) (λ name. has name (x ∷ list) ≡ true)
+    (λ name h. more (bytes_eq x name) (has name list) h) (first_appearances list) (first_has list)))
   where
     more : (a b : Bool) → b ≡ true → (a || b) ≡ true
     more true b h = refl
     more false b h = h
 
 -- each name has a line in the map that holds the fields
-pub names_filled : (fields : List Field) → All (λ name. 0 < length (get_all (append_all [] fields) name)) (first_appearances (names fields))
-names_filled fields = All-weaker (λ name. has name (names fields) ≡ true) _ (has_line fields) (first_appearances (names fields)) (first_has (names fields))
+pub names_filled : (fields : List Field)
+    → All (λ name. 0 < length (get_all (append_all [] fields) name)) (first_appearances (names fields))
+names_filled fields =
+    All-weaker (λ name. has name (names fields) ≡ true) _ (has_line fields) (first_appearances (names fields))
+    (first_has (names fields))
 
 -- a map that refuses the field after those that it holds
 pub FillsMap-from_refusal : (before : List Field) (field : Field) (later : List Field) (m : Entries FieldValue)

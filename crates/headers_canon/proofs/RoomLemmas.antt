@@ -1,5 +1,6 @@
 -- Fields for which a map has room.
-use Rattle.std.proofs.Common.{◌≡◌, ℕ, true, List, [], ◌∷◌, ◌++◌, IsTrue, ◌⊎◌, ⊎_elim, inl, inr, refl, sym, ◌∙◌, ap, subst}
+use Rattle.std.proofs.Common.{◌≡◌, ℕ, true, List, [], ◌∷◌, ◌++◌, IsTrue, ◌⊎◌, ⊎_elim, inl, inr, refl, sym, ◌∙◌, ap}
+use Rattle.std.proofs.Common.{subst}
 use Rattle.std.proofs.lemmas.List.Elements.{All-head, All-tail}
 use Rattle.http_header.specs.Token.{AllPass, is_token_byte, lowercase}
 use Rattle.http_header.specs.FieldValue.{FieldValue, plain_value}
@@ -15,7 +16,8 @@ not_empty [] next later e = absurd (cc e)
 not_empty (x ∷ first) next later e = absurd (cc e)
 
 -- an item of a list is its last, or an item of what stands before that
-last_or_before : {A : Type 0} (xs : List A) (last : A) (first : List A) (next : A) (later : List A) → xs ++ last ∷ [] ≡ first ++ next ∷ later
+last_or_before : {A : Type 0} (xs : List A) (last : A) (first : List A) (next : A) (later : List A)
+    → xs ++ last ∷ [] ≡ first ++ next ∷ later
     → ((xs ≡ first) × (last ≡ next)) ⊎ ((rest : List A) × (xs ≡ first ++ next ∷ rest))
 last_or_before [] last [] next later e = inl (refl, cc e)
 last_or_before [] last (y ∷ first) next later e =
@@ -51,7 +53,8 @@ no_colon : (b : ℕ) → is_token_byte b ≡ true → ¬ (b ≡ 58)
 no_colon b token e = let here : is_token_byte 58 ≡ true = rw e at token in absurd (cc (here, colon_is_no_token))
 
 -- so the first colon of a line parts it in one way
-colon_once : (a b r s : List ℕ) → AllPass is_token_byte a → AllPass is_token_byte b → a ++ 58 ∷ r ≡ b ++ 58 ∷ s → (a ≡ b) × (r ≡ s)
+colon_once : (a b r s : List ℕ) → AllPass is_token_byte a → AllPass is_token_byte b → a ++ 58 ∷ r ≡ b ++ 58 ∷ s
+    → (a ≡ b) × (r ≡ s)
 colon_once [] [] r s h k e = (refl, cc e)
 colon_once [] (y ∷ b) r s h k e =
     let same : y ≡ 58 = cc e in absurd (no_colon y (All-head (λ (x : ℕ). IsTrue (is_token_byte x)) y b k) same)
@@ -60,7 +63,9 @@ colon_once (x ∷ a) [] r s h k e =
 colon_once (x ∷ a) (y ∷ b) r s h k e =
     let same : x ≡ y = cc e in
     let rest : a ++ 58 ∷ r ≡ b ++ 58 ∷ s = cc e in
-    let more = colon_once a b r s (All-tail (λ (z : ℕ). IsTrue (is_token_byte z)) x a h) (All-tail (λ (z : ℕ). IsTrue (is_token_byte z)) y b k) rest in
+    let more =
+    colon_once a b r s (All-tail (λ (z : ℕ). IsTrue (is_token_byte z)) x a h)
+    (All-tail (λ (z : ℕ). IsTrue (is_token_byte z)) y b k) rest in
     (ap (λ (z : ℕ). z ∷ a) same ∙ ap (λ (zs : List ℕ). y ∷ zs) more.0, more.1)
 
 -- a line is one field at most
@@ -77,4 +82,5 @@ AreFields-once [] (f ∷ fs) gs p q = absurd p
 AreFields-once (line ∷ lines) [] gs p q = absurd p
 AreFields-once (line ∷ lines) (f ∷ fs) [] p q = absurd q
 AreFields-once (line ∷ lines) (f ∷ fs) (g ∷ gs) p q =
-    ap (λ (h : Field). h ∷ fs) (IsField-once line f g p.0 q.0) ∙ ap (λ (hs : List Field). g ∷ hs) (AreFields-once lines fs gs p.1 q.1)
+    ap (λ (first : Field). first ∷ fs) (IsField-once line f g p.0 q.0)
+    ∙ ap (λ (later : List Field). g ∷ later) (AreFields-once lines fs gs p.1 q.1)

@@ -1,12 +1,15 @@
 -- The lines of an input, one after the other.
-use Rattle.std.proofs.Common.{◌≡◌, ℕ, suc, ◌+◌, ◌<◌, Bool, true, false, List, [], ◌∷◌, ◌++◌, length, take, drop, map, get_or, Option, Some, None, IfSome, IfNone, refl, sym, ◌∙◌, ap, subst, arith, Contains, append_assoc}
+use Rattle.std.proofs.Common.{◌≡◌, ℕ, suc, ◌+◌, ◌<◌, Bool, true, false, List, [], ◌∷◌, ◌++◌, length, take, drop, map}
+use Rattle.std.proofs.Common.{get_or, Option, Some, None, IfSome, IfNone, refl, sym, ◌∙◌, ap, subst, arith, Contains}
+use Rattle.std.proofs.Common.{append_assoc}
 use Rattle.std.specs.List.{slice_split, prefix_len}
 use Rattle.std.proofs.lemmas.List.{take-append-drop, drop_more, get_or-take, length-take-le}
 use Rattle.std.proofs.lemmas.List.Splits.{slice_split_at, slice_split_none}
 use Rattle.std.proofs.lemmas.List.Elements.{All-from_get_or, Contains-append_left, Contains-push}
 use Rattle.memchr.specs.Find.{NoneBefore, Nowhere, Passes, is_byte}
 use Rattle.headers.specs.Lines.{Line}
-use Rattle.headers_canon.specs.Section.{without_return, is_newline, is_filled, input_lines, section, Field, IsField, AreFields, IsNoField, HasNoField}
+use Rattle.headers_canon.specs.Section.{without_return, is_newline, is_filled, input_lines, section, Field, IsField}
+use Rattle.headers_canon.specs.Section.{AreFields, IsNoField, HasNoField}
 
 -- a list at one of its places
 pub split_at_place : (s : List ℕ) (k : ℕ) → k < length s → s ≡ take k s ++ get_or s k 0 ∷ drop (k + 1) s
@@ -18,25 +21,34 @@ not_true true h = absurd (h refl)
 not_true false h = refl
 
 -- no byte 10: the one piece
-pub input_lines-none : (s : List ℕ) (line : Line) → Nowhere (Passes (is_byte 10) s) 0 (length s) → line ≡ without_return s → input_lines s ≡ line ∷ []
-input_lines-none s line none e =
-    ap (map without_return) (slice_split_none is_newline s (All-from_get_or (λ b. is_newline b ≡ false) s 0 (λ i within. not_true _ (none i (omega arith) within))))
-    ∙ ap (λ (l : Line). l ∷ []) (sym e)
+pub input_lines-none : (input : List ℕ) (line : Line) → Nowhere (Passes (is_byte 10) input) 0 (length input)
+    → line ≡ without_return input → input_lines input ≡ line ∷ []
+input_lines-none input line none is =
+    ap (map without_return)
+    (slice_split_none is_newline input
+    (All-from_get_or (λ byte. is_newline byte ≡ false) input 0
+    (λ place within. not_true _ (none place (omega arith) within))))
+    ∙ ap (λ (only : Line). only ∷ []) (sym is)
 
 -- a first byte 10: the piece before it, and the pieces after it
-pub input_lines-some : (s : List ℕ) (k : ℕ) (line rest : Line) → NoneBefore (Passes (is_byte 10) s) 0 (length s) k → Passes (is_byte 10) s k
-    → line ≡ without_return (take k s) → rest ≡ drop (k + 1) s → input_lines s ≡ line ∷ input_lines rest
-input_lines-some s k line rest first here e f =
-    let len : length (take k s) ≡ k = length-take-le k s (omega (arith, first.high)) in
-    ap input_lines (split_at_place s k first.high)
-    ∙ ap (map without_return) (slice_split_at is_newline (take k s) (get_or s k 0) (drop (k + 1) s)
-    (All-from_get_or (λ b. is_newline b ≡ false) (take k s) 0
-    (λ i within.
-    let below : i < k = omega (arith, within, len) in
-    subst (λ b. is_newline b ≡ false) (sym (get_or-take k s i 0 below)) (not_true _ (first.before i (omega arith) below))))
+pub input_lines-some : (input : List ℕ) (end : ℕ) (line rest : Line)
+    → NoneBefore (Passes (is_byte 10) input) 0 (length input) end → Passes (is_byte 10) input end
+    → line ≡ without_return (take end input) → rest ≡ drop (end + 1) input
+    → input_lines input ≡ line ∷ input_lines rest
+input_lines-some input end line rest first here line_is rest_is =
+    let front : length (take end input) ≡ end = length-take-le end input (omega (arith, first.high)) in
+    ap input_lines (split_at_place input end first.high)
+    ∙ ap (map without_return)
+    (slice_split_at is_newline (take end input) (get_or input end 0) (drop (end + 1) input)
+    (All-from_get_or (λ byte. is_newline byte ≡ false) (take end input) 0
+    (λ place within.
+    let below : place < end = omega (arith, within, front) in
+    subst (λ byte. is_newline byte ≡ false) (sym (get_or-take end input place 0 below))
+    (not_true _ (first.before place (omega arith) below))))
     here)
-    ∙ ap (λ (l : Line). l ∷ map without_return (slice_split is_newline (drop (k + 1) s))) (sym e)
-    ∙ ap (λ (r : List ℕ). line ∷ input_lines r) (sym f)
+    ∙ ap (λ (first_line : Line). first_line ∷ map without_return (slice_split is_newline (drop (end + 1) input)))
+    (sym line_is)
+    ∙ ap (λ (later : List ℕ). line ∷ input_lines later) (sym rest_is)
 
 empty_line : (line : Line) → length line ≡ 0 → is_filled line ≡ false
 empty_line [] e = refl
@@ -47,8 +59,8 @@ filled_line [] e = absurd (omega (arith, e))
 filled_line (b ∷ line) e = refl
 
 -- the lines before the first empty one, where the first is not empty
-pub section-filled : (input : List ℕ) (line : Line) (lines : List Line) → input_lines input ≡ line ∷ lines → 0 < length line
-    → section input ≡ line ∷ take (prefix_len is_filled lines) lines
+pub section-filled : (input : List ℕ) (line : Line) (lines : List Line) → input_lines input ≡ line ∷ lines
+    → 0 < length line → section input ≡ line ∷ take (prefix_len is_filled lines) lines
 section-filled input line lines e h =
     let more : 1 + prefix_len is_filled lines ≡ suc (prefix_len is_filled lines) = omega arith in
     rw (e, filled_line line h, more) refl
@@ -57,18 +69,22 @@ section-filled input line lines e h =
 pub section_taken : (all : List ℕ) (taken : List Line) (input : List ℕ) (line : Line) (lines : List Line)
     → section all ≡ taken ++ section input → input_lines input ≡ line ∷ lines → 0 < length line
     → section all ≡ (taken ++ line ∷ []) ++ take (prefix_len is_filled lines) lines
-section_taken all taken input line lines e f h =
-    e ∙ ap (λ (ls : List Line). taken ++ ls) (section-filled input line lines f h) ∙ sym (append_assoc taken (line ∷ []) _)
+section_taken all taken input line lines all_is input_is filled =
+    all_is
+    ∙ ap (λ (left : List Line). taken ++ left) (section-filled input line lines input_is filled)
+    ∙ sym (append_assoc taken (line ∷ []) _)
 
 -- the line that a cut gives is the first
-pub first_line_of : (input : List ℕ) (line : Line) (after : Option (List ℕ)) → IfNone after (input_lines input ≡ line ∷ [])
-    → IfSome after (λ rest. input_lines input ≡ line ∷ input_lines rest) → (lines : List Line) × (input_lines input ≡ line ∷ lines)
+pub first_line_of : (input : List ℕ) (line : Line) (after : Option (List ℕ))
+    → IfNone after (input_lines input ≡ line ∷ [])
+    → IfSome after (λ rest. input_lines input ≡ line ∷ input_lines rest)
+    → (lines : List Line) × (input_lines input ≡ line ∷ lines)
 first_line_of input line None last more = ([], last)
 first_line_of input line (Some rest) last more = (input_lines rest, more)
 
 -- one more field was read
-pub AreFields-push : (lines : List Line) (fields : List Field) (line : Line) (field : Field) → AreFields lines fields → IsField line field
-    → AreFields (lines ++ line ∷ []) (fields ++ field ∷ [])
+pub AreFields-push : (lines : List Line) (fields : List Field) (line : Line) (field : Field) → AreFields lines fields
+    → IsField line field → AreFields (lines ++ line ∷ []) (fields ++ field ∷ [])
 AreFields-push [] [] line field h is = (is, tt)
 AreFields-push [] (f ∷ fields) line field h is = absurd h
 AreFields-push (l ∷ lines) [] line field h is = absurd h
@@ -76,7 +92,12 @@ AreFields-push (l ∷ lines) (f ∷ fields) line field h is = (h.0, AreFields-pu
 
 -- a line that is no field stands before the first empty one
 pub HasNoField-from_line : (all : List ℕ) (taken : List Line) (input : List ℕ) (line : Line) (lines : List Line)
-    → section all ≡ taken ++ section input → input_lines input ≡ line ∷ lines → 0 < length line → IsNoField line → HasNoField (section all)
-HasNoField-from_line all taken input line lines e f h not_a_field =
-    let P : List Line → Type 0 = λ ls. Contains ls line in
-    (line, subst P (sym (section_taken all taken input line lines e f h)) (Contains-append_left (taken ++ line ∷ []) _ line (Contains-push taken line)), not_a_field)
+    → section all ≡ taken ++ section input → input_lines input ≡ line ∷ lines → 0 < length line → IsNoField line
+    → HasNoField (section all)
+HasNoField-from_line all taken input line lines all_is input_is filled not_a_field = (
+  line,
+  subst (λ (lines : List Line). Contains lines line)
+      (sym (section_taken all taken input line lines all_is input_is filled))
+      (Contains-append_left (taken ++ line ∷ []) _ line (Contains-push taken line)),
+  not_a_field,
+)

@@ -1,4 +1,5 @@
--- What the answers of `run` tell of the bytes that its reader had and has left, and of those that its writer held and holds.
+-- What the answers of `run` tell of the bytes that its reader had and has left,
+-- and of those that its writer held and holds.
 use Rattle.std.specs.Prelude.{◌⊎◌, ℕ, ◌<◌, ◌≤◌, Bool, List, ◌++◌, length, Option, IfSome, Result, Ok, Err}
 use Rattle.std.specs.Io.KnownBytes.{Appends, Keeps, IsAtEnd}
 use Rattle.headers_canon.specs.Section.{input_limit, section, HasNoField, HasTooManyFields}
@@ -26,13 +27,16 @@ module _ (had left held holds : Option (List ℕ)) where
       × IfSome had (λ input. (length input ≤ input_limit)
       × ((text : List ℕ) × IsCanonicalText input text some_refused × Appends held holds text))
 
-  -- nothing was written, or the whole input was read, it is within the limit, and a beginning of its canonical text was written
+  -- nothing was written, or the whole input was read, it is within the limit,
+  -- and a beginning of its canonical text was written
   abbrev pub BeganText : Type 0
   BeganText =
       Keeps held holds
       ⊎ (IsAtEnd left
       × IfSome had (λ input. (length input ≤ input_limit)
-      × ((begun : List ℕ) × (rest : List ℕ) × (some_refused : Bool) × IsCanonicalText input (begun ++ rest) some_refused × Appends held holds begun)))
+      × ((begun : List ℕ) × (rest : List ℕ) × (some_refused : Bool)
+      × IsCanonicalText input (begun ++ rest) some_refused
+      × Appends held holds begun)))
 
 -- the whole input was read, it is within the limit, and a line before the first empty one is no field
 abbrev pub HasBadLine : Option (List ℕ) → Option (List ℕ) → Type 0
@@ -41,4 +45,5 @@ HasBadLine had left = IsAtEnd left × IfSome had (λ input. (length input ≤ in
 -- the input is too long, or it was read whole and a map that holds the fields before one of them has no room for it
 abbrev pub HasNoRoom : Option (List ℕ) → Option (List ℕ) → Type 0
 HasNoRoom had left =
-    IfSome had (λ input. (input_limit < length input) ⊎ ((length input ≤ input_limit) × IsAtEnd left × HasTooManyFields input))
+    IfSome had (λ input. (input_limit < length input)
+    ⊎ ((length input ≤ input_limit) × IsAtEnd left × HasTooManyFields input))

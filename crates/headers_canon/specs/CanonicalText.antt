@@ -1,5 +1,6 @@
 -- The canonical text of a header section.
-use Rattle.std.specs.Prelude.{◌≡◌, ℕ, Bool, not, List, [], ◌∷◌, ◌++◌, map, filter, flat_map, bytes_eq, Option, Some, None, is_none, All, MatchBool}
+use Rattle.std.specs.Prelude.{◌≡◌, ℕ, Bool, not, List, [], ◌∷◌, ◌++◌, map, filter, flat_map, bytes_eq, Option, Some}
+use Rattle.std.specs.Prelude.{None, is_none, All, MatchBool}
 use Rattle.std.specs.List.{list_any}
 use Rattle.headers.specs.Lines.{Line}
 use Rattle.headers_canon.specs.KnownHeaders.{KnownHeader, known_headers}
@@ -27,11 +28,13 @@ abbrev pub IsTypedBlock : {V : Type 0} → (List Line → V → Type 0) → (V �
 IsTypedBlock {V} reads writes lines None = (v : V) → ¬ (reads lines v)
 IsTypedBlock {V} reads writes lines (Some written) = (v : V) × reads lines v × (written ≡ writes v)
 
--- The block of a name that has these lines, by the header of the name. The lines of a name that no header has stay as they came.
+-- The block of a name that has these lines, by the header of the name.
+-- The lines of a name that no header has stay as they came.
 abbrev pub IsBlockAmong : List KnownHeader → List ℕ → List Line → Block → Type 0
 IsBlockAmong [] name lines block = block ≡ Some lines
 IsBlockAmong (header ∷ headers) name lines block =
-    MatchBool (bytes_eq name header.name) (IsTypedBlock header.reads header.writes lines block) (IsBlockAmong headers name lines block)
+    MatchBool (bytes_eq name header.name) (IsTypedBlock header.reads header.writes lines block)
+    (IsBlockAmong headers name lines block)
 
 abbrev pub IsBlock : List ℕ → List Line → Block → Type 0
 IsBlock = IsBlockAmong known_headers
@@ -46,7 +49,8 @@ block_text name None = 33 ∷ 32 ∷ name ++ 10 ∷ []
 block_text name (Some lines) = flat_map (line_text name) lines
 
 -- the text is the block of each name, in this order, where these lines stand under a name
-pub record HasBlocks (lines : List ℕ → List Line) (order : List (List ℕ)) (text : List ℕ) (some_refused : Bool) : Type 0 where
+pub record HasBlocks (lines : List ℕ → List Line) (order : List (List ℕ)) (text : List ℕ) (some_refused : Bool)
+    : Type 0 where
   pub blocks : List (List ℕ × Block)
   pub in_order : map (λ block. block.0) blocks ≡ order
   pub each : All (λ block. IsBlock block.0 (lines block.0) block.1) blocks

@@ -1,5 +1,6 @@
 -- The fields of an input (RFC 9112, sections 2.1, 5 and 5.1).
-use Rattle.std.specs.Prelude.{◌≡◌, ℕ, ◌-◌, Bool, true, false, List, [], ◌∷◌, ◌++◌, map, length, take, slice_index, ◌==◌, if◌then◌else◌, Contains, take_while}
+use Rattle.std.specs.Prelude.{◌≡◌, ℕ, ◌-◌, Bool, true, false, List, [], ◌∷◌, ◌++◌, map, length, take, slice_index, ◌==◌}
+use Rattle.std.specs.Prelude.{if◌then◌else◌, Contains, take_while}
 use Rattle.std.specs.List.{slice_split, AllZip}
 use Rattle.http_header.specs.Token.{lowercase}
 use Rattle.http_header.specs.FieldName.{IsFieldName}
@@ -35,7 +36,7 @@ section input = take_while is_filled (input_lines input)
 abbrev pub Field : Type 0
 Field = List ℕ × FieldValue
 
--- the line is a name, the first colon of the line, and a value, which is_counting_place without the spaces and tabs at its ends
+-- the line is a name, the first colon of the line, and a value, which counts without the spaces and tabs at its ends
 pub record IsField (line : Line) (field : Field) : Type 0 where
   pub name : List ℕ
   pub rest : List ℕ

@@ -1,7 +1,8 @@
 //! The fields of an input.
 ghost use Rattle.std.specs.Prelude.{◌≡◌, ◌<◌, ◌∷◌, [], length, IfOk, IfSome, IfNone};
 ghost use Rattle.headers.specs.Text.{trim};
-ghost use Rattle.headers_canon.specs.Section.{without_return, input_lines, section, IsField, IsNoField, AreFields, HasNoField};
+ghost use Rattle.headers_canon.specs.Section.{without_return, input_lines, section, IsField, IsNoField, AreFields};
+ghost use Rattle.headers_canon.specs.Section.{HasNoField};
 
 use bytes::Bytes;
 use headers::{HeaderName, HeaderValue, trimmed};

@@ -35,8 +35,8 @@ pub fn run<R: Read, W: Write>(
         (R.remaining reader.new) }
     ensures room { result ≡ Err RunError.Room → HasNoRoom (R.remaining reader.old)
         (R.remaining reader.new) }
-    ensures nothing_written { (result ≡ Ok Outcome.NotAField) ⊎ (result ≡ Err RunError.Memory) ⊎ (result ≡ Err RunError.Room)
-        → Keeps (W.contents writer.old) (W.contents writer.new) }
+    ensures nothing_written { (result ≡ Ok Outcome.NotAField) ⊎ (result ≡ Err RunError.Memory)
+        ⊎ (result ≡ Err RunError.Room) → Keeps (W.contents writer.old) (W.contents writer.new) }
     ensures io { result ≡ Err RunError.Io → BeganText (R.remaining reader.old) (R.remaining reader.new)
         (W.contents writer.old) (W.contents writer.new) }
 {
@@ -60,8 +60,8 @@ pub fn run_with_keys<R: Read, W: Write>(
         (R.remaining reader.new) }
     ensures room { result ≡ Err RunError.Room → HasNoRoom (R.remaining reader.old)
         (R.remaining reader.new) }
-    ensures nothing_written { (result ≡ Ok Outcome.NotAField) ⊎ (result ≡ Err RunError.Memory) ⊎ (result ≡ Err RunError.Room)
-        → Keeps (W.contents writer.old) (W.contents writer.new) }
+    ensures nothing_written { (result ≡ Ok Outcome.NotAField) ⊎ (result ≡ Err RunError.Memory)
+        ⊎ (result ≡ Err RunError.Room) → Keeps (W.contents writer.old) (W.contents writer.new) }
     ensures io { result ≡ Err RunError.Io → BeganText (R.remaining reader.old) (R.remaining reader.new)
         (W.contents writer.old) (W.contents writer.new) }
 {

@@ -1,9 +1,11 @@
 //! The canonical text of a header section.
-ghost use Rattle.std.specs.Prelude.{◌≡◌, ◌≢◌, ◌<◌, ◌++◌, [], length, option_map, IfOk, IfSome, IfNone, OnOk, All, flat_map};
+ghost use Rattle.std.specs.Prelude.{◌≡◌, ◌≢◌, ◌<◌, ◌++◌, [], length, option_map, IfOk, IfSome, IfNone, OnOk, All};
+ghost use Rattle.std.specs.Prelude.{flat_map};
 ghost use Rattle.http_header.specs.HeaderMap.{get_all, append_all};
 ghost use Rattle.headers.specs.Lines.{lines_of};
 ghost use Rattle.headers_canon.specs.Section.{section, HasNoField, FillsMap, HasTooManyFields};
-ghost use Rattle.headers_canon.specs.CanonicalText.{names, first_appearances, block_text, line_text, HasBlocks, IsTextOf, IsCanonicalText};
+ghost use Rattle.headers_canon.specs.CanonicalText.{names, first_appearances, block_text, line_text, HasBlocks};
+ghost use Rattle.headers_canon.specs.CanonicalText.{IsTextOf, IsCanonicalText};
 
 use crate::block::read_block;
 use crate::field::{Field, read_fields};

@@ -12,12 +12,14 @@ abbrev IsNoneOf : List KnownHeader → List ℕ → Type 0
 IsNoneOf [] name = Unit {0}
 IsNoneOf (header ∷ headers) name = (name ≢ header.name) × IsNoneOf headers name
 
-kept_block : (headers : List KnownHeader) (name : List ℕ) (lines kept : List Line) → kept ≡ lines → IsNoneOf headers name → IsBlockAmong headers name lines (Some kept)
-kept_block [] name lines kept same none = ap (λ (ls : List Line). Some ls) same
+kept_block : (headers : List KnownHeader) (name : List ℕ) (lines kept : List Line) → kept ≡ lines
+    → IsNoneOf headers name → IsBlockAmong headers name lines (Some kept)
+kept_block [] name lines kept same none = ap (λ (block : List Line). Some block) same
 kept_block (header ∷ headers) name lines kept same none =
-    let other : bytes_eq name header.name ≡ false = not_true (bytes_eq name header.name) (λ e. none.0 ((bytes_eq-Decides name header.name).0 e)) in
-    subst (λ (b : Bool). MatchBool b (IsTypedBlock header.reads header.writes lines (Some kept)) (IsBlockAmong headers name lines (Some kept)))
-    (sym other) (kept_block headers name lines kept same none.1)
+    let other : bytes_eq name header.name ≡ false =
+    not_true (bytes_eq name header.name) (λ equal. none.0 ((bytes_eq-Decides name header.name).0 equal)) in
+    subst (λ (own : Bool). MatchBool own (IsTypedBlock header.reads header.writes lines (Some kept))
+    (IsBlockAmong headers name lines (Some kept))) (sym other) (kept_block headers name lines kept same none.1)
 
 pub returns-in_ok-kept_block-in_default : goal.returns-in_ok-kept_block-in_default
 returns-in_ok-kept_block-in_default c has =

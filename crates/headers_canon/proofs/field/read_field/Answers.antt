@@ -7,11 +7,13 @@ use Rattle.http_header.specs.FieldValue.{FieldValue, IsFieldValue, plain_value}
 use Rattle.headers.specs.Lines.{Line}
 use Rattle.headers.specs.Text.{trim}
 use Rattle.headers_canon.specs.Section.{IsField, IsNoField}
-use Rattle.headers_canon.proofs.FieldLemmas.{IsFieldName-from_kept, IsNoField-without_colon, parts_of_field, IsField-from_parts}
+use Rattle.headers_canon.proofs.FieldLemmas.{IsFieldName-from_kept, IsNoField-without_colon, parts_of_field}
+use Rattle.headers_canon.proofs.FieldLemmas.{IsField-from_parts}
 use Rattle.headers_canon.proofs.field.read_field.Goals as goal
 
 -- what stands after the colon, once the line was split there
-after_colon : (line rest value : Line) (colon : ℕ) → rest ≡ drop colon line → value ≡ drop 1 rest → value ≡ drop (colon + 1) line
+after_colon : (line rest value : Line) (colon : ℕ) → rest ≡ drop colon line → value ≡ drop 1 rest
+    → value ≡ drop (colon + 1) line
 after_colon line rest value colon split advanced = advanced ∙ ap (drop 1) split ∙ drop-drop 1 colon line
 
 pub returns-in_default-clause-none : goal.returns-in_default-clause-none
@@ -35,14 +37,17 @@ returns-in-Ok-from_shared-clause-some c =
     let cut = c.in_ok-before.ensures in
     let before : c.in_ok-before.before ≡ take colon line = cut.front ∙ ap (take colon) (sym whole) in
     let after : c.trim.result ≡ trim (drop (colon + 1) line) =
-    c.trim.ensures ∙ ap trim (after_colon c.args.line _ _ colon cut.rest c.advance.ensures ∙ ap (drop (colon + 1)) (sym whole)) in
+    c.trim.ensures
+    ∙ ap trim (after_colon c.args.line _ _ colon cut.rest c.advance.ensures ∙ ap (drop (colon + 1)) (sym whole)) in
     let value = c.in-Ok-from_shared.value in
     subst (λ (shown : Line). IsField shown (c.in-Ok.name, value)) whole
     (IsField-from_parts line colon (c.in-Ok.name, value) c.in-Some.ensures.0.high c.in-Some.ensures.1
-    (subst IsFieldName before (IsFieldName-from_kept _ (λ no. let same = c.in-Ok.ensures.invalid.1 no in absurd (cc same))))
+    (subst IsFieldName before
+    (IsFieldName-from_kept _ (λ no. let same = c.in-Ok.ensures.invalid.1 no in absurd (cc same))))
     (subst IsFieldValue after (c.in-Ok-from_shared.ensures.succeeds.0 refl))
-    (ap (λ (n : List ℕ). (n, value)) (c.in-Ok.ensures.ok ∙ ap lowercase before)
-    ∙ ap (λ (v : FieldValue). (lowercase (take colon line), v)) (c.in-Ok-from_shared.ensures.ok ∙ ap plain_value after)))
+    (ap (λ (name : List ℕ). (name, value)) (c.in-Ok.ensures.ok ∙ ap lowercase before)
+    ∙ ap (λ (given : FieldValue). (lowercase (take colon line), given))
+    (c.in-Ok-from_shared.ensures.ok ∙ ap plain_value after)))
 
 pub returns-in-Err-clause-none : goal.returns-in-Err-clause-none
 returns-in-Err-clause-none c field is =

@@ -10,7 +10,8 @@ loop-rest-preserved g c =
     let count = c.in_ok-count.count in (
       kept.0 ++ take count rest,
       kept.1
-          ∙ ap (λ (r : List ℕ). kept.0 ++ r) (sym (take-append-drop count rest) ∙ ap (λ (r : List ℕ). take count rest ++ r) (sym (take_rest rest count)))
+          ∙ ap (λ (left : List ℕ). kept.0 ++ left) (sym (take-append-drop count rest)
+          ∙ ap (λ (left : List ℕ). take count rest ++ left) (sym (take_rest rest count)))
           ∙ sym (append_assoc kept.0 (take count rest) _),
       Appends-trans _ _ _ kept.0 (take count rest) kept.2 c.in_ok-count.ensures.bytes,
     )

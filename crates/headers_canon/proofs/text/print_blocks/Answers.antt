@@ -3,7 +3,8 @@ use Rattle.http_header.specs.FieldValue.{FieldValue}
 use Rattle.http_header.specs.HeaderMap.{get_all}
 use Rattle.headers.specs.Lines.{lines_of}
 use Rattle.headers_canon.specs.CanonicalText.{Block}
-use Rattle.headers_canon.proofs.BlockLemmas.{HasBlocks-start, HasBlocks-more, HasBlocks-all, is_none-map, not-from_not, marked_none, marked_some}
+use Rattle.headers_canon.proofs.BlockLemmas.{HasBlocks-start, HasBlocks-more, HasBlocks-all, is_none-map, not-from_not}
+use Rattle.headers_canon.proofs.BlockLemmas.{marked_none, marked_some}
 use Rattle.headers_canon.proofs.text.print_blocks.Goals as goal
 use Rattle.headers_canon.proofs.text.print_blocks.Goals.{then-is_none, else-is_none}
 
@@ -13,18 +14,24 @@ loop-name-init c = HasBlocks-start _ c.args.order.now c.new-bytes.result.items c
 pub loop-name-preserved : goal.loop-name-preserved
 loop-name-preserved c =
     let name = c.name-item.result in
-    let block : Block = option_map (λ (v : Vec FieldValue Global). lines_of v.items) c.in_ok-block.block in
-    let none : is_none block ≡ c.is_none.result = is_none-map (λ (v : Vec FieldValue Global). lines_of v.items) c.in_ok-block.block ∙ not-from_not _ c.is_none.result c.is_none.ensures in
-    let marked : c.if-is_none.some_refused ≡ (c.loop-name.some_refused || is_none block) =
+    let shown : Vec FieldValue Global → List (List ℕ) = λ values. lines_of values.items in
+    let block : Block = option_map shown c.in_ok-block.block in
+    let none : is_none block ≡ c.is_none.result =
+    is_none-map shown c.in_ok-block.block ∙ not-from_not _ c.is_none.result c.is_none.ensures in
+    let before = c.loop-name.some_refused in
+    let marked : c.if-is_none.some_refused ≡ (before || is_none block) =
     elim c.if-is_none.branch [
-      | then-is_none w ↦ w.some_refused-is ∙ marked_none c.loop-name.some_refused (is_none block) c.is_none.result w.if-is_none.true none
-      | else-is_none w ↦ w.some_refused-is ∙ marked_some c.loop-name.some_refused (is_none block) c.is_none.result w.if-is_none.false none
+      | then-is_none way ↦
+          way.some_refused-is ∙ marked_none before (is_none block) c.is_none.result way.if-is_none.true none
+      | else-is_none way ↦
+          way.some_refused-is ∙ marked_some before (is_none block) c.is_none.result way.if-is_none.false none
     ] in
     let has : 0 < length (get_all c.args.map.now name) =
-    subst (λ (n : List ℕ). 0 < length (get_all c.args.map.now n)) (sym c.name-item.is) (c.requires c.loop-name.name-index name c.loop-name-test.true) in
-    HasBlocks-more (λ n. lines_of (get_all c.args.map.now n)) c.args.order.now c.loop-name.name-index name c.loop-name.bytes.items _
-    c.loop-name.some_refused c.if-is_none.some_refused block c.loop-name-test.true c.name-item.is c.loop-name.invariant (c.in_ok-block.ensures has)
-    c.in_ok-print_block.ensures marked
+    subst (λ (own : List ℕ). 0 < length (get_all c.args.map.now own)) (sym c.name-item.is)
+    (c.requires c.loop-name.name-index name c.loop-name-test.true) in
+    HasBlocks-more (λ own. lines_of (get_all c.args.map.now own)) c.args.order.now c.loop-name.name-index name
+    c.loop-name.bytes.items _ before c.if-is_none.some_refused block c.loop-name-test.true c.name-item.is
+    c.loop-name.invariant (c.in_ok-block.ensures has) c.in_ok-print_block.ensures marked
 
 pub returns : goal.returns
 returns c =

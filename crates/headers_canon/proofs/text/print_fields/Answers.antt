@@ -9,14 +9,20 @@ use Rattle.headers_canon.proofs.text.print_fields.Goals as goal
 
 pub print_blocks-requires : goal.print_blocks-requires
 print_blocks-requires c =
-    subst (λ (ns : List (List ℕ)). All (λ (n : List ℕ). 0 < length (get_all c.in_ok-map.map n)) ns) (sym (c.as_slice.ensures.value ∙ c.in_ok-map.ensures.order))
-    (subst (λ (m : Entries FieldValue). All (λ (n : List ℕ). 0 < length (get_all m n)) (first_appearances (names c.args.fields.items)))
-    (sym c.in_ok-map.ensures.held) (names_filled c.args.fields.items))
+    let fields = c.args.fields.items in
+    subst (λ (order : List (List ℕ)). All (λ (name : List ℕ). 0 < length (get_all c.in_ok-map.map name)) order)
+    (sym (c.as_slice.ensures.value ∙ c.in_ok-map.ensures.order))
+    (subst (λ (map : Entries FieldValue).
+    All (λ (name : List ℕ). 0 < length (get_all map name)) (first_appearances (names fields)))
+    (sym c.in_ok-map.ensures.held) (names_filled fields))
 
 pub returns-clause-text : goal.returns-clause-text
 returns-clause-text c =
     let text = c.in_ok-print_blocks.field-0 in
-    HasBlocks-same (λ name. lines_of (get_all c.in_ok-map.map name)) (lines_under c.args.fields.items) (first_appearances (names c.args.fields.items)) text.bytes.items text.some_refused
-    (λ name. ap (λ (m : Entries FieldValue). lines_of (get_all m name)) c.in_ok-map.ensures.held ∙ lines_held c.args.fields.items name)
-    (subst (λ (ns : List (List ℕ)). HasBlocks (λ name. lines_of (get_all c.in_ok-map.map name)) ns text.bytes.items text.some_refused)
+    let fields = c.args.fields.items in
+    let held : List ℕ → List (List ℕ) = λ name. lines_of (get_all c.in_ok-map.map name) in
+    HasBlocks-same held (lines_under fields) (first_appearances (names fields)) text.bytes.items text.some_refused
+    (λ name.
+    ap (λ (map : Entries FieldValue). lines_of (get_all map name)) c.in_ok-map.ensures.held ∙ lines_held fields name)
+    (subst (λ (order : List (List ℕ)). HasBlocks held order text.bytes.items text.some_refused)
     (c.as_slice.ensures.value ∙ c.in_ok-map.ensures.order) c.in_ok-print_blocks.ensures)

@@ -4,4 +4,5 @@ use Rattle.headers_canon.specs.CanonicalText.{line_text}
 use Rattle.headers_canon.proofs.text.print_lines.Given as goal
 
 abbrev pub invariant-loop-line : goal.invariant-loop-line
-invariant-loop-line l = l.text.items ≡ l.fn.text.items ++ flat_map (line_text l.name) (lines_of (take l.line-index l.lines))
+invariant-loop-line l =
+    l.text.items ≡ l.fn.text.items ++ flat_map (line_text l.name) (lines_of (take l.line-index l.lines))
