@@ -2,6 +2,7 @@
 use Rattle.std.proofs.Common.{◌≡◌, ℕ, ◌+◌, ◌<◌, ◌≤◌, ◌||◌, Bool, true, false, not, List, [], ◌∷◌, ◌++◌, length, take}
 use Rattle.std.proofs.Common.{get_or, flat_map, Option, Some, None, is_none, option_map, refl, sym, ◌∙◌, ap, subst}
 use Rattle.std.specs.List.{list_any}
+use Rattle.std.proofs.Math.Bool.{or-false}
 use Rattle.std.proofs.lemmas.List.{append-nil, map-append, take_more, take_all}
 use Rattle.std.proofs.lemmas.List.Concat.{flat_map-append}
 use Rattle.std.proofs.lemmas.List.Folds.{list_any-append}
@@ -11,10 +12,6 @@ use Rattle.headers_canon.specs.CanonicalText.{Block, IsBlock, block_text, HasBlo
 
 pub HasBlocks-none : (lines : List ℕ → List Line) → HasBlocks lines [] [] false
 HasBlocks-none lines = record { blocks = []; in_order = refl; each = All-nil _; text_is = refl; refused_is = refl }
-
-or_false : (b : Bool) → (b || false) ≡ b
-or_false true = refl
-or_false false = refl
 
 pub HasBlocks-push : (lines : List ℕ → List Line) (order : List (List ℕ)) (text : List ℕ) (some_refused : Bool)
     (name : List ℕ) (block : Block) → HasBlocks lines order text some_refused → IsBlock name (lines name) block
@@ -34,7 +31,7 @@ HasBlocks-push lines order text some_refused name block has is =
           ∙ sym (flat_map-append text_of has.blocks ((name, block) ∷ []));
       refused_is =
           ap (λ (before : Bool). before || is_none block) has.refused_is
-          ∙ ap (λ (last : Bool). list_any is_refused has.blocks || last) (sym (or_false (is_none block)))
+          ∙ ap (λ (last : Bool). list_any is_refused has.blocks || last) (sym (or-false (is_none block)))
           ∙ sym (list_any-append is_refused has.blocks ((name, block) ∷ []));
     }
 

@@ -1,14 +1,13 @@
 -- Fields for which a map has room.
-use Rattle.std.proofs.Common.{◌≡◌, ℕ, true, List, [], ◌∷◌, ◌++◌, IsTrue, ◌⊎◌, ⊎_elim, inl, inr, refl, sym, ◌∙◌, ap}
+use Rattle.std.proofs.Common.{◌≡◌, ℕ, List, [], ◌∷◌, ◌++◌, ◌⊎◌, ⊎_elim, inl, inr, refl, sym, ◌∙◌, ap}
 use Rattle.std.proofs.Common.{subst}
-use Rattle.std.proofs.lemmas.List.Elements.{All-head, All-tail}
-use Rattle.http_header.specs.Token.{AllPass, is_token_byte, lowercase}
+use Rattle.http_header.specs.Token.{lowercase}
 use Rattle.http_header.specs.FieldValue.{FieldValue, plain_value}
 use Rattle.http_header.specs.HeaderMap.{Entries, append_all, RefusesAppend}
 use Rattle.headers.specs.Lines.{Line}
 use Rattle.headers.specs.Text.{trim}
 use Rattle.headers_canon.specs.Section.{Field, IsField, AreFields, FillsMap}
-use Rattle.headers_canon.proofs.FieldLemmas.{colon_is_no_token}
+use Rattle.headers_canon.proofs.FieldLemmas.{names_have_none, parts_once}
 
 -- an item in the middle of a list leaves it not empty
 not_empty : {A : Type 0} (first : List A) (next : A) (later : List A) → ¬ ([] ≡ first ++ next ∷ later)
@@ -48,30 +47,10 @@ fits_more before field m held room fits fills =
     (λ h. fits (record { first = fills.first; next = fills.next; later = h.0; split = h.1; full = fills.full }))
     (last_or_before before field fills.first fills.next fills.later fills.split)
 
--- no name holds a colon
-no_colon : (b : ℕ) → is_token_byte b ≡ true → ¬ (b ≡ 58)
-no_colon b token e = let here : is_token_byte 58 ≡ true = rw e at token in absurd (cc (here, colon_is_no_token))
-
--- so the first colon of a line parts it in one way
-colon_once : (a b r s : List ℕ) → AllPass is_token_byte a → AllPass is_token_byte b → a ++ 58 ∷ r ≡ b ++ 58 ∷ s
-    → (a ≡ b) × (r ≡ s)
-colon_once [] [] r s h k e = (refl, cc e)
-colon_once [] (y ∷ b) r s h k e =
-    let same : y ≡ 58 = cc e in absurd (no_colon y (All-head (λ (x : ℕ). IsTrue (is_token_byte x)) y b k) same)
-colon_once (x ∷ a) [] r s h k e =
-    let same : x ≡ 58 = cc e in absurd (no_colon x (All-head (λ (y : ℕ). IsTrue (is_token_byte y)) x a h) same)
-colon_once (x ∷ a) (y ∷ b) r s h k e =
-    let same : x ≡ y = cc e in
-    let rest : a ++ 58 ∷ r ≡ b ++ 58 ∷ s = cc e in
-    let more =
-    colon_once a b r s (All-tail (λ (z : ℕ). IsTrue (is_token_byte z)) x a h)
-    (All-tail (λ (z : ℕ). IsTrue (is_token_byte z)) y b k) rest in
-    (ap (λ (z : ℕ). z ∷ a) same ∙ ap (λ (zs : List ℕ). y ∷ zs) more.0, more.1)
-
 -- a line is one field at most
 IsField-once : (line : Line) (f g : Field) → IsField line f → IsField line g → f ≡ g
 IsField-once line f g p q =
-    let both = colon_once p.name q.name p.rest q.rest p.valid_name.0.1 q.valid_name.0.1 (sym p.line_is ∙ q.line_is) in
+    let both = parts_once line q.name q.rest f p (names_have_none q.name q.valid_name) q.line_is in
     let field : List ℕ → List ℕ → Field = λ name rest. (lowercase name, plain_value (trim rest)) in
     p.field_is ∙ ap (λ name. field name p.rest) both.0 ∙ ap (field q.name) both.1 ∙ sym q.field_is
 
