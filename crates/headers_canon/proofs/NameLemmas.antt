@@ -7,6 +7,7 @@ use Rattle.std.proofs.lemmas.Bool.{cases_Bool}
 use Rattle.std.proofs.lemmas.List.{append-nil, append_assoc, map-append}
 use Rattle.std.proofs.lemmas.List.Elements.{filter-append, All-nil, All-cons, All-filter, All-weaker}
 use Rattle.std.proofs.lemmas.List.Folds.{list_any_at, Any-from_list_any}
+use Rattle.std.proofs.lemmas.Map.Views.{any-filter_same}
 use Rattle.std.proofs.lemmas.Slice.Eq.{bytes_eq-Decides}
 use Rattle.http_header.specs.FieldValue.{FieldValue}
 use Rattle.http_header.specs.HeaderMap.{Entries, keys, get_all, append, append_all, RefusesAppend}
@@ -32,17 +33,13 @@ pub keys-append : (m : Entries FieldValue) (name : List ℕ) (value : FieldValue
     → keys (append m name value) ≡ with_name (keys m) name
 keys-append [] name value = refl
 keys-append (e ∷ m) name value =
+    let rest = keys-append m name value in
     elim (cases_Bool (bytes_eq e.0 name)) [
       | inl t ↦ rw t refl
       | inr f ↦
           elim (cases_Bool (has name (keys m))) [
-            | inl old ↦
-                let rest : keys (append m name value) ≡ keys m = keys-append m name value ∙ (rw old refl) in
-                rw (f, old) (ap (λ (ks : List (List ℕ)). e.0 ∷ ks) rest)
-            | inr new ↦
-                let rest : keys (append m name value) ≡ keys m ++ name ∷ [] =
-                keys-append m name value ∙ (rw new refl) in
-                rw (f, new) (ap (λ (ks : List (List ℕ)). e.0 ∷ ks) rest)
+            | inl old ↦ rw (f, rest, old) refl
+            | inr new ↦ rw (f, rest, new) refl
           ]
     ]
 
@@ -56,15 +53,12 @@ apart-sym a b h =
 -- a name that is not the one left out
 has-filter : (name left_out : List ℕ) (list : List (List ℕ)) → bytes_eq left_out name ≡ false
     → has name (filter (λ other. not (bytes_eq other left_out)) list) ≡ has name list
-has-filter name left_out [] apart = refl
-has-filter name left_out (x ∷ list) apart =
-    elim (cases_Bool (bytes_eq x left_out)) [
-      | inl t ↦
-          let same : x ≡ left_out = (bytes_eq-Decides x left_out).0 t in
-          let other : bytes_eq x name ≡ false = rw same apart in
-          rw (t, other) (has-filter name left_out list apart)
-      | inr f ↦ rw f (ap (λ (b : Bool). bytes_eq x name || b) (has-filter name left_out list apart))
-    ]
+has-filter name left_out list apart =
+    any-filter_same (λ other. bytes_eq other name) (λ other. not (bytes_eq other left_out)) true
+    (λ other is.
+    let same : other ≡ name = (bytes_eq-Decides other name).0 is in
+    rw (same, apart-sym left_out name apart) refl)
+    list
 
 -- one more name
 pub first_appearances-push : (list : List (List ℕ)) (name : List ℕ)
@@ -72,34 +66,25 @@ pub first_appearances-push : (list : List (List ℕ)) (name : List ℕ)
 first_appearances-push [] name = refl
 first_appearances-push (x ∷ list) name =
     let P : List ℕ → Bool = λ other. not (bytes_eq other x) in
-    let rest : first_appearances (list ++ name ∷ []) ≡ with_name (first_appearances list) name =
-    first_appearances-push list name in
-    elim (cases_Bool (has name (first_appearances list))) [
-      | inl old ↦
-          let same : first_appearances (list ++ name ∷ []) ≡ first_appearances list = rest ∙ rw old refl in
-          elim (cases_Bool (bytes_eq x name)) [
-            | inl t ↦ rw (same, t) refl
-            | inr f ↦ let kept = has-filter name x (first_appearances list) f in rw (same, f, kept, old) refl
-          ]
-      | inr new ↦
-          let more : first_appearances (list ++ name ∷ []) ≡ first_appearances list ++ name ∷ [] = rest ∙ rw new refl in
-          let cut : filter P (first_appearances (list ++ name ∷ []))
-          ≡ filter P (first_appearances list) ++ filter P (name ∷ []) =
-          ap (filter P) more ∙ filter-append P (first_appearances list) (name ∷ []) in
-          elim (cases_Bool (bytes_eq x name)) [
-            | inl t ↦
-                let same : bytes_eq name x ≡ true =
-                (bytes_eq-Decides name x).1 (sym ((bytes_eq-Decides x name).0 t)) in
-                let gone : filter P (name ∷ []) ≡ [] = rw same refl in
-                rw t (ap (λ (later : List (List ℕ)). x ∷ later) (cut
-                ∙ ap (λ (last : List (List ℕ)). filter P (first_appearances list) ++ last) gone
-                ∙ append-nil _))
-            | inr f ↦
-                let kept = has-filter name x (first_appearances list) f in
-                let apart : bytes_eq name x ≡ false = apart-sym x name f in
-                let stays : filter P (name ∷ []) ≡ name ∷ [] = rw apart refl in
-                rw (f, kept, new) (ap (λ (later : List (List ℕ)). x ∷ later) (cut
-                ∙ ap (λ (last : List (List ℕ)). filter P (first_appearances list) ++ last) stays))
+    let seen = first_appearances list in
+    let more : first_appearances (list ++ name ∷ []) ≡ with_name seen name = first_appearances-push list name in
+    let cut : filter P (seen ++ name ∷ []) ≡ filter P seen ++ filter P (name ∷ []) =
+    filter-append P seen (name ∷ []) in
+    elim (cases_Bool (bytes_eq x name)) [
+      | inl t ↦
+          let itself : bytes_eq name x ≡ true = (bytes_eq-Decides name x).1 (sym ((bytes_eq-Decides x name).0 t)) in
+          let gone : filter P (with_name seen name) ≡ filter P seen =
+          elim (cases_Bool (has name seen)) [
+            | inl old ↦ rw old refl
+            | inr new ↦ rw (new, cut, itself) (append-nil _)
+          ] in
+          rw (t, more) (ap (λ (later : List (List ℕ)). x ∷ later) gone)
+      | inr f ↦
+          let kept = has-filter name x seen f in
+          let apart : bytes_eq name x ≡ false = apart-sym x name f in
+          elim (cases_Bool (has name seen)) [
+            | inl old ↦ rw (f, kept, more, old) refl
+            | inr new ↦ rw (f, kept, more, new, cut, apart) refl
           ]
     ]
 
