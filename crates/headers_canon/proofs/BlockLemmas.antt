@@ -1,5 +1,5 @@
 -- A text that is printed block by block.
-use Rattle.std.proofs.Common.{◌≡◌, ℕ, ◌+◌, ◌<◌, ◌≤◌, ◌||◌, Bool, true, false, not, List, [], ◌∷◌, ◌++◌, length, take}
+use Rattle.std.proofs.Common.{◌≡◌, ℕ, ◌+◌, ◌<◌, ◌≤◌, ◌||◌, Bool, false, List, [], ◌∷◌, ◌++◌, length, take}
 use Rattle.std.proofs.Common.{get_or, flat_map, Option, Some, None, is_none, option_map, refl, sym, ◌∙◌, ap, subst}
 use Rattle.std.specs.List.{list_any}
 use Rattle.std.proofs.Math.Bool.{or-false}
@@ -75,15 +75,3 @@ HasBlocks-all lines order place text some_refused all has =
 pub is_none-map : {A : Type 0} (f : A → List Line) (o : Option A) → is_none (option_map f o) ≡ is_none o
 is_none-map f None = refl
 is_none-map f (Some x) = refl
-
-pub marked_none : (before found refused : Bool) → refused ≡ true → found ≡ refused → true ≡ (before || found)
-marked_none true found refused t e = refl
-marked_none false found refused t e = sym t ∙ sym e
-
-pub marked_some : (before found refused : Bool) → refused ≡ false → found ≡ refused → before ≡ (before || found)
-marked_some true found refused f e = refl
-marked_some false found refused f e = sym f ∙ sym e
-
-pub not-from_not : (a b : Bool) → a ≡ not b → not a ≡ b
-not-from_not a true e = rw e refl
-not-from_not a false e = rw e refl

@@ -1,10 +1,11 @@
-use Rattle.std.proofs.Common.{◌≡◌, ◌∙◌, ◌<◌, ◌||◌, List, ℕ, Vec, Global, option_map, is_none, length, subst, sym}
+use Rattle.std.proofs.Common.{◌≡◌, ◌∙◌, ◌<◌, ◌||◌, not, List, ℕ, Vec, Global, option_map, is_none, length, ap, subst}
+use Rattle.std.proofs.Common.{sym}
+use Rattle.std.proofs.Math.Bool.{not-not, or-true, or-false}
 use Rattle.http_header.specs.FieldValue.{FieldValue}
 use Rattle.http_header.specs.HeaderMap.{get_all}
 use Rattle.headers.specs.Lines.{lines_of}
 use Rattle.headers_canon.specs.CanonicalText.{Block}
-use Rattle.headers_canon.proofs.BlockLemmas.{HasBlocks-start, HasBlocks-more, HasBlocks-all, is_none-map, not-from_not}
-use Rattle.headers_canon.proofs.BlockLemmas.{marked_none, marked_some}
+use Rattle.headers_canon.proofs.BlockLemmas.{HasBlocks-start, HasBlocks-more, HasBlocks-all, is_none-map}
 use Rattle.headers_canon.proofs.text.print_blocks.Goals as goal
 use Rattle.headers_canon.proofs.text.print_blocks.Goals.{then-is_none, else-is_none}
 
@@ -17,14 +18,12 @@ loop-name-preserved c =
     let shown : Vec FieldValue Global → List (List ℕ) = λ values. lines_of values.items in
     let block : Block = option_map shown c.in_ok-block.block in
     let none : is_none block ≡ c.is_none.result =
-    is_none-map shown c.in_ok-block.block ∙ not-from_not _ c.is_none.result c.is_none.ensures in
+    is_none-map shown c.in_ok-block.block ∙ ap not c.is_none.ensures ∙ not-not c.is_none.result in
     let before = c.loop-name.some_refused in
     let marked : c.if-is_none.some_refused ≡ (before || is_none block) =
     elim c.if-is_none.branch [
-      | then-is_none way ↦
-          way.some_refused-is ∙ marked_none before (is_none block) c.is_none.result way.if-is_none.true none
-      | else-is_none way ↦
-          way.some_refused-is ∙ marked_some before (is_none block) c.is_none.result way.if-is_none.false none
+      | then-is_none way ↦ way.some_refused-is ∙ rw (none, way.if-is_none.true) (sym (or-true before))
+      | else-is_none way ↦ way.some_refused-is ∙ rw (none, way.if-is_none.false) (sym (or-false before))
     ] in
     let has : 0 < length (get_all c.args.map.now name) =
     subst (λ (own : List ℕ). 0 < length (get_all c.args.map.now own)) (sym c.name-item.is)
