@@ -33,81 +33,63 @@ impl ContentType {
     pub fn json() -> ContentType
         ensures { result ≡ codes "application/json" }
     {
-        ContentType {
-            mime: Mime::APPLICATION_JSON,
-        }
+        ContentType::from(Mime::APPLICATION_JSON)
     }
 
     /// `text/plain`.
     pub fn text() -> ContentType
         ensures { result ≡ codes "text/plain" }
     {
-        ContentType {
-            mime: Mime::TEXT_PLAIN,
-        }
+        ContentType::from(Mime::TEXT_PLAIN)
     }
 
     /// `text/plain; charset=utf-8`.
     pub fn text_utf8() -> ContentType
         ensures { result ≡ codes "text/plain; charset=utf-8" }
     {
-        ContentType {
-            mime: Mime::TEXT_PLAIN_UTF_8,
-        }
+        ContentType::from(Mime::TEXT_PLAIN_UTF_8)
     }
 
     /// `text/html`.
     pub fn html() -> ContentType
         ensures { result ≡ codes "text/html" }
     {
-        ContentType {
-            mime: Mime::TEXT_HTML,
-        }
+        ContentType::from(Mime::TEXT_HTML)
     }
 
     /// `text/xml`.
     pub fn xml() -> ContentType
         ensures { result ≡ codes "text/xml" }
     {
-        ContentType {
-            mime: Mime::TEXT_XML,
-        }
+        ContentType::from(Mime::TEXT_XML)
     }
 
     /// `application/x-www-form-urlencoded`.
     pub fn form_url_encoded() -> ContentType
         ensures { result ≡ codes "application/x-www-form-urlencoded" }
     {
-        ContentType {
-            mime: Mime::APPLICATION_WWW_FORM_URLENCODED,
-        }
+        ContentType::from(Mime::APPLICATION_WWW_FORM_URLENCODED)
     }
 
     /// `image/jpeg`.
     pub fn jpeg() -> ContentType
         ensures { result ≡ codes "image/jpeg" }
     {
-        ContentType {
-            mime: Mime::IMAGE_JPEG,
-        }
+        ContentType::from(Mime::IMAGE_JPEG)
     }
 
     /// `image/png`.
     pub fn png() -> ContentType
         ensures { result ≡ codes "image/png" }
     {
-        ContentType {
-            mime: Mime::IMAGE_PNG,
-        }
+        ContentType::from(Mime::IMAGE_PNG)
     }
 
     /// `application/octet-stream`.
     pub fn octet_stream() -> ContentType
         ensures { result ≡ codes "application/octet-stream" }
     {
-        ContentType {
-            mime: Mime::APPLICATION_OCTET_STREAM,
-        }
+        ContentType::from(Mime::APPLICATION_OCTET_STREAM)
     }
 
     /// The media type that a text reads as. `Invalid` if the text is no media type.
