@@ -1,5 +1,5 @@
 //! Lines that mean harm: each header answers, and reads again what it writes.
-use crate::rows::{lines, names, writes};
+use crate::rows::{TWELVE, TWELVE_MERGED, lines, names, writes};
 use headers::authorization::{Authorization, Basic, Bearer, ProxyAuthorization};
 use headers::{
     AcceptRanges, AccessControlAllowCredentials, AccessControlAllowHeaders,
@@ -219,17 +219,17 @@ fn vary_of_hinted_lines(rt: HostRuntime) -> Result<(), Fail> {
     Ok(())
 }
 
-// The names `a` and `b`, with this hint.
+// Twelve names, with this hint.
 fn hinted_names(rt: &(impl Abort + AllocGlobal), hint: Hint) -> Hinted<HeaderName> {
     Hinted {
-        elements: names(rt, &["a", "b"]),
+        elements: names(rt, &TWELVE),
         hint,
     }
 }
 
 #[test]
 fn lists_of_hinted_names(rt: HostRuntime) -> Result<(), Fail> {
-    let line = &["a, b"];
+    let line = &[TWELVE_MERGED];
     for hint in HINTS {
         let vary = Vary::from_iter(rt.alloc(), hinted_names(&rt, hint))?;
         writes(&rt, &vary, line);
@@ -245,11 +245,13 @@ fn lists_of_hinted_names(rt: HostRuntime) -> Result<(), Fail> {
     Ok(())
 }
 
-// The methods GET and PUT, with this hint.
+// Twelve methods, with this hint.
 fn hinted_methods(rt: &(impl Abort + AllocGlobal), hint: Hint) -> Hinted<Method> {
     let mut methods = Vec::new(rt.alloc());
-    methods.push(Method::GET).expect(rt, "a method");
-    methods.push(Method::PUT).expect(rt, "a method");
+    for text in TWELVE {
+        let method = Method::from_bytes(rt.alloc(), text.as_bytes()).expect(rt, text);
+        methods.push(method).expect(rt, text);
+    }
     Hinted {
         elements: methods.into_iter(),
         hint,
@@ -258,7 +260,7 @@ fn hinted_methods(rt: &(impl Abort + AllocGlobal), hint: Hint) -> Hinted<Method>
 
 #[test]
 fn lists_of_hinted_methods(rt: HostRuntime) -> Result<(), Fail> {
-    let line = &["GET, PUT"];
+    let line = &[TWELVE_MERGED];
     for hint in HINTS {
         let allow = Allow::from_iter(rt.alloc(), hinted_methods(&rt, hint))?;
         writes(&rt, &allow, line);
