@@ -126,6 +126,16 @@ fn cut_twice(rt: HostRuntime) -> Result<(), Fail> {
 }
 
 #[test]
+fn cut_six_times(rt: HostRuntime) -> Result<(), Fail> {
+    let value: FlatCsv<Comma> = FlatCsv::from_word("a,b,c,d,e,f,g");
+    let pieces = value.cut_at(rt.alloc(), &[1, 3, 5, 7, 9, 11])?;
+    assert_eq!(rt; pieces.len(), 7);
+    let value: FlatCsv<Comma> = FlatCsv::from_lines(rt.alloc(), &mut pieces.iter())?;
+    assert_eq!(rt; value.as_bytes(), b"a, b, c, d, e, f, g".as_slice());
+    Ok(())
+}
+
+#[test]
 fn cut_nowhere(rt: HostRuntime) -> Result<(), Fail> {
     let value: FlatCsv<Comma> = FlatCsv::from_word("a, b");
     let pieces = value.cut_at(rt.alloc(), &[])?;
