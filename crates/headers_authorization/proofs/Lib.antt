@@ -1,3 +1,2 @@
 pub mod BasicLemmas
-pub mod CredentialLemmas
 pub mod SchemeLemmas

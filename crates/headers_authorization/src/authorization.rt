@@ -38,9 +38,9 @@ impl<C: Credentials> Header for Authorization<C> {
     where
         I::Item: AsHeaderValue,
     {
-        match first_credentials(alloc, values)? {
-            Some(credentials) => Ok(Authorization(credentials)),
-            None => Err(Refused::Invalid(Error::invalid())),
+        match first_credentials(alloc, values) {
+            Ok(credentials) => Ok(Authorization(credentials)),
+            Err(refused) => Err(refused),
         }
     }
 

@@ -1,11 +1,12 @@
 //! Credentials of an authentication scheme.
 ghost use Rattle.std.specs.Prelude.{◌≡◌, ◌↔◌, List, ℕ, IfOk, IsTrue, MatchOption};
+ghost use Rattle.headers_syntax.specs.DecodesTo.{DecodesTo};
 ghost use Rattle.headers_syntax.specs.OfLines.{OfLines};
 ghost use Rattle.headers_syntax.specs.Lines.{Line};
 ghost use Rattle.headers_authorization.specs.CredentialLaws.{CredentialLaws};
 ghost use Rattle.headers_authorization.specs.Scheme.{HasScheme, FirstReads};
 
-use headers_core::{AsHeaderValue, first};
+use headers_core::{AsHeaderValue, Error, Refused, first};
 use http_header::HeaderValue;
 use std::alloc::{AllocError, Global};
 
@@ -56,24 +57,24 @@ fn has_scheme(line: &[u8], scheme: &str) -> bool
     end < line.len() && line[end] == b' ' && line[..end].eq_ignore_ascii_case(scheme.as_bytes())
 }
 
-// The credentials of the first line, if it has their scheme and they read it.
+// The credentials of the first line, which has their scheme and which they read.
 pub(crate) fn first_credentials<C: Credentials, I: Iterator>(
     alloc: Global,
     values: &mut I,
-) -> Result<Option<C>, AllocError>
+) -> Result<C, Refused<Error>>
 where
     I::Item: AsHeaderValue,
     requires { I.can_next values.old }
     ensures { OfLines I.Item.shown I.next_gives values.old values.new
-        (λ lines. IfOk result (λ read. MatchOption read ((v : C) → ¬ (FirstReads C.scheme C.reads lines v))
-        (λ v. FirstReads C.scheme C.reads lines v))) }
+        (λ lines. DecodesTo (FirstReads C.scheme C.reads) lines result) }
 {
-    let Some(item) = first(values) else {
-        return Ok(None);
-    };
+    let item = first(values).ok_or(Error::invalid())?;
     let value = item.as_header_value();
     if !has_scheme(value.as_bytes(), C::scheme_name()) {
-        return Ok(None);
+        return Err(Refused::Invalid(Error::invalid()));
     }
-    C::decode(alloc, value)
+    match C::decode(alloc, value)? {
+        Some(credentials) => Ok(credentials),
+        None => Err(Refused::Invalid(Error::invalid())),
+    }
 }

@@ -38,9 +38,9 @@ impl<C: Credentials> Header for ProxyAuthorization<C> {
     where
         I::Item: AsHeaderValue,
     {
-        match first_credentials(alloc, values)? {
-            Some(credentials) => Ok(ProxyAuthorization(credentials)),
-            None => Err(Refused::Invalid(Error::invalid())),
+        match first_credentials(alloc, values) {
+            Ok(credentials) => Ok(ProxyAuthorization(credentials)),
+            Err(refused) => Err(refused),
         }
     }
 
