@@ -1,5 +1,5 @@
 //! The header `if-match`.
-ghost use Rattle.std.specs.Prelude.{◌≡◌, ◌↔◌, List, ℕ, true, false, IsTrue, IfOk};
+ghost use Rattle.std.specs.Prelude.{◌≡◌, ◌↔◌, List, ℕ, true, false, IsTrue};
 ghost use Rattle.headers_syntax.specs.EntityTag.{IsTag, StronglyEqual, TagParts};
 ghost use Rattle.headers_syntax.specs.Text.{is_text};
 ghost use Rattle.headers_items.specs.Answers.{GoesByItems, SurvivesCuts};
@@ -10,47 +10,36 @@ ghost use Rattle.headers_conditional.specs.declared.entity_tag_range.EntityTagRa
 ghost use Rattle.headers_conditional.specs.IfMatch.{MatchPasses};
 
 use crate::entity_tag_range::EntityTagRange;
-use crate::etag::{ETag, into_tag, tag_of};
-use headers_core::{FlatCsv, FormHeader};
+use crate::etag::{ETag, tag_of};
+use crate::tag_condition::TagCondition;
+use headers_core::{FormHeader, NamedField};
 use http_header::{HeaderName, IF_MATCH};
-use std::alloc::{AllocError, Global};
-use std::marker::Model;
 
 /// A request is to be served only if the target has one of these entity tags (RFC 9110, section
 /// 13.1.1).
 ///
 /// All lines are read, joined by a comma and a space: `*` alone is any tag, and else the items that
 /// are entity tags are named. Equality goes by what is written.
-#[derive(Debug, Drop, PartialEq)]
-pub struct IfMatch {
-    tags: EntityTagRange,
+pub type IfMatch = TagCondition<IfMatchField>;
+
+/// The field of `IfMatch`.
+#[derive(Debug, PartialEq)]
+pub struct IfMatchField;
+
+impl NamedField for IfMatchField {
+    ghost use Rattle.std.specs.Prelude.{codes};
+
+    ghost NAME = { codes "if-match" };
+
+    const NAME: HeaderName = IF_MATCH;
 }
 
-impl Model for IfMatch {
-    ghost use Rattle.headers_conditional.specs.declared.entity_tag_range.EntityTagRange.{EntityTagRange};
-
-    ghost Value = { EntityTagRange };
-
-    ghost view = { λ header. header.tags };
-
-    ghost inverse = { λ value. record { tags = value } };
-}
-
-impl IfMatch {
-    /// `*`, which any tag meets.
-    pub fn any() -> IfMatch
-        ensures { result ≡ Any }
-    {
-        IfMatch {
-            tags: EntityTagRange::Any,
-        }
-    }
-
+impl TagCondition<IfMatchField> {
     /// Whether it is `*`.
     pub fn is_any(&self) -> bool
         ensures { IsTrue result ↔ (self.now ≡ Any) }
     {
-        self.tags == EntityTagRange::Any
+        *self.as_form() == EntityTagRange::Any
     }
 
     /// Whether it is any, or some item is an entity tag that is strongly equal to this one.
@@ -61,49 +50,7 @@ impl IfMatch {
         ensures by_items { GoesByItems comma
             (λ tags passes. IsTrue passes ↔ MatchPasses (Tags tags) etag.now.bytes) }
     {
-        self.tags.matches_strong(tag_of(etag))
-    }
-
-    /// The same condition.
-    pub fn clone(&self, alloc: Global) -> Result<IfMatch, AllocError>
-        ensures { IfOk result (λ copy. copy ≡ self.now) }
-    {
-        Ok(IfMatch {
-            tags: self.tags.clone(alloc)?,
-        })
-    }
-}
-
-impl From<ETag> for IfMatch {
-    ghost use Rattle.std.specs.Prelude.{◌≡◌};
-    ghost use Rattle.headers_conditional.specs.declared.entity_tag_range.EntityTagRange.TheVariants.{Tags};
-
-    ghost from_gives = { λ etag header. header ≡ Tags etag.bytes };
-
-    fn from(etag: ETag) -> IfMatch {
-        IfMatch {
-            tags: EntityTagRange::Tags(FlatCsv::from_value(into_tag(etag).into_value())),
-        }
-    }
-}
-
-impl FormHeader for IfMatch {
-    ghost use Rattle.std.specs.Prelude.{codes};
-
-    type Form = EntityTagRange;
-
-    ghost NAME = { codes "if-match" };
-
-    const NAME: HeaderName = IF_MATCH;
-
-    ghost form = { λ header. header };
-
-    fn from_form(tags: EntityTagRange) -> IfMatch {
-        IfMatch { tags }
-    }
-
-    fn as_form(&self) -> &EntityTagRange {
-        &self.tags
+        self.as_form().matches_strong(tag_of(etag))
     }
 }
 

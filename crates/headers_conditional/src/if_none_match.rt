@@ -1,5 +1,5 @@
 //! The header `if-none-match`.
-ghost use Rattle.std.specs.Prelude.{◌≡◌, ◌↔◌, List, ℕ, true, false, IsTrue, IfOk};
+ghost use Rattle.std.specs.Prelude.{◌≡◌, ◌↔◌, List, ℕ, true, false, IsTrue};
 ghost use Rattle.headers_syntax.specs.EntityTag.{IsTag, TagParts, WeaklyEqual};
 ghost use Rattle.headers_syntax.specs.Text.{is_text};
 ghost use Rattle.headers_items.specs.Answers.{GoesByItems, SurvivesCuts};
@@ -7,45 +7,33 @@ ghost use Rattle.headers_items.specs.Merge.{merge};
 ghost use Rattle.headers_items.specs.Places.{comma};
 ghost use Rattle.headers_conditional.specs.EntityTagRange.{range_of};
 ghost use Rattle.headers_conditional.specs.IfNoneMatch.{NoneMatchPasses};
-ghost use Rattle.headers_conditional.specs.declared.entity_tag_range.EntityTagRange.TheVariants.{Any, Tags};
+ghost use Rattle.headers_conditional.specs.declared.entity_tag_range.EntityTagRange.TheVariants.{Tags};
 
-use crate::entity_tag_range::EntityTagRange;
-use crate::etag::{ETag, into_tag, tag_of};
-use headers_core::{FlatCsv, FormHeader};
+use crate::etag::{ETag, tag_of};
+use crate::tag_condition::TagCondition;
+use headers_core::{FormHeader, NamedField};
 use http_header::{HeaderName, IF_NONE_MATCH};
-use std::alloc::{AllocError, Global};
-use std::marker::Model;
 
 /// A request is to be served only if the target has none of these entity tags (RFC 9110, section
 /// 13.1.2).
 ///
 /// All lines are read, joined by a comma and a space: `*` alone is any tag, and else the items that
 /// are entity tags are named. Equality goes by what is written.
-#[derive(Debug, Drop, PartialEq)]
-pub struct IfNoneMatch {
-    tags: EntityTagRange,
+pub type IfNoneMatch = TagCondition<IfNoneMatchField>;
+
+/// The field of `IfNoneMatch`.
+#[derive(Debug, PartialEq)]
+pub struct IfNoneMatchField;
+
+impl NamedField for IfNoneMatchField {
+    ghost use Rattle.std.specs.Prelude.{codes};
+
+    ghost NAME = { codes "if-none-match" };
+
+    const NAME: HeaderName = IF_NONE_MATCH;
 }
 
-impl Model for IfNoneMatch {
-    ghost use Rattle.headers_conditional.specs.declared.entity_tag_range.EntityTagRange.{EntityTagRange};
-
-    ghost Value = { EntityTagRange };
-
-    ghost view = { λ header. header.tags };
-
-    ghost inverse = { λ value. record { tags = value } };
-}
-
-impl IfNoneMatch {
-    /// `*`, which no tag meets.
-    pub fn any() -> IfNoneMatch
-        ensures { result ≡ Any }
-    {
-        IfNoneMatch {
-            tags: EntityTagRange::Any,
-        }
-    }
-
+impl TagCondition<IfNoneMatchField> {
     /// Whether it isn't any, and no item is an entity tag that is weakly equal to this one.
     pub fn precondition_passes(&self, etag: &ETag) -> bool
         ensures answer { IsTrue result ↔ NoneMatchPasses self.now etag.now.bytes }
@@ -54,49 +42,7 @@ impl IfNoneMatch {
         ensures by_items { GoesByItems comma
             (λ tags passes. IsTrue passes ↔ NoneMatchPasses (Tags tags) etag.now.bytes) }
     {
-        !self.tags.matches_weak(tag_of(etag))
-    }
-
-    /// The same condition.
-    pub fn clone(&self, alloc: Global) -> Result<IfNoneMatch, AllocError>
-        ensures { IfOk result (λ copy. copy ≡ self.now) }
-    {
-        Ok(IfNoneMatch {
-            tags: self.tags.clone(alloc)?,
-        })
-    }
-}
-
-impl From<ETag> for IfNoneMatch {
-    ghost use Rattle.std.specs.Prelude.{◌≡◌};
-    ghost use Rattle.headers_conditional.specs.declared.entity_tag_range.EntityTagRange.TheVariants.{Tags};
-
-    ghost from_gives = { λ etag header. header ≡ Tags etag.bytes };
-
-    fn from(etag: ETag) -> IfNoneMatch {
-        IfNoneMatch {
-            tags: EntityTagRange::Tags(FlatCsv::from_value(into_tag(etag).into_value())),
-        }
-    }
-}
-
-impl FormHeader for IfNoneMatch {
-    ghost use Rattle.std.specs.Prelude.{codes};
-
-    type Form = EntityTagRange;
-
-    ghost NAME = { codes "if-none-match" };
-
-    const NAME: HeaderName = IF_NONE_MATCH;
-
-    ghost form = { λ header. header };
-
-    fn from_form(tags: EntityTagRange) -> IfNoneMatch {
-        IfNoneMatch { tags }
-    }
-
-    fn as_form(&self) -> &EntityTagRange {
-        &self.tags
+        !self.as_form().matches_weak(tag_of(etag))
     }
 }
 

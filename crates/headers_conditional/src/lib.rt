@@ -9,12 +9,14 @@ mod if_none_match;
 mod if_range;
 mod if_unmodified_since;
 mod last_modified;
+mod tag_condition;
 
 pub use crate::entity_tag_range::{EntityTagRange, tag_ranges_read_back};
 pub use crate::etag::{ETag, InvalidETag, into_tag, tag_of};
-pub use crate::if_match::{IfMatch, if_match_of_own_tag};
+pub use crate::if_match::{IfMatch, IfMatchField, if_match_of_own_tag};
 pub use crate::if_modified_since::IfModifiedSince;
-pub use crate::if_none_match::{IfNoneMatch, if_none_match_of_own_tag};
+pub use crate::if_none_match::{IfNoneMatch, IfNoneMatchField, if_none_match_of_own_tag};
 pub use crate::if_range::{IfRange, if_range_reads_back};
 pub use crate::if_unmodified_since::IfUnmodifiedSince;
 pub use crate::last_modified::LastModified;
+pub use crate::tag_condition::TagCondition;

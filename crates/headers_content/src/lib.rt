@@ -10,7 +10,7 @@ mod content_type;
 pub use crate::content_disposition::ContentDisposition;
 pub use crate::content_encoding::ContentEncoding;
 pub use crate::content_length::ContentLength;
-pub use crate::content_location::ContentLocation;
+pub use crate::content_location::{ContentLocation, ContentLocationField};
 pub use crate::content_type::{ContentType, content_type_reads_back};
 
 #[cfg(test)]

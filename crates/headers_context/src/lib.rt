@@ -7,15 +7,14 @@ mod location;
 mod referer;
 mod retry_after;
 mod server;
+mod text_header;
 mod user_agent;
 
-pub use crate::allow::Allow;
+pub use crate::allow::{Allow, AllowField};
 pub use crate::date::Date;
-pub use crate::location::Location;
-pub use crate::referer::{InvalidReferer, Referer};
+pub use crate::location::{Location, LocationField};
+pub use crate::referer::{InvalidReferer, Referer, RefererField};
 pub use crate::retry_after::RetryAfter;
-pub use crate::server::{InvalidServer, Server};
-pub use crate::user_agent::{InvalidUserAgent, UserAgent};
-
-#[cfg(test)]
-mod tests;
+pub use crate::server::{InvalidServer, Server, ServerField};
+pub use crate::text_header::{TextField, TextHeader};
+pub use crate::user_agent::{InvalidUserAgent, UserAgent, UserAgentField};

@@ -1,37 +1,31 @@
 //! The header `referer`.
-ghost use Rattle.std.specs.Prelude.{◌≡◌, ◌↔◌, Some, codes, IsTrue, IfOk};
-ghost use Rattle.std.specs.Fmt.{padded};
-ghost use Rattle.http_header.specs.FieldValue.{IsFieldValue, plain_value};
-ghost use Rattle.headers_syntax.specs.Text.{is_text};
-ghost use Rattle.headers_syntax.specs.Refusal.{IsInvalid};
+ghost use Rattle.std.specs.Prelude.{Some, codes};
 
-use headers_core::{Error, FormHeader, HeaderValueString, Refused};
+use crate::text_header::{TextField, TextHeader};
+use headers_core::NamedField;
 use http_header::{HeaderName, REFERER};
-use std::alloc::{AllocError, Global};
 use std::fmt;
-use std::marker::Model;
 
 /// Where the target of a request came from: the only line, which is text (RFC 9110, section
 /// 10.1.3). Equality goes by the bytes.
-#[derive(Debug, Drop, PartialEq)]
-pub struct Referer {
-    text: HeaderValueString,
+pub type Referer = TextHeader<RefererField>;
+
+/// The field of `Referer`.
+#[derive(Debug, PartialEq)]
+pub struct RefererField;
+
+impl NamedField for RefererField {
+    ghost NAME = { codes "referer" };
+
+    const NAME: HeaderName = REFERER;
 }
 
-impl Model for Referer {
-    ghost use Rattle.http_header.specs.FieldValue.{FieldValue, field_value_code};
-
-    ghost Value = { FieldValue };
-
-    ghost coded = { field_value_code };
-
-    ghost view = { λ header. header.text };
-
-    ghost inverse = { λ value. record { text = value } };
+impl TextField for RefererField {
+    type Invalid = InvalidReferer;
 }
 
 /// The text holds a control other than tab, and so is no header value.
-#[derive(Clone, Copy, Debug, PartialEq, Eq)]
+#[derive(Clone, Copy, Debug, Default, PartialEq, Eq)]
 pub struct InvalidReferer;
 
 impl fmt::Display for InvalidReferer {
@@ -45,68 +39,3 @@ impl fmt::Display for InvalidReferer {
 }
 
 impl std::error::Error for InvalidReferer {}
-
-impl Referer {
-    /// The referer of static text: visible ASCII, spaces and tabs.
-    pub fn from_static(text: &'static str) -> Referer
-        requires { IsTrue (is_text text.now) }
-        ensures { result ≡ plain_value text.now }
-    {
-        Referer {
-            text: HeaderValueString::from_static(text),
-        }
-    }
-
-    /// The referer of text that a header value may be, which may also hold characters past ASCII.
-    /// A text with a control other than tab is refused (RFC 9110, section 5.5).
-    pub fn from_str(alloc: Global, text: &str) -> Result<Referer, Refused<InvalidReferer>>
-        ensures ok { IfOk result (λ header. header ≡ plain_value text.now) }
-        ensures valid { IfOk result (λ _. IsFieldValue text.now) }
-        ensures invalid { IsInvalid result ↔ ¬ (IsFieldValue text.now) }
-    {
-        match HeaderValueString::from_str(alloc, text) {
-            Ok(text) => Ok(Referer { text }),
-            Err(Refused::Invalid(_)) => Err(Refused::Invalid(InvalidReferer)),
-            Err(Refused::Memory(refused)) => Err(Refused::Memory(refused)),
-        }
-    }
-
-    /// The same value, also as to whether it is kept out of logs.
-    pub fn clone(&self, alloc: Global) -> Result<Referer, AllocError>
-        ensures { IfOk result (λ copy. copy ≡ self.now) }
-    {
-        Ok(Referer {
-            text: self.text.clone(alloc)?,
-        })
-    }
-}
-
-impl fmt::Display for Referer {
-    ghost output = { λ header. Some header.bytes };
-
-    ghost styled_output = { λ header spec. Some (padded spec header.bytes) };
-
-    fn fmt<W: fmt::Write>(&self, f: &mut fmt::Formatter<W>) -> fmt::Result {
-        f.pad(self.text.as_str())
-    }
-}
-
-impl FormHeader for Referer {
-    ghost use Rattle.std.specs.Prelude.{codes};
-
-    type Form = HeaderValueString;
-
-    ghost NAME = { codes "referer" };
-
-    const NAME: HeaderName = REFERER;
-
-    ghost form = { λ header. header };
-
-    fn from_form(text: HeaderValueString) -> Referer {
-        Referer { text }
-    }
-
-    fn as_form(&self) -> &HeaderValueString {
-        &self.text
-    }
-}

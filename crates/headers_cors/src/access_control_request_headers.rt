@@ -1,86 +1,27 @@
 //! The header `access-control-request-headers`.
-ghost use Rattle.std.specs.Prelude.{◌≡◌, IfOk};
-ghost use Rattle.std.specs.Iterator.{IsFinite};
-ghost use Rattle.headers_items.specs.Answers.{GoesByItems, SurvivesCuts};
-ghost use Rattle.headers_items.specs.Merge.{merge};
-ghost use Rattle.headers_items.specs.Places.{comma, items};
-ghost use Rattle.headers_names.specs.ListItem.{name_of, skip_names, Lists};
 
-use headers_core::{Comma, FlatCsv, FormHeader};
-use headers_names::{SkipNames, list_of_names};
+use headers_core::NamedField;
+use headers_names::{ListField, ListHeader};
 use http_header::{ACCESS_CONTROL_REQUEST_HEADERS, HeaderName};
-use std::alloc::{AllocError, Global};
-use std::marker::Model;
 
-/// The field names that the request to come will carry (W3C CORS, section 5.9).
+/// The field names that the request to come will carry (W3C CORS, section 5.9). `iter` gives the
+/// items that are field names.
 ///
 /// All lines are read, joined by a comma and a space; none refuses.
-#[derive(Debug, Drop)]
-pub struct AccessControlRequestHeaders {
-    names: FlatCsv<Comma>,
-}
+pub type AccessControlRequestHeaders = ListHeader<AccessControlRequestHeadersField>;
 
-impl Model for AccessControlRequestHeaders {
-    ghost use Rattle.std.specs.Prelude.{List, ℕ};
+/// The field of `AccessControlRequestHeaders`.
+#[derive(Debug)]
+pub struct AccessControlRequestHeadersField;
 
-    ghost Value = { List ℕ };
-
-    ghost view = { λ v. v.names };
-
-    ghost inverse = { λ bytes. record { names = bytes } };
-}
-
-impl AccessControlRequestHeaders {
-    /// The names of an iterator, joined by a comma and a space; its size hint is not read. `iter`
-    /// gives them back.
-    pub fn from_iter<I: Iterator<Item = HeaderName> + Drop>(
-        alloc: Global,
-        names: I,
-    ) -> Result<AccessControlRequestHeaders, AllocError>
-        requires can { I.can_next names }
-        requires ends { IsFinite (I.remaining names) }
-        ensures { IfOk result (Lists name_of I.next_gives names) }
-    {
-        Ok(AccessControlRequestHeaders {
-            names: list_of_names(alloc, names)?,
-        })
-    }
-
-    /// The items that are field names, in order.
-    pub fn iter(&self, alloc: Global) -> SkipNames<'_>
-        ensures answer { result ≡ skip_names (items comma self.now) }
-        ensures cuts { SurvivesCuts comma (λ lines left. left ≡ skip_names (items comma (merge comma lines))) }
-        ensures by_items { GoesByItems comma (λ value left. left ≡ skip_names (items comma value)) }
-    {
-        SkipNames::new(alloc, &self.names)
-    }
-
-    /// The same value.
-    pub fn clone(&self, alloc: Global) -> Result<AccessControlRequestHeaders, AllocError>
-        ensures { IfOk result (λ copy. copy ≡ self.now) }
-    {
-        Ok(AccessControlRequestHeaders {
-            names: self.names.clone(alloc)?,
-        })
-    }
-}
-
-impl FormHeader for AccessControlRequestHeaders {
+impl NamedField for AccessControlRequestHeadersField {
     ghost use Rattle.std.specs.Prelude.{codes};
-
-    type Form = FlatCsv<Comma>;
 
     ghost NAME = { codes "access-control-request-headers" };
 
     const NAME: HeaderName = ACCESS_CONTROL_REQUEST_HEADERS;
+}
 
-    ghost form = { λ header. header };
-
-    fn from_form(names: FlatCsv<Comma>) -> AccessControlRequestHeaders {
-        AccessControlRequestHeaders { names }
-    }
-
-    fn as_form(&self) -> &FlatCsv<Comma> {
-        &self.names
-    }
+impl ListField for AccessControlRequestHeadersField {
+    type Item = HeaderName;
 }

@@ -33,15 +33,9 @@ values value_of items = filter_map value_of items
 abbrev pub leading_values : Reading → List (List ℕ) → List (List ℕ)
 leading_values value_of items = values value_of (take_while (λ item. is_some (value_of item)) items)
 
--- the field names before the first item that is none; the items that are field names; those that are methods
+-- the field names before the first item that is none
 abbrev pub names : List (List ℕ) → List (List ℕ)
 names items = leading_values name_of items
-
-abbrev pub skip_names : List (List ℕ) → List (List ℕ)
-skip_names items = values name_of items
-
-abbrev pub methods : List (List ℕ) → List (List ℕ)
-methods items = values method_of items
 
 -- values that may want for memory: a name that is no standard one; a method past 15 bytes
 abbrev pub NameWants : List ℕ → Type 0

@@ -1,12 +1,14 @@
 //! Names and methods in lists: how they are joined, and walks over them.
 #![tactic(auto)]
 
+mod list_header;
 mod list_item;
 mod methods;
 mod names;
 mod skip_names;
 
+pub use crate::list_header::{ListField, ListHeader};
 pub use crate::list_item::ListItem;
-pub use crate::methods::{Methods, list_of_methods, methods_of_own_list};
+pub use crate::methods::{Methods, methods_of_own_list};
 pub use crate::names::{Names, list_of_names, names_of_own_list};
 pub use crate::skip_names::{ItemsRead, SkipNames};

@@ -45,6 +45,8 @@ mod hostile;
 #[cfg(test)]
 mod map;
 #[cfg(test)]
+mod names;
+#[cfg(test)]
 mod ranges;
 #[cfg(test)]
 mod rows;

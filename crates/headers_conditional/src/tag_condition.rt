@@ -1,0 +1,77 @@
+//! Conditions on the entity tags that a target has.
+ghost use Rattle.std.specs.Prelude.{◌≡◌, IfOk};
+ghost use Rattle.headers_conditional.specs.declared.entity_tag_range.EntityTagRange.TheVariants.{Any};
+
+use crate::entity_tag_range::EntityTagRange;
+use crate::etag::{ETag, into_tag};
+use headers_core::{FlatCsv, FormHeader, NamedField};
+use http_header::HeaderName;
+use std::alloc::{AllocError, Global};
+use std::marker::{Model, PhantomData};
+
+/// The entity tags that a condition names. All lines are read, joined by a comma and a space: `*` alone
+/// is any tag, and else the items that are entity tags are named. Equality goes by what is written.
+#[derive(Debug, Drop, PartialEq)]
+pub struct TagCondition<N: NamedField> {
+    tags: EntityTagRange,
+    of: PhantomData<N>,
+}
+
+impl<N: NamedField> Model for TagCondition<N> {
+    ghost use Rattle.headers_conditional.specs.declared.entity_tag_range.EntityTagRange.{EntityTagRange};
+
+    ghost Value = { EntityTagRange };
+
+    ghost view = { λ header. header.tags };
+
+    ghost inverse = { λ value. record { tags = value; of = record {} } };
+}
+
+impl<N: NamedField> TagCondition<N> {
+    /// `*`, which is any tag.
+    pub fn any() -> TagCondition<N>
+        ensures { result ≡ Any }
+    {
+        TagCondition::from_form(EntityTagRange::Any)
+    }
+
+    /// The same condition.
+    pub fn clone(&self, alloc: Global) -> Result<TagCondition<N>, AllocError>
+        ensures { IfOk result (λ copy. copy ≡ self.now) }
+    {
+        Ok(TagCondition::from_form(self.tags.clone(alloc)?))
+    }
+}
+
+impl<N: NamedField> From<ETag> for TagCondition<N> {
+    ghost use Rattle.std.specs.Prelude.{◌≡◌};
+    ghost use Rattle.headers_conditional.specs.declared.entity_tag_range.EntityTagRange.TheVariants.{Tags};
+
+    ghost from_gives = { λ etag header. header ≡ Tags etag.bytes };
+
+    fn from(etag: ETag) -> TagCondition<N> {
+        let line = into_tag(etag).into_value();
+        TagCondition::from_form(EntityTagRange::Tags(FlatCsv::from_value(line)))
+    }
+}
+
+impl<N: NamedField> FormHeader for TagCondition<N> {
+    type Form = EntityTagRange;
+
+    ghost NAME = { N.NAME };
+
+    const NAME: HeaderName = N::NAME;
+
+    ghost form = { λ header. header };
+
+    fn from_form(tags: EntityTagRange) -> TagCondition<N> {
+        TagCondition {
+            tags,
+            of: PhantomData,
+        }
+    }
+
+    fn as_form(&self) -> &EntityTagRange {
+        &self.tags
+    }
+}

@@ -1,7 +1,0 @@
-use Rattle.headers_items.proofs.AnswerLemmas.{survives_commas}
-use Rattle.headers_names.specs.ListItem.{methods}
-use Rattle.std.proofs.Common.{◌≡◌}
-use Rattle.headers_context.proofs.allow.Allow.iter.Goals as goal
-
-pub returns-clause-cuts : goal.returns-clause-cuts
-returns-clause-cuts c = survives_commas (λ items left. left ≡ methods items)

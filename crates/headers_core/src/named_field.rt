@@ -1,0 +1,13 @@
+//! Names of fields as types.
+ghost use Rattle.std.specs.Prelude.{List, ℕ};
+
+use http_header::HeaderName;
+
+/// The name of a field as a type, which tells headers apart that are otherwise alike.
+pub trait NamedField {
+    // The name, in lower case.
+    ghost NAME: { List ℕ };
+
+    /// The name.
+    const NAME: HeaderName;
+}
