@@ -13,9 +13,6 @@ mod ranges;
 mod security;
 mod websocket;
 
-use crate::answer::Answer;
-use crate::arguments::Arguments;
-use crate::failure::Failure;
 use crate::replay::call;
 use authorization::call_authorization;
 use content::call_mime;
@@ -31,7 +28,7 @@ use headers::{
     Referer, ReferrerPolicy, RetryAfter, SecWebsocketAccept, SecWebsocketKey, SecWebsocketVersion,
     Server, SetCookie, StrictTransportSecurity, Te, TransferEncoding, Upgrade, UserAgent, Vary,
 };
-use std::alloc::Global;
+use headers_records::{Answer, Arguments, Calls, Failure};
 
 // Adds the answer of a call of a type.
 fn call_of_type(
@@ -104,30 +101,18 @@ fn call_of_type(
     }
 }
 
-// Adds the answer of a call by its name, which is `display` or a type, a dot and a word.
-fn make(name: &str, arguments: &mut Arguments<'_>, answer: &mut Answer) -> Result<(), Failure> {
-    if name == "display" {
-        return display(arguments.word()?, answer);
-    }
-    match name.split_once('.') {
-        Some((name, word)) => call_of_type(name, word, arguments, answer),
-        None => Err(Failure::NoCall),
-    }
-}
+/// The calls of the port.
+pub struct Port;
 
-/// What the port answers a call with arguments behind its name. It is `refused` where the port
-/// refuses.
-pub fn answer_of(alloc: Global, name: &str, arguments: &str) -> Result<Answer, Failure> {
-    let mut arguments = Arguments::new(alloc, arguments);
-    let mut answer = Answer::new(alloc);
-    match make(name, &mut arguments, &mut answer) {
-        Ok(()) if arguments.is_empty() => Ok(answer),
-        Ok(()) => Err(Failure::NoCall),
-        Err(Failure::Refused) => {
-            let mut refused = Answer::new(alloc);
-            refused.word("refused")?;
-            Ok(refused)
+impl Calls for Port {
+    // A name is `display`, or a type, a dot and a word.
+    fn make(name: &str, arguments: &mut Arguments<'_>, answer: &mut Answer) -> Result<(), Failure> {
+        if name == "display" {
+            return display(arguments.word()?, answer);
         }
-        Err(failure) => Err(failure),
+        match name.split_once('.') {
+            Some((name, word)) => call_of_type(name, word, arguments, answer),
+            None => Err(Failure::NoCall),
+        }
     }
 }

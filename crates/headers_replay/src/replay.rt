@@ -1,10 +1,8 @@
 //! What is replayed of a header.
 ghost use Rattle.std.specs.Iterator.{IsFinite};
 
-use crate::answer::Answer;
-use crate::arguments::Arguments;
-use crate::failure::Failure;
 use headers::{Header, HeaderMap, HeaderMapExt, HeaderName, HeaderValue, Methods, decode_values};
+use headers_records::{Answer, Arguments, Failure};
 use std::alloc::{AllocError, Global};
 use std::cmp::Ordering;
 

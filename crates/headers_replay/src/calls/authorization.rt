@@ -1,9 +1,7 @@
 //! Calls of the headers of credentials.
-use crate::answer::Answer;
-use crate::arguments::Arguments;
-use crate::failure::Failure;
 use crate::replay::{Getters, Replay, eq, is_sensitive, show_back};
 use headers::authorization::{Authorization, Basic, Bearer, ProxyAuthorization};
+use headers_records::{Answer, Arguments, Failure};
 
 impl Getters for Authorization<Basic> {
     fn getters(&self, answer: &mut Answer) -> Result<(), Failure> {

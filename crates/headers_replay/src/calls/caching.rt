@@ -1,9 +1,7 @@
 //! Calls of the caching headers.
-use crate::answer::Answer;
-use crate::arguments::Arguments;
-use crate::failure::Failure;
 use crate::replay::{Getters, Replay, cmp, eq, show, show_back};
 use headers::{Age, CacheControl, Expires, Pragma, Vary};
+use headers_records::{Answer, Arguments, Failure};
 use std::time::Duration;
 
 impl Getters for Age {

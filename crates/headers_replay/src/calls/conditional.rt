@@ -1,11 +1,9 @@
 //! Calls of the headers of conditional requests.
-use crate::answer::Answer;
-use crate::arguments::Arguments;
-use crate::failure::Failure;
 use crate::replay::{Getters, Replay, cmp, eq, show, show_back};
 use headers::{
     ETag, IfMatch, IfModifiedSince, IfNoneMatch, IfRange, IfUnmodifiedSince, LastModified,
 };
+use headers_records::{Answer, Arguments, Failure};
 
 // What two tags are to each other, by each condition.
 fn compare(arguments: &mut Arguments<'_>, answer: &mut Answer) -> Result<(), Failure> {

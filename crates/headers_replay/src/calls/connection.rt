@@ -1,9 +1,7 @@
 //! Calls of the headers of a connection.
-use crate::answer::Answer;
-use crate::arguments::Arguments;
-use crate::failure::Failure;
 use crate::replay::{Getters, Replay, eq, show};
 use headers::{Connection, Expect, HeaderName, Te, TransferEncoding, Upgrade};
+use headers_records::{Answer, Arguments, Failure};
 
 impl Getters for Connection {}
 

@@ -1,11 +1,9 @@
 //! Calls of the content headers, and of media types.
-use crate::answer::Answer;
-use crate::arguments::Arguments;
-use crate::failure::Failure;
 use crate::replay::{Getters, Replay, eq, show, writes};
 use headers::{
     ContentDisposition, ContentEncoding, ContentLength, ContentLocation, ContentType, Mime,
 };
+use headers_records::{Answer, Arguments, Failure};
 
 impl Getters for ContentDisposition {
     fn getters(&self, answer: &mut Answer) -> Result<(), Failure> {

@@ -1,9 +1,7 @@
 //! Calls of the headers of context.
-use crate::answer::Answer;
-use crate::arguments::Arguments;
-use crate::failure::Failure;
 use crate::replay::{Getters, Replay, cmp, eq, show, show_back, show_methods, writes};
 use headers::{Allow, Date, Location, Referer, RetryAfter, Server, UserAgent};
+use headers_records::{Answer, Arguments, Failure};
 
 impl Getters for Allow {
     fn getters(&self, answer: &mut Answer) -> Result<(), Failure> {

@@ -1,9 +1,7 @@
 //! Calls of the cookie headers.
-use crate::answer::Answer;
-use crate::arguments::Arguments;
-use crate::failure::Failure;
 use crate::replay::{Getters, Replay};
 use headers::{Cookie, SetCookie};
+use headers_records::{Answer, Arguments, Failure};
 
 impl Getters for Cookie {
     fn getters(&self, answer: &mut Answer) -> Result<(), Failure> {

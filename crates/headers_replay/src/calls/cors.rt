@@ -1,14 +1,12 @@
 //! Calls of the access control headers.
-use crate::answer::Answer;
-use crate::arguments::Arguments;
 use crate::calls::hosts::show_origin;
-use crate::failure::Failure;
 use crate::replay::{Getters, Replay, cmp, eq, show, show_methods, show_names};
 use headers::{
     AccessControlAllowCredentials, AccessControlAllowHeaders, AccessControlAllowMethods,
     AccessControlAllowOrigin, AccessControlExposeHeaders, AccessControlMaxAge,
     AccessControlRequestHeaders, AccessControlRequestMethod,
 };
+use headers_records::{Answer, Arguments, Failure};
 use http::Method;
 use std::time::Duration;
 

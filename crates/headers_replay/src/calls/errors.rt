@@ -1,11 +1,10 @@
 //! Texts of errors.
-use crate::answer::Answer;
-use crate::failure::Failure;
 use headers::authorization::InvalidBearerToken;
 use headers::{
     Error, InvalidContentRange, InvalidETag, InvalidOrigin, InvalidRange, InvalidReferer,
     InvalidServer, InvalidUserAgent,
 };
+use headers_records::{Answer, Failure};
 use std::fmt::Display;
 
 fn text_of<E: Display>(error: &E, answer: &mut Answer) -> Result<(), Failure> {

@@ -1,9 +1,7 @@
 //! Calls of the headers of hosts.
-use crate::answer::Answer;
-use crate::arguments::Arguments;
-use crate::failure::Failure;
 use crate::replay::{Getters, Replay, cmp, eq, show, writes};
 use headers::{Header, Host, Origin};
+use headers_records::{Answer, Arguments, Failure};
 use http_uri::Authority;
 
 /// Adds what the getters of an origin give, and whether its text is what the header writes.

@@ -1,9 +1,7 @@
 //! Calls of the headers of ranges.
-use crate::answer::Answer;
-use crate::arguments::Arguments;
-use crate::failure::Failure;
 use crate::replay::{Getters, Replay, eq, show, show_back};
 use headers::{AcceptRanges, ContentRange, Range};
+use headers_records::{Answer, Arguments, Failure};
 
 impl Getters for AcceptRanges {
     fn getters(&self, answer: &mut Answer) -> Result<(), Failure> {

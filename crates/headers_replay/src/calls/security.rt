@@ -1,9 +1,7 @@
 //! Calls of the security headers.
-use crate::answer::Answer;
-use crate::arguments::Arguments;
-use crate::failure::Failure;
 use crate::replay::{Getters, Replay, eq, show};
 use headers::{ReferrerPolicy, StrictTransportSecurity};
+use headers_records::{Answer, Arguments, Failure};
 
 // The constants, by name.
 const POLICIES: [(&str, ReferrerPolicy); 8] = [

@@ -1,9 +1,7 @@
 //! Calls of the WebSocket headers.
-use crate::answer::Answer;
-use crate::arguments::Arguments;
-use crate::failure::Failure;
 use crate::replay::{Getters, Replay, eq, is_sensitive, show};
 use headers::{SecWebsocketAccept, SecWebsocketKey, SecWebsocketVersion};
+use headers_records::{Answer, Arguments, Failure};
 use hex::FromHex;
 
 impl Getters for SecWebsocketKey {

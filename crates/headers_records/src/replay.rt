@@ -2,7 +2,7 @@
 ghost use Rattle.std.specs.Prelude.{◌≡◌, ◌+◌, ◌<◌, ◌≤◌, ◌^◌, length, IfOk, IfSome, OnOk};
 ghost use Rattle.std.specs.Str.Lines.{lines};
 
-use crate::calls::answer_of;
+use crate::calls::{Calls, answer_of};
 use crate::failure::Failure;
 use crate::tally::Tally;
 use anyhow::{Context, Result};
@@ -33,7 +33,12 @@ fn read_record(line: &str) -> Option<Record<'_>> {
 }
 
 // Makes the call of a line, counts it, and prints it where the answer isn't the wanted one.
-fn replay_line<W: Write>(alloc: Global, line: &str, tally: &mut Tally, writer: &mut W) -> Result<()>
+fn replay_line<C: Calls, W: Write>(
+    alloc: Global,
+    line: &str,
+    tally: &mut Tally,
+    writer: &mut W,
+) -> Result<()>
     requires room { tally.old.calls + 1 < 2 ^ 64 }
     requires within { tally.old.differing ≤ tally.old.calls }
     ensures calls { OnOk result (tally.new.calls ≡ tally.old.calls + 1) }
@@ -41,7 +46,7 @@ fn replay_line<W: Write>(alloc: Global, line: &str, tally: &mut Tally, writer: &
 {
     let Record { call, wanted, kind } = read_record(line).ok_or(Failure::NoCall)?;
     let (name, arguments) = call.split_once(' ').unwrap_or((call, ""));
-    let answer = answer_of(alloc, name, arguments)?;
+    let answer = answer_of::<C>(alloc, name, arguments)?;
     let given = answer.as_str();
     let agrees = given == wanted;
     tally.add(name, kind, agrees)?;
@@ -53,14 +58,14 @@ fn replay_line<W: Write>(alloc: Global, line: &str, tally: &mut Tally, writer: &
 }
 
 // Makes the calls of the lines of a text, and prints those that are answered otherwise.
-fn replay<W: Write>(alloc: Global, text: &str, writer: &mut W) -> Result<Tally>
+fn replay<C: Calls, W: Write>(alloc: Global, text: &str, writer: &mut W) -> Result<Tally>
     ensures { IfOk result (λ tally. tally.calls ≡ length (lines text.now)) }
 {
     let records: Vec<&str> = text.lines().collect(alloc)?;
     let mut tally = Tally::new(alloc);
     for record in records.iter() {
         let before = tally.calls;
-        replay_line(alloc, record, &mut tally, writer).context(format_args!(
+        replay_line::<C, W>(alloc, record, &mut tally, writer).context(format_args!(
             "the line behind {before} others"
         ))?;
     }
@@ -69,12 +74,16 @@ fn replay<W: Write>(alloc: Global, text: &str, writer: &mut W) -> Result<Tally>
 
 /// Makes each call that the lines of the whole input record, and prints those that are answered
 /// otherwise, and then the counts.
-pub fn run<R: Read + Drop, W: Write>(alloc: Global, reader: R, writer: &mut W) -> Result<Tally>
+pub fn replay_all<C: Calls, R: Read + Drop, W: Write>(
+    alloc: Global,
+    reader: R,
+    writer: &mut W,
+) -> Result<Tally>
     ensures { IfOk result (λ tally. IfSome (R.remaining reader)
         (λ input. tally.calls ≡ length (lines input))) }
 {
     let input = io::read_to_string(alloc, reader)?;
-    let tally = replay(alloc, input.as_str(), writer)?;
+    let tally = replay::<C, W>(alloc, input.as_str(), writer)?;
     tally.print(writer)?;
     writer.flush()?;
     Ok(tally)

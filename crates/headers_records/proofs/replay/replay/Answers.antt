@@ -3,7 +3,7 @@ use Rattle.std.proofs.lemmas.Iterator.{length_from_collect}
 use Rattle.std.proofs.lemmas.Iterator.Splits.{YieldsList-from_lines}
 use Rattle.std.specs.Str.Lines.{lines}
 use Rattle.std.specs.Vec.{vec_len}
-use Rattle.headers_replay.proofs.run.replay.Goals as goal
+use Rattle.headers_records.proofs.replay.replay.Goals as goal
 
 pub returns : goal.returns
 returns g c =
