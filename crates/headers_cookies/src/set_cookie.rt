@@ -64,7 +64,8 @@ impl Header for SetCookie {
     where
         I::Item: AsHeaderValue,
     {
-        let mut lines = Vec::new(alloc);
+        // No hint is read; with room for eight, a list of twenty grows twice and not four times.
+        let mut lines = Vec::with_capacity(alloc, 8)?;
         while let Some(line) = values.next() {
             push_clone(&mut lines, line.as_header_value())?;
         }
