@@ -3,22 +3,26 @@
 #![tactic(auto)]
 
 mod built;
+mod date_header;
 mod field_form;
 mod form_header;
 mod forms;
 mod header;
 mod laws;
 mod named_field;
+mod seconds_header;
 mod value_header;
 
 pub use crate::built::{
     lines_read_back, lists_read_back, tags_read_back, texts_read_back, words_read_back,
 };
+pub use crate::date_header::DateHeader;
 pub use crate::field_form::FieldForm;
 pub use crate::form_header::FormHeader;
 pub use crate::header::Header;
 pub use crate::laws::{decode_values, encodes_as_before, same_by_writes};
 pub use crate::named_field::NamedField;
+pub use crate::seconds_header::SecondsHeader;
 pub use crate::value_header::ValueHeader;
 pub use headers_items::{Comma, Entries, FlatCsv, Items, Mark, Pairs, Scan, SemiColon, Separator};
 pub use headers_syntax::{
