@@ -1,5 +1,5 @@
 //! The header `transfer-encoding`.
-ghost use Rattle.std.specs.Prelude.{◌≡◌, ◌↔◌, IsTrue, IfOk, codes};
+ghost use Rattle.std.specs.Prelude.{◌≡◌, ◌↔◌, IsTrue, IfOk, List, codes, ℕ};
 ghost use Rattle.std.specs.List.{after_last};
 ghost use Rattle.headers_syntax.specs.Text.{trim};
 ghost use Rattle.headers_items.specs.Answers.{GoesByItems, SurvivesCuts};
@@ -20,8 +20,6 @@ pub struct TransferEncoding {
 }
 
 impl Model for TransferEncoding {
-    ghost use Rattle.std.specs.Prelude.{List, ℕ};
-
     ghost Value = { List ℕ };
 
     ghost view = { λ v. v.codings };
@@ -51,9 +49,7 @@ impl TransferEncoding {
     pub fn chunked() -> TransferEncoding
         ensures { result ≡ codes "chunked" }
     {
-        TransferEncoding {
-            codings: FlatCsv::from_word("chunked"),
-        }
+        TransferEncoding::from_form(FlatCsv::from_word("chunked"))
     }
 
     /// Whether the list ends in `chunked`: what follows the last comma of the last item, or the whole
@@ -64,25 +60,18 @@ impl TransferEncoding {
             (λ lines chunked. IsTrue chunked ↔ IsChunked (items comma (merge comma lines))) }
         ensures by_items { GoesByItems comma (λ value chunked. IsTrue chunked ↔ IsChunked (items comma value)) }
     {
-        match self.codings.as_text() {
-            Some(text) => ends_in_chunked(text),
-            None => false,
-        }
+        self.codings.as_text().is_some_and(ends_in_chunked)
     }
 
     /// The same value.
     pub fn clone(&self, alloc: Global) -> Result<TransferEncoding, AllocError>
         ensures { IfOk result (λ copy. copy ≡ self.now) }
     {
-        Ok(TransferEncoding {
-            codings: self.codings.clone(alloc)?,
-        })
+        Ok(TransferEncoding::from_form(self.codings.clone(alloc)?))
     }
 }
 
 impl FormHeader for TransferEncoding {
-    ghost use Rattle.std.specs.Prelude.{codes};
-
     type Form = FlatCsv<Comma>;
 
     ghost NAME = { codes "transfer-encoding" };

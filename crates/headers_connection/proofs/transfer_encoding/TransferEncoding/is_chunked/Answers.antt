@@ -1,28 +1,29 @@
-use Rattle.std.proofs.Common.{◌↔◌, Bool, IsTrue, ap, sym, ◌∙◌}
-use Rattle.headers_syntax.specs.Text.{is_text}
+use Rattle.std.proofs.Common.{◌≡◌, ◌↔◌, Bool, Bor, IsTrue, List, ℕ, MatchOption, None, Option, Some, false, refl, sym}
+use Rattle.std.proofs.Common.{true}
+use Rattle.std.specs.Prelude.{codes}
+use Rattle.std.specs.List.{after_last}
+use Rattle.std.proofs.lemmas.List.Elements.{filter_passes}
+use Rattle.headers_syntax.specs.Text.{is_text, trim}
 use Rattle.headers_items.proofs.AnswerLemmas.{survives_commas}
-use Rattle.headers_items.specs.Answers.{SurvivesCuts}
-use Rattle.headers_items.specs.Merge.{merge}
-use Rattle.headers_items.specs.Places.{comma, items}
-use Rattle.headers_connection.specs.Chunked.{IsChunked}
-use Rattle.headers_connection.proofs.ChunkedLemmas.{IsChunked-of, IsChunked-no_text}
+use Rattle.headers_items.proofs.PlacesLemmas.{items-no_text}
+use Rattle.headers_items.specs.Places.{comma, items, is_counting_place, counting_from}
+use Rattle.headers_connection.specs.Chunked.{IsChunked, is_comma}
+use Rattle.headers_connection.proofs.ChunkedLemmas.{last_item}
 use Rattle.headers_connection.proofs.transfer_encoding.TransferEncoding.is_chunked.Goals as goal
 
-chunked_survives : SurvivesCuts comma
-    (λ lines (chunked : Bool). IsTrue chunked ↔ IsChunked (items comma (merge comma lines)))
-chunked_survives = survives_commas (λ items (chunked : Bool). IsTrue chunked ↔ IsChunked items)
+-- the answer for a value that is text or not
+by_text : (value : List ℕ) (text : Option (Bor (List ℕ))) (answer : Bool)
+    → MatchOption text (is_text value ≡ false) (λ text. (is_text value ≡ true) × (text.now ≡ value))
+    → MatchOption text (answer ≡ false) (λ text. IsTrue answer ↔ (trim (after_last is_comma text.now) ≡ codes "chunked"))
+    → IsTrue answer ↔ IsChunked (items comma value)
+by_text value None answer t e = rw (items-no_text comma value t, e) (λ h. absurd (cc h), λ h. absurd h)
+by_text value (Some text) answer t e =
+    let last = last_item value None 0 (counting_from comma value 0) refl (filter_passes (is_counting_place comma value) _) in
+    rw (t.0, last.1, last.2, sym t.1) e
 
-pub returns-in-Some-clause-answer : goal.returns-in-Some-clause-answer
-returns-in-Some-clause-answer c =
-    IsChunked-of c.self.inside.codings c.args.self.now c.in-Some.text.now _
-    (sym c.self.view_is) c.in-Some.ensures.0 c.in-Some.ensures.1 c.ends_in_chunked.ensures
+pub returns-clause-answer : goal.returns-clause-answer
+returns-clause-answer c =
+    rw (sym c.self.view_is) (by_text c.self.inside.codings c.as_text.result _ c.as_text.ensures c.is_some_and.ensures)
 
-pub returns-in-Some-clause-cuts : goal.returns-in-Some-clause-cuts
-returns-in-Some-clause-cuts c = chunked_survives
-
-pub returns-in-None-clause-answer : goal.returns-in-None-clause-answer
-returns-in-None-clause-answer c =
-    IsChunked-no_text c.args.self.now (ap is_text (sym c.self.view_is) ∙ c.in-None.ensures)
-
-pub returns-in-None-clause-cuts : goal.returns-in-None-clause-cuts
-returns-in-None-clause-cuts c = chunked_survives
+pub returns-clause-cuts : goal.returns-clause-cuts
+returns-clause-cuts c = survives_commas (λ items (chunked : Bool). IsTrue chunked ↔ IsChunked items)
