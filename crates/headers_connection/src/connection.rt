@@ -19,8 +19,6 @@ pub struct Connection {
 }
 
 impl Model for Connection {
-    ghost use Rattle.std.specs.Prelude.{List, ℕ};
-
     ghost Value = { List ℕ };
 
     ghost view = { λ v. v.options };
@@ -79,27 +77,21 @@ impl Connection {
     pub fn close() -> Connection
         ensures { result ≡ codes "close" }
     {
-        Connection {
-            options: FlatCsv::from_word("close"),
-        }
+        Connection::from_form(FlatCsv::from_word("close"))
     }
 
     /// The connection is kept.
     pub fn keep_alive() -> Connection
         ensures { result ≡ codes "keep-alive" }
     {
-        Connection {
-            options: FlatCsv::from_word("keep-alive"),
-        }
+        Connection::from_form(FlatCsv::from_word("keep-alive"))
     }
 
     /// The sender offers or answers another protocol.
     pub fn upgrade() -> Connection
         ensures { result ≡ codes "upgrade" }
     {
-        Connection {
-            options: FlatCsv::from_word("upgrade"),
-        }
+        Connection::from_form(FlatCsv::from_word("upgrade"))
     }
 
     /// The names of an iterator, joined by a comma and a space; its size hint is not read.
@@ -111,9 +103,7 @@ impl Connection {
         requires ends { IsFinite (I.remaining names) }
         ensures { IfOk result (MergesLines I.next_gives names comma) }
     {
-        Ok(Connection {
-            options: FlatCsv::from_names(alloc, names)?,
-        })
+        Ok(Connection::from_form(FlatCsv::from_names(alloc, names)?))
     }
 
     /// Whether some item is the option, ignoring the case of ASCII letters (RFC 9110, section 7.6.1).
@@ -134,15 +124,11 @@ impl Connection {
     pub fn clone(&self, alloc: Global) -> Result<Connection, AllocError>
         ensures { IfOk result (λ copy. copy ≡ self.now) }
     {
-        Ok(Connection {
-            options: self.options.clone(alloc)?,
-        })
+        Ok(Connection::from_form(self.options.clone(alloc)?))
     }
 }
 
 impl FormHeader for Connection {
-    ghost use Rattle.std.specs.Prelude.{codes};
-
     type Form = FlatCsv<Comma>;
 
     ghost NAME = { codes "connection" };

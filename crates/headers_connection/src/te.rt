@@ -1,5 +1,5 @@
 //! The header `te`.
-ghost use Rattle.std.specs.Prelude.{◌≡◌, IfOk, codes};
+ghost use Rattle.std.specs.Prelude.{◌≡◌, IfOk, List, codes, ℕ};
 ghost use Rattle.headers_items.specs.Places.{comma};
 
 use headers_core::{Comma, FlatCsv, FormHeader};
@@ -14,8 +14,6 @@ pub struct Te {
 }
 
 impl Model for Te {
-    ghost use Rattle.std.specs.Prelude.{List, ℕ};
-
     ghost Value = { List ℕ };
 
     ghost view = { λ v. v.codings };
@@ -28,24 +26,18 @@ impl Te {
     pub fn trailers() -> Te
         ensures { result ≡ codes "trailers" }
     {
-        Te {
-            codings: FlatCsv::from_word("trailers"),
-        }
+        Te::from_form(FlatCsv::from_word("trailers"))
     }
 
     /// The same value.
     pub fn clone(&self, alloc: Global) -> Result<Te, AllocError>
         ensures { IfOk result (λ copy. copy ≡ self.now) }
     {
-        Ok(Te {
-            codings: self.codings.clone(alloc)?,
-        })
+        Ok(Te::from_form(self.codings.clone(alloc)?))
     }
 }
 
 impl FormHeader for Te {
-    ghost use Rattle.std.specs.Prelude.{codes};
-
     type Form = FlatCsv<Comma>;
 
     ghost NAME = { codes "te" };

@@ -1,6 +1,6 @@
 //! The header `upgrade`.
 ghost use Rattle.std.specs.Prelude.{◌≡◌, codes, IfOk};
-ghost use Rattle.http_header.specs.FieldValue.{plain_value};
+ghost use Rattle.http_header.specs.FieldValue.{FieldValue, field_value_code, plain_value};
 
 use headers_core::{FormHeader, first};
 use http_header::{HeaderName, HeaderValue, UPGRADE};
@@ -15,8 +15,6 @@ pub struct Upgrade {
 }
 
 impl Model for Upgrade {
-    ghost use Rattle.http_header.specs.FieldValue.{FieldValue, field_value_code};
-
     ghost Value = { FieldValue };
 
     ghost coded = { field_value_code };
@@ -31,24 +29,18 @@ impl Upgrade {
     pub fn websocket() -> Upgrade
         ensures { result ≡ plain_value (codes "websocket") }
     {
-        Upgrade {
-            value: HeaderValue::from_static("websocket"),
-        }
+        Upgrade::from_form(HeaderValue::from_static("websocket"))
     }
 
     /// The same value, also as to whether it is kept out of logs.
     pub fn clone(&self, _alloc: Global) -> Result<Upgrade, AllocError>
         ensures { IfOk result (λ copy. copy ≡ self.now) }
     {
-        Ok(Upgrade {
-            value: self.value.clone()?,
-        })
+        Ok(Upgrade::from_form(self.value.clone()?))
     }
 }
 
 impl FormHeader for Upgrade {
-    ghost use Rattle.std.specs.Prelude.{codes};
-
     type Form = HeaderValue;
 
     ghost NAME = { codes "upgrade" };
