@@ -1,6 +1,6 @@
 pub mod ReferrerPolicy
 pub mod ReferrerPolicyLaws
-pub mod SecuritySoFar
+pub mod SecurityParts
 pub mod StrictTransportSecurity
 pub mod StrictTransportSecurityGrammar
 pub mod StrictTransportSecurityLaws

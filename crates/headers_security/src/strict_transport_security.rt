@@ -1,19 +1,20 @@
 //! The header `strict-transport-security`.
-ghost use Rattle.std.specs.Prelude.{◌≡◌, ◌/◌, ◌∷◌, ◌++◌, List, [], ℕ, true, false, Some, None, IfOk, if◌then◌else◌};
-ghost use Rattle.std.specs.Prelude.{string_bytes};
+ghost use Rattle.std.specs.Prelude.{◌≡◌, ◌/◌, true, false, IfOk, string_bytes, filter, count_by};
+ghost use Rattle.std.specs.Option.{option_and_then};
 ghost use Rattle.std.specs.Duration.{as_nanos};
 ghost use Rattle.http_header.specs.FieldValue.{IsFieldValue};
 ghost use Rattle.headers_syntax.specs.Durations.{IsWholeSeconds, LastsSeconds};
 ghost use Rattle.headers_syntax.specs.HeaderLaws.{ReadsBy, written_by};
+ghost use Rattle.headers_syntax.specs.Lines.{only_line};
 ghost use Rattle.headers_security.specs.StrictTransportSecurityGrammar.{security_grammar};
-ghost use Rattle.headers_security.specs.StrictTransportSecurity.{carries_age, age_in, security_of, read_security};
+ghost use Rattle.headers_security.specs.StrictTransportSecurity.{names_subdomains, carries_age, age_in, read_security};
 ghost use Rattle.headers_security.specs.StrictTransportSecurity.{print_security};
-ghost use Rattle.headers_security.specs.SecuritySoFar.{parts_so_far};
+ghost use Rattle.headers_security.specs.SecurityParts.{pieces, age_of};
 
 use bytes::Bytes;
 use headers_core::{
-    AsHeaderValue, Error, Header, Refused, just_one, parse_number, same_but_for_case, trim_text,
-    unquoted,
+    AsHeaderValue, Error, Header, Refused, just_one, parse_number, read_text, same_but_for_case,
+    trim_text, unquoted,
 };
 use http_header::{HeaderName, HeaderValue, STRICT_TRANSPORT_SECURITY};
 use std::alloc::{AllocError, Global};
@@ -78,18 +79,9 @@ impl StrictTransportSecurity {
     }
 }
 
-// What the parts of a line that have come tell; an age that can't be read is there, but is no number.
-#[derive(Clone, Copy, Debug)]
-struct SecurityParts {
-    includes_subdomains: bool,
-    repeats_subdomains: bool,
-    age: Option<Option<u64>>,
-    repeats_age: bool,
-}
-
-// The age that the part carries, if it does.
+// The age that the part carries, if it does; one that can't be read is there, but is no number.
 fn age_of(part: &str) -> Option<Option<u64>>
-    ensures { result ≡ (if carries_age part.now then Some (age_in part.now) else None) }
+    ensures { result ≡ age_of part.now }
 {
     let (name, value) = part.split_once('=')?;
     if !same_but_for_case(trim_text(name), "max-age") {
@@ -98,56 +90,41 @@ fn age_of(part: &str) -> Option<Option<u64>>
     Some(parse_number(unquoted(trim_text(value))))
 }
 
-impl SecurityParts {
-    // What the parts before tell, and this one.
-    fn with_part(self, part: &str) -> SecurityParts
-        ensures { (ps : List (List ℕ)) → self ≡ parts_so_far ps → result ≡ parts_so_far (ps ++ part.now ∷ []) }
-    {
-        let names_subdomains = same_but_for_case(part, "includeSubdomains");
-        let age = age_of(part);
-        SecurityParts {
-            includes_subdomains: self.includes_subdomains | names_subdomains,
-            repeats_subdomains: self.repeats_subdomains
-                | (self.includes_subdomains & names_subdomains),
-            age: age.or(self.age),
-            repeats_age: self.repeats_age | (self.age.is_some() & age.is_some()),
-        }
-    }
+// How many parts name `includeSubdomains`.
+fn subdomains_named(text: &str) -> usize
+    ensures { result ≡ count_by names_subdomains (pieces text.now) }
+{
+    text.split(';')
+        .map(|part| trim_text(part))
+        .filter(|part| same_but_for_case(part, "includeSubdomains"))
+        .count()
+}
 
-    // The value that all parts tell, if they are not refused.
-    fn value(self) -> Option<StrictTransportSecurity>
-        ensures { (ps : List (List ℕ)) → self ≡ parts_so_far ps → result ≡ security_of ps }
-    {
-        if self.repeats_subdomains | self.repeats_age {
-            return None;
-        }
-        match self.age {
-            Some(Some(max_age)) => Some(StrictTransportSecurity {
-                include_subdomains: self.includes_subdomains,
-                max_age,
-            }),
-            _ => None,
-        }
-    }
+// The number of the only part that carries an age: of two, neither counts.
+fn only_age(text: &str) -> Option<u64>
+    ensures { result ≡ option_and_then age_in (only_line (filter carries_age (pieces text.now))) }
+{
+    text.split(';')
+        .filter_map(|part| age_of(trim_text(part)))
+        .reduce(|_, _| None)
+        .flatten()
 }
 
 // What a line says.
+#[tactic(auto, using(crate::proofs::SecurityLemmas::subdomains_counted))]
 fn read_security(line: &HeaderValue) -> Option<StrictTransportSecurity>
     ensures { result ≡ read_security line.now.bytes }
 {
-    let Ok(text) = line.to_str() else {
+    let text = read_text(line)?;
+    let named = subdomains_named(text);
+    if named > 1 {
         return None;
-    };
-    let mut so_far = SecurityParts {
-        includes_subdomains: false,
-        repeats_subdomains: false,
-        age: None,
-        repeats_age: false,
-    };
-    for part in text.split(';') {
-        so_far = so_far.with_part(trim_text(part));
     }
-    so_far.value()
+    let max_age = only_age(text)?;
+    Some(StrictTransportSecurity {
+        include_subdomains: named > 0,
+        max_age,
+    })
 }
 
 // The age, and then `includeSubdomains` if it is set.

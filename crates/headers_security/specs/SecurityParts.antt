@@ -1,0 +1,13 @@
+-- The parts of a text, and what one of them carries.
+use Rattle.std.specs.Prelude.{ℕ, List, map, ◌==◌, Option, Some, None, if◌then◌else◌}
+use Rattle.std.specs.List.{slice_split}
+use Rattle.headers_syntax.specs.Text.{trim}
+use Rattle.headers_security.specs.StrictTransportSecurity.{carries_age, age_in}
+
+-- the trimmed slices between all semicolons of a text
+abbrev pub pieces : List ℕ → List (List ℕ)
+pieces text = map trim (slice_split (λ b. b == 59) text)
+
+-- the age that a part carries, if it does
+abbrev pub age_of : List ℕ → Option (Option ℕ)
+age_of part = if carries_age part then Some (age_in part) else None
