@@ -1,23 +1,19 @@
 -- What the code finds of the parts of a line.
-use Rattle.std.proofs.Common.{◌≡◌, ℕ, ◌<◌, ◌^◌, List, [], ◌∷◌, map, filter, Option, Some, None, refl, sym, ◌∙◌, ap}
-use Rattle.std.proofs.Common.{subst, inl, inr, length, Bool, nat_lt, arith}
+use Rattle.std.proofs.Common.{◌≡◌, ℕ, List, [], ◌∷◌, map, filter, Option, Some, None, refl, sym, ◌∙◌, ap}
+use Rattle.std.proofs.Common.{inl, inr, nat_lt, arith}
 use denote.Param.Members.{Mut}
 use Rattle.std.specs.Iterator.{ActsAsOnTwo}
 use Rattle.std.specs.Iterator.Runs.{Run, WholeRun, YieldsRun, IsReduceRun}
 use Rattle.std.specs.List.{filter_map, fold, reduce, list_any, count_by}
 use Rattle.std.specs.Option.{MatchOption, option_and_then, option_flatten}
-use Rattle.std.proofs.lemmas.Bool.{cases_Bool, lt-ltb}
+use Rattle.std.proofs.lemmas.Bool.{cases_Bool}
+use Rattle.std.proofs.lemmas.Bool.Decides.{nat_tests}
+use Rattle.std.proofs.lemmas.Grind.{common_steps}
 use Rattle.std.proofs.lemmas.Iterator.{YieldsList, items_from_drains}
 use Rattle.std.proofs.lemmas.List.{map-id, nil_from_length}
-use Rattle.std.proofs.lemmas.List.Sums.{length-filter}
 use Rattle.headers_syntax.specs.Lines.{only_line}
 use Rattle.headers_syntax.specs.Text.{trim}
-use Rattle.http_header.specs.FieldValue.{IsFieldValue}
-use Rattle.http_header.proofs.TokenLemmas.{IsFieldValue-from_visible}
-use Rattle.headers_syntax.proofs.TextLemmas.{visible-from_is_text}
-use Rattle.headers_security.specs.StrictTransportSecurity.{TransportSecurity, names_subdomains, carries_age, age_in}
-use Rattle.headers_security.specs.StrictTransportSecurity.{print_security}
-use Rattle.headers_security.specs.StrictTransportSecurityLaws.{printed_text}
+use Rattle.headers_security.specs.StrictTransportSecurity.{names_subdomains, carries_age, age_in}
 use Rattle.headers_security.specs.SecurityParts.{age_of}
 
 -- what `reduce` gives of a chain
@@ -63,18 +59,7 @@ pub only_age_is : (cut : List (List ℕ))
 only_age_is cut = ap (λ ages. option_flatten (reduce (λ _ _. None) ages)) (ages_of cut)
     ∙ only (filter carries_age (map trim cut))
 
--- some part passes where the parts that pass are counted above 0
-some_pass : (test : List ℕ → Bool) (ps : List (List ℕ)) → nat_lt 0 (length (filter test ps)) ≡ list_any test ps
-some_pass test [] = refl
-some_pass test (p ∷ ps) = elim (cases_Bool (test p)) [ inl y ↦ rw y (lt-ltb _ _ (omega arith)) | inr n ↦ rw n (some_pass test ps) ]
-
+-- some part names subdomains where the parts that do are counted above 0
 pub subdomains_counted : (ps : List (List ℕ)) → nat_lt 0 (count_by names_subdomains ps) ≡ list_any names_subdomains ps
-subdomains_counted ps =
-    ap (nat_lt 0) (sym (length-filter names_subdomains ps)) ∙ some_pass names_subdomains ps
-
--- ---- what is printed is a value
-
-pub printed_value : (s : TransportSecurity) → s.max_age < 2 ^ 64 → (t : List ℕ) → t ≡ print_security s → IsFieldValue t
-printed_value s fits t e =
-    subst IsFieldValue (sym e)
-    (IsFieldValue-from_visible (print_security s) (visible-from_is_text (print_security s) (printed_text s fits)))
+subdomains_counted [] = refl
+subdomains_counted (p ∷ ps) = grind (arith, common_steps, nat_tests, subdomains_counted ps)

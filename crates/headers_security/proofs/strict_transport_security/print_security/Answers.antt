@@ -1,5 +1,9 @@
-use Rattle.std.proofs.Common.{rules}
-use Rattle.headers_security.proofs.SecurityLemmas.{printed_value}
+use Rattle.std.proofs.Common.{rules, subst, sym}
+use Rattle.http_header.specs.FieldValue.{IsFieldValue}
+use Rattle.http_header.proofs.TokenLemmas.{IsFieldValue-from_visible}
+use Rattle.headers_syntax.proofs.TextLemmas.{visible-from_is_text}
+use Rattle.headers_security.specs.StrictTransportSecurity.{print_security}
+use Rattle.headers_security.specs.StrictTransportSecurityLaws.{value, printed_text}
 use Rattle.headers_security.proofs.strict_transport_security.print_security.Goals as goal
 
 pub returns-clause-text : goal.returns-clause-text
@@ -7,5 +11,6 @@ returns-clause-text c = search rules
 
 pub returns-clause-valid : goal.returns-clause-valid
 returns-clause-valid c =
-    printed_value (record { include_subdomains = c.args.include_subdomains; max_age = c.args.max_age })
-    c.ranges.max_age.fits _ (returns-clause-text c)
+    let line = print_security (value c.args.include_subdomains c.args.max_age) in
+    subst IsFieldValue (sym (returns-clause-text c)) (IsFieldValue-from_visible line (visible-from_is_text line
+    (printed_text c.args.max_age c.ranges.max_age.fits c.args.include_subdomains)))
