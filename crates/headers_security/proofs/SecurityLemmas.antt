@@ -37,27 +37,27 @@ module _ {A S F : Type 0} {steps : S → Option A → S → Type 0} (g : Mut F (
 ages_of : (cut : List (List ℕ))
     → filter_map (λ part. age_of (trim part)) cut ≡ map age_in (filter carries_age (map trim cut))
 ages_of [] = refl
-ages_of (part ∷ cut) = elim (cases_Bool (carries_age (trim part))) [
-  | inl y ↦ rw y (ap (λ ages. age_in (trim part) ∷ ages) (ages_of cut))
-  | inr n ↦ rw n (ages_of cut)
-]
+ages_of (part ∷ cut) =
+    elim (cases_Bool (carries_age (trim part))) [
+      | inl y ↦ rw y (ap (λ ages. age_in (trim part) ∷ ages) (ages_of cut))
+      | inr n ↦ rw n (ages_of cut)
+    ]
 
 -- of two ages, none is left
 none_left : (ps : List (List ℕ)) → ◌≡◌ {A = Option ℕ} None (fold (λ _ _. None) None (map age_in ps))
 none_left [] = refl
 none_left (p ∷ ps) = none_left ps
 
-only : (ps : List (List ℕ))
+only_age_of : (ps : List (List ℕ))
     → option_flatten (reduce (λ _ _. None) (map age_in ps)) ≡ option_and_then age_in (only_line ps)
-only [] = refl
-only (p ∷ []) = refl
-only (p ∷ q ∷ ps) = sym (none_left ps)
+only_age_of [] = refl
+only_age_of (p ∷ []) = refl
+only_age_of (p ∷ q ∷ ps) = sym (none_left ps)
 
 pub only_age_is : (cut : List (List ℕ))
     → option_flatten (reduce (λ _ _. None) (filter_map (λ part. age_of (trim part)) cut))
     ≡ option_and_then age_in (only_line (filter carries_age (map trim cut)))
-only_age_is cut = ap (λ ages. option_flatten (reduce (λ _ _. None) ages)) (ages_of cut)
-    ∙ only (filter carries_age (map trim cut))
+only_age_is cut = rw (ages_of cut) (only_age_of (filter carries_age (map trim cut)))
 
 -- some part names subdomains where the parts that do are counted above 0
 pub subdomains_counted : (ps : List (List ℕ)) → nat_lt 0 (count_by names_subdomains ps) ≡ list_any names_subdomains ps

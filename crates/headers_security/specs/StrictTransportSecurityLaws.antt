@@ -35,6 +35,7 @@ value b n = record { include_subdomains = b; max_age = n }
 abbrev pub age_part : ℕ → List ℕ
 age_part n = codes "max-age=" ++ decimal n
 
+-- a byte that is no semicolon
 abbrev pub no_cut : ℕ → Bool
 no_cut b = not (b == 59)
 
@@ -56,6 +57,9 @@ module _ (n : ℕ) (fits : n < 2 ^ 64) where
       ∙ and_from _ _ (text_piece (age_part n) (decimal_plain n fits)) refl
   printed_text false = ap is_text (append-nil (age_part n)) ∙ text_piece (age_part n) (decimal_plain n fits)
 
+  trimmed : trim (age_part n) ≡ age_part n
+  trimmed = trim_piece (age_part n) (decimal_plain n fits)
+
   age_read : age_in (age_part n) ≡ Some n
   age_read =
       ap (λ r. number (without_quotes r)) (trim_piece (decimal n) (decimal_plain n fits))
@@ -67,12 +71,12 @@ module _ (n : ℕ) (fits : n < 2 ^ 64) where
   printed_says true =
       ap (λ cut. security_of (map trim cut))
       (slice_split_at (λ b. b == 59) (age_part n) 59 (codes " includeSubdomains") age_uncut refl)
-      ∙ ap (λ part. security_of (part ∷ codes "includeSubdomains" ∷ [])) (trim_piece (age_part n) (decimal_plain n fits))
+      ∙ ap (λ part. security_of (part ∷ codes "includeSubdomains" ∷ [])) trimmed
       ∙ ap (option_map (value true)) age_read
   printed_says false =
       ap (λ line. security_of (map trim (slice_split (λ b. b == 59) line))) (append-nil (age_part n))
       ∙ ap (λ cut. security_of (map trim cut)) (slice_split_none (λ b. b == 59) (age_part n) age_uncut)
-      ∙ ap (λ part. security_of (part ∷ [])) (trim_piece (age_part n) (decimal_plain n fits))
+      ∙ ap (λ part. security_of (part ∷ [])) trimmed
       ∙ ap (option_map (value false)) age_read
 
 -- what is written of any value reads as that value

@@ -10,7 +10,8 @@ use Rattle.headers_security.proofs.strict_transport_security.only_age.Goals as g
 
 pub returns : goal.returns
 returns c =
-    c.flatten.ensures ∙ ap option_flatten (reduced _ (λ _ _. None) (λ x y r q k. search rules) c.reduce.result c.reduce.ensures.runs
+    c.flatten.ensures
+    ∙ ap option_flatten (reduced _ (λ _ _. None) (λ x y r q k. search rules) c.reduce.result c.reduce.ensures.runs
     (YieldsList-from_filter_map _ (λ part. age_of (trim part)) (YieldsList-at c.filter_map.ensures.source
     (YieldsList-from_str_split 59 c.args.text.now (lit< tt) c.split.ensures.text c.split.ensures.has_more
     c.split.ensures.pattern)) c.filter_map.ensures.closure (λ x r q k. search rules)))
