@@ -5,7 +5,7 @@ ghost use Rattle.headers_syntax.specs.Parts.{parts};
 ghost use Rattle.headers_security.specs.ReferrerPolicy.{policy_named, word_of, words};
 ghost use Rattle.headers_items.specs.Places.{comma};
 
-use headers_core::{AsHeaderValue, Error, Header, Refused, trim_text};
+use headers_core::{AsHeaderValue, Error, Header, Refused, read_text, trim_text};
 use http_header::{HeaderName, HeaderValue, REFERRER_POLICY};
 use std::alloc::{AllocError, Global};
 use std::marker::Model;
@@ -135,13 +135,10 @@ impl Policy {
 fn last_policy(line: &HeaderValue, before: Option<Policy>) -> Option<Policy>
     ensures { result ≡ last_or before (filter_map policy_named (parts comma line.now.bytes)) }
 {
-    let mut last = before;
-    if let Ok(text) = line.to_str() {
-        for part in text.split(',') {
-            last = policy_named(trim_text(part)).or(last);
-        }
-    }
-    last
+    let Some(text) = read_text(line) else {
+        return before;
+    };
+    text.split(',').fold(before, |last, part| policy_named(trim_text(part)).or(last))
 }
 
 impl Header for ReferrerPolicy {
