@@ -4,7 +4,7 @@ use Rattle.std.proofs.Common.{◌++◌, length, get_or, Option, Some, None, filt
 use Rattle.std.proofs.Common.{inl, inr, arith}
 use Rattle.std.specs.List.{AllByRecursion, list_any, last_or, before_first, after_first, position_or_len}
 use Rattle.std.specs.Option.{option_or, option_and_then}
-use Rattle.std.proofs.lemmas.Bool.{cases_Bool, false_from_ne_true, and_right}
+use Rattle.std.proofs.lemmas.Bool.{cases_Bool, false_from_ne_true, and_right, or_parts}
 use Rattle.std.proofs.lemmas.Bool.Decides.{Decides-eqb}
 use Rattle.std.proofs.lemmas.List.{append-nil, drop_all}
 use Rattle.std.proofs.lemmas.List.Sums.{split_at_first, passes_at_first}
@@ -17,7 +17,7 @@ use Rattle.headers_syntax.specs.AsciiCase.{same_name}
 use Rattle.headers_syntax.proofs.AsciiCaseLemmas.{same_name-is}
 use Rattle.headers_caching.specs.CacheControl.{carries, number_in, is_bad_for, is_bad, is_set, last_number, number_rows}
 use Rattle.headers_caching.specs.CacheControl.{Directives, Keeps, TakesIn, directives, flag_rows}
-use Rattle.headers_caching.specs.CacheControlLaws.{no_flag, or_parts, rows_same, same_rows}
+use Rattle.headers_caching.specs.CacheControlLaws.{no_flag, rows_same, same_rows}
 use Rattle.headers_items.specs.Pairs.{is_equals}
 use Rattle.headers_syntax.proofs.PartsLemmas.{last_or-append}
 

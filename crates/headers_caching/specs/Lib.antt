@@ -1,4 +1,3 @@
 pub mod CacheControl
 pub mod CacheControlGrammar
 pub mod CacheControlLaws
-pub mod Printing

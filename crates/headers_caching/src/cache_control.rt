@@ -14,8 +14,7 @@ ghost use Rattle.headers_caching.specs.CacheControl.{GivesSeconds, directives, l
 ghost use Rattle.headers_caching.specs.CacheControl.{flag_rows, is_set, number_rows, print_flag, print_number, printed};
 ghost use Rattle.headers_caching.specs.CacheControl.{Keeps, TakesIn};
 ghost use Rattle.headers_caching.specs.CacheControlGrammar.{cache_grammar};
-ghost use Rattle.headers_caching.specs.CacheControlLaws.{FitRows, FitsOption};
-ghost use Rattle.headers_caching.specs.Printing.{separated, append_all};
+ghost use Rattle.headers_caching.specs.CacheControlLaws.{FitRows, FitsOption, behind_commas};
 ghost use Rattle.headers_items.specs.Places.{comma};
 
 use bytes::Bytes;
@@ -247,137 +246,111 @@ impl CacheControl {
     }
 
     /// Sets `no-cache`.
-    pub fn with_no_cache(self) -> CacheControl
+    pub fn with_no_cache(mut self) -> CacheControl
         ensures { result ≡ record self { no_cache = true } }
     {
-        CacheControl {
-            no_cache: true,
-            ..self
-        }
+        self.no_cache = true;
+        self
     }
 
     /// Sets `no-store`.
-    pub fn with_no_store(self) -> CacheControl
+    pub fn with_no_store(mut self) -> CacheControl
         ensures { result ≡ record self { no_store = true } }
     {
-        CacheControl {
-            no_store: true,
-            ..self
-        }
+        self.no_store = true;
+        self
     }
 
     /// Sets `no-transform`.
-    pub fn with_no_transform(self) -> CacheControl
+    pub fn with_no_transform(mut self) -> CacheControl
         ensures { result ≡ record self { no_transform = true } }
     {
-        CacheControl {
-            no_transform: true,
-            ..self
-        }
+        self.no_transform = true;
+        self
     }
 
     /// Sets `only-if-cached`.
-    pub fn with_only_if_cached(self) -> CacheControl
+    pub fn with_only_if_cached(mut self) -> CacheControl
         ensures { result ≡ record self { only_if_cached = true } }
     {
-        CacheControl {
-            only_if_cached: true,
-            ..self
-        }
+        self.only_if_cached = true;
+        self
     }
 
     /// Sets `public`.
-    pub fn with_public(self) -> CacheControl
+    pub fn with_public(mut self) -> CacheControl
         ensures { result ≡ record self { public = true } }
     {
-        CacheControl {
-            public: true,
-            ..self
-        }
+        self.public = true;
+        self
     }
 
     /// Sets `private`.
-    pub fn with_private(self) -> CacheControl
+    pub fn with_private(mut self) -> CacheControl
         ensures { result ≡ record self { private = true } }
     {
-        CacheControl {
-            private: true,
-            ..self
-        }
+        self.private = true;
+        self
     }
 
     /// Sets `immutable`.
-    pub fn with_immutable(self) -> CacheControl
+    pub fn with_immutable(mut self) -> CacheControl
         ensures { result ≡ record self { immutable = true } }
     {
-        CacheControl {
-            immutable: true,
-            ..self
-        }
+        self.immutable = true;
+        self
     }
 
     /// Sets `must-revalidate`.
-    pub fn with_must_revalidate(self) -> CacheControl
+    pub fn with_must_revalidate(mut self) -> CacheControl
         ensures { result ≡ record self { must_revalidate = true } }
     {
-        CacheControl {
-            must_revalidate: true,
-            ..self
-        }
+        self.must_revalidate = true;
+        self
     }
 
     /// Sets `must-understand`.
-    pub fn with_must_understand(self) -> CacheControl
+    pub fn with_must_understand(mut self) -> CacheControl
         ensures { result ≡ record self { must_understand = true } }
     {
-        CacheControl {
-            must_understand: true,
-            ..self
-        }
+        self.must_understand = true;
+        self
     }
 
     /// Puts `max-age`, in whole seconds, in place of an old one.
-    pub fn with_max_age(self, dur: Duration) -> CacheControl
+    pub fn with_max_age(mut self, dur: Duration) -> CacheControl
         requires { IsWholeSeconds dur }
         ensures { result ≡ record self { max_age = Some (as_nanos dur / 1_000_000_000) } }
     {
-        CacheControl {
-            max_age: Some(dur.as_secs()),
-            ..self
-        }
+        self.max_age = Some(dur.as_secs());
+        self
     }
 
     /// Puts `max-stale`, in whole seconds, in place of an old one.
-    pub fn with_max_stale(self, dur: Duration) -> CacheControl
+    pub fn with_max_stale(mut self, dur: Duration) -> CacheControl
         requires { IsWholeSeconds dur }
         ensures { result ≡ record self { max_stale = Some (as_nanos dur / 1_000_000_000) } }
     {
-        CacheControl {
-            max_stale: Some(dur.as_secs()),
-            ..self
-        }
+        self.max_stale = Some(dur.as_secs());
+        self
     }
 
     /// Puts `min-fresh`, in whole seconds, in place of an old one.
-    pub fn with_min_fresh(self, dur: Duration) -> CacheControl
+    pub fn with_min_fresh(mut self, dur: Duration) -> CacheControl
         requires { IsWholeSeconds dur }
         ensures { result ≡ record self { min_fresh = Some (as_nanos dur / 1_000_000_000) } }
     {
-        CacheControl {
-            min_fresh: Some(dur.as_secs()),
-            ..self
-        }
+        self.min_fresh = Some(dur.as_secs());
+        self
     }
 
     /// Puts `s-maxage`, in whole seconds, in place of an old one.
-    pub fn with_s_max_age(self, dur: Duration) -> CacheControl
+    pub fn with_s_max_age(mut self, dur: Duration) -> CacheControl
         requires { IsWholeSeconds dur }
         ensures { result ≡ record self { s_max_age = Some (as_nanos dur / 1_000_000_000) } }
     {
-        CacheControl {
-            s_max_age: Some(dur.as_secs()),
-            ..self
-        }
+        self.s_max_age = Some(dur.as_secs());
+        self
     }
 
     // Sets the flag where the entry is the name of one.
@@ -439,12 +412,12 @@ impl CacheControl {
     }
 
     // The directives that are set, joined by a comma and a space.
-    fn print(&self, alloc: Global) -> Result<String, AllocError>
-        ensures text { IfOk result (λ text. string_bytes text ≡ merge comma (printed self.now)) }
-        ensures valid { IfOk result (λ text. IsFieldValue (string_bytes text)) }
+    fn print(&self, alloc: Global) -> Result<Bytes, AllocError>
+        ensures text { IfOk result (λ text. text ≡ merge comma (printed self.now)) }
+        ensures valid { IfOk result (λ text. IsFieldValue text) }
     {
         self.numbers_fit();
-        let mut text = String::new(alloc);
+        let mut text = String::with_capacity(alloc, 32)?;
         push_flag(&mut text, "no-cache", self.no_cache)?;
         push_flag(&mut text, "no-store", self.no_store)?;
         push_flag(&mut text, "no-transform", self.no_transform)?;
@@ -459,7 +432,10 @@ impl CacheControl {
         push_number(&mut text, "max-stale", self.max_stale)?;
         push_number(&mut text, "min-fresh", self.min_fresh)?;
         push_number(&mut text, "s-maxage", self.s_max_age)?;
-        Ok(text)
+        let mut bytes = Bytes::from_string(text)?;
+        let first = bytes.len().min(2);
+        bytes.advance(first);
+        Ok(bytes)
     }
 }
 
@@ -486,35 +462,25 @@ fn number_fits(number: Option<u64>)
     ensures { FitsOption number }
 {}
 
-// A comma and a space, where something stands before.
-fn separate(text: &mut String) -> Result<(), AllocError>
-    ensures { OnOk result (string_bytes text.new ≡ separated (string_bytes text.old)) }
-{
-    if text.is_empty() {
-        return Ok(());
-    }
-    text.push_str(", ")
-}
-
-// The flag, where it is set.
+// The flag behind a comma and a space, where it is set.
 fn push_flag(text: &mut String, flag: &str, set: bool) -> Result<(), AllocError>
-    ensures { OnOk result (string_bytes text.new ≡ append_all (string_bytes text.old) (print_flag flag.now set)) }
+    ensures { OnOk result (string_bytes text.new
+        ≡ string_bytes text.old ++ behind_commas (print_flag flag.now set)) }
 {
     if set {
-        separate(text)?;
+        text.push_str(", ")?;
         text.push_str(flag)?;
     }
     Ok(())
 }
 
-// The directive and its number, where there is one.
+// The directive and its number behind a comma and a space, where there is one.
 fn push_number(text: &mut String, directive: &str, number: Option<u64>) -> Result<(), AllocError>
     ensures { OnOk result (string_bytes text.new
-        ≡ append_all (string_bytes text.old) (print_number directive.now number)) }
+        ≡ string_bytes text.old ++ behind_commas (print_number directive.now number)) }
 {
     if let Some(number) = number {
-        separate(text)?;
-        write!(text, "{directive}={number}")?;
+        write!(text, ", {directive}={number}")?;
     }
     Ok(())
 }
@@ -553,8 +519,7 @@ impl Header for CacheControl {
     }
 
     fn encode(&self, alloc: Global, values: &mut Vec<HeaderValue>) -> Result<(), AllocError> {
-        let text = self.print(alloc)?;
-        let value = HeaderValue::from_known_valid(Bytes::from_string(text)?);
+        let value = HeaderValue::from_known_valid(self.print(alloc)?);
         values.push(value)?;
         Ok(())
     }

@@ -1,11 +1,15 @@
-use Rattle.std.proofs.Common.{refl}
-use Rattle.headers_caching.proofs.AppendLemmas.{printed_text, printed_value}
+use Rattle.std.proofs.Common.{refl, sym, ◌∙◌, subst, arith}
+use Rattle.http_header.specs.FieldValue.{IsFieldValue}
+use Rattle.headers_caching.specs.CacheControl.{printed}
+use Rattle.headers_caching.specs.CacheControlLaws.{printed_pieces}
+use Rattle.headers_caching.proofs.AppendLemmas.{printed_text, merge_IsFieldValue}
 use Rattle.headers_caching.proofs.cache_control.CacheControl.print.Goals as goal
 
 pub returns-clause-text : goal.returns-clause-text
 returns-clause-text c =
-    printed_text _ c.args.self.now _ c.self.view_is c.numbers_fit.ensures
-    (rw (
+    c.advance.ensures
+    ∙ printed_text _ c.args.self.now c.in_ok-bytes.bytes c.min-first.result c.self.view_is
+    (c.in_ok-bytes.ensures ∙ rw (
       c.in_ok-push_number-4.ensures,
       c.in_ok-push_number-3.ensures,
       c.in_ok-push_number-2.ensures,
@@ -20,8 +24,10 @@ returns-clause-text c =
       c.in_ok-push_flag-3.ensures,
       c.in_ok-push_flag-2.ensures,
       c.in_ok-push_flag.ensures,
-      c.new-text.ensures.bytes,
-    ) refl)
+      c.in_ok-text.ensures.bytes,
+    ) refl) (omega (arith, c.min-first.ensures, c.len.ensures.value))
 
 pub returns-clause-valid : goal.returns-clause-valid
-returns-clause-valid c = printed_value c.args.self.now _ c.numbers_fit.ensures (returns-clause-text c)
+returns-clause-valid c =
+    subst IsFieldValue (sym (returns-clause-text c))
+    (merge_IsFieldValue (printed c.args.self.now) (printed_pieces c.args.self.now c.numbers_fit.ensures))
