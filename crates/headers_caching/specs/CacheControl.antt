@@ -1,5 +1,5 @@
 -- The header `cache-control`: flags and numbers, each by the entries of all lines.
-use Rattle.std.specs.Prelude.{◌≡◌, ℕ, ◌*◌, option_map, Bool, ◌&&◌, not, ◌==◌, List, [], ◌∷◌, ◌++◌, length, filter}
+use Rattle.std.specs.Prelude.{◌≡◌, ℕ, ◌*◌, option_map, Bool, false, ◌&&◌, ◌||◌, not, ◌==◌, List, [], ◌∷◌, ◌++◌, length, filter}
 use Rattle.std.specs.Prelude.{Option, Some, None, is_none, codes, decimal, if◌then◌else◌}
 use Rattle.std.specs.List.{AllByRecursion, list_any, last_or, flat_map, before_first, after_first}
 use Rattle.std.specs.Option.{option_and_then}
@@ -84,16 +84,16 @@ is_set flag es = list_any (λ entry. same_name entry flag) es
 abbrev pub last_number : List ℕ → List (List ℕ) → Option ℕ
 last_number directive es = option_and_then number_in (last_or None (filter (carries directive) es))
 
--- each row that was the value of some entries is now that of them and one more
-abbrev pub TakesIn : {V : Type 0} → (List ℕ → List (List ℕ) → V) → List (List ℕ × (Directives → V)) → Directives
-    → Directives → List ℕ → Type 0
-TakesIn value rows old new entry =
-    AllByRecursion (λ row. (es : List (List ℕ)) → row.1 old ≡ value row.0 es
-    → row.1 new ≡ value row.0 (es ++ entry ∷ [])) rows
+-- each row's new value is what a step makes of its old one
+abbrev pub Steps : {V : Type 0} → (List ℕ → V → V) → List (List ℕ × (Directives → V)) → Directives → Directives → Type 0
+Steps step rows old new = AllByRecursion (λ row. row.1 new ≡ step row.0 (row.1 old)) rows
 
--- no row has changed
-abbrev pub Keeps : {V : Type 0} → List (List ℕ × (Directives → V)) → Directives → Directives → Type 0
-Keeps rows old new = AllByRecursion (λ row. row.1 new ≡ row.1 old) rows
+-- a flag, and a number, after one entry more
+abbrev pub next_flag : List ℕ → List ℕ → Bool → Bool
+next_flag entry flag before = before || same_name entry flag
+
+abbrev pub next_number : List ℕ → List ℕ → Option ℕ → Option ℕ
+next_number entry directive before = if carries directive entry then number_in entry else before
 
 -- what entries direct
 abbrev pub directives : List (List ℕ) → Directives
@@ -114,6 +114,10 @@ directives es =
       min_fresh = last_number (codes "min-fresh") es;
       s_max_age = last_number (codes "s-maxage") es;
     }
+
+-- entries of which none is bad, and what they direct
+abbrev pub Direct : List (List ℕ) → Directives → Type 0
+Direct es d = (d ≡ directives es) × (list_any is_bad es ≡ false)
 
 -- lines direct what their entries do, if no entry is bad
 abbrev pub directives_of : List Line → Option Directives

@@ -152,6 +152,10 @@ printed_pieces d f =
 
 -- ---- flags
 
+-- no flag's name has a `=`
+pub flag_names : AllByRecursion (λ row. list_any is_equals (lowercase row.0) ≡ false) flag_rows
+flag_names = (refl, (refl, (refl, (refl, (refl, (refl, (refl, (refl, (refl, (refl, tt))))))))))
+
 -- a flag's name has no `=`, and what is printed of a number has one
 pub no_flag : (flag name ds : List ℕ) → list_any is_equals (lowercase flag) ≡ false
     → same_name (name ++ 61 ∷ ds) flag ≡ false
@@ -180,8 +184,7 @@ printed_flags d f =
     ∙ ap (list_any p) (filter_printed p (λ name. false) d f (λ name n is l. no_flag row.0 name (decimal n) plain)
     ∙ ap (λ r. r ++ []) found)
     ∙ flag_alone row.0 (row.1 d))
-    flag_rows
-    (refl, (refl, (refl, (refl, (refl, (refl, (refl, (refl, (refl, (refl, tt))))))))))
+    flag_rows flag_names
     (refl, (refl, (refl, (refl, (refl, (refl, (refl, (refl, (refl, (refl, tt))))))))))
 
 -- ---- numbers

@@ -1,5 +1,5 @@
 //! The header `cache-control`.
-ghost use Rattle.std.specs.Prelude.{◌≡◌, ◌↔◌, ◌<◌, ◌^◌, ◌/◌, ◌∷◌, ◌++◌, List, [], ℕ, true, Some, IfOk, OnOk, IsTrue};
+ghost use Rattle.std.specs.Prelude.{◌≡◌, ◌↔◌, ◌<◌, ◌^◌, ◌/◌, ◌∷◌, ◌++◌, List, [], ℕ, true, false, Some, IfOk, OnOk, IsTrue};
 ghost use Rattle.std.specs.Prelude.{IsErr, string_bytes};
 ghost use Rattle.std.specs.Duration.{as_nanos};
 ghost use Rattle.std.specs.List.{list_any, before_first, after_first};
@@ -10,9 +10,9 @@ ghost use Rattle.headers_items.specs.Entries.{line_entries};
 ghost use Rattle.headers_items.specs.Pairs.{is_equals};
 ghost use Rattle.headers_syntax.specs.HeaderLaws.{ReadsBy, written_by};
 ghost use Rattle.headers_items.specs.Merge.{merge};
-ghost use Rattle.headers_caching.specs.CacheControl.{GivesSeconds, directives, last_number, is_bad, is_bad_for};
-ghost use Rattle.headers_caching.specs.CacheControl.{flag_rows, is_set, number_rows, print_flag, print_number, printed};
-ghost use Rattle.headers_caching.specs.CacheControl.{Keeps, TakesIn};
+ghost use Rattle.headers_caching.specs.CacheControl.{GivesSeconds, directives, is_bad, is_bad_for};
+ghost use Rattle.headers_caching.specs.CacheControl.{flag_rows, number_rows, print_flag, print_number, printed};
+ghost use Rattle.headers_caching.specs.CacheControl.{Direct, Steps, next_flag, next_number};
 ghost use Rattle.headers_caching.specs.CacheControlGrammar.{cache_grammar};
 ghost use Rattle.headers_caching.specs.CacheControlLaws.{FitRows, FitsOption, behind_commas};
 ghost use Rattle.headers_items.specs.Places.{comma};
@@ -90,44 +90,33 @@ impl Model for CacheControl {
     } };
 }
 
-// The number that an entry carries for the directive, if it does, by what stands round its first `=`.
-fn number_for(directive: &str, name: &str, value: &str) -> Result<Option<u64>, Error>
-    ensures ok { IfOk result (λ n. (entry : List ℕ) → before_first is_equals entry ≡ name.now
-        → after_first is_equals entry ≡ value.now → n ≡ last_number directive.now (entry ∷ [])) }
-    ensures refused { (entry : List ℕ) → before_first is_equals entry ≡ name.now
-        → after_first is_equals entry ≡ value.now → (IsErr result ↔ IsTrue (is_bad_for directive.now entry)) }
-{
-    if value.is_empty() || !same_but_for_case(name, directive) {
-        return Ok(None);
-    }
-    match parse_number(unquoted(value)) {
-        Some(number) => Ok(Some(number)),
-        None => Err(Error::invalid()),
-    }
-}
-
 // Sets the flag where the entry is its name.
 fn set_flag(set: &mut bool, flag: &str, entry: &str)
-    ensures { (es : List (List ℕ)) → set.old ≡ is_set flag.now es → set.new ≡ is_set flag.now (es ++ entry.now ∷ []) }
+    ensures { set.new ≡ next_flag entry.now flag.now set.old }
 {
     *set |= same_but_for_case(entry, flag);
 }
 
-// Puts the number that the entry carries for the directive in place of an old one.
+// Puts the number that an entry carries for the directive, by what stands round its first `=`, in place of an old one.
 fn set_number(
     number: &mut Option<u64>,
     directive: &str,
     name: &str,
     value: &str,
 ) -> Result<(), Error>
-    ensures ok { IfOk result (λ _. (es : List (List ℕ)) (entry : List ℕ) → before_first is_equals entry ≡ name.now
-        → after_first is_equals entry ≡ value.now → number.old ≡ last_number directive.now es
-        → number.new ≡ last_number directive.now (es ++ entry ∷ [])) }
-    ensures refused { (entry : List ℕ) → before_first is_equals entry ≡ name.now
-        → after_first is_equals entry ≡ value.now → (IsErr result ↔ IsTrue (is_bad_for directive.now entry)) }
+    ensures ok { IfOk result (λ _. (entry : List ℕ) → before_first is_equals entry ≡ name.now
+        → after_first is_equals entry ≡ value.now → (is_bad_for directive.now entry ≡ false)
+        × (number.new ≡ next_number entry directive.now number.old)) }
+    ensures refused { IsErr result → (entry : List ℕ) → before_first is_equals entry ≡ name.now
+        → after_first is_equals entry ≡ value.now → IsTrue (is_bad_for directive.now entry) }
 {
-    let given = number_for(directive, name, value)?;
-    *number = given.or(*number);
+    if value.is_empty() || !same_but_for_case(name, directive) {
+        return Ok(());
+    }
+    let Some(given) = parse_number(unquoted(value)) else {
+        return Err(Error::invalid());
+    };
+    *number = Some(given);
     Ok(())
 }
 
@@ -355,8 +344,8 @@ impl CacheControl {
 
     // Sets the flag where the entry is the name of one.
     fn add_flag(&mut self, entry: &str)
-        ensures flags { TakesIn is_set flag_rows self.old self.new entry.now }
-        ensures numbers { Keeps number_rows self.old self.new }
+        ensures flags { Steps (next_flag entry.now) flag_rows self.old self.new }
+        ensures numbers { Steps (λ _ number. number) number_rows self.old self.new }
     {
         set_flag(&mut self.no_cache, "no-cache", entry);
         set_flag(&mut self.no_store, "no-store", entry);
@@ -370,29 +359,41 @@ impl CacheControl {
         set_flag(&mut self.proxy_revalidate, "proxy-revalidate", entry);
     }
 
+    // Puts the number that an entry carries in place of an old one.
+    fn add_number(&mut self, name: &str, value: &str) -> Result<(), Error>
+        ensures flags { Steps (λ _ set. set) flag_rows self.old self.new }
+        ensures ok { IfOk result (λ _. (entry : List ℕ) → before_first is_equals entry ≡ name.now
+            → after_first is_equals entry ≡ value.now → (is_bad entry ≡ false)
+            × Steps (next_number entry) number_rows self.old self.new) }
+        ensures refused { IsErr result → (entry : List ℕ) → before_first is_equals entry ≡ name.now
+            → after_first is_equals entry ≡ value.now → IsTrue (is_bad entry) }
+    {
+        set_number(&mut self.max_age, "max-age", name, value)?;
+        set_number(&mut self.max_stale, "max-stale", name, value)?;
+        set_number(&mut self.min_fresh, "min-fresh", name, value)?;
+        set_number(&mut self.s_max_age, "s-maxage", name, value)
+    }
+
     // Takes in what an entry directs. It is cut once, in place of once for each number, and is compared with names of
     // its kind alone.
     fn add_entry(&mut self, entry: &str) -> Result<(), Error>
-        ensures ok { IfOk result (λ _. (es : List (List ℕ)) → self.old ≡ directives es
-            → self.new ≡ directives (es ++ entry.now ∷ [])) }
-        ensures refused { IsErr result ↔ IsTrue (is_bad entry.now) }
+        ensures ok { IfOk result (λ _. (es : List (List ℕ)) → Direct es self.old
+            → Direct (es ++ entry.now ∷ []) self.new) }
+        ensures refused { IsErr result → IsTrue (is_bad entry.now) }
     {
         let Some((name, value)) = entry.split_once('=') else {
             self.add_flag(entry);
             return Ok(());
         };
-        set_number(&mut self.max_age, "max-age", name, value)?;
-        set_number(&mut self.max_stale, "max-stale", name, value)?;
-        set_number(&mut self.min_fresh, "min-fresh", name, value)?;
-        set_number(&mut self.s_max_age, "s-maxage", name, value)?;
+        self.add_number(name, value)?;
         Ok(())
     }
 
     // What the entries before direct, and those of this line.
     fn with_line(self, line: &HeaderValue) -> Result<CacheControl, Error>
-        ensures ok { IfOk result (λ after. (es : List (List ℕ)) → self ≡ directives es
-            → after ≡ directives (es ++ line_entries line.now.bytes)) }
-        ensures refused { IsErr result ↔ IsTrue (list_any is_bad (line_entries line.now.bytes)) }
+        ensures ok { IfOk result (λ after. (es : List (List ℕ)) → Direct es self
+            → Direct (es ++ line_entries line.now.bytes) after) }
+        ensures refused { IsErr result → IsTrue (list_any is_bad (line_entries line.now.bytes)) }
     {
         let mut after = self;
         for entry in Entries::new(line) {

@@ -1,5 +1,7 @@
-use Rattle.headers_caching.proofs.CacheLemmas.{set_more}
+use Rattle.std.proofs.Common.{◌||◌, ap}
+use Rattle.headers_syntax.proofs.AsciiCaseLemmas.{same_name-is}
 use Rattle.headers_caching.proofs.cache_control.set_flag.Goals as goal
 
 pub returns : goal.returns
-returns c es e = set_more c.args.flag.now es c.args.entry.now c.args.set.now _ e c.same_but_for_case.ensures
+returns c =
+    ap (λ v. c.args.set.now || v) (same_name-is c.args.entry.now c.args.flag.now _ c.same_but_for_case.ensures)

@@ -1,31 +1,27 @@
-use Rattle.std.proofs.Common.{◌≡◌, false, true, ◌++◌, refl, sym, ◌∙◌, ap}
+use Rattle.std.proofs.Common.{◌≡◌, true, ◌++◌, refl, sym, ◌∙◌, ap, subst}
 use Rattle.std.specs.List.{list_any}
 use Rattle.std.proofs.lemmas.Result.{err_from_is_err_and}
 use Rattle.http_header.specs.FieldValue.{FieldValue}
-use Rattle.headers_items.specs.Entries.{line_entries}
+use Rattle.headers_items.specs.Entries.{entries, line_entries}
 use Rattle.headers_syntax.proofs.OfLinesLemmas.{OfLinesSoFar-more, OfLines-stopped}
-use Rattle.headers_caching.specs.CacheControl.{directives, is_bad}
-use Rattle.headers_caching.proofs.LineLemmas.{DirectSoFar, line_more, directs_nothing, not_refused}
+use Rattle.headers_caching.specs.CacheControl.{Direct, is_bad}
+use Rattle.headers_caching.proofs.LineLemmas.{line_more, directs_nothing}
 use Rattle.headers_caching.proofs.cache_control.CacheControlHeader.decode.Goals as goal
 
 pub loop-line-preserved : goal.loop-line-preserved
 loop-line-preserved g c =
     let shown = g.I.Item.AsHeaderValue.shown in
-    let line = (shown c.in-Some.line).bytes in
+    let after = c.in_ok-directives.directives in
     let progress = c.in-Some.ensures.goes.on c.loop-line.invariant.finite in
-    let good : list_any is_bad (line_entries line) ≡ false =
-    ap (λ (v : FieldValue). list_any is_bad (line_entries v.bytes)) (sym c.as_header_value.ensures)
-    ∙ not_refused _ c.in_ok-directives.ensures.refused in
     record {
       can = progress.0;
       finite = progress.1;
       so_far =
-          OfLinesSoFar-more shown g.I.Iterator.next_gives _ _ _ _ (DirectSoFar c.loop-line.directives)
-          (DirectSoFar c.in_ok-directives.directives)
-          c.loop-line.invariant.so_far c.in-Some.ensures.steps
-          (line_more c.loop-line.directives c.in_ok-directives.directives line
-          (λ es e. c.in_ok-directives.ensures.ok es e
-          ∙ ap (λ (v : FieldValue). directives (es ++ line_entries v.bytes)) c.as_header_value.ensures) good);
+          OfLinesSoFar-more shown g.I.Iterator.next_gives _ _ _ _ (λ lines. Direct (entries lines) c.loop-line.directives)
+          (λ lines. Direct (entries lines) after) c.loop-line.invariant.so_far c.in-Some.ensures.steps
+          (line_more c.loop-line.directives after (shown c.in-Some.line).bytes
+          (λ es h. subst (λ (v : FieldValue). Direct (es ++ line_entries v.bytes) after) c.as_header_value.ensures
+          (c.in_ok-directives.ensures.ok es h)));
     }
 
 pub returns-in_err-directives-clause-value : goal.returns-in_err-directives-clause-value
@@ -34,8 +30,8 @@ returns-in_err-directives-clause-value g c =
     let line = (shown c.in-Some.line).bytes in
     let bad : list_any is_bad (line_entries line) ≡ true =
     ap (λ (v : FieldValue). list_any is_bad (line_entries v.bytes)) (sym c.as_header_value.ensures)
-    ∙ c.in_err-directives.ensures.refused.0 refl in
-    OfLines-stopped shown g.I.Iterator.next_gives _ _ _ _ (DirectSoFar c.loop-line.directives) _
+    ∙ c.in_err-directives.ensures.refused refl in
+    OfLines-stopped shown g.I.Iterator.next_gives _ _ _ _ (λ lines. Direct (entries lines) c.loop-line.directives) _
     c.loop-line.invariant.so_far c.in-Some.ensures.steps
     (λ lines rest _. let p = err_from_is_err_and c.from_residual.result c.from_residual.ensures.1 in
     rw (p.1, p.2) (λ v. directs_nothing line bad lines rest v))
