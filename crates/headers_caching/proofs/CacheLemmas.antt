@@ -12,8 +12,9 @@ use Rattle.http_header.specs.Token.{lowercase}
 use Rattle.std.proofs.lemmas.List.Folds.{list_any-append, list_any_none}
 use Rattle.std.proofs.lemmas.List.Elements.{filter-append}
 use Rattle.headers_syntax.specs.AsciiCase.{same_name}
-use Rattle.headers_caching.specs.CacheControl.{carries, number_in, is_bad_for, is_bad, is_set, last_number, flag_rows}
-use Rattle.headers_caching.specs.CacheControl.{Directives, Direct, Steps, directives, next_flag, next_number, number_rows}
+use Rattle.headers_caching.specs.CacheControl.{carries, number_in, is_bad_for, is_bad, is_set, last_number}
+use Rattle.headers_caching.specs.CacheControl.{Directives, Direct, Steps, directives, next_flag, next_number}
+use Rattle.headers_caching.specs.CacheControl.{flag_rows, number_rows}
 use Rattle.headers_caching.specs.CacheControlLaws.{no_flag, flag_names, same_rows, every, both}
 use Rattle.headers_items.specs.Pairs.{is_equals}
 use Rattle.headers_syntax.proofs.PartsLemmas.{last_or-append}

@@ -1,6 +1,6 @@
 -- The header `cache-control`: flags and numbers, each by the entries of all lines.
-use Rattle.std.specs.Prelude.{◌≡◌, ℕ, ◌*◌, option_map, Bool, false, ◌&&◌, ◌||◌, not, ◌==◌, List, [], ◌∷◌, ◌++◌, length, filter}
-use Rattle.std.specs.Prelude.{Option, Some, None, is_none, codes, decimal, if◌then◌else◌}
+use Rattle.std.specs.Prelude.{◌≡◌, ℕ, ◌*◌, option_map, Bool, false, ◌&&◌, ◌||◌, not, ◌==◌, List, [], ◌∷◌, ◌++◌}
+use Rattle.std.specs.Prelude.{length, filter, Option, Some, None, is_none, codes, decimal, if◌then◌else◌}
 use Rattle.std.specs.List.{AllByRecursion, list_any, last_or, flat_map, before_first, after_first}
 use Rattle.std.specs.Option.{option_and_then}
 use Rattle.std.specs.Duration.{as_nanos}

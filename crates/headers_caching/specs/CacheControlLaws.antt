@@ -148,7 +148,8 @@ all_kept p (x ∷ xs) =
 
 pub printed_pieces : (d : Directives) → FitRows d number_rows → list_all is_piece (printed d) ≡ true
 printed_pieces d f =
-    sym (ap (list_all is_piece) (filter_printed is_piece (λ name. true) d f number_piece)) ∙ all_kept is_piece (printed d)
+    sym (ap (list_all is_piece) (filter_printed is_piece (λ name. true) d f number_piece))
+    ∙ all_kept is_piece (printed d)
 
 -- ---- flags
 
@@ -262,7 +263,9 @@ read_fits lines d h =
       | inr n ↦ let some : Some (directives (entries lines)) ≡ Some d = rw n at h in
           let same : directives (entries lines) ≡ d = cc some in
           let F : Directives → Type 0 = λ v. FitRows v number_rows in
-          subst F same (every _ (λ row. number_fits row.0 (entries lines)) number_rows)
+          let Fits : List ℕ × (Directives → Option ℕ) → Type 0 =
+          λ row. FitsOption (last_number row.0 (entries lines)) in
+          subst F same (every Fits (λ row. number_fits row.0 (entries lines)) number_rows)
     ]
 
 pub directives_back : (lines : List Line) (d : Directives) → directives_of lines ≡ Some d

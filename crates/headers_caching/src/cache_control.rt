@@ -1,6 +1,6 @@
 //! The header `cache-control`.
-ghost use Rattle.std.specs.Prelude.{◌≡◌, ◌↔◌, ◌<◌, ◌^◌, ◌/◌, ◌∷◌, ◌++◌, List, [], ℕ, true, false, Some, IfOk, OnOk, IsTrue};
-ghost use Rattle.std.specs.Prelude.{IsErr, string_bytes};
+ghost use Rattle.std.specs.Prelude.{◌≡◌, ◌↔◌, ◌<◌, ◌^◌, ◌/◌, ◌∷◌, ◌++◌, List, [], ℕ, true, Some, IfOk, OnOk, IsTrue};
+ghost use Rattle.std.specs.Prelude.{false, IsErr, string_bytes};
 ghost use Rattle.std.specs.Duration.{as_nanos};
 ghost use Rattle.std.specs.List.{list_any, before_first, after_first};
 ghost use Rattle.http_header.specs.FieldValue.{IsFieldValue};

@@ -17,8 +17,9 @@ loop-line-preserved g c =
       can = progress.0;
       finite = progress.1;
       so_far =
-          OfLinesSoFar-more shown g.I.Iterator.next_gives _ _ _ _ (λ lines. Direct (entries lines) c.loop-line.directives)
-          (λ lines. Direct (entries lines) after) c.loop-line.invariant.so_far c.in-Some.ensures.steps
+          OfLinesSoFar-more shown g.I.Iterator.next_gives _ _ _ _
+          (λ lines. Direct (entries lines) c.loop-line.directives) (λ lines. Direct (entries lines) after)
+          c.loop-line.invariant.so_far c.in-Some.ensures.steps
           (line_more c.loop-line.directives after (shown c.in-Some.line).bytes
           (λ es h. subst (λ (v : FieldValue). Direct (es ++ line_entries v.bytes) after) c.as_header_value.ensures
           (c.in_ok-directives.ensures.ok es h)));
