@@ -97,7 +97,8 @@ fn set_flag(set: &mut bool, flag: &str, entry: &str)
     *set |= same_but_for_case(entry, flag);
 }
 
-// Puts the number that an entry carries for the directive, by what stands round its first `=`, in place of an old one.
+// Puts the number that an entry carries for the directive, by what stands round its first `=`, in
+// place of an old one.
 fn set_number(
     number: &mut Option<u64>,
     directive: &str,
@@ -374,8 +375,8 @@ impl CacheControl {
         set_number(&mut self.s_max_age, "s-maxage", name, value)
     }
 
-    // Takes in what an entry directs. It is cut once, in place of once for each number, and is compared with names of
-    // its kind alone.
+    // Takes in what an entry directs. It is cut once, in place of once for each number, and is compared
+    // with names of its kind alone.
     fn add_entry(&mut self, entry: &str) -> Result<(), Error>
         ensures ok { IfOk result (λ _. (es : List (List ℕ)) → Direct es self.old
             → Direct (es ++ entry.now ∷ []) self.new) }

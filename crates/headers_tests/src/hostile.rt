@@ -200,15 +200,10 @@ fn many_lines(rt: HostRuntime) -> Result<(), Fail> {
 }
 
 #[test]
-fn hints_are_wrong(rt: HostRuntime) -> Result<(), Fail> {
+fn vary_of_hinted_lines(rt: HostRuntime) -> Result<(), Fail> {
     let values = lines(&rt, &["a"]);
     assert!(rt; with_hint(&rt, &values, Hint::Unknown).size_hint() == (0, None));
     assert!(rt; with_hint(&rt, &values, Hint::TooMuch).size_hint() == (0, Some(usize::MAX)));
-    Ok(())
-}
-
-#[test]
-fn vary_of_hinted_lines(rt: HostRuntime) -> Result<(), Fail> {
     let rows: [(&[&str], &str); 2] = [(&["a", "b"], "a, b"), (&[], "")];
     for (texts, line) in rows {
         for hint in HINTS {

@@ -14,11 +14,13 @@ use Rattle.headers_connection.proofs.transfer_encoding.TransferEncoding.is_chunk
 -- the answer for a value that is text or not
 by_text : (value : List ℕ) (text : Option (Bor (List ℕ))) (answer : Bool)
     → MatchOption text (is_text value ≡ false) (λ text. (is_text value ≡ true) × (text.now ≡ value))
-    → MatchOption text (answer ≡ false) (λ text. IsTrue answer ↔ (trim (after_last is_comma text.now) ≡ codes "chunked"))
+    → MatchOption text (answer ≡ false)
+    (λ text. IsTrue answer ↔ (trim (after_last is_comma text.now) ≡ codes "chunked"))
     → IsTrue answer ↔ IsChunked (items comma value)
 by_text value None answer t e = rw (items-no_text comma value t, e) (λ h. absurd (cc h), λ h. absurd h)
 by_text value (Some text) answer t e =
-    let last = last_item value None 0 (counting_from comma value 0) refl (filter_passes (is_counting_place comma value) _) in
+    let last = last_item value None 0 (counting_from comma value 0) refl
+    (filter_passes (is_counting_place comma value) _) in
     rw (t.0, last.1, last.2, sym t.1) e
 
 pub returns-clause-answer : goal.returns-clause-answer

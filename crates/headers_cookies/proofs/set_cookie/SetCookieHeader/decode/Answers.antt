@@ -16,7 +16,8 @@ returns-in_err-push_clone-clause-value g c =
     OfLines-stopped g.I.Item.AsHeaderValue.shown g.I.Iterator.next_gives _ _ _ _
     (λ lines. lines_of c.loop-line.lines.items ≡ lines) _
     c.loop-line.invariant.so_far c.in-Some.ensures.steps
-    (λ lines rest _. let p = err_from_is_err_and c.from_residual-in_err-push_clone.result c.from_residual-in_err-push_clone.ensures.1 in rw (p.1, p.2) tt)
+    (λ lines rest _. let refused = c.from_residual-in_err-push_clone in
+    let p = err_from_is_err_and refused.result refused.ensures.1 in rw (p.1, p.2) tt)
 
 pub loop-line-preserved : goal.loop-line-preserved
 loop-line-preserved g c =
