@@ -1,6 +1,6 @@
 //! The header `pragma`.
 ghost use Rattle.std.specs.Prelude.{◌≡◌, ◌↔◌, codes, IsTrue, IfOk};
-ghost use Rattle.http_header.specs.FieldValue.{plain_value};
+ghost use Rattle.http_header.specs.FieldValue.{plain_value, FieldValue, field_value_code};
 
 use headers_core::{FormHeader, first};
 use http_header::{HeaderName, HeaderValue, PRAGMA};
@@ -15,8 +15,6 @@ pub struct Pragma {
 }
 
 impl Model for Pragma {
-    ghost use Rattle.http_header.specs.FieldValue.{FieldValue, field_value_code};
-
     ghost Value = { FieldValue };
 
     ghost coded = { field_value_code };
@@ -31,9 +29,7 @@ impl Pragma {
     pub fn no_cache() -> Pragma
         ensures { result ≡ plain_value (codes "no-cache") }
     {
-        Pragma {
-            value: HeaderValue::from_static("no-cache"),
-        }
+        Pragma::from_form(HeaderValue::from_static("no-cache"))
     }
 
     /// Whether the whole line is `no-cache`, byte for byte.
@@ -47,15 +43,11 @@ impl Pragma {
     pub fn clone(&self, _alloc: Global) -> Result<Pragma, AllocError>
         ensures { IfOk result (λ copy. copy ≡ self.now) }
     {
-        Ok(Pragma {
-            value: self.value.clone()?,
-        })
+        Ok(Pragma::from_form(self.value.clone()?))
     }
 }
 
 impl FormHeader for Pragma {
-    ghost use Rattle.std.specs.Prelude.{codes};
-
     type Form = HeaderValue;
 
     ghost NAME = { codes "pragma" };

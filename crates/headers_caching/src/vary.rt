@@ -1,5 +1,5 @@
 //! The header `vary`.
-ghost use Rattle.std.specs.Prelude.{◌≡◌, ◌<◌, ◌^◌, ◌↔◌, length, Contains, IsTrue, IfOk, IsOkAnd, codes};
+ghost use Rattle.std.specs.Prelude.{◌≡◌, ◌<◌, ◌^◌, ◌↔◌, length, Contains, IsTrue, IfOk, IsOkAnd, codes, List, ℕ};
 ghost use Rattle.std.specs.Iterator.{IsFinite};
 ghost use Rattle.headers_items.specs.Answers.{GoesByItems, SurvivesCuts};
 ghost use Rattle.headers_items.specs.Merge.{merge};
@@ -19,8 +19,6 @@ pub struct Vary {
 }
 
 impl Model for Vary {
-    ghost use Rattle.std.specs.Prelude.{List, ℕ};
-
     ghost Value = { List ℕ };
 
     ghost view = { λ v. v.names };
@@ -33,18 +31,14 @@ impl Vary {
     pub fn any() -> Vary
         ensures { result ≡ codes "*" }
     {
-        Vary {
-            names: FlatCsv::from_word("*"),
-        }
+        Vary::from_form(FlatCsv::from_word("*"))
     }
 
     /// One name.
     pub fn from_name(_alloc: Global, name: HeaderName) -> Result<Vary, AllocError>
         ensures { IsOkAnd result (λ vary. vary ≡ name) }
     {
-        Ok(Vary {
-            names: FlatCsv::from_value(HeaderValue::from_name(name)),
-        })
+        Ok(Vary::from_form(FlatCsv::from_value(HeaderValue::from_name(name))))
     }
 
     /// The names of an iterator, joined by a comma and a space; its size hint is not read.
@@ -56,9 +50,7 @@ impl Vary {
         requires ends { IsFinite (I.remaining names) }
         ensures { IfOk result (MergesLines I.next_gives names comma) }
     {
-        Ok(Vary {
-            names: FlatCsv::from_names(alloc, names)?,
-        })
+        Ok(Vary::from_form(FlatCsv::from_names(alloc, names)?))
     }
 
     /// Whether some item is `*`.
@@ -87,15 +79,11 @@ impl Vary {
     pub fn clone(&self, alloc: Global) -> Result<Vary, AllocError>
         ensures { IfOk result (λ copy. copy ≡ self.now) }
     {
-        Ok(Vary {
-            names: self.names.clone(alloc)?,
-        })
+        Ok(Vary::from_form(self.names.clone(alloc)?))
     }
 }
 
 impl FormHeader for Vary {
-    ghost use Rattle.std.specs.Prelude.{codes};
-
     type Form = FlatCsv<Comma>;
 
     ghost NAME = { codes "vary" };

@@ -1,6 +1,6 @@
 //! The header `etag`.
 ghost use Rattle.std.specs.Prelude.{◌≡◌, List, ℕ, IfOk, Some, codes};
-ghost use Rattle.http_header.specs.FieldValue.{IsFieldValue};
+ghost use Rattle.http_header.specs.FieldValue.{IsFieldValue, FieldValue};
 ghost use Rattle.headers_syntax.specs.Refusal.{IsInvalid};
 ghost use Rattle.headers_syntax.specs.EntityTag.{IsTag};
 ghost use Rattle.headers_conditional.specs.ETag.{ReadsText};
@@ -18,8 +18,6 @@ pub struct ETag {
 }
 
 impl Model for ETag {
-    ghost use Rattle.http_header.specs.FieldValue.{FieldValue};
-
     ghost Value = { FieldValue };
 
     ghost view = { λ etag. etag.tag };
@@ -58,7 +56,7 @@ impl ETag {
             Err(HeaderValueError::OutOfMemory) => return Err(Refused::Memory(AllocError)),
         };
         match EntityTag::from_owned(value) {
-            Some(tag) => Ok(ETag { tag }),
+            Some(tag) => Ok(ETag::from_form(tag)),
             None => Err(Refused::Invalid(InvalidETag)),
         }
     }
@@ -74,9 +72,7 @@ impl ETag {
     pub fn clone(&self, alloc: Global) -> Result<ETag, AllocError>
         ensures { IfOk result (λ etag. etag ≡ self.now) }
     {
-        Ok(ETag {
-            tag: self.tag.clone(alloc)?,
-        })
+        Ok(ETag::from_form(self.tag.clone(alloc)?))
     }
 }
 
@@ -95,8 +91,6 @@ pub fn into_tag(etag: ETag) -> EntityTag
 }
 
 impl FormHeader for ETag {
-    ghost use Rattle.std.specs.Prelude.{codes};
-
     type Form = EntityTag;
 
     ghost NAME = { codes "etag" };

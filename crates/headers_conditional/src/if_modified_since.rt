@@ -1,5 +1,5 @@
 //! The header `if-modified-since`.
-ghost use Rattle.std.specs.Prelude.{◌≡◌, ◌<◌, ◌↔◌, IsTrue};
+ghost use Rattle.std.specs.Prelude.{◌≡◌, ◌<◌, ◌↔◌, IsTrue, ℕ, codes};
 ghost use Rattle.headers_syntax.specs.Date.{IsDated};
 
 use headers_core::{Date1, FormHeader};
@@ -14,8 +14,6 @@ pub struct IfModifiedSince {
 }
 
 impl Model for IfModifiedSince {
-    ghost use Rattle.std.specs.Prelude.{ℕ};
-
     ghost Value = { ℕ };
 
     ghost view = { λ d. d.date };
@@ -29,9 +27,7 @@ impl IfModifiedSince {
         requires { IsDated secs }
         ensures { result ≡ secs }
     {
-        IfModifiedSince {
-            date: Date1::from_unix_secs(secs),
-        }
+        IfModifiedSince::from_form(Date1::from_unix_secs(secs))
     }
 
     /// The seconds since the start of 1970.
@@ -42,7 +38,7 @@ impl IfModifiedSince {
         self.date.unix_secs()
     }
 
-    /// Whether a change at that second, in seconds since the start of 1970, is later than the date.
+    /// Whether a change at that second since the start of 1970 is later than the date.
     pub fn is_modified(&self, last_modified: u64) -> bool
         ensures { IsTrue result ↔ (self.now < last_modified) }
     {
@@ -51,8 +47,6 @@ impl IfModifiedSince {
 }
 
 impl FormHeader for IfModifiedSince {
-    ghost use Rattle.std.specs.Prelude.{codes};
-
     type Form = Date1;
 
     ghost NAME = { codes "if-modified-since" };

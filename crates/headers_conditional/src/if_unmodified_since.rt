@@ -1,5 +1,5 @@
 //! The header `if-unmodified-since`.
-ghost use Rattle.std.specs.Prelude.{◌≡◌, ◌≤◌, ◌↔◌, IsTrue};
+ghost use Rattle.std.specs.Prelude.{◌≡◌, ◌≤◌, ◌↔◌, IsTrue, ℕ, codes};
 ghost use Rattle.headers_syntax.specs.Date.{IsDated};
 
 use headers_core::{Date1, FormHeader};
@@ -14,8 +14,6 @@ pub struct IfUnmodifiedSince {
 }
 
 impl Model for IfUnmodifiedSince {
-    ghost use Rattle.std.specs.Prelude.{ℕ};
-
     ghost Value = { ℕ };
 
     ghost view = { λ d. d.date };
@@ -29,9 +27,7 @@ impl IfUnmodifiedSince {
         requires { IsDated secs }
         ensures { result ≡ secs }
     {
-        IfUnmodifiedSince {
-            date: Date1::from_unix_secs(secs),
-        }
+        IfUnmodifiedSince::from_form(Date1::from_unix_secs(secs))
     }
 
     /// The seconds since the start of 1970.
@@ -42,8 +38,7 @@ impl IfUnmodifiedSince {
         self.date.unix_secs()
     }
 
-    /// Whether a change at that second, in seconds since the start of 1970, is no later than the
-    /// date.
+    /// Whether a change at that second since the start of 1970 is no later than the date.
     pub fn precondition_passes(&self, last_modified: u64) -> bool
         ensures { IsTrue result ↔ (last_modified ≤ self.now) }
     {
@@ -52,8 +47,6 @@ impl IfUnmodifiedSince {
 }
 
 impl FormHeader for IfUnmodifiedSince {
-    ghost use Rattle.std.specs.Prelude.{codes};
-
     type Form = Date1;
 
     ghost NAME = { codes "if-unmodified-since" };

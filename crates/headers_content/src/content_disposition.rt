@@ -1,7 +1,7 @@
 //! The header `content-disposition`.
 ghost use Rattle.std.specs.Prelude.{◌≡◌, ◌↔◌, ◌==◌, Some, codes, IsTrue, IfOk};
 ghost use Rattle.std.specs.List.{before_first};
-ghost use Rattle.http_header.specs.FieldValue.{plain_value};
+ghost use Rattle.http_header.specs.FieldValue.{plain_value, FieldValue, field_value_code};
 ghost use Rattle.headers_items.specs.Places.{semicolon};
 ghost use Rattle.headers_content.specs.Disposition.{disposition_of};
 
@@ -20,8 +20,6 @@ pub struct ContentDisposition {
 }
 
 impl Model for ContentDisposition {
-    ghost use Rattle.http_header.specs.FieldValue.{FieldValue, field_value_code};
-
     ghost Value = { FieldValue };
 
     ghost coded = { field_value_code };
@@ -34,9 +32,7 @@ impl ContentDisposition {
     pub fn inline() -> ContentDisposition
         ensures { result ≡ plain_value (codes "inline") }
     {
-        ContentDisposition {
-            value: HeaderValue::from_static("inline"),
-        }
+        ContentDisposition::from_form(HeaderValue::from_static("inline"))
     }
 
     /// Whether the disposition is `inline`: to be shown in its place.
@@ -70,15 +66,11 @@ impl ContentDisposition {
     pub fn clone(&self, _alloc: Global) -> Result<ContentDisposition, AllocError>
         ensures { IfOk result (λ copy. copy ≡ self.now) }
     {
-        Ok(ContentDisposition {
-            value: self.value.clone()?,
-        })
+        Ok(ContentDisposition::from_form(self.value.clone()?))
     }
 }
 
 impl FormHeader for ContentDisposition {
-    ghost use Rattle.std.specs.Prelude.{codes};
-
     type Form = HeaderValue;
 
     ghost NAME = { codes "content-disposition" };

@@ -1,5 +1,5 @@
 //! The header `content-encoding`.
-ghost use Rattle.std.specs.Prelude.{◌≡◌, ◌↔◌, Contains, IsTrue, IfOk, codes};
+ghost use Rattle.std.specs.Prelude.{◌≡◌, ◌↔◌, Contains, IsTrue, IfOk, codes, List, ℕ};
 ghost use Rattle.headers_items.specs.Answers.{GoesByItems, SurvivesCuts};
 ghost use Rattle.headers_items.specs.Merge.{merge};
 ghost use Rattle.headers_items.specs.Places.{comma, items};
@@ -16,8 +16,6 @@ pub struct ContentEncoding {
 }
 
 impl Model for ContentEncoding {
-    ghost use Rattle.std.specs.Prelude.{List, ℕ};
-
     ghost Value = { List ℕ };
 
     ghost view = { λ v. v.codings };
@@ -30,27 +28,21 @@ impl ContentEncoding {
     pub fn gzip() -> ContentEncoding
         ensures { result ≡ codes "gzip" }
     {
-        ContentEncoding {
-            codings: FlatCsv::from_word("gzip"),
-        }
+        ContentEncoding::from_form(FlatCsv::from_word("gzip"))
     }
 
     /// The Brotli coding.
     pub fn brotli() -> ContentEncoding
         ensures { result ≡ codes "br" }
     {
-        ContentEncoding {
-            codings: FlatCsv::from_word("br"),
-        }
+        ContentEncoding::from_form(FlatCsv::from_word("br"))
     }
 
     /// The Zstandard coding.
     pub fn zstd() -> ContentEncoding
         ensures { result ≡ codes "zstd" }
     {
-        ContentEncoding {
-            codings: FlatCsv::from_word("zstd"),
-        }
+        ContentEncoding::from_form(FlatCsv::from_word("zstd"))
     }
 
     /// Whether some item is the coding, with case.
@@ -67,15 +59,11 @@ impl ContentEncoding {
     pub fn clone(&self, alloc: Global) -> Result<ContentEncoding, AllocError>
         ensures { IfOk result (λ copy. copy ≡ self.now) }
     {
-        Ok(ContentEncoding {
-            codings: self.codings.clone(alloc)?,
-        })
+        Ok(ContentEncoding::from_form(self.codings.clone(alloc)?))
     }
 }
 
 impl FormHeader for ContentEncoding {
-    ghost use Rattle.std.specs.Prelude.{codes};
-
     type Form = FlatCsv<Comma>;
 
     ghost NAME = { codes "content-encoding" };

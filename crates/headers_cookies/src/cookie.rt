@@ -1,5 +1,5 @@
 //! The header `cookie`.
-ghost use Rattle.std.specs.Prelude.{◌≡◌, ◌<◌, ◌^◌, length, option_map, IfOk};
+ghost use Rattle.std.specs.Prelude.{◌≡◌, ◌<◌, ◌^◌, length, option_map, IfOk, List, ℕ, codes};
 ghost use Rattle.headers_items.specs.Answers.{GoesByItems, SurvivesCuts};
 ghost use Rattle.headers_items.specs.Merge.{merge};
 ghost use Rattle.headers_items.specs.Places.{semicolon, items};
@@ -18,8 +18,6 @@ pub struct Cookie {
 }
 
 impl Model for Cookie {
-    ghost use Rattle.std.specs.Prelude.{List, ℕ};
-
     ghost Value = { List ℕ };
 
     ghost view = { λ v. v.pairs };
@@ -72,15 +70,11 @@ impl Cookie {
     pub fn clone(&self, alloc: Global) -> Result<Cookie, AllocError>
         ensures { IfOk result (λ copy. copy ≡ self.now) }
     {
-        Ok(Cookie {
-            pairs: self.pairs.clone(alloc)?,
-        })
+        Ok(Cookie::from_form(self.pairs.clone(alloc)?))
     }
 }
 
 impl FormHeader for Cookie {
-    ghost use Rattle.std.specs.Prelude.{codes};
-
     type Form = FlatCsv<SemiColon>;
 
     ghost NAME = { codes "cookie" };

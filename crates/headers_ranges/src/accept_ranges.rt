@@ -1,5 +1,5 @@
 //! The header `accept-ranges`.
-ghost use Rattle.std.specs.Prelude.{◌≡◌, ◌↔◌, IsTrue, IfOk, codes};
+ghost use Rattle.std.specs.Prelude.{◌≡◌, ◌↔◌, IsTrue, IfOk, codes, List, ℕ};
 ghost use Rattle.headers_items.specs.Places.{comma};
 
 use headers_core::{Comma, FlatCsv, FormHeader};
@@ -14,8 +14,6 @@ pub struct AcceptRanges {
 }
 
 impl Model for AcceptRanges {
-    ghost use Rattle.std.specs.Prelude.{List, ℕ};
-
     ghost Value = { List ℕ };
 
     ghost view = { λ v. v.units };
@@ -28,18 +26,14 @@ impl AcceptRanges {
     pub fn bytes() -> AcceptRanges
         ensures { result ≡ codes "bytes" }
     {
-        AcceptRanges {
-            units: FlatCsv::from_word("bytes"),
-        }
+        AcceptRanges::from_form(FlatCsv::from_word("bytes"))
     }
 
     /// `none`: no ranges.
     pub fn none() -> AcceptRanges
         ensures { result ≡ codes "none" }
     {
-        AcceptRanges {
-            units: FlatCsv::from_word("none"),
-        }
+        AcceptRanges::from_form(FlatCsv::from_word("none"))
     }
 
     /// Whether the whole value is `bytes`.
@@ -60,15 +54,11 @@ impl AcceptRanges {
     pub fn clone(&self, alloc: Global) -> Result<AcceptRanges, AllocError>
         ensures { IfOk result (λ copy. copy ≡ self.now) }
     {
-        Ok(AcceptRanges {
-            units: self.units.clone(alloc)?,
-        })
+        Ok(AcceptRanges::from_form(self.units.clone(alloc)?))
     }
 }
 
 impl FormHeader for AcceptRanges {
-    ghost use Rattle.std.specs.Prelude.{codes};
-
     type Form = FlatCsv<Comma>;
 
     ghost NAME = { codes "accept-ranges" };

@@ -1,6 +1,6 @@
 //! The header `sec-websocket-accept`.
 ghost use Rattle.std.specs.Prelude.{◌≡◌, ◌++◌, IfOk, codes};
-ghost use Rattle.http_header.specs.FieldValue.{plain_value};
+ghost use Rattle.http_header.specs.FieldValue.{plain_value, FieldValue, field_value_code};
 ghost use Rattle.sha1.specs.Sha1.{sha1};
 ghost use Rattle.headers_base64.specs.Base64.{base64};
 
@@ -20,8 +20,6 @@ pub struct SecWebsocketAccept {
 }
 
 impl Model for SecWebsocketAccept {
-    ghost use Rattle.http_header.specs.FieldValue.{FieldValue, field_value_code};
-
     ghost Value = { FieldValue };
 
     ghost coded = { field_value_code };
@@ -41,24 +39,18 @@ impl SecWebsocketAccept {
         let mut hasher = Sha1::new();
         hasher.update(key.as_form().as_bytes());
         hasher.update(b"258EAFA5-E914-47DA-95CA-C5AB0DC85B11");
-        Ok(SecWebsocketAccept {
-            value: base64_value(alloc, "", &hasher.finalize())?,
-        })
+        Ok(SecWebsocketAccept::from_form(base64_value(alloc, "", &hasher.finalize())?))
     }
 
     /// The same value, also as to whether it is kept out of logs.
     pub fn clone(&self, _alloc: Global) -> Result<SecWebsocketAccept, AllocError>
         ensures { IfOk result (λ copy. copy ≡ self.now) }
     {
-        Ok(SecWebsocketAccept {
-            value: self.value.clone()?,
-        })
+        Ok(SecWebsocketAccept::from_form(self.value.clone()?))
     }
 }
 
 impl FormHeader for SecWebsocketAccept {
-    ghost use Rattle.std.specs.Prelude.{codes};
-
     type Form = HeaderValue;
 
     ghost NAME = { codes "sec-websocket-accept" };

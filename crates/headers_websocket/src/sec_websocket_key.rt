@@ -1,5 +1,6 @@
 //! The header `sec-websocket-key`.
-ghost use Rattle.std.specs.Prelude.{◌≡◌, true, IfOk};
+ghost use Rattle.std.specs.Prelude.{◌≡◌, true, IfOk, codes};
+ghost use Rattle.http_header.specs.FieldValue.{FieldValue, field_value_code};
 ghost use Rattle.headers_base64.specs.Base64.{base64};
 
 use headers_base64::base64_value;
@@ -16,8 +17,6 @@ pub struct SecWebsocketKey {
 }
 
 impl Model for SecWebsocketKey {
-    ghost use Rattle.http_header.specs.FieldValue.{FieldValue, field_value_code};
-
     ghost Value = { FieldValue };
 
     ghost coded = { field_value_code };
@@ -34,22 +33,18 @@ impl SecWebsocketKey {
     {
         let mut value = base64_value(alloc, "", &bytes)?;
         value.set_sensitive(true);
-        Ok(SecWebsocketKey { value })
+        Ok(SecWebsocketKey::from_form(value))
     }
 
     /// The same value, also as to whether it is kept out of logs.
     pub fn clone(&self, _alloc: Global) -> Result<SecWebsocketKey, AllocError>
         ensures { IfOk result (λ copy. copy ≡ self.now) }
     {
-        Ok(SecWebsocketKey {
-            value: self.value.clone()?,
-        })
+        Ok(SecWebsocketKey::from_form(self.value.clone()?))
     }
 }
 
 impl FormHeader for SecWebsocketKey {
-    ghost use Rattle.std.specs.Prelude.{codes};
-
     type Form = HeaderValue;
 
     ghost NAME = { codes "sec-websocket-key" };
