@@ -207,7 +207,7 @@ fn vary(rt: HostRuntime) {
 
 #[test]
 fn vary_quoted(rt: HostRuntime) -> Result<(), Fail> {
-    let quoted: Vary = decoded(&rt, &["\"a, *\""]);
+    let quoted: Vary = decoded(&rt, &["\"a, *, b\""]);
     assert!(rt; !quoted.is_any());
     assert!(rt; quoted.clone(rt.alloc())? == quoted);
     assert!(rt; quoted != Vary::any());
