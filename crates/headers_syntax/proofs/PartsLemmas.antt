@@ -1,6 +1,5 @@
 -- The last of what the parts of a line give, part by part.
 use Rattle.std.proofs.Common.{◌≡◌, ℕ, List, [], ◌∷◌, ◌++◌, Option, Some, None, refl, sym, ◌∙◌, ap}
-use Rattle.std.specs.Option.{option_or}
 use Rattle.std.specs.List.{filter_map, last_or}
 use Rattle.std.proofs.lemmas.List.Elements.{filter_map-append}
 use Rattle.std.proofs.lemmas.List.{append-nil}
@@ -11,18 +10,6 @@ use Rattle.headers_syntax.specs.Parts.{parts, parts_of_lines}
 pub last_or-append : {A : Type 0} (o : Option A) (xs ys : List A) → last_or o (xs ++ ys) ≡ last_or (last_or o xs) ys
 last_or-append o [] ys = refl
 last_or-append o (x ∷ xs) ys = last_or-append (Some x) xs ys
-
-one_more : {X A : Type 0} (f : X → Option A) (o r : Option A) (x : X) → f x ≡ r
-    → last_or o (filter_map f (x ∷ [])) ≡ option_or r o
-one_more f o None x e = rw e refl
-one_more f o (Some a) x e = rw e refl
-
--- a word more
-pub last_step : {X A : Type 0} (f : X → Option A) (o : Option A) (xs : List X) (x : X)
-    → last_or o (filter_map f (xs ++ x ∷ [])) ≡ option_or (f x) (last_or o (filter_map f xs))
-last_step f o xs x =
-    ap (last_or o) (filter_map-append f xs (x ∷ [])) ∙ last_or-append o (filter_map f xs) (filter_map f (x ∷ []))
-    ∙ one_more f (last_or o (filter_map f xs)) (f x) x refl
 
 -- a line more
 parts-more : (c : ℕ) (lines : List Line) (line : Line)
