@@ -13,7 +13,7 @@ use Rattle.std.proofs.lemmas.List.Folds.{list_any-append, list_any_none}
 use Rattle.std.proofs.lemmas.List.Elements.{filter-append}
 use Rattle.headers_syntax.specs.AsciiCase.{same_name}
 use Rattle.headers_caching.specs.CacheControl.{carries, number_in, is_bad_for, is_bad, is_set, last_number}
-use Rattle.headers_caching.specs.CacheControl.{Directives, Direct, Steps, directives, next_flag, next_number}
+use Rattle.headers_caching.specs.CacheControl.{Directives, Steps, directives, next_flag, next_number}
 use Rattle.headers_caching.specs.CacheControl.{flag_rows, number_rows}
 use Rattle.headers_caching.specs.CacheControlLaws.{no_flag, flag_names, same_rows, every, both}
 use Rattle.headers_items.specs.Pairs.{is_equals}
@@ -67,41 +67,36 @@ steps_lead step old new before after e (row ∷ rows) steps lead = (
   steps_lead step old new before after e rows steps.1 lead.1,
 )
 
-none_more : (es : List (List ℕ)) (entry : List ℕ) → list_any is_bad es ≡ false → is_bad entry ≡ false
-    → list_any is_bad (es ++ entry ∷ []) ≡ false
-none_more es entry h good = list_any-append is_bad es (entry ∷ []) ∙ rw (h, good) refl
-
 -- an entry that is cut adds to the numbers alone
-pub cut_taken : (old new : Directives) (es : List (List ℕ)) (entry : List ℕ) → Direct es old
-    → position_or_len is_equals entry < length entry → is_bad entry ≡ false → Steps (λ _ set. set) flag_rows old new
-    → Steps (next_number entry) number_rows old new → Direct (es ++ entry ∷ []) new
-cut_taken old new es entry was cut good flags numbers =
+pub cut_taken : (old new : Directives) (es : List (List ℕ)) (entry : List ℕ) → old ≡ directives es
+    → position_or_len is_equals entry < length entry → Steps (λ _ set. set) flag_rows old new
+    → Steps (next_number entry) number_rows old new → new ≡ directives (es ++ entry ∷ [])
+cut_taken old new es entry was cut flags numbers =
     let Plain : List ℕ × (Directives → Bool) → Type 0 = λ row. list_any is_equals (lowercase row.0) ≡ false in
-    let after = directives (es ++ entry ∷ []) in (
-      same_rows new after
-          (steps_lead (λ _ set. set) old new (directives es) after was.0 flag_rows flags
-          (both Plain Plain _ (λ row plain _. sym (or-false (is_set row.0 es))
-          ∙ ap (λ v. is_set row.0 es || v) (sym (same_name_cut row.0 entry plain cut)) ∙ is_set-more row.0 es entry)
-          flag_rows flag_names flag_names))
-          (steps_lead (next_number entry) old new (directives es) after was.0 number_rows numbers
-          (every _ (λ row. last_number-more row.0 es entry) number_rows)),
-      none_more es entry was.1 good,
-    )
+    let after = directives (es ++ entry ∷ []) in
+    same_rows new after
+    (steps_lead (λ _ set. set) old new (directives es) after was flag_rows flags
+    (both Plain Plain _ (λ row plain _. sym (or-false (is_set row.0 es))
+    ∙ ap (λ v. is_set row.0 es || v) (sym (same_name_cut row.0 entry plain cut)) ∙ is_set-more row.0 es entry)
+    flag_rows flag_names flag_names))
+    (steps_lead (next_number entry) old new (directives es) after was number_rows numbers
+    (every _ (λ row. last_number-more row.0 es entry) number_rows))
 
--- and one that is not adds to the flags alone
-pub uncut_taken : (old new : Directives) (es : List (List ℕ)) (entry : List ℕ) → Direct es old
+-- and one that is not is not bad, and adds to the flags alone
+pub uncut_good : (entry : List ℕ) → position_or_len is_equals entry ≡ length entry → is_bad entry ≡ false
+uncut_good entry uncut =
+    list_any_none (λ (row : List ℕ × (Directives → Option ℕ)). is_bad_for row.0 entry) number_rows
+    (λ k row at. and_left _ _ (carries_uncut (slice_index_or number_rows k row).0 entry uncut))
+
+pub uncut_taken : (old new : Directives) (es : List (List ℕ)) (entry : List ℕ) → old ≡ directives es
     → position_or_len is_equals entry ≡ length entry → Steps (next_flag entry) flag_rows old new
-    → Steps (λ _ number. number) number_rows old new → Direct (es ++ entry ∷ []) new
+    → Steps (λ _ number. number) number_rows old new → new ≡ directives (es ++ entry ∷ [])
 uncut_taken old new es entry was uncut flags numbers =
     let after = directives (es ++ entry ∷ []) in
     let same : (directive : List ℕ) → last_number directive es ≡ last_number directive (es ++ entry ∷ []) =
-    λ directive. rw (carries_uncut directive entry uncut) at (last_number-more directive es entry) in (
-      same_rows new after
-          (steps_lead (next_flag entry) old new (directives es) after was.0 flag_rows flags
-          (every _ (λ row. is_set-more row.0 es entry) flag_rows))
-          (steps_lead (λ _ number. number) old new (directives es) after was.0 number_rows numbers
-          (every _ (λ row. same row.0) number_rows)),
-      none_more es entry was.1
-          (list_any_none (λ (row : List ℕ × (Directives → Option ℕ)). is_bad_for row.0 entry) number_rows
-          (λ k row at. and_left _ _ (carries_uncut (slice_index_or number_rows k row).0 entry uncut))),
-    )
+    λ directive. rw (carries_uncut directive entry uncut) at (last_number-more directive es entry) in
+    same_rows new after
+    (steps_lead (next_flag entry) old new (directives es) after was flag_rows flags
+    (every _ (λ row. is_set-more row.0 es entry) flag_rows))
+    (steps_lead (λ _ number. number) old new (directives es) after was number_rows numbers
+    (every _ (λ row. same row.0) number_rows))

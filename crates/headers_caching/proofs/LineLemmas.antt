@@ -1,6 +1,6 @@
 -- What `with_line` and `decode` know of the entries and lines that have come.
-use Rattle.std.proofs.Common.{◌≡◌, true, ◌||◌, ℕ, List, [], ◌∷◌, ◌++◌, Some, None}
-use Rattle.std.proofs.Common.{sym, ◌∙◌, ap, subst, append_assoc}
+use Rattle.std.proofs.Common.{◌≡◌, true, false, ◌||◌, ℕ, List, [], ◌∷◌, ◌++◌, Some, None}
+use Rattle.std.proofs.Common.{refl, sym, ◌∙◌, ap, subst, append_assoc}
 use Rattle.std.specs.List.{list_any}
 use Rattle.std.proofs.lemmas.Bool.{or_right}
 use Rattle.std.proofs.lemmas.List.{append-nil}
@@ -8,38 +8,48 @@ use Rattle.std.proofs.lemmas.List.Folds.{list_any-append}
 use Rattle.std.proofs.lemmas.Grind.{flat_map-append}
 use Rattle.headers_syntax.specs.Lines.{Line}
 use Rattle.headers_items.specs.Entries.{entries, line_entries}
-use Rattle.headers_caching.specs.CacheControl.{Direct, Directives, directives_of, is_bad}
+use Rattle.headers_caching.specs.CacheControl.{Direct, Directives, directives, directives_of, is_bad}
 
--- of all entries some were read and some are left; what `before` and those read direct is `after`
+-- the entries of both are good
+none_bad : (es fs : List (List ℕ)) → list_any is_bad es ≡ false → list_any is_bad fs ≡ false
+    → list_any is_bad (es ++ fs) ≡ false
+none_bad es fs h g = list_any-append is_bad es fs ∙ rw (h, g) refl
+
+-- of all entries some were read and some are left; of those read none is bad, and what `before` and they direct is
+-- `after`
 pub record ReadSoFar (before after : Directives) (all left : List (List ℕ)) : Type 0 where
   pub seen : List (List ℕ)
   pub split : all ≡ seen ++ left
-  pub adds : (es : List (List ℕ)) → Direct es before → Direct (es ++ seen) after
+  pub good : list_any is_bad seen ≡ false
+  pub adds : (es : List (List ℕ)) → before ≡ directives es → after ≡ directives (es ++ seen)
 
 pub ReadSoFar-none : (before : Directives) (all left : List (List ℕ)) → left ≡ all → ReadSoFar before before all left
 ReadSoFar-none before all left e =
-    record { seen = []; split = sym e; adds = λ es h. subst (λ r. Direct r before) (sym (append-nil es)) h }
+    record { seen = []; split = sym e; good = refl; adds = λ es h. h ∙ ap directives (sym (append-nil es)) }
 
 pub ReadSoFar-more : (before after next : Directives) (all left rest : List (List ℕ)) (entry : List ℕ)
     → ReadSoFar before after all left → left ≡ entry ∷ rest
-    → ((es : List (List ℕ)) → Direct es after → Direct (es ++ entry ∷ []) next) → ReadSoFar before next all rest
+    → (is_bad entry ≡ false)
+    × ((es : List (List ℕ)) → after ≡ directives es → next ≡ directives (es ++ entry ∷ []))
+    → ReadSoFar before next all rest
 ReadSoFar-more before after next all left rest entry h e adds =
     record {
       seen = h.seen ++ entry ∷ [];
       split = h.split ∙ ap (λ r. h.seen ++ r) e ∙ sym (append_assoc h.seen (entry ∷ []) rest);
-      adds = λ es b.
-          subst (λ r. Direct r next) (append_assoc es h.seen (entry ∷ [])) (adds (es ++ h.seen) (h.adds es b));
+      good = none_bad h.seen (entry ∷ []) h.good (rw adds.0 refl);
+      adds = λ es b. adds.1 (es ++ h.seen) (h.adds es b) ∙ ap directives (append_assoc es h.seen (entry ∷ []));
     }
 
 -- one line more
 pub line_more : (d next : Directives) (line : Line)
-    → ((es : List (List ℕ)) → Direct es d → Direct (es ++ line_entries line) next)
+    → (list_any is_bad (line_entries line) ≡ false)
+    × ((es : List (List ℕ)) → d ≡ directives es → next ≡ directives (es ++ line_entries line))
     → (lines : List Line) → Direct (entries lines) d → Direct (entries (lines ++ line ∷ [])) next
 line_more d next line adds lines h =
     subst (λ r. Direct r next)
     (sym (flat_map-append line_entries lines (line ∷ [])
     ∙ ap (λ r. entries lines ++ r) (append-nil (line_entries line))))
-    (adds (entries lines) h)
+    (adds.1 (entries lines) h.0, none_bad (entries lines) (line_entries line) h.1 adds.0)
 
 -- lines that direct something
 pub directs : (d : Directives) (lines : List Line) → Direct (entries lines) d → directives_of lines ≡ Some d

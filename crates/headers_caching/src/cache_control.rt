@@ -12,7 +12,7 @@ ghost use Rattle.headers_syntax.specs.HeaderLaws.{ReadsBy, written_by};
 ghost use Rattle.headers_items.specs.Merge.{merge};
 ghost use Rattle.headers_caching.specs.CacheControl.{GivesSeconds, directives, is_bad, is_bad_for};
 ghost use Rattle.headers_caching.specs.CacheControl.{flag_rows, number_rows, print_flag, print_number, printed};
-ghost use Rattle.headers_caching.specs.CacheControl.{Direct, Steps, next_flag, next_number};
+ghost use Rattle.headers_caching.specs.CacheControl.{Steps, next_flag, next_number};
 ghost use Rattle.headers_caching.specs.CacheControlGrammar.{cache_grammar};
 ghost use Rattle.headers_caching.specs.CacheControlLaws.{FitRows, FitsOption, behind_commas};
 ghost use Rattle.headers_items.specs.Places.{comma};
@@ -378,8 +378,8 @@ impl CacheControl {
     // Takes in what an entry directs. It is cut once, in place of once for each number, and is compared
     // with names of its kind alone.
     fn add_entry(&mut self, entry: &str) -> Result<(), Error>
-        ensures ok { IfOk result (λ _. (es : List (List ℕ)) → Direct es self.old
-            → Direct (es ++ entry.now ∷ []) self.new) }
+        ensures ok { IfOk result (λ _. (is_bad entry.now ≡ false) × ((es : List (List ℕ)) → self.old ≡ directives es
+            → self.new ≡ directives (es ++ entry.now ∷ []))) }
         ensures refused { IsErr result → IsTrue (is_bad entry.now) }
     {
         let Some((name, value)) = entry.split_once('=') else {
@@ -392,8 +392,8 @@ impl CacheControl {
 
     // What the entries before direct, and those of this line.
     fn with_line(self, line: &HeaderValue) -> Result<CacheControl, Error>
-        ensures ok { IfOk result (λ after. (es : List (List ℕ)) → Direct es self
-            → Direct (es ++ line_entries line.now.bytes) after) }
+        ensures ok { IfOk result (λ after. (list_any is_bad (line_entries line.now.bytes) ≡ false)
+            × ((es : List (List ℕ)) → self ≡ directives es → after ≡ directives (es ++ line_entries line.now.bytes))) }
         ensures refused { IsErr result → IsTrue (list_any is_bad (line_entries line.now.bytes)) }
     {
         let mut after = self;

@@ -1,10 +1,10 @@
-use Rattle.std.proofs.Common.{◌≡◌, true, ◌++◌, refl, sym, ◌∙◌, ap, subst}
+use Rattle.std.proofs.Common.{◌≡◌, ℕ, true, false, List, ◌++◌, refl, sym, ◌∙◌, ap, subst}
 use Rattle.std.specs.List.{list_any}
 use Rattle.std.proofs.lemmas.Result.{err_from_is_err_and}
 use Rattle.http_header.specs.FieldValue.{FieldValue}
 use Rattle.headers_items.specs.Entries.{entries, line_entries}
 use Rattle.headers_syntax.proofs.OfLinesLemmas.{OfLinesSoFar-more, OfLines-stopped}
-use Rattle.headers_caching.specs.CacheControl.{Direct, is_bad}
+use Rattle.headers_caching.specs.CacheControl.{Direct, directives, is_bad}
 use Rattle.headers_caching.proofs.LineLemmas.{line_more, directs_nothing}
 use Rattle.headers_caching.proofs.cache_control.CacheControlHeader.decode.Goals as goal
 
@@ -21,8 +21,10 @@ loop-line-preserved g c =
           (λ lines. Direct (entries lines) c.loop-line.directives) (λ lines. Direct (entries lines) after)
           c.loop-line.invariant.so_far c.in-Some.ensures.steps
           (line_more c.loop-line.directives after (shown c.in-Some.line).bytes
-          (λ es h. subst (λ (v : FieldValue). Direct (es ++ line_entries v.bytes) after) c.as_header_value.ensures
-          (c.in_ok-directives.ensures.ok es h)));
+          (subst (λ (v : FieldValue). (list_any is_bad (line_entries v.bytes) ≡ false)
+          × ((es : List (List ℕ)) → c.loop-line.directives ≡ directives es
+          → after ≡ directives (es ++ line_entries v.bytes))) c.as_header_value.ensures
+          c.in_ok-directives.ensures.ok));
     }
 
 pub returns-in_err-directives-clause-value : goal.returns-in_err-directives-clause-value
