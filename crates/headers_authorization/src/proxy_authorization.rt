@@ -1,6 +1,7 @@
 //! The header `proxy-authorization`.
 
-use crate::credentials::{Credentials, first_credentials};
+use crate::authorization::Authorization;
+use crate::credentials::Credentials;
 use headers_core::{AsHeaderValue, Error, Header, Refused};
 use http_header::{HeaderName, HeaderValue, PROXY_AUTHORIZATION};
 use std::alloc::{AllocError, Global};
@@ -38,8 +39,8 @@ impl<C: Credentials> Header for ProxyAuthorization<C> {
     where
         I::Item: AsHeaderValue,
     {
-        match first_credentials(alloc, values) {
-            Ok(credentials) => Ok(ProxyAuthorization(credentials)),
+        match Authorization::decode(alloc, values) {
+            Ok(header) => Ok(ProxyAuthorization(header.0)),
             Err(refused) => Err(refused),
         }
     }
