@@ -1,4 +1,4 @@
-//! Laws: functions without a body, whose contracts a proof cites by calling them.
+//! Laws: functions with an empty body. A proof cites the contract of one by calling it.
 
 pub use headers_caching::{cache_control_survives_cuts, directives_read_back};
 pub use headers_conditional::{

@@ -1,4 +1,4 @@
-//! Typed HTTP headers, all of them, for users: this crate alone has to be named.
+//! All typed HTTP headers. A user names this crate alone.
 #![tactic(auto)]
 
 pub mod authorization;

@@ -5,8 +5,9 @@ use headers_core::{AsHeaderValue, Error, Header, Refused};
 use http_header::{AUTHORIZATION, HeaderName, HeaderValue};
 use std::alloc::{AllocError, Global};
 
-/// Who asks a server, by the credentials of a scheme: the first line has the scheme in any case, a
-/// space, and what the credentials read (RFC 7235, section 4.2). What is written is kept out of logs.
+/// The credentials of a request to a server: the first line, which is the scheme in any case, a
+/// space, and what the credentials read (RFC 7235, section 4.2). Anything else is refused. What is
+/// written is sensitive. Equality goes by the credentials.
 #[derive(Debug, Drop, PartialEq)]
 pub struct Authorization<C>(pub C);
 

@@ -14,9 +14,9 @@ use memchr::memchr;
 use std::alloc::{AllocError, Global};
 use std::marker::Model;
 
-/// A user name and a password: behind the scheme and any spaces, the base64 of both with a colon
-/// between them, which is UTF-8 (RFC 7617, section 2). Equality goes by the bytes and by the place
-/// of the colon.
+/// A user name and a password: after the scheme and any spaces, the base64 of both with a colon
+/// between them, in UTF-8 (RFC 7617, section 2). Equality goes by the bytes and by the place of the
+/// colon.
 #[derive(Debug, Drop)]
 pub struct Basic {
     decoded: String,
@@ -56,14 +56,14 @@ impl Basic {
         &self.decoded.as_str()[..self.colon]
     }
 
-    /// The password: what stands behind the colon.
+    /// The password: what stands after the colon.
     pub fn password(&self) -> &str
         ensures { result.now ≡ password_of self.now }
     {
         &self.decoded.as_str()[self.colon + 1..]
     }
 
-    /// The same credentials.
+    /// A copy of the credentials.
     pub fn clone(&self, alloc: Global) -> Result<Basic, AllocError>
         ensures { IfOk result (λ copy. copy ≡ self.now) }
     {
@@ -130,8 +130,8 @@ impl Credentials for Basic {
 }
 
 impl Authorization<Basic> {
-    /// The credentials of a user name and a password, which keep their own place of the colon: a
-    /// user name with a colon is read back as the part before it.
+    /// Credentials of a user name and a password. A user name with a colon is read back as another
+    /// one: what stands before its first colon.
     pub fn basic(
         alloc: Global,
         username: &str,
@@ -157,14 +157,14 @@ impl Authorization<Basic> {
         self.0.username()
     }
 
-    /// The password: what stands behind the colon.
+    /// The password: what stands after the colon.
     pub fn password(&self) -> &str
         ensures { result.now ≡ password_of self.now.0 }
     {
         self.0.password()
     }
 
-    /// The same header.
+    /// A copy of the header.
     pub fn clone(&self, alloc: Global) -> Result<Authorization<Basic>, AllocError>
         ensures { IfOk result (λ copy. copy ≡ self.now) }
     {
@@ -173,7 +173,7 @@ impl Authorization<Basic> {
 }
 
 impl ProxyAuthorization<Basic> {
-    /// The same header.
+    /// A copy of the header.
     pub fn clone(&self, alloc: Global) -> Result<ProxyAuthorization<Basic>, AllocError>
         ensures { IfOk result (λ copy. copy ≡ self.now) }
     {

@@ -39,7 +39,7 @@ impl Model for Bearer {
     ghost inverse = { λ value. record { line = value } };
 }
 
-/// The token holds a control other than tab, and so its line is no header value.
+/// The token has a control character other than tab, so its line is no header value.
 #[derive(Clone, Copy, Debug, PartialEq, Eq)]
 pub struct InvalidBearerToken;
 
@@ -63,7 +63,7 @@ impl Bearer {
         self.line.as_str()["Bearer ".len()..].trim_start()
     }
 
-    /// The same credentials, also as to whether they are kept out of logs.
+    /// A copy of the credentials, sensitive exactly if the original is.
     pub fn clone(&self, alloc: Global) -> Result<Bearer, AllocError>
         ensures { IfOk result (λ copy. copy ≡ self.now) }
     {
@@ -107,9 +107,9 @@ impl Credentials for Bearer {
 }
 
 impl Authorization<Bearer> {
-    /// The line `Bearer`, a space and the token. The token may be any text of a header value, also
-    /// with characters past ASCII, with which it is not read back (RFC 9110, section 5.5). A token
-    /// with a control other than tab is refused.
+    /// The line `Bearer`, a space and the token. The token may have characters past ASCII, but is
+    /// refused then when the line is read (RFC 9110, section 5.5). A token with a control character
+    /// other than tab is refused here.
     pub fn bearer(
         alloc: Global,
         token: &str,
@@ -136,7 +136,7 @@ impl Authorization<Bearer> {
         self.0.token()
     }
 
-    /// The same header, also as to whether its value is kept out of logs.
+    /// A copy of the header, whose credentials are sensitive exactly if the original's are.
     pub fn clone(&self, alloc: Global) -> Result<Authorization<Bearer>, AllocError>
         ensures { IfOk result (λ copy. copy ≡ self.now) }
     {
@@ -145,7 +145,7 @@ impl Authorization<Bearer> {
 }
 
 impl ProxyAuthorization<Bearer> {
-    /// The same header, also as to whether its value is kept out of logs.
+    /// A copy of the header, whose credentials are sensitive exactly if the original's are.
     pub fn clone(&self, alloc: Global) -> Result<ProxyAuthorization<Bearer>, AllocError>
         ensures { IfOk result (λ copy. copy ≡ self.now) }
     {

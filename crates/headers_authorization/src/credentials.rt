@@ -10,8 +10,7 @@ use headers_core::{AsHeaderValue, Error, Refused, first};
 use http_header::HeaderValue;
 use std::alloc::{AllocError, Global};
 
-/// What the credentials of a scheme read of a line, and what is written of them (RFC 7235,
-/// section 2.1).
+/// The credentials of a scheme: how a line is read, and what is written (RFC 7235, section 2.1).
 pub trait Credentials: Drop {
     // The scheme's name.
     ghost scheme: { List ℕ };
@@ -32,8 +31,8 @@ pub trait Credentials: Drop {
     fn scheme_name() -> &'static str
         ensures { result.now ≡ scheme };
 
-    /// The credentials that the line reads, if any. The line begins with the scheme, in any case,
-    /// and a space.
+    /// The credentials that the line reads, or `None`. The line must begin with the scheme, in any
+    /// case, and a space.
     fn decode(alloc: Global, value: &HeaderValue) -> Result<Option<Self>, AllocError>
         requires { HasScheme scheme value.now.bytes }
         ensures { IfOk result (λ read. MatchOption read ((v : Self) → ¬ (reads value.now.bytes v))
@@ -57,7 +56,7 @@ fn has_scheme(line: &[u8], scheme: &str) -> bool
     end < line.len() && line[end] == b' ' && line[..end].eq_ignore_ascii_case(scheme.as_bytes())
 }
 
-// The credentials of the first line, which has their scheme and which they read.
+// The credentials that the first line reads, if it has their scheme.
 pub(crate) fn first_credentials<C: Credentials, I: Iterator>(
     alloc: Global,
     values: &mut I,

@@ -6,8 +6,9 @@ use headers_core::{AsHeaderValue, Error, Header, Refused};
 use http_header::{HeaderName, HeaderValue, PROXY_AUTHORIZATION};
 use std::alloc::{AllocError, Global};
 
-/// Who asks a proxy, by the credentials of a scheme: the first line has the scheme in any case, a
-/// space, and what the credentials read (RFC 7235, section 4.4).
+/// The credentials of a request to a proxy: the first line, which is the scheme in any case, a
+/// space, and what the credentials read (RFC 7235, section 4.4). Anything else is refused. Equality
+/// goes by the credentials.
 #[derive(Debug, Drop, PartialEq)]
 pub struct ProxyAuthorization<C>(pub C);
 

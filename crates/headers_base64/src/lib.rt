@@ -12,7 +12,8 @@ use bytes::Bytes;
 use http_header::HeaderValue;
 use std::alloc::{AllocError, Global};
 
-/// The value of a prefix, which is visible ASCII, spaces and tabs, and the base64 of the bytes.
+/// A header value: the prefix, which must be visible ASCII, spaces and tabs, and then the base64 of
+/// the bytes.
 pub fn base64_value(alloc: Global, prefix: &str, bytes: &[u8]) -> Result<HeaderValue, AllocError>
     requires { IsTrue (is_visible_text prefix.now) }
     ensures { IfOk result (λ value. value ≡ plain_value (prefix.now ++ base64 bytes.now)) }
@@ -22,8 +23,8 @@ pub fn base64_value(alloc: Global, prefix: &str, bytes: &[u8]) -> Result<HeaderV
     Ok(HeaderValue::from_known_valid(Bytes::from_string(text)?))
 }
 
-/// The bytes of which the text is the base64, if it is that of some: a text with less padding, with
-/// bits behind the last byte or with any other byte is not.
+/// The bytes that the base64 text encodes. `None` if padding is missing, if bits are set behind the
+/// last byte, or if another byte stands in the text.
 pub fn read_base64(alloc: Global, text: &[u8]) -> Result<Option<Vec<u8>>, AllocError>
     ensures { IfOk result (λ read. MatchOption read
         ((bytes : List ℕ) → IsBytes bytes → ¬ (text.now ≡ base64 bytes))

@@ -27,11 +27,13 @@ use std::fmt::Write;
 use std::marker::Model;
 use std::time::Duration;
 
-/// How a message may be stored and used again (RFC 9111, section 5.2, with `immutable` of RFC 8246).
+/// Whether a message may be stored, and how it may be used again (RFC 9111, section 5.2, with
+/// `immutable` of RFC 8246).
 ///
-/// The entries of all lines that are text are read; no line is the empty value. An entry that carries
-/// `max-age`, `max-stale`, `min-fresh` or `s-maxage` without a number below 2^64 refuses them all.
-/// `proxy-revalidate` is read and written, but no call reads or sets it.
+/// All lines that are text are read, entry by entry. A header without lines is the empty value. All
+/// are refused if an entry carries a `max-age`, `max-stale`, `min-fresh` or `s-maxage` that is no
+/// number below 2^64. `proxy-revalidate` is read and written, but no call gets or sets it. Equality
+/// goes by what is written.
 #[derive(Clone, Debug, PartialEq, Drop)]
 pub struct CacheControl {
     no_cache: bool,
@@ -90,15 +92,15 @@ impl Model for CacheControl {
     } };
 }
 
-// Sets the flag where the entry is its name.
+// Sets the flag if the entry is its name.
 fn set_flag(set: &mut bool, flag: &str, entry: &str)
     ensures { set.new ≡ next_flag entry.now flag.now set.old }
 {
     *set |= same_but_for_case(entry, flag);
 }
 
-// Puts the number that an entry carries for the directive, by what stands round its first `=`, in
-// place of an old one.
+// Puts the number that the entry carries for the directive in place of an old one. The two sides of
+// the entry's first `=` say which directive and which number.
 fn set_number(
     number: &mut Option<u64>,
     directive: &str,
@@ -122,7 +124,7 @@ fn set_number(
 }
 
 impl CacheControl {
-    /// Nothing set.
+    /// A value without directives.
     pub fn new() -> CacheControl
         ensures { result ≡ directives [] }
     {
@@ -207,28 +209,28 @@ impl CacheControl {
         self.must_understand
     }
 
-    /// The time of `max-age`, in whole seconds.
+    /// The duration of `max-age`, in whole seconds, if it is set.
     pub fn max_age(&self) -> Option<Duration>
         ensures { GivesSeconds result self.now.max_age }
     {
         self.max_age.map(Duration::from_secs)
     }
 
-    /// The time of `max-stale`, in whole seconds.
+    /// The duration of `max-stale`, in whole seconds, if it is set.
     pub fn max_stale(&self) -> Option<Duration>
         ensures { GivesSeconds result self.now.max_stale }
     {
         self.max_stale.map(Duration::from_secs)
     }
 
-    /// The time of `min-fresh`, in whole seconds.
+    /// The duration of `min-fresh`, in whole seconds, if it is set.
     pub fn min_fresh(&self) -> Option<Duration>
         ensures { GivesSeconds result self.now.min_fresh }
     {
         self.min_fresh.map(Duration::from_secs)
     }
 
-    /// The time of `s-maxage`, in whole seconds.
+    /// The duration of `s-maxage`, in whole seconds, if it is set.
     pub fn s_max_age(&self) -> Option<Duration>
         ensures { GivesSeconds result self.now.s_max_age }
     {
@@ -307,7 +309,7 @@ impl CacheControl {
         self
     }
 
-    /// Puts `max-age`, in whole seconds, in place of an old one.
+    /// Sets `max-age`, in whole seconds. An old one is replaced.
     pub fn with_max_age(mut self, dur: Duration) -> CacheControl
         requires { IsWholeSeconds dur }
         ensures { result ≡ record self { max_age = Some (as_nanos dur / 1_000_000_000) } }
@@ -316,7 +318,7 @@ impl CacheControl {
         self
     }
 
-    /// Puts `max-stale`, in whole seconds, in place of an old one.
+    /// Sets `max-stale`, in whole seconds. An old one is replaced.
     pub fn with_max_stale(mut self, dur: Duration) -> CacheControl
         requires { IsWholeSeconds dur }
         ensures { result ≡ record self { max_stale = Some (as_nanos dur / 1_000_000_000) } }
@@ -325,7 +327,7 @@ impl CacheControl {
         self
     }
 
-    /// Puts `min-fresh`, in whole seconds, in place of an old one.
+    /// Sets `min-fresh`, in whole seconds. An old one is replaced.
     pub fn with_min_fresh(mut self, dur: Duration) -> CacheControl
         requires { IsWholeSeconds dur }
         ensures { result ≡ record self { min_fresh = Some (as_nanos dur / 1_000_000_000) } }
@@ -334,7 +336,7 @@ impl CacheControl {
         self
     }
 
-    /// Puts `s-maxage`, in whole seconds, in place of an old one.
+    /// Sets `s-maxage`, in whole seconds. An old one is replaced.
     pub fn with_s_max_age(mut self, dur: Duration) -> CacheControl
         requires { IsWholeSeconds dur }
         ensures { result ≡ record self { s_max_age = Some (as_nanos dur / 1_000_000_000) } }
@@ -343,7 +345,7 @@ impl CacheControl {
         self
     }
 
-    // Sets the flag where the entry is the name of one.
+    // Sets the flag that the entry names, if any.
     fn add_flag(&mut self, entry: &str)
         ensures flags { Steps (next_flag entry.now) flag_rows self.old self.new }
         ensures numbers { Steps (λ _ number. number) number_rows self.old self.new }
@@ -360,7 +362,7 @@ impl CacheControl {
         set_flag(&mut self.proxy_revalidate, "proxy-revalidate", entry);
     }
 
-    // Puts the number that an entry carries in place of an old one.
+    // Puts the number that the entry carries in place of an old one.
     fn add_number(&mut self, name: &str, value: &str) -> Result<(), Error>
         ensures flags { Steps (λ _ set. set) flag_rows self.old self.new }
         ensures ok { IfOk result (λ _. (entry : List ℕ) → before_first is_equals entry ≡ name.now
@@ -375,8 +377,8 @@ impl CacheControl {
         set_number(&mut self.s_max_age, "s-maxage", name, value)
     }
 
-    // Takes in what an entry directs. It is cut once, in place of once for each number, and is compared
-    // with names of its kind alone.
+    // Adds what an entry directs. The entry is cut once, not once for each number, and is compared
+    // only with names of its kind.
     fn add_entry(&mut self, entry: &str) -> Result<(), Error>
         ensures ok { IfOk result (λ _. (is_bad entry.now ≡ false) × ((es : List (List ℕ)) → self.old ≡ directives es
             → self.new ≡ directives (es ++ entry.now ∷ []))) }
@@ -390,7 +392,7 @@ impl CacheControl {
         Ok(())
     }
 
-    // What the entries before direct, and those of this line.
+    // Adds what the entries of a line direct.
     fn with_line(self, line: &HeaderValue) -> Result<CacheControl, Error>
         ensures ok { IfOk result (λ after. (list_any is_bad (line_entries line.now.bytes) ≡ false)
             × ((es : List (List ℕ)) → self ≡ directives es → after ≡ directives (es ++ line_entries line.now.bytes))) }
@@ -403,7 +405,7 @@ impl CacheControl {
         Ok(after)
     }
 
-    // Each number is one of its type.
+    // Each number is in the range of its type.
     fn numbers_fit(&self)
         ensures { FitRows self.now number_rows }
     {
@@ -451,7 +453,7 @@ pub fn equal_by_encoding(a: &CacheControl, b: &CacheControl) -> bool
     a == b
 }
 
-/// What is written of any directives is read back as them.
+/// Every value is written as a line that reads as it.
 #[tactic(auto, using(crate::specs::CacheControlLaws::reads_written))]
 pub fn directives_read_back(header: &CacheControl)
     ensures { ReadsBy cache_grammar (written_by cache_grammar header.now) header.now }
@@ -459,12 +461,12 @@ pub fn directives_read_back(header: &CacheControl)
     header.numbers_fit();
 }
 
-// A number that is given is one of its type.
+// A number that is set is in the range of its type.
 fn number_fits(number: Option<u64>)
     ensures { FitsOption number }
 {}
 
-// The flag behind a comma and a space, where it is set.
+// The flag behind a comma and a space, if it is set.
 fn push_flag(text: &mut String, flag: &str, set: bool) -> Result<(), AllocError>
     ensures { OnOk result (string_bytes text.new
         ≡ string_bytes text.old ++ behind_commas (print_flag flag.now set)) }
@@ -476,7 +478,7 @@ fn push_flag(text: &mut String, flag: &str, set: bool) -> Result<(), AllocError>
     Ok(())
 }
 
-// The directive and its number behind a comma and a space, where there is one.
+// The directive and its number behind a comma and a space, if it is set.
 fn push_number(text: &mut String, directive: &str, number: Option<u64>) -> Result<(), AllocError>
     ensures { OnOk result (string_bytes text.new
         ≡ string_bytes text.old ++ behind_commas (print_number directive.now number)) }

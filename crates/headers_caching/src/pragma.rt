@@ -39,7 +39,7 @@ impl Pragma {
         self.value.as_bytes() == b"no-cache".as_slice()
     }
 
-    /// The same value, also as to whether it is kept out of logs.
+    /// A copy of the value, sensitive exactly if the original is.
     pub fn clone(&self, _alloc: Global) -> Result<Pragma, AllocError>
         ensures { IfOk result (λ copy. copy ≡ self.now) }
     {

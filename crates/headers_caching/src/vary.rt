@@ -12,7 +12,8 @@ use http_header::{HeaderName, HeaderValue, VARY};
 use std::alloc::{AllocError, Global};
 use std::marker::Model;
 
-/// The request fields that a response was chosen by (RFC 9110, section 12.5.5).
+/// The request fields by which a response was chosen (RFC 9110, section 12.5.5). All lines are
+/// read, joined by a comma and a space, and never refused. Equality goes by the joined bytes.
 #[derive(Debug, PartialEq, Drop)]
 pub struct Vary {
     names: FlatCsv<Comma>,
@@ -27,7 +28,7 @@ impl Model for Vary {
 }
 
 impl Vary {
-    /// `*`: the response was chosen by more than fields of the request.
+    /// `*`: the response was chosen by more than request fields.
     pub fn any() -> Vary
         ensures { result ≡ codes "*" }
     {
@@ -41,7 +42,7 @@ impl Vary {
         Ok(Vary::from_form(FlatCsv::from_value(HeaderValue::from_name(name))))
     }
 
-    /// The names of an iterator, joined by a comma and a space; its size hint is not read.
+    /// Joins the names of an iterator by a comma and a space. Its size hint isn't read.
     pub fn from_iter<I: Iterator<Item = HeaderName> + Drop>(
         alloc: Global,
         names: I,
@@ -63,7 +64,7 @@ impl Vary {
         self.names.iter().any(|item| item == "*")
     }
 
-    /// The items, as slices of the value; a value that is no text has none.
+    /// The items, as slices of the value. A value that isn't text has none.
     pub fn iter_strs(&self) -> Items<'_, Comma>
         ensures items { items_left result ≡ items comma self.now }
         ensures fresh { result ≡ walk_over comma self.now }
@@ -75,7 +76,7 @@ impl Vary {
         self.names.iter()
     }
 
-    /// The same value.
+    /// A copy of the value.
     pub fn clone(&self, alloc: Global) -> Result<Vary, AllocError>
         ensures { IfOk result (λ copy. copy ≡ self.now) }
     {

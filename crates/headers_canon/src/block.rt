@@ -17,7 +17,8 @@ use headers::{
 };
 use std::alloc::{AllocError, Global};
 
-// The lines that stand for those under the name of a typed header, or `None` if it refuses them.
+// The lines to print for a typed header: what it writes of the value that the lines under its name
+// read, or `None` if it refuses them.
 fn typed_block<H: Header>(
     alloc: Global,
     map: &HeaderMap,
@@ -48,8 +49,8 @@ fn kept_block(
     Ok(lines)
 }
 
-/// The lines that stand for those under the name: what its header writes of the value that they read,
-/// or `None` if its header refuses them. The lines of a name that no header has stay as they came.
+/// The lines to print for a name: what its header writes of the value that the lines read, or
+/// `None` if its header refuses them. The lines of a name that no header has stay as they came.
 pub fn read_block(
     alloc: Global,
     map: &HeaderMap,

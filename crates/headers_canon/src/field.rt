@@ -13,7 +13,7 @@ use std::alloc::{AllocError, Global};
 /// A name and a value.
 pub type Field = (HeaderName, HeaderValue);
 
-// The line without the byte 13 that it ends with, if it does.
+// The line without the byte 13 at its end, if one is there.
 fn without_return(mut line: Bytes) -> Bytes
     ensures { result ≡ without_return line }
 {
@@ -24,7 +24,7 @@ fn without_return(mut line: Bytes) -> Bytes
     line
 }
 
-// The first line, and what follows the byte 10 that ends it, if one does.
+// The first line, and what follows the byte 10 that ends it, if there is one.
 fn cut_line(mut input: Bytes) -> Result<(Bytes, Option<Bytes>), AllocError>
     ensures last { IfOk result (λ cut. IfNone cut.1 (input_lines input ≡ cut.0 ∷ [])) }
     ensures more { IfOk result (λ cut. IfSome cut.1 (λ rest. input_lines input ≡ cut.0 ∷ input_lines rest)) }
@@ -40,7 +40,7 @@ fn cut_line(mut input: Bytes) -> Result<(Bytes, Option<Bytes>), AllocError>
     }
 }
 
-// The bytes without the spaces and tabs at their ends.
+// The bytes without leading and trailing spaces and tabs.
 fn trim(mut bytes: Bytes) -> Bytes
     ensures { result ≡ trim bytes }
 {
@@ -50,7 +50,8 @@ fn trim(mut bytes: Bytes) -> Bytes
     bytes
 }
 
-// The field that the line is, if it is one. It shares the bytes of the line.
+// Reads a field from a line. `None` if the line is no field. The field shares the bytes of the
+// line.
 fn read_field(alloc: Global, mut line: Bytes) -> Result<Option<Field>, AllocError>
     ensures some { IfOk result (λ found. IfSome found (IsField line)) }
     ensures none { IfOk result (λ found. IfNone found (IsNoField line)) }
@@ -71,7 +72,7 @@ fn read_field(alloc: Global, mut line: Bytes) -> Result<Option<Field>, AllocErro
     }
 }
 
-/// The fields before the first empty line (RFC 9112, sections 2.1 and 5), or `None` where a line
+/// The fields before the first empty line (RFC 9112, sections 2.1 and 5), or `None` if a line
 /// before it is no field. They share the bytes of the input.
 pub fn read_fields(alloc: Global, input: Bytes) -> Result<Option<Vec<Field>>, AllocError>
     ensures some { IfOk result (λ found. IfSome found (λ fields. AreFields (section input) fields.items)) }

@@ -10,7 +10,7 @@ use std::io::Read;
 /// The greatest length of an input, in bytes.
 const INPUT_LIMIT: usize = 8_388_608;
 
-/// The whole input. It is refused as `Room` once more than the limit has come, and no more is read.
+/// Reads the whole input. `Room` as soon as more than the limit has come; then no more is read.
 pub fn read_input<R: Read>(alloc: Global, reader: &mut R) -> Result<Vec<u8>, RunError>
     ensures limit { IfOk result (λ input. length input.items ≤ input_limit) }
     ensures read { IfOk result

@@ -5,7 +5,8 @@ ghost use Rattle.std.specs.Io.KnownBytes.{Appends};
 use crate::status::RunError;
 use std::io::Write;
 
-/// Writes the text, and then flushes. Whatever fails, and a write that takes no byte, is `Io` at once.
+/// Writes the text, and then flushes. The first failure, or a write that takes no byte, is `Io`;
+/// nothing is tried again.
 pub fn write_text<W: Write>(writer: &mut W, text: &[u8]) -> Result<(), RunError>
     ensures ok { OnOk result (Appends (W.contents writer.old) (W.contents writer.new) text.now) }
     ensures err { OnErr result ((begun rest : List ℕ) × (text.now ≡ begun ++ rest)

@@ -13,13 +13,13 @@ use std::alloc::Global;
 use std::hash::RandomState;
 use std::io::{Read, Write};
 
-/// Reads an input of at most 8,388,608 bytes, which begins with a header section (RFC 9112, section
-/// 2.1), and writes its canonical text: each name at its first appearance, with its lines. The text is
-/// made whole before the first write, and no failing call is tried again. After `Memory`, `Io` and too
-/// long an input, what the reader has left is open.
+/// Reads an input of at most 8,388,608 bytes that begins with a header section (RFC 9112, section
+/// 2.1), and writes its canonical text: each name at its first appearance, with its lines. The
+/// whole text is made before the first write, and no failing call is tried again. How far the
+/// reader was read is open after `Memory`, after `Io`, and if the input is too long.
 ///
-/// It is `run_with_keys` without keys, so its map hashes with fixed ones: names can be picked that make it
-/// slow.
+/// This is `run_with_keys` without keys. Its map hashes with fixed ones, so names can be picked
+/// that make it slow.
 pub fn run<R: Read, W: Write>(
     alloc: Global,
     reader: &mut R,
@@ -43,7 +43,7 @@ pub fn run<R: Read, W: Write>(
     run_with_keys(alloc, None, reader, writer)
 }
 
-/// `run` over a map that hashes with these keys where names collide.
+/// `run` over a map that hashes with these keys if names collide.
 pub fn run_with_keys<R: Read, W: Write>(
     alloc: Global,
     keys: Option<RandomState>,

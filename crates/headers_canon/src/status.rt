@@ -6,12 +6,12 @@ use http_header::HeaderMapError;
 use std::alloc::{AllocError, AllocFailed};
 use std::io;
 
-/// What a run found in an input that is a header section or none.
+/// What a run found in an input that it read whole.
 #[derive(Clone, Copy, Debug, PartialEq, Eq)]
 pub enum Outcome {
     /// Every known header was read.
     Clean,
-    /// The lines of some known header read nothing.
+    /// The lines of some known header were refused.
     SomeRefused,
     /// A line before the first empty one is no field.
     NotAField,

@@ -32,7 +32,7 @@ fn empty_map(alloc: Global, keys: Option<RandomState>) -> HeaderMap
     }
 }
 
-// The fields in one map, and each name where it stands first.
+// The fields in one map, and the names in the order of their first appearance.
 fn collect_fields(
     alloc: Global,
     keys: Option<RandomState>,
@@ -72,7 +72,7 @@ fn print_lines(
     Ok(())
 }
 
-// Prints the mark of a refusal, and the name.
+// Prints `! ` and the name.
 fn print_refusal(text: &mut Vec<u8>, name: &HeaderName) -> Result<(), AllocError>
     ensures { OnOk result (text.new.items ≡ text.old.items ++ block_text name.now None) }
 {
@@ -137,8 +137,8 @@ fn print_fields(
     Ok(print_blocks(alloc, &map, order.as_slice())?)
 }
 
-/// The canonical text of an input, or `None` where a line before the first empty one is no field.
-/// It is refused as `Room` where a header map has no room for the fields. The keys are those of the map.
+/// The canonical text of an input, or `None` if a line before the first empty one is no field.
+/// `Room` if a header map has no room for the fields. The keys are those of the map.
 pub fn canonical_text(
     alloc: Global,
     keys: Option<RandomState>,

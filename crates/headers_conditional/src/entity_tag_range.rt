@@ -38,8 +38,8 @@ fn is_weakly_equal(item: &str, tag: &EntityTag) -> bool
 }
 
 impl EntityTagRange {
-    /// Any, where the lines joined by comma and space are the one byte `*`; else the tags among
-    /// their items.
+    /// Joins the lines by a comma and a space. It is any if that gives the one byte `*`, else the
+    /// tags among the items.
     pub fn from_lines<I: Iterator>(
         alloc: Global,
         lines: &mut I,
@@ -59,7 +59,7 @@ impl EntityTagRange {
         }
     }
 
-    /// What is written of it: `*`, or the value that lists its tags.
+    /// What is written: `*`, or the joined lines.
     pub fn to_value(&self, alloc: Global) -> Result<HeaderValue, AllocError>
         ensures { IfOk result (λ value. value.bytes ≡ range_text self.now) }
     {
@@ -69,7 +69,7 @@ impl EntityTagRange {
         }
     }
 
-    /// The same range again.
+    /// A copy of the range.
     pub fn clone(&self, alloc: Global) -> Result<EntityTagRange, AllocError>
         ensures { IfOk result (λ range. range ≡ self.now) }
     {
@@ -128,7 +128,7 @@ impl FieldForm for EntityTagRange {
     }
 }
 
-/// What is written of a range is read back as it, exactly if it isn't a list that is the one byte `*`.
+/// A range is written as a line that reads as it, unless it is a list of the one byte `*`.
 #[tactic(auto, using(crate::specs::EntityTagRangeLaws::built_back))]
 pub fn tag_ranges_read_back()
     ensures { (range : Range) → ReadsBy tags_grammar (written_by tags_grammar range) range ↔ range ≢ Tags star }

@@ -11,7 +11,8 @@ use std::alloc::{AllocError, Global};
 use std::fmt;
 use std::marker::Model;
 
-/// The entity tag of the representation that a response carries (RFC 9110, section 8.8.3).
+/// The entity tag of the representation that a response carries: the only line, which is refused if
+/// it is no entity tag (RFC 9110, section 8.8.3). Equality goes by the bytes.
 #[derive(Debug, Drop, PartialEq, Eq)]
 pub struct ETag {
     tag: EntityTag,
@@ -42,8 +43,8 @@ impl fmt::Display for InvalidETag {
 impl std::error::Error for InvalidETag {}
 
 impl ETag {
-    /// The tag that a text writes, which may have letters past ASCII. `InvalidETag` where the text is
-    /// no header value or no entity tag.
+    /// The tag in a text, which may have characters past ASCII. `InvalidETag` if the text is no
+    /// header value or no entity tag.
     pub fn from_str(alloc: Global, text: &str) -> Result<ETag, Refused<InvalidETag>>
         ensures text { ReadsText text.now result }
         ensures no_value { ¬ (IsFieldValue text.now) → IsInvalid result }
@@ -68,7 +69,7 @@ impl ETag {
         self.tag.view().is_weak()
     }
 
-    /// The same tag again.
+    /// A copy of the tag.
     pub fn clone(&self, alloc: Global) -> Result<ETag, AllocError>
         ensures { IfOk result (λ etag. etag ≡ self.now) }
     {
@@ -83,7 +84,7 @@ pub fn tag_of(etag: &ETag) -> &EntityTag
     &etag.tag
 }
 
-/// The entity tag that a header carries, out of it.
+/// The entity tag that a header carries, moved out of it.
 pub fn into_tag(etag: ETag) -> EntityTag
     ensures { result ≡ etag }
 {

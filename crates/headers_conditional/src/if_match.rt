@@ -18,8 +18,9 @@ use http_header::{HeaderName, IF_MATCH};
 /// A request is to be served only if the target has one of these entity tags (RFC 9110, section
 /// 13.1.1).
 ///
-/// All lines are read, joined by a comma and a space: `*` alone is any tag, and else the items that
-/// are entity tags are named. Equality goes by what is written.
+/// All lines are read, joined by a comma and a space, and never refused. `*` alone is any tag.
+/// Otherwise the items that are entity tags count, and other items are ignored. Equality goes by
+/// what is written.
 pub type IfMatch = TagCondition<IfMatchField>;
 
 /// The field of `IfMatch`.
@@ -54,9 +55,9 @@ impl TagCondition<IfMatchField> {
     }
 }
 
-/// The condition that is made from a tag that is text passes for the tags that are strongly equal, and
-/// so for that tag exactly if it isn't weak; a tag with a byte past ASCII makes one that passes for no
-/// tag.
+/// A condition that is made from a tag that is text passes exactly for the tags that are strongly
+/// equal, and so for that tag exactly if it isn't weak. If the tag has a byte past ASCII, the
+/// condition passes for no tag.
 pub fn if_match_of_own_tag()
     ensures text { (bytes : List ℕ) (parts : TagParts) → IsTag bytes parts → is_text bytes ≡ true
         → (MatchPasses (Tags bytes) bytes ↔ (parts.is_weak ≡ false)) }

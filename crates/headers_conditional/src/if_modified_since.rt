@@ -6,8 +6,8 @@ use headers_core::{Date1, FormHeader};
 use http_header::{HeaderName, IF_MODIFIED_SINCE};
 use std::marker::Model;
 
-/// Asks for a resource only if it has changed since: the only line, a date from 1970 to 9999 in one of
-/// the three formats (RFC 9110, section 13.1.3).
+/// A resource is wanted only if it has changed since: the only line, a date from 1970 to 9999 in
+/// one of the three formats (RFC 9110, section 13.1.3).
 #[derive(Clone, Copy, Debug, PartialEq, Eq, PartialOrd, Ord, Hash)]
 pub struct IfModifiedSince {
     date: Date1,
@@ -22,7 +22,7 @@ impl Model for IfModifiedSince {
 }
 
 impl IfModifiedSince {
-    /// The second, counted from the start of 1970, before the year 10000.
+    /// The date this many seconds after the start of 1970. It must lie before the year 10000.
     pub fn from_unix_secs(secs: u64) -> IfModifiedSince
         requires { IsDated secs }
         ensures { result ≡ secs }
@@ -38,7 +38,7 @@ impl IfModifiedSince {
         self.date.unix_secs()
     }
 
-    /// Whether a change at that second since the start of 1970 is later than the date.
+    /// Whether a change this many seconds after the start of 1970 is later than the date.
     pub fn is_modified(&self, last_modified: u64) -> bool
         ensures { IsTrue result ↔ (self.now < last_modified) }
     {

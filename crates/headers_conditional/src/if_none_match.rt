@@ -17,8 +17,9 @@ use http_header::{HeaderName, IF_NONE_MATCH};
 /// A request is to be served only if the target has none of these entity tags (RFC 9110, section
 /// 13.1.2).
 ///
-/// All lines are read, joined by a comma and a space: `*` alone is any tag, and else the items that
-/// are entity tags are named. Equality goes by what is written.
+/// All lines are read, joined by a comma and a space, and never refused. `*` alone is any tag.
+/// Otherwise the items that are entity tags count, and other items are ignored. Equality goes by
+/// what is written.
 pub type IfNoneMatch = TagCondition<IfNoneMatchField>;
 
 /// The field of `IfNoneMatch`.
@@ -46,8 +47,9 @@ impl TagCondition<IfNoneMatchField> {
     }
 }
 
-/// The condition that is made from a tag that is text passes for the tags that aren't weakly equal, and
-/// so never for that tag; a tag with a byte past ASCII makes one that passes for every tag.
+/// A condition that is made from a tag that is text passes exactly for the tags that aren't weakly
+/// equal, and so never for that tag. If the tag has a byte past ASCII, the condition passes for
+/// every tag.
 pub fn if_none_match_of_own_tag()
     ensures text { (bytes : List ℕ) (parts : TagParts) → IsTag bytes parts → is_text bytes ≡ true
         → ¬ (NoneMatchPasses (Tags bytes) bytes) }

@@ -14,8 +14,9 @@ use http_header::{HeaderName, HeaderValue, IF_RANGE};
 use std::alloc::{AllocError, Global};
 use std::marker::Model;
 
-/// A range is to be sent only of the representation that has this tag or date, and else the whole
-/// (RFC 9110, section 13.1.5).
+/// Ranges are wanted only of the representation with this tag or date, else all of the current one
+/// (RFC 9110, section 13.1.5). The first line is read: an entity tag, or else a date from 1970 to
+/// 9999. Anything else is refused. Equality goes by the tag's bytes or the date.
 #[derive(Debug, Drop, PartialEq)]
 pub struct IfRange {
     named: Named,
@@ -42,7 +43,7 @@ impl Model for IfRange {
 }
 
 impl IfRange {
-    /// The representation with this tag.
+    /// Names the representation with this tag.
     pub fn etag(tag: ETag) -> IfRange
         ensures { result ≡ Tag tag }
     {
@@ -51,8 +52,8 @@ impl IfRange {
         }
     }
 
-    /// The representation that was last modified at that second, counted from the start of 1970, before
-    /// the year 10000.
+    /// Names the representation that was last modified this many seconds after the start of 1970.
+    /// The date must lie before the year 10000.
     pub fn date(secs: u64) -> IfRange
         requires { IsDated secs }
         ensures { result ≡ Second secs }
@@ -62,9 +63,9 @@ impl IfRange {
         }
     }
 
-    /// Whether the representation with this tag and this time is another than the one that is named.
-    /// For a date: no time is given, or it is later. For a tag: none is given, or the two aren't
-    /// strongly equal.
+    /// Whether a representation with this tag and this time differs from the one that is named. If
+    /// a date is named: the time is absent or later. If a tag is named: the tag is absent, or the
+    /// two aren't strongly equal.
     pub fn is_modified(&self, etag: Option<&ETag>, last_modified: Option<&LastModified>) -> bool
         ensures { IsTrue result ↔ IsModified self.now etag.entry last_modified.entry }
     {
@@ -80,7 +81,7 @@ impl IfRange {
         }
     }
 
-    /// The same again.
+    /// A copy of the value.
     pub fn clone(&self, alloc: Global) -> Result<IfRange, AllocError>
         ensures { IfOk result (λ copy. copy ≡ self.now) }
     {
@@ -94,7 +95,7 @@ impl IfRange {
         }
     }
 
-    // An entity tag, and any other value is to show a date.
+    // An entity tag. Any other value must be a date.
     fn from_val(alloc: Global, value: &HeaderValue) -> Result<Option<IfRange>, AllocError>
         ensures { IfOk result (λ found. option_map unmarked found ≡ validator value.now.bytes) }
     {
@@ -149,7 +150,8 @@ impl Header for IfRange {
     }
 }
 
-/// What is written of a tag whose bytes are one, and of a date that reads as it stands, is read back as it.
+/// Each tag that is an entity tag, and each date whose text reads as it, is written as a line that
+/// reads as it.
 #[tactic(auto, using(crate::specs::IfRangeLaws::tag_back, crate::specs::IfRangeLaws::second_back))]
 pub fn if_range_reads_back()
     ensures tag { (value : FieldValue) → is_tag value.bytes ≡ true

@@ -6,8 +6,8 @@ use headers_core::{Date1, FormHeader};
 use http_header::{HeaderName, IF_UNMODIFIED_SINCE};
 use std::marker::Model;
 
-/// Asks for something only if a resource has not changed since: the only line, a date from 1970 to
-/// 9999 in one of the three formats (RFC 9110, section 13.1.4).
+/// A request is to be served only if the resource hasn't changed since: the only line, a date from
+/// 1970 to 9999 in one of the three formats (RFC 9110, section 13.1.4).
 #[derive(Clone, Copy, Debug, PartialEq, Eq, PartialOrd, Ord, Hash)]
 pub struct IfUnmodifiedSince {
     date: Date1,
@@ -22,7 +22,7 @@ impl Model for IfUnmodifiedSince {
 }
 
 impl IfUnmodifiedSince {
-    /// The second, counted from the start of 1970, before the year 10000.
+    /// The date this many seconds after the start of 1970. It must lie before the year 10000.
     pub fn from_unix_secs(secs: u64) -> IfUnmodifiedSince
         requires { IsDated secs }
         ensures { result ≡ secs }
@@ -38,7 +38,7 @@ impl IfUnmodifiedSince {
         self.date.unix_secs()
     }
 
-    /// Whether a change at that second since the start of 1970 is no later than the date.
+    /// Whether a change this many seconds after the start of 1970 is no later than the date.
     pub fn precondition_passes(&self, last_modified: u64) -> bool
         ensures { IsTrue result ↔ (last_modified ≤ self.now) }
     {

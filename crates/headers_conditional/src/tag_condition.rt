@@ -9,8 +9,9 @@ use http_header::HeaderName;
 use std::alloc::{AllocError, Global};
 use std::marker::{Model, PhantomData};
 
-/// The entity tags that a condition names. All lines are read, joined by a comma and a space: `*` alone
-/// is any tag, and else the items that are entity tags are named. Equality goes by what is written.
+/// The entity tags that a condition names. All lines are read, joined by a comma and a space, and
+/// never refused. `*` alone is any tag. Otherwise the items that are entity tags count, and other
+/// items are ignored. Equality goes by what is written.
 #[derive(Debug, Drop, PartialEq)]
 pub struct TagCondition<N: NamedField> {
     tags: EntityTagRange,
@@ -35,7 +36,7 @@ impl<N: NamedField> TagCondition<N> {
         TagCondition::from_form(EntityTagRange::Any)
     }
 
-    /// The same condition.
+    /// A copy of the condition.
     pub fn clone(&self, alloc: Global) -> Result<TagCondition<N>, AllocError>
         ensures { IfOk result (λ copy. copy ≡ self.now) }
     {

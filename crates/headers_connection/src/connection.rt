@@ -12,7 +12,8 @@ use http_header::{CONNECTION, HeaderName};
 use std::alloc::{AllocError, Global};
 use std::marker::Model;
 
-/// The options that the sender wants for this connection (RFC 9110, section 7.6.1).
+/// The options that the sender wants for this connection (RFC 9110, section 7.6.1). All lines are
+/// read, joined by a comma and a space, and never refused.
 #[derive(Debug, Drop)]
 pub struct Connection {
     options: FlatCsv<Comma>,
@@ -80,21 +81,21 @@ impl Connection {
         Connection::from_form(FlatCsv::from_word("close"))
     }
 
-    /// The connection is kept.
+    /// The connection is kept open.
     pub fn keep_alive() -> Connection
         ensures { result ≡ codes "keep-alive" }
     {
         Connection::from_form(FlatCsv::from_word("keep-alive"))
     }
 
-    /// The sender offers or answers another protocol.
+    /// The message has an Upgrade field (RFC 9110, section 7.8).
     pub fn upgrade() -> Connection
         ensures { result ≡ codes "upgrade" }
     {
         Connection::from_form(FlatCsv::from_word("upgrade"))
     }
 
-    /// The names of an iterator, joined by a comma and a space; its size hint is not read.
+    /// Joins the names of an iterator by a comma and a space. Its size hint isn't read.
     pub fn from_iter<I: Iterator<Item = HeaderName> + Drop>(
         alloc: Global,
         names: I,
@@ -120,7 +121,7 @@ impl Connection {
             .any(|item| same_but_for_case(item, option))
     }
 
-    /// The same value.
+    /// A copy of the value.
     pub fn clone(&self, alloc: Global) -> Result<Connection, AllocError>
         ensures { IfOk result (λ copy. copy ≡ self.now) }
     {

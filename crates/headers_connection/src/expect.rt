@@ -4,14 +4,15 @@ use headers_core::{AsHeaderValue, Error, Header, Refused, only_word};
 use http_header::{EXPECT, HeaderName, HeaderValue};
 use std::alloc::{AllocError, Global};
 
-/// What a request wants of the server: its only line is `100-continue` (RFC 9110, section 10.1.1).
+/// What a request expects of the server: the only line, which is `100-continue`; anything else is
+/// refused (RFC 9110, section 10.1.1).
 #[derive(Clone, Debug, Drop, PartialEq)]
 pub struct Expect {
     _priv: (),
 }
 
 impl Expect {
-    /// An interim response before the content is sent.
+    /// The client waits for an interim response before it sends the content.
     pub const CONTINUE: Expect = Expect { _priv: () };
 }
 

@@ -7,7 +7,8 @@ use http_header::{HeaderName, TE};
 use std::alloc::{AllocError, Global};
 use std::marker::Model;
 
-/// The transfer codings that a client takes (RFC 9110, section 10.1.4).
+/// The transfer codings that a client accepts (RFC 9110, section 10.1.4). All lines are read,
+/// joined by a comma and a space, and never refused. Equality goes by the joined bytes.
 #[derive(Debug, PartialEq, Drop)]
 pub struct Te {
     codings: FlatCsv<Comma>,
@@ -22,14 +23,14 @@ impl Model for Te {
 }
 
 impl Te {
-    /// The client takes trailers.
+    /// The client accepts trailers.
     pub fn trailers() -> Te
         ensures { result ≡ codes "trailers" }
     {
         Te::from_form(FlatCsv::from_word("trailers"))
     }
 
-    /// The same value.
+    /// A copy of the value.
     pub fn clone(&self, alloc: Global) -> Result<Te, AllocError>
         ensures { IfOk result (λ copy. copy ≡ self.now) }
     {

@@ -13,7 +13,8 @@ use memchr::memrchr;
 use std::alloc::{AllocError, Global};
 use std::marker::Model;
 
-/// The codings that frame a message, in order (RFC 9112, section 6.1).
+/// The transfer codings that were applied to the content to form the message body, in order (RFC
+/// 9112, section 6.1). All lines are read, joined by a comma and a space, and never refused.
 #[derive(Debug, Drop)]
 pub struct TransferEncoding {
     codings: FlatCsv<Comma>,
@@ -52,8 +53,8 @@ impl TransferEncoding {
         TransferEncoding::from_form(FlatCsv::from_word("chunked"))
     }
 
-    /// Whether the list ends in `chunked`: what follows the last comma of the last item, or the whole
-    /// item if it has none, is that word when trimmed. A value that isn't text isn't chunked.
+    /// Whether the list ends in `chunked`: the last item, or what follows its last comma if it has
+    /// one, is that word when trimmed. A value that isn't text isn't chunked.
     pub fn is_chunked(&self) -> bool
         ensures answer { IsTrue result ↔ IsChunked (items comma self.now) }
         ensures cuts { SurvivesCuts comma
@@ -63,7 +64,7 @@ impl TransferEncoding {
         self.codings.as_text().is_some_and(ends_in_chunked)
     }
 
-    /// The same value.
+    /// A copy of the value.
     pub fn clone(&self, alloc: Global) -> Result<TransferEncoding, AllocError>
         ensures { IfOk result (λ copy. copy ≡ self.now) }
     {

@@ -32,7 +32,7 @@ impl Upgrade {
         Upgrade::from_form(HeaderValue::from_static("websocket"))
     }
 
-    /// The same value, also as to whether it is kept out of logs.
+    /// A copy of the value, sensitive exactly if the original is.
     pub fn clone(&self, _alloc: Global) -> Result<Upgrade, AllocError>
         ensures { IfOk result (λ copy. copy ≡ self.now) }
     {

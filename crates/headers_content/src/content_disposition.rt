@@ -13,7 +13,7 @@ use std::marker::Model;
 /// How content is to be shown: the first line, whatever it is, as it came (RFC 6266, section 4).
 ///
 /// Its disposition is what stands before the first semicolon, compared byte for byte. A line that
-/// is not text has none.
+/// isn't text has none.
 #[derive(Debug, Drop)]
 pub struct ContentDisposition {
     value: HeaderValue,
@@ -35,21 +35,21 @@ impl ContentDisposition {
         ContentDisposition::from_form(HeaderValue::from_static("inline"))
     }
 
-    /// Whether the disposition is `inline`: to be shown in its place.
+    /// Whether the disposition is `inline`: the content is to be shown in place.
     pub fn is_inline(&self) -> bool
         ensures { IsTrue result ↔ (disposition_of self.now.bytes ≡ Some (codes "inline")) }
     {
         self.has_disposition("inline")
     }
 
-    /// Whether the disposition is `attachment`: to be saved.
+    /// Whether the disposition is `attachment`: the content is to be saved.
     pub fn is_attachment(&self) -> bool
         ensures { IsTrue result ↔ (disposition_of self.now.bytes ≡ Some (codes "attachment")) }
     {
         self.has_disposition("attachment")
     }
 
-    /// Whether the disposition is `form-data`: a part of a form (RFC 7578).
+    /// Whether the disposition is `form-data`: the content is a part of a form (RFC 7578).
     pub fn is_form_data(&self) -> bool
         ensures { IsTrue result ↔ (disposition_of self.now.bytes ≡ Some (codes "form-data")) }
     {
@@ -62,7 +62,7 @@ impl ContentDisposition {
         read_text(&self.value).is_some_and(|text| before_semicolon(text) == word)
     }
 
-    /// The same value, also as to whether it is kept out of logs.
+    /// A copy of the value, sensitive exactly if the original is.
     pub fn clone(&self, _alloc: Global) -> Result<ContentDisposition, AllocError>
         ensures { IfOk result (λ copy. copy ≡ self.now) }
     {
@@ -88,7 +88,7 @@ impl FormHeader for ContentDisposition {
     }
 }
 
-// What stands before the first semicolon, or all where there is none.
+// What stands before the first semicolon, or all if there is none.
 fn before_semicolon(text: &str) -> &str
     ensures { result.now ≡ before_first (λ b. b == semicolon) text.now }
 {

@@ -9,7 +9,8 @@ use http_header::{CONTENT_ENCODING, HeaderName};
 use std::alloc::{AllocError, Global};
 use std::marker::Model;
 
-/// The codings that were applied to the content, in order (RFC 9110, section 8.4).
+/// The codings that were applied to the content, in order (RFC 9110, section 8.4). All lines are
+/// read, joined by a comma and a space, and never refused.
 #[derive(Debug, Drop)]
 pub struct ContentEncoding {
     codings: FlatCsv<Comma>,
@@ -45,7 +46,7 @@ impl ContentEncoding {
         ContentEncoding::from_form(FlatCsv::from_word("zstd"))
     }
 
-    /// Whether some item is the coding, with case.
+    /// Whether some item is the coding, compared with case.
     pub fn contains(&self, coding: &str) -> bool
         ensures answer { IsTrue result ↔ Contains (items comma self.now) coding.now }
         ensures cuts { SurvivesCuts comma
@@ -55,7 +56,7 @@ impl ContentEncoding {
         self.codings.iter().any(|item| item == coding)
     }
 
-    /// The same value.
+    /// A copy of the value.
     pub fn clone(&self, alloc: Global) -> Result<ContentEncoding, AllocError>
         ensures { IfOk result (λ copy. copy ≡ self.now) }
     {

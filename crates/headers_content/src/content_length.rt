@@ -4,8 +4,8 @@ use headers_core::{AsHeaderValue, Error, Header, Refused, read_number};
 use http_header::{CONTENT_LENGTH, HeaderName, HeaderValue};
 use std::alloc::{AllocError, Global};
 
-/// The length of a body, in bytes below 2^64: all lines, each the same number (RFC 9110, section
-/// 8.6).
+/// The length of the content in bytes, below 2^64: all lines, each of which is the same number;
+/// anything else is refused (RFC 9110, section 8.6).
 #[derive(Clone, Copy, Debug, PartialEq)]
 pub struct ContentLength(pub u64);
 

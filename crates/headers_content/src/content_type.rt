@@ -11,8 +11,8 @@ use std::alloc::{AllocError, Global};
 use std::fmt;
 use std::marker::Model;
 
-/// The media type of the content: the first line, which is text and a media type (RFC 9110, section
-/// 8.3). It is written in canonical form, by which equality goes.
+/// The media type of the content: the first line, which is refused if it is no media type (RFC
+/// 9110, section 8.3). It is written in canonical form. Equality goes by that form.
 #[derive(Debug, Drop, PartialEq)]
 pub struct ContentType {
     mime: Mime,
@@ -92,7 +92,7 @@ impl ContentType {
         ContentType::from(Mime::APPLICATION_OCTET_STREAM)
     }
 
-    /// The media type that a text reads as. `Invalid` if the text is no media type.
+    /// Reads a media type. `Invalid` if the text is none.
     pub fn from_str(alloc: Global, text: &str) -> Result<ContentType, Refused<Error>>
         ensures { ReadsMime text.now result }
     {
@@ -102,7 +102,7 @@ impl ContentType {
         }
     }
 
-    /// The same media type.
+    /// A copy of the media type.
     pub fn clone(&self, alloc: Global) -> Result<ContentType, AllocError>
         ensures { IfOk result (λ copy. copy ≡ self.now) }
     {
@@ -183,7 +183,7 @@ impl Header for ContentType {
     }
 }
 
-/// What is written of any value reads as that value.
+/// Every value is written as a line that reads as it.
 pub fn content_type_reads_back(header: &ContentType)
     ensures { ReadsType (type_line header.now) header.now }
 {

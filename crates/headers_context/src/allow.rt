@@ -8,7 +8,8 @@ use http_header::{ALLOW, HeaderName};
 /// The methods that a resource supports (RFC 9110, section 10.2.1). `iter` gives the items that are
 /// methods.
 ///
-/// All lines are read, joined by a comma and a space; none refuses. Equality goes by the joined bytes.
+/// All lines are read, joined by a comma and a space, and never refused. Equality goes by the
+/// joined bytes.
 pub type Allow = ListHeader<AllowField>;
 
 /// The field of `Allow`.

@@ -6,8 +6,8 @@ use headers_core::NamedField;
 use http_header::{HeaderName, REFERER};
 use std::fmt;
 
-/// Where the target of a request came from: the only line, which is text (RFC 9110, section
-/// 10.1.3). Equality goes by the bytes.
+/// The resource from which the target of the request was taken: the only line, which is refused if
+/// it isn't text (RFC 9110, section 10.1.3). Equality goes by the bytes.
 pub type Referer = TextHeader<RefererField>;
 
 /// The field of `Referer`.
@@ -24,7 +24,7 @@ impl TextField for RefererField {
     type Invalid = InvalidReferer;
 }
 
-/// The text holds a control other than tab, and so is no header value.
+/// The text has a control character other than tab, so it is no header value.
 #[derive(Clone, Copy, Debug, Default, PartialEq, Eq)]
 pub struct InvalidReferer;
 

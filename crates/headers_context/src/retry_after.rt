@@ -11,8 +11,9 @@ use std::alloc::{AllocError, Global};
 use std::marker::Model;
 use std::time::Duration;
 
-/// When to ask again, after a delay or from a date on: the first line, a number of seconds below 2^64
-/// or else a date (RFC 9110, section 10.2.3).
+/// When to ask again: the first line, a delay in seconds below 2^64 or else a date from 1970 to
+/// 9999; anything else is refused (RFC 9110, section 10.2.3). Equality goes by the delay or the
+/// date.
 #[derive(Clone, Debug, Drop, PartialEq, Eq)]
 pub struct RetryAfter {
     after: After,
@@ -39,7 +40,7 @@ impl Model for RetryAfter {
 }
 
 impl RetryAfter {
-    /// From that second on, counted from the start of 1970, before the year 10000.
+    /// From the date this many seconds after the start of 1970. It must lie before the year 10000.
     pub fn date(secs: u64) -> RetryAfter
         requires { IsDated secs }
         ensures { result ≡ Until secs }
@@ -49,7 +50,7 @@ impl RetryAfter {
         }
     }
 
-    /// After a delay that has no part of a second.
+    /// After this delay, which must be whole seconds.
     pub fn delay(duration: Duration) -> RetryAfter
         requires { IsWholeSeconds duration }
         ensures { IsDelay duration result }
@@ -59,7 +60,7 @@ impl RetryAfter {
         }
     }
 
-    // A number is a delay, and any other value is to show a date.
+    // A number is a delay. Any other value must be a date.
     fn from_val(value: &HeaderValue) -> Option<RetryAfter>
         ensures { result ≡ retry_time value.now.bytes }
     {

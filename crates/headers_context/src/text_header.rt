@@ -13,11 +13,12 @@ use std::marker::{Model, PhantomData};
 
 /// The field of a header that is text.
 pub trait TextField: NamedField {
-    /// What `from_str` refuses a text with.
+    /// The error with which `from_str` refuses a text.
     type Invalid: Default;
 }
 
-/// The only line of a field, which is text. Equality, order and hash go by the bytes.
+/// The only line of a field, which is refused if it isn't text. Equality, order and hash go by the
+/// bytes.
 #[derive(Debug, Drop, PartialEq, Eq, PartialOrd, Ord, Hash)]
 pub struct TextHeader<N: TextField> {
     text: HeaderValueString,
@@ -37,7 +38,7 @@ impl<N: TextField> Model for TextHeader<N> {
 }
 
 impl<N: TextField> TextHeader<N> {
-    /// The header of static text: visible ASCII, spaces and tabs.
+    /// The header of a static text, which must be visible ASCII, spaces and tabs.
     pub fn from_static(text: &'static str) -> TextHeader<N>
         requires { IsTrue (is_text text.now) }
         ensures { result ≡ plain_value text.now }
@@ -45,8 +46,8 @@ impl<N: TextField> TextHeader<N> {
         TextHeader::from_form(HeaderValueString::from_static(text))
     }
 
-    /// The header of text that a header value may be, which may also hold characters past ASCII.
-    /// A text with a control other than tab is refused (RFC 9110, section 5.5).
+    /// The header of a text, which may have characters past ASCII. A text with a control character
+    /// other than tab is refused (RFC 9110, section 5.5).
     pub fn from_str(alloc: Global, text: &str) -> Result<TextHeader<N>, Refused<N::Invalid>>
         ensures ok { IfOk result (λ header. header ≡ plain_value text.now) }
         ensures valid { IfOk result (λ _. IsFieldValue text.now) }
@@ -66,7 +67,7 @@ impl<N: TextField> TextHeader<N> {
         self.text.as_str()
     }
 
-    /// The same value, also as to whether it is kept out of logs.
+    /// A copy of the value, sensitive exactly if the original is.
     pub fn clone(&self, alloc: Global) -> Result<TextHeader<N>, AllocError>
         ensures { IfOk result (λ copy. copy ≡ self.now) }
     {

@@ -6,8 +6,8 @@ use headers_core::NamedField;
 use http_header::{HeaderName, USER_AGENT};
 use std::fmt;
 
-/// The software that asks: the only line, which is text (RFC 9110, section 10.1.5). Equality,
-/// order and hash go by its bytes.
+/// The software that asks: the only line, which is refused if it isn't text (RFC 9110, section
+/// 10.1.5). Equality, order and hash go by its bytes.
 pub type UserAgent = TextHeader<UserAgentField>;
 
 /// The field of `UserAgent`.
@@ -24,7 +24,7 @@ impl TextField for UserAgentField {
     type Invalid = InvalidUserAgent;
 }
 
-/// The text holds a control other than tab, and so is no header value.
+/// The text has a control character other than tab, so it is no header value.
 #[derive(Clone, Copy, Debug, Default, PartialEq, Eq)]
 pub struct InvalidUserAgent;
 

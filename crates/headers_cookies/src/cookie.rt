@@ -11,7 +11,8 @@ use http_header::{COOKIE, HeaderName};
 use std::alloc::{AllocError, Global};
 use std::marker::Model;
 
-/// The cookies that a user agent sends back (RFC 6265, section 4.2).
+/// The cookies that a user agent sends back (RFC 6265, section 4.2). All lines are read, joined by
+/// a semicolon and a space, and never refused.
 #[derive(Debug, Drop)]
 pub struct Cookie {
     pairs: FlatCsv<SemiColon>,
@@ -26,7 +27,8 @@ impl Model for Cookie {
 }
 
 impl Cookie {
-    /// The pairs of the items, in order; a value that isn't text has none.
+    /// The names and values of the items, in order. An item without `=` has none, and so has a
+    /// value that isn't text.
     pub fn iter(&self) -> Pairs<'_>
         ensures pairs { pairs_left result ≡ pairs (items semicolon self.now) }
         ensures fresh { result ≡ walk_over semicolon self.now }
@@ -39,7 +41,7 @@ impl Cookie {
         Pairs::new(&self.pairs)
     }
 
-    /// The value of the first pair of a name, if there is one.
+    /// The value of the first pair with this name, if there is one. Names are compared with case.
     pub fn get(&self, name: &str) -> Option<&str>
         ensures answer { option_map (λ value. value.now) result
             ≡ first_value name.now (pairs (items semicolon self.now)) }
@@ -56,7 +58,7 @@ impl Cookie {
         None
     }
 
-    /// How many pairs there are.
+    /// The number of pairs.
     pub fn len(&self) -> usize
         ensures answer { result ≡ length (pairs (items semicolon self.now)) }
         ensures cuts { SurvivesCuts semicolon
@@ -66,7 +68,7 @@ impl Cookie {
         self.iter().count()
     }
 
-    /// The same value.
+    /// A copy of the value.
     pub fn clone(&self, alloc: Global) -> Result<Cookie, AllocError>
         ensures { IfOk result (λ copy. copy ≡ self.now) }
     {

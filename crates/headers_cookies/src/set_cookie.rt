@@ -6,8 +6,8 @@ use http_header::{HeaderName, HeaderValue, SET_COOKIE};
 use std::alloc::{AllocError, Global};
 use std::marker::Model;
 
-/// Cookies to keep, each the line of one: all lines, whatever they are, as they came (RFC 6265,
-/// section 4.1). A line is never joined with another, nor cut.
+/// The cookies to keep, one a line: all lines, whatever they are, as they came (RFC 6265, section
+/// 4.1). A header without lines is refused. Lines are never joined or cut.
 #[derive(Debug, Drop)]
 pub struct SetCookie {
     lines: Vec<HeaderValue>,
@@ -26,7 +26,7 @@ impl Model for SetCookie {
 }
 
 impl SetCookie {
-    /// The same lines, also as to which are kept out of logs.
+    /// A copy of the lines, each sensitive exactly if the original is.
     pub fn clone(&self, alloc: Global) -> Result<SetCookie, AllocError>
         ensures { IfOk result (λ copy. copy ≡ self.now) }
     {

@@ -1,4 +1,4 @@
-//! Which values that no line gave, as those that a constructor makes, are read back.
+//! Which values that were not read from lines, as those that a constructor makes, read back.
 ghost use Rattle.std.specs.Prelude.{◌↔◌, IsTrue};
 ghost use Rattle.headers_syntax.specs.EntityTag.{is_tag};
 ghost use Rattle.headers_syntax.specs.Lines.{Line};
@@ -13,18 +13,18 @@ use headers_items::{FlatCsv, Separator};
 use headers_syntax::{EntityTag, HeaderValueString};
 use http_header::HeaderValue;
 
-/// Of a header that keeps the first line, every value.
+/// For a header that keeps the first line: every value.
 pub fn lines_read_back<H: FormHeader<Form = HeaderValue>>()
     ensures { (header : H) → ⟦<H as Header>⟧.reads (⟦<H as Header>⟧.writes header) header }
 {}
 
-/// Of what a header keeps that merges its lines, every list.
+/// For a header that merges its lines: every list.
 pub fn lists_read_back<S: Separator>()
     ensures { (list : Line) → ReadsBy ⟦<FlatCsv<S> as FieldForm>⟧.grammar
         (written_by ⟦<FlatCsv<S> as FieldForm>⟧.grammar list) list }
 {}
 
-/// Of a header that is one word, that word, whether the only line is read or the first.
+/// For a header that is one word: that word, whether the only line is read or the first.
 pub fn words_read_back()
     ensures only { (word : Line) → let grammar = only_word word (λ (kept : Line). kept) in
         ReadsBy grammar (written_by grammar word) word }
@@ -32,13 +32,13 @@ pub fn words_read_back()
         ReadsBy grammar (written_by grammar word) word }
 {}
 
-/// Of a header that keeps a text, exactly the values whose bytes are text.
+/// For a header that keeps a text: exactly the values whose bytes are text.
 pub fn texts_read_back<H: FormHeader<Form = HeaderValueString>>()
     ensures { (header : H) → ⟦<H as Header>⟧.reads (⟦<H as Header>⟧.writes header) header
         ↔ IsTrue (is_text (H.form header).bytes) }
 {}
 
-/// Of a header that keeps an entity tag, exactly the values whose bytes are an entity tag.
+/// For a header that keeps an entity tag: exactly the values whose bytes are an entity tag.
 pub fn tags_read_back<H: FormHeader<Form = EntityTag>>()
     ensures { (header : H) → ⟦<H as Header>⟧.reads (⟦<H as Header>⟧.writes header) header
         ↔ IsTrue (is_tag (H.form header).bytes) }

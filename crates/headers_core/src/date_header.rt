@@ -8,7 +8,7 @@ use headers_syntax::Date1;
 use http_header::HeaderName;
 use std::marker::{Model, PhantomData};
 
-/// The only line of a field, which is a date from 1970 to 9999 in one of the three formats (RFC 9110,
+/// The only line of a field: a date from 1970 to 9999 in one of the three formats (RFC 9110,
 /// section 5.6.7). Equality, order and hash go by the second.
 #[derive(Clone, Copy, Debug, Drop, PartialEq, Eq, PartialOrd, Ord, Hash)]
 pub struct DateHeader<N: NamedField> {
@@ -27,7 +27,7 @@ impl<N: NamedField> Model for DateHeader<N> {
 }
 
 impl<N: NamedField> DateHeader<N> {
-    /// The second, counted from the start of 1970, before the year 10000.
+    /// The date this many seconds after the start of 1970. It must lie before the year 10000.
     pub fn from_unix_secs(secs: u64) -> DateHeader<N>
         requires { IsDated secs }
         ensures { result ≡ secs }

@@ -22,8 +22,8 @@ pub trait FieldForm: Drop {
     // Which value the lines of a field read, if any, and which lines are written of a value.
     ghost grammar: { Grammar Self Kept };
 
-    /// The value that the lines read: `Invalid` if they read none, `Memory` if the allocator had
-    /// none.
+    /// The value that the lines read: `Invalid` if they read none, `Memory` if the allocator had no
+    /// memory.
     fn read_lines<I: Iterator>(alloc: Global, lines: &mut I) -> Result<Self, Refused<Error>>
     where
         I::Item: AsHeaderValue,

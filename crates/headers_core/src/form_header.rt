@@ -7,7 +7,7 @@ use headers_syntax::{AsHeaderValue, Error, Refused};
 use http_header::{HeaderName, HeaderValue};
 use std::alloc::{AllocError, Global};
 
-/// A header that keeps one form, and so is a `Header`.
+/// A header that keeps one form under a name. Every such type is a `Header`.
 pub trait FormHeader: Drop {
     /// What it keeps.
     type Form: FieldForm;

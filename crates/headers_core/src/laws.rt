@@ -1,4 +1,4 @@
-//! What follows for every header from the laws of `Header` alone.
+//! What follows from the laws of `Header` alone, for every header.
 ghost use Rattle.std.specs.Prelude.{◌≡◌, ◌↔◌, List, IsTrue};
 ghost use Rattle.headers_syntax.specs.Lines.{Line, lines_of};
 ghost use Rattle.headers_syntax.specs.DecodesTo.{DecodesTo};
@@ -9,7 +9,7 @@ use headers_syntax::{Error, Refused};
 use http_header::HeaderValue;
 use std::alloc::Global;
 
-/// The value that the lines of some values read; `Invalid` if they read none.
+/// Decodes the lines of these values: `Invalid` if they read no value.
 pub fn decode_values<H: Header>(alloc: Global, values: &[HeaderValue]) -> Result<H, Refused<Error>>
     ensures value { DecodesTo H.reads (lines_of values.now) result }
     ensures memory { IsTrue H.free → NeverMemory result }
@@ -23,8 +23,8 @@ pub fn same_by_writes<H: Header>()
         → (H.same v w ↔ (H.writes v ≡ H.writes w)) }
 {}
 
-/// A second encoding is the first: what is written of a value that was read reads as that value,
-/// and whatever it reads as writes the same lines again.
+/// Encoding a second time changes nothing: what is written of a value that was read reads as that
+/// value, and whatever it reads as writes the same lines again.
 pub fn encodes_as_before<H: Header>()
     ensures reads { (lines : List Line) (v : H) → H.reads lines v → H.reads (H.writes v) v }
     ensures writes { (lines : List Line) (v w : H) → H.reads lines v → H.reads (H.writes v) w

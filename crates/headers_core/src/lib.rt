@@ -1,5 +1,5 @@
-//! What every typed header is built on: the trait, the forms that headers keep, and whole the crates
-//! of field syntax and list items.
+//! What every typed header is built on: the trait and the forms that headers keep. The crates of
+//! field syntax and of list items are passed on whole.
 #![tactic(auto)]
 
 mod built;

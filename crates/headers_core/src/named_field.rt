@@ -1,9 +1,9 @@
-//! Names of fields as types.
+//! Field names as types.
 ghost use Rattle.std.specs.Prelude.{List, ℕ};
 
 use http_header::HeaderName;
 
-/// The name of a field as a type, which tells headers apart that are otherwise alike.
+/// The name of a field as a type. It tells apart headers that are otherwise alike.
 pub trait NamedField {
     // The name, in lower case.
     ghost NAME: { List ℕ };

@@ -9,8 +9,8 @@ use http_header::HeaderName;
 use std::marker::{Model, PhantomData};
 use std::time::Duration;
 
-/// The only line of a field, which is a number of seconds below 2^64 (RFC 9111, section 1.2.2).
-/// Equality, order and hash go by the number.
+/// The only line of a field: a number of seconds below 2^64 (RFC 9111, section 1.2.2). Equality,
+/// order and hash go by the number.
 #[derive(Clone, Copy, Debug, Drop, PartialEq, Eq, PartialOrd, Ord, Hash)]
 pub struct SecondsHeader<N: NamedField> {
     seconds: Seconds,
@@ -28,14 +28,14 @@ impl<N: NamedField> Model for SecondsHeader<N> {
 }
 
 impl<N: NamedField> SecondsHeader<N> {
-    /// So many seconds.
+    /// This many seconds.
     pub fn from_secs(seconds: u64) -> SecondsHeader<N>
         ensures { result ≡ seconds }
     {
         SecondsHeader::from_form(Seconds::from_secs(seconds))
     }
 
-    /// How many seconds.
+    /// The number of seconds.
     pub fn as_secs(&self) -> u64
         ensures { result ≡ self.now }
     {

@@ -27,7 +27,7 @@ impl<N: NamedField> Model for ValueHeader<N> {
 }
 
 impl<N: NamedField> ValueHeader<N> {
-    /// The same value, also as to whether it is kept out of logs.
+    /// A copy of the value, sensitive exactly if the original is.
     pub fn clone(&self, _alloc: Global) -> Result<ValueHeader<N>, AllocError>
         ensures { IfOk result (λ copy. copy ≡ self.now) }
     {

@@ -4,8 +4,8 @@ use headers_core::{AsHeaderValue, Error, Header, Refused, first_word};
 use http_header::{ACCESS_CONTROL_ALLOW_CREDENTIALS, HeaderName, HeaderValue};
 use std::alloc::{AllocError, Global};
 
-/// A response may be read where its request had credentials: the first line is `true` (Fetch
-/// standard, section 3.3.3).
+/// The response may be read even if its request had credentials: the first line, which is `true`;
+/// anything else is refused (Fetch standard, section 3.3.3).
 #[derive(Clone, Debug, Drop, PartialEq, Eq)]
 pub struct AccessControlAllowCredentials;
 

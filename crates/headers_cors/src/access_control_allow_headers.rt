@@ -14,7 +14,8 @@ use std::marker::Model;
 
 /// The field names that a cross-origin request may carry (W3C CORS, section 5.6).
 ///
-/// All lines are read, joined by a comma and a space; none refuses. Equality goes by the joined bytes.
+/// All lines are read, joined by a comma and a space, and never refused. Equality goes by the
+/// joined bytes.
 #[derive(Debug, PartialEq, Drop)]
 pub struct AccessControlAllowHeaders {
     names: FlatCsv<Comma>,
@@ -31,7 +32,7 @@ impl Model for AccessControlAllowHeaders {
 }
 
 impl AccessControlAllowHeaders {
-    /// The names of an iterator, joined by a comma and a space; its size hint is not read. `iter`
+    /// Joins the names of an iterator by a comma and a space. Its size hint isn't read. `iter`
     /// gives them back.
     pub fn from_iter<I: Iterator<Item = HeaderName> + Drop>(
         alloc: Global,
@@ -46,7 +47,7 @@ impl AccessControlAllowHeaders {
         })
     }
 
-    /// The names before the first item that is none.
+    /// The field names, up to the first item that isn't one.
     pub fn iter(&self, alloc: Global) -> Names<'_>
         ensures answer { result ≡ names (items comma self.now) }
         ensures cuts { SurvivesCuts comma (λ lines left. left ≡ names (items comma (merge comma lines))) }
@@ -55,7 +56,7 @@ impl AccessControlAllowHeaders {
         Names::new(alloc, &self.names)
     }
 
-    /// The same value.
+    /// A copy of the value.
     pub fn clone(&self, alloc: Global) -> Result<AccessControlAllowHeaders, AllocError>
         ensures { IfOk result (λ copy. copy ≡ self.now) }
     {

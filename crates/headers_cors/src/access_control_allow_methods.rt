@@ -5,10 +5,11 @@ use headers_names::{ListField, ListHeader};
 use http::Method;
 use http_header::{ACCESS_CONTROL_ALLOW_METHODS, HeaderName};
 
-/// The methods that a cross-origin request may have (W3C CORS, section 5.5). `iter` gives the items
+/// The methods that a cross-origin request may use (W3C CORS, section 5.5). `iter` gives the items
 /// that are methods.
 ///
-/// All lines are read, joined by a comma and a space; none refuses. Equality goes by the joined bytes.
+/// All lines are read, joined by a comma and a space, and never refused. Equality goes by the
+/// joined bytes.
 pub type AccessControlAllowMethods = ListHeader<AccessControlAllowMethodsField>;
 
 /// The field of `AccessControlAllowMethods`.

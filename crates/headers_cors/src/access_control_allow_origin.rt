@@ -15,8 +15,8 @@ use std::alloc::{AllocError, Global};
 
 /// The origin that may read a response (W3C CORS, section 5.1).
 ///
-/// The only line is read: `*` for any, else an origin as `Origin` reads it. Equality and hash go by
-/// the origin's.
+/// The only line is read: `*` is any origin; otherwise the line must be an origin, as `Origin`
+/// reads it, or is refused. Equality and hash are those of the origin.
 #[derive(Debug, PartialEq, Eq, Hash, Drop)]
 pub struct AccessControlAllowOrigin {
     kind: OriginOrAny,
@@ -39,7 +39,7 @@ impl AccessControlAllowOrigin {
         kind: OriginOrAny::One(Origin::NULL),
     };
 
-    /// The origin; any has none.
+    /// The origin, or `None` for any.
     pub fn origin(&self) -> Option<&Origin>
         ensures { option_copied result ≡ allowed_origin self.now }
     {
@@ -49,7 +49,7 @@ impl AccessControlAllowOrigin {
         }
     }
 
-    /// The origin that a text is, read as a line. The star is refused, and so is a text that is no
+    /// Reads an origin from a text, as from a line. `*` is refused, and so is a text that is no
     /// header value.
     pub fn try_from_str(
         alloc: Global,
@@ -65,7 +65,7 @@ impl AccessControlAllowOrigin {
         }
     }
 
-    /// The same value.
+    /// A copy of the value.
     pub fn clone(&self, alloc: Global) -> Result<AccessControlAllowOrigin, AllocError>
         ensures { IfOk result (λ copy. copy ≡ self.now) }
     {
@@ -100,7 +100,7 @@ impl AccessControlAllowOrigin {
     }
 }
 
-/// What is written of any, or of an origin that some line reads as, is read back.
+/// Any origin, and each origin that some line reads as, is written as a line that reads as it.
 pub fn allow_origin_of_own_text()
     ensures any { (header : Seen) → allowed_origin header ≡ None
         → allow_origin_reads (allow_origin_writes header) header }

@@ -7,7 +7,7 @@ use http_header::{ACCESS_CONTROL_EXPOSE_HEADERS, HeaderName};
 /// The field names of a response that a script may read (W3C CORS, section 5.3). `iter` gives the
 /// items that are field names.
 ///
-/// All lines are read, joined by a comma and a space; none refuses.
+/// All lines are read, joined by a comma and a space, and never refused.
 pub type AccessControlExposeHeaders = ListHeader<AccessControlExposeHeadersField>;
 
 /// The field of `AccessControlExposeHeaders`.

@@ -7,7 +7,7 @@ use http_header::{ACCESS_CONTROL_REQUEST_HEADERS, HeaderName};
 /// The field names that the request to come will carry (W3C CORS, section 5.9). `iter` gives the
 /// items that are field names.
 ///
-/// All lines are read, joined by a comma and a space; none refuses.
+/// All lines are read, joined by a comma and a space, and never refused.
 pub type AccessControlRequestHeaders = ListHeader<AccessControlRequestHeadersField>;
 
 /// The field of `AccessControlRequestHeaders`.

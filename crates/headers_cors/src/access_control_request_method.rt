@@ -14,15 +14,15 @@ use std::alloc::{AllocError, Global};
 
 /// The method of the request to come (W3C CORS, section 5.8).
 ///
-/// The first line is read: a method, as `Method::from_bytes` reads it. Equality and hash go by its
-/// bytes.
+/// The first line is read, and refused if it is no method (RFC 9110, section 9.1). Equality and
+/// hash go by its bytes.
 #[derive(Debug, PartialEq, Eq, Hash, Drop)]
 pub struct AccessControlRequestMethod {
     method: Method,
 }
 
 impl AccessControlRequestMethod {
-    /// The same method.
+    /// A copy of the method.
     pub fn clone(&self, _alloc: Global) -> Result<AccessControlRequestMethod, AllocError>
         ensures { IfOk result (λ copy. copy ≡ self.now) }
     {
@@ -55,7 +55,7 @@ impl AccessControlRequestMethod {
     }
 }
 
-/// What is written of a method is read back.
+/// A method is written as a line that reads as it.
 pub fn request_method_of_own_text()
     ensures { (header : Seen) → IsToken (method_bytes header)
         → request_method_reads (request_method_writes header) header }

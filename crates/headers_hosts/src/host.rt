@@ -14,8 +14,8 @@ use std::fmt;
 
 /// The host that a request is for (RFC 9110, section 7.2).
 ///
-/// The first line is read: an authority of at most 65,534 bytes, as `http_uri` reads it. It is written
-/// as it stands. Equality, order and hash ignore the case of ASCII letters.
+/// The first line is read, and refused if it is no authority of at most 65,534 bytes, as `http_uri`
+/// reads it. It is written as it stands. Equality, order and hash ignore the case of ASCII letters.
 #[derive(Debug, PartialEq, Eq, PartialOrd, Hash, Drop)]
 pub struct Host {
     authority: Authority,
@@ -25,21 +25,21 @@ pub struct Host {
 pub(crate) const MAX_LEN: usize = 65534;
 
 impl Host {
-    /// What follows the last `@`, up to the port. An IPv6 address keeps its brackets.
+    /// The host: what follows the last `@`, up to the port. An IPv6 address keeps its brackets.
     pub fn hostname(&self) -> &str
         ensures { result.now ≡ authority_host (host_bytes self.now) }
     {
         self.authority.host()
     }
 
-    /// What follows the last colon, if it is a number below 65,536.
+    /// The port: what follows the last colon, if it is a number below 65,536.
     pub fn port(&self) -> Option<u16>
         ensures { IsPortNumberOf (host_bytes self.now) result }
     {
         self.authority.port_u16()
     }
 
-    /// The same host.
+    /// A copy of the host.
     pub fn clone(&self, _alloc: Global) -> Result<Host, AllocError>
         ensures { IfOk result (λ copy. copy ≡ self.now) }
     {
@@ -71,8 +71,7 @@ impl Host {
     }
 }
 
-/// What is written of a host that was made of an authority is read back exactly if it has at most
-/// 65,534 bytes.
+/// A host that was made of an authority is read back exactly if it has at most 65,534 bytes.
 pub fn host_of_short_authority()
     ensures { (host : Seen) → IsAuthority (host_bytes host)
         → (host_reads (host_writes host) host ↔ (length (host_bytes host) ≤ 65534)) }

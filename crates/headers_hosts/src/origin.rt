@@ -14,11 +14,12 @@ use http_uri::{Authority, Parts, Scheme, Uri, UriError};
 use std::alloc::{AllocError, Global};
 use std::fmt;
 
-/// Where a request comes from (RFC 6454, section 7).
+/// The origin of a request (RFC 6454, section 7).
 ///
-/// The only line is read: `null`, or at most 65,534 bytes that `http_uri` reads as a URI with scheme
-/// and authority, the path `/` or none, and no query. It is written as `null`, or as scheme, `://` and
-/// authority. Equality and hash ignore the case of ASCII letters.
+/// The only line is read: `null`, or at most 65,534 bytes that `http_uri` reads as a URI with a
+/// scheme and an authority, the path `/` or none, and no query; anything else is refused. It is
+/// written as `null`, or as scheme, `://` and authority. Equality and hash ignore the case of ASCII
+/// letters.
 #[derive(Debug, PartialEq, Eq, Hash, Drop)]
 pub struct Origin {
     kind: OriginOrNull,
@@ -44,7 +45,7 @@ impl fmt::Display for InvalidOrigin {
 
 impl std::error::Error for InvalidOrigin {}
 
-// The origin that a URI is, if it is one.
+// The origin that a URI is. `None` if it is no origin.
 fn origin_of(uri: Uri) -> Option<Origin>
     ensures { MatchOption result ((origin : Seen) → ¬ (IsUriOrigin uri origin)) (IsUriOrigin uri) }
 {
@@ -64,7 +65,7 @@ fn origin_of(uri: Uri) -> Option<Origin>
     }
 }
 
-// Scheme, `://`, host and, if there is one, a colon and the port.
+// The scheme, `://`, the host and, if there is a port, a colon and the port.
 fn parts_string(
     alloc: Global,
     scheme: &str,
@@ -95,7 +96,7 @@ impl Origin {
         }
     }
 
-    /// The scheme; null has the empty one.
+    /// The scheme. That of `null` is empty.
     pub fn scheme(&self) -> &str
         ensures { result.now ≡ origin_scheme self.now }
     {
@@ -105,7 +106,7 @@ impl Origin {
         }
     }
 
-    /// The host; null has the empty one. An IPv6 address keeps its brackets.
+    /// The host. That of `null` is empty. An IPv6 address keeps its brackets.
     pub fn hostname(&self) -> &str
         ensures { result.now ≡ origin_host self.now }
     {
@@ -115,7 +116,7 @@ impl Origin {
         }
     }
 
-    /// What follows the last colon of the authority, if it is a number below 65,536.
+    /// The port: what follows the last colon of the authority, if it is a number below 65,536.
     pub fn port(&self) -> Option<u16>
         ensures { IsPortNumberOfSome (origin_authority self.now) result }
     {
@@ -125,7 +126,7 @@ impl Origin {
         }
     }
 
-    /// The same origin.
+    /// A copy of the origin.
     pub fn clone(&self, _alloc: Global) -> Result<Origin, AllocError>
         ensures { IfOk result (λ copy. copy ≡ self.now) }
     {
@@ -138,8 +139,9 @@ impl Origin {
         Ok(Origin { kind })
     }
 
-    /// The origin of this scheme, host and port. Scheme, `://`, host and, if there is one, a colon and
-    /// the port are read as a line is: `InvalidOrigin` if they are no header value or no origin.
+    /// The origin of this scheme, host and port. The scheme, `://`, the host and, if there is a
+    /// port, a colon and the port are read as a line is. `InvalidOrigin` if they are no header
+    /// value or no origin.
     pub fn try_from_parts(
         alloc: Global,
         scheme: &str,
@@ -157,7 +159,7 @@ impl Origin {
     }
 }
 
-/// The origin that a line is.
+/// Reads an origin from a line.
 pub fn origin_of_line(line: &HeaderValue) -> Result<Origin, Refused<Error>>
     ensures { LineDecodesTo IsOriginLine line.now.bytes result }
 {
@@ -174,7 +176,7 @@ pub fn origin_of_line(line: &HeaderValue) -> Result<Origin, Refused<Error>>
     }
 }
 
-/// The origin that a text is, read as a line; a text that is no header value is none.
+/// Reads an origin from a text, as from a line. A text that is no header value is no origin.
 pub fn origin_of_text(alloc: Global, text: &str) -> Result<Origin, Refused<Error>>
     ensures { LineDecodesTo IsOriginText text.now result }
 {
@@ -211,7 +213,7 @@ pub fn line_of_origin(alloc: Global, origin: &Origin) -> Result<HeaderValue, All
     }
 }
 
-/// What is written of `null`, or of an origin that a text was read as, is read back.
+/// `null`, and each origin that was read from a text, is written as a line that reads as it.
 pub fn origin_of_own_text()
     ensures null { (origin : Seen) → IsTrue (origin_is_null origin)
         → origin_reads (origin_writes origin) origin }

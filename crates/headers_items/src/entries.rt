@@ -11,8 +11,8 @@ use crate::separator::Comma;
 use http_header::HeaderValue;
 use std::marker::Model;
 
-/// The entries of one line: its items by comma that are not empty, each a slice of the line. A line
-/// that is no text has none (RFC 9110, section 5.6.1.2).
+/// The entries of one line: its items by comma that aren't empty, each a slice of the line. A line
+/// that isn't text has none (RFC 9110, section 5.6.1.2).
 #[derive(Drop)]
 pub struct Entries<'a> {
     items: Items<'a, Comma>,
@@ -26,7 +26,7 @@ impl<'a> Model for Entries<'a> {
     ghost view = { λ e. e.items };
 }
 
-// The next item that is not empty.
+// The next item that isn't empty.
 fn next_entry<'a>(items: &mut Items<'a, Comma>) -> Option<&'a str>
     ensures steps { YieldsFirstBy (λ item. item.now) entries_left items.old result items.new }
     ensures scanned { ScansEntry items.old result items.new }
@@ -51,8 +51,8 @@ impl<'a> Entries<'a> {
         }
     }
 
-    /// The next entry, if one is left. The scan stands just past its piece, or at the end of the line
-    /// where no separator ends it or none was left.
+    /// The next entry, if one is left. The scan stands just past its piece, or at the end of the
+    /// line if no separator ends the piece or no entry was left.
     pub fn next(&mut self) -> Option<&'a str>
         ensures steps { YieldsFirstBy (λ item. item.now) entries_left self.old result self.new }
         ensures scanned { ScansEntry self.old result self.new }

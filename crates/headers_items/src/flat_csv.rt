@@ -21,7 +21,7 @@ use std::alloc::{AllocError, Global};
 use std::fmt;
 use std::marker::{Model, PhantomData};
 
-/// The lines of a list field, joined by the separator and one space (RFC 9110, section 5.3; of
+/// The lines of a list field, joined by the separator and one space (RFC 9110, section 5.3; for
 /// cookies RFC 9113, section 8.2.3).
 ///
 /// A contract sees its bytes.
@@ -58,7 +58,7 @@ fn copy_of(alloc: Global, bytes: &[u8], start: usize, end: usize) -> Result<Head
     Ok(HeaderValue::from_known_valid(Bytes::copy_from_slice(alloc, &bytes[start..end])?))
 }
 
-// The items of a value that is text, and else none.
+// The items of a value. A value that isn't text has none.
 pub(crate) fn text_items<S: Separator>(value: &HeaderValue) -> Items<'_, S>
     ensures items { items_left result ≡ items S.BYTE value.now.bytes }
     ensures fresh { result ≡ walk_over S.BYTE value.now.bytes }
@@ -71,7 +71,7 @@ pub(crate) fn text_items<S: Separator>(value: &HeaderValue) -> Items<'_, S>
 }
 
 impl<S: Separator> FlatCsv<S> {
-    /// One value as it is.
+    /// One value, as it stands.
     pub fn from_value(value: HeaderValue) -> FlatCsv<S>
         ensures { result ≡ value.bytes }
     {
@@ -81,9 +81,9 @@ impl<S: Separator> FlatCsv<S> {
         }
     }
 
-    /// The lines in one value; no line gives the empty value, and one line is itself. No size hint is
-    /// read. Where all are text and each but the last has an even number of quotes, the value has the
-    /// items of the lines.
+    /// Joins the lines: no line gives the empty value, and one line is itself. The size hint isn't
+    /// read. If all lines are text and each but the last has an even number of quotes, the value
+    /// has the items of the lines.
     pub fn from_lines<I: Iterator>(alloc: Global, lines: &mut I) -> Result<FlatCsv<S>, AllocError>
     where
         I::Item: AsHeaderValue,
@@ -106,7 +106,7 @@ impl<S: Separator> FlatCsv<S> {
         Ok(FlatCsv::from_value(HeaderValue::from_known_valid(buffer.freeze()?)))
     }
 
-    /// The values of an iterator in one, as `from_lines` joins them; its size hint is not read.
+    /// Joins the values of an iterator as `from_lines` joins lines. Its size hint isn't read.
     pub fn from_items<I: Iterator<Item = HeaderValue> + Drop>(
         alloc: Global,
         items: I,
@@ -119,7 +119,7 @@ impl<S: Separator> FlatCsv<S> {
         FlatCsv::from_lines(alloc, &mut items)
     }
 
-    /// The names of an iterator, as `from_items` joins them.
+    /// Joins the names of an iterator as `from_items` joins values.
     pub fn from_names<I: Iterator<Item = HeaderName> + Drop>(
         alloc: Global,
         names: I,
@@ -131,7 +131,7 @@ impl<S: Separator> FlatCsv<S> {
         FlatCsv::from_items(alloc, names.map(HeaderValue::from_name))
     }
 
-    /// One word as it is; it must be visible ASCII, spaces and tabs.
+    /// One word, as it stands. It must be visible ASCII, spaces and tabs.
     pub fn from_word(word: &'static str) -> FlatCsv<S>
         requires { IsTrue (is_text word.now) }
         ensures { result ≡ word.now }
@@ -139,14 +139,14 @@ impl<S: Separator> FlatCsv<S> {
         FlatCsv::from_value(HeaderValue::from_static(word))
     }
 
-    /// The same value.
+    /// A copy of the value.
     pub fn clone(&self, alloc: Global) -> Result<FlatCsv<S>, AllocError>
         ensures { IfOk result (λ c. c ≡ self.now) }
     {
         Ok(FlatCsv::from_value(self.to_value(alloc)?))
     }
 
-    /// The value where it is text.
+    /// The value as text. `None` if it isn't text.
     pub fn as_text(&self) -> Option<&str>
         ensures { MatchOption result (is_text self.now ≡ false)
             (λ text. (is_text self.now ≡ true) × (text.now ≡ self.now)) }
@@ -169,7 +169,7 @@ impl<S: Separator> FlatCsv<S> {
         self.value.clone()
     }
 
-    /// The items, as slices of the value; a value that is no text has none.
+    /// The items, as slices of the value. A value that isn't text has none.
     pub fn iter(&self) -> Items<'_, S>
         ensures items { items_left result ≡ items S.BYTE self.now }
         ensures fresh { result ≡ walk_over S.BYTE self.now }
@@ -178,9 +178,10 @@ impl<S: Separator> FlatCsv<S> {
         text_items(&self.value)
     }
 
-    /// The value cut at these places, counted in bytes from 0, which are left out; the pieces are not
-    /// trimmed, and no place gives the one value. The places increase and are separators that count,
-    /// as a `Scan` gives them. Joined again, the pieces have the items of the value.
+    /// Cuts the value at these places, which count bytes from 0. The bytes at the places are left
+    /// out, the pieces aren't trimmed, and without a place the value is the only piece. The places
+    /// must increase and be those of separators that count, as a `Scan` gives them. Joined again,
+    /// the pieces have the items of the value.
     pub fn cut_at(&self, alloc: Global, places: &[usize]) -> Result<Vec<HeaderValue>, AllocError>
         requires text { is_text self.now ≡ true }
         requires cuts { AreCuts S.BYTE self.now 0 places.now }

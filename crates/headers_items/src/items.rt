@@ -39,7 +39,7 @@ impl<'a, S: Separator> Model for Items<'a, S> {
     ghost invariant = { λ s. ItemsInvariant S.BYTE s.text.now s.scan s.start s.is_done };
 }
 
-// The next separator at a counting place; the scan passes over the quotes before it.
+// The next separator at a counting place. The scan moves past the quotes before it.
 fn next_cut(scan: &mut Scan<'_>) -> Option<usize>
     requires separator { scan.old.separator ≢ quote }
     requires within { scan.old.place ≤ length scan.old.bytes }
@@ -76,7 +76,7 @@ impl<'a, S: Separator> Items<'a, S> {
         }
     }
 
-    /// What a value that is no text has.
+    /// The walk of a value that isn't text: it has no item.
     pub(crate) fn none() -> Items<'a, S>
         ensures { result ≡ record {
           text = [];
@@ -97,8 +97,8 @@ impl<'a, S: Separator> Items<'a, S> {
         }
     }
 
-    /// The next item, if one is left. The scan stands just past its piece, or at the end of the text
-    /// where no separator ends it or none was left.
+    /// The next item, if one is left. The scan stands just past its piece, or at the end of the
+    /// text if no separator ends the piece or no item was left.
     pub fn next(&mut self) -> Option<&'a str>
         ensures steps { YieldsFirstBy (λ item. item.now) items_left self.old result self.new }
         ensures scanned { ScansPiece self.old result self.new }

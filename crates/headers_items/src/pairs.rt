@@ -1,4 +1,4 @@
-//! The pairs of a value: what stands on both sides of the first `=` of an item.
+//! The pairs of a value: the two sides of the first `=` of each item.
 ghost use Rattle.std.specs.Prelude.{◌≡◌, ◌+◌, ◌≤◌, ◌<◌, ◌^◌, true, length, option_map};
 ghost use Rattle.std.specs.Iterator.{YieldsFirstBy, item_count};
 ghost use Rattle.headers_syntax.specs.Text.{is_text};
@@ -13,8 +13,8 @@ use headers_syntax::trimmed;
 use memchr::memchr;
 use std::marker::Model;
 
-/// The pairs of a list by semicolon: of each item with `=` the trimmed halves round its first `=`
-/// (RFC 6265, section 4.2.1), each a slice of the value.
+/// The pairs of a list by semicolon: for each item with an `=`, the trimmed halves on both sides of
+/// its first `=` (RFC 6265, section 4.2.1). Each half is a slice of the value.
 #[derive(Drop)]
 pub struct Pairs<'a> {
     items: Items<'a, SemiColon>,
@@ -28,7 +28,7 @@ impl<'a> Model for Pairs<'a> {
     ghost view = { λ p. p.items };
 }
 
-// The trimmed halves of an item round its first `=`.
+// The trimmed halves of an item, on both sides of its first `=`.
 fn halves(item: &str) -> Option<(&str, &str)>
     requires { is_text item.now ≡ true }
     ensures { option_map pair_shown result ≡ pair_of item.now }
@@ -59,7 +59,7 @@ fn next_pair<'a>(items: &mut Items<'a, SemiColon>) -> Option<(&'a str, &'a str)>
 }
 
 impl<'a> Pairs<'a> {
-    /// The pairs of a value; a value that is no text has none.
+    /// The pairs of a value. A value that isn't text has none.
     pub fn new(value: &'a FlatCsv<SemiColon>) -> Pairs<'a>
         ensures pairs { pairs_left result ≡ pairs (items semicolon value.now) }
         ensures fresh { result ≡ walk_over semicolon value.now }
@@ -70,8 +70,8 @@ impl<'a> Pairs<'a> {
         }
     }
 
-    /// The next pair, if one is left. The scan stands just past its piece, or at the end of the value
-    /// where no separator ends it or none was left.
+    /// The next pair, if one is left. The scan stands just past its piece, or at the end of the
+    /// value if no separator ends the piece or no pair was left.
     pub fn next(&mut self) -> Option<(&'a str, &'a str)>
         ensures steps { YieldsFirstBy pair_shown pairs_left self.old result self.new }
         ensures scanned { ScansPair self.old result self.new }

@@ -18,7 +18,7 @@ pub struct Mark {
     pub quote: bool,
 }
 
-/// Goes over the quotes of some bytes and over the separators outside quotes, one search a call.
+/// Visits the quotes of some bytes, and the separators outside quotes, by one search a call.
 ///
 /// A contract sees how many searches were made; no code keeps their number.
 #[derive(Drop)]
@@ -66,8 +66,8 @@ fn search_quote_or(separator: u8, bytes: &[u8]) -> Option<usize>
     memchr2(QUOTE, separator, bytes)
 }
 
-// The first quote. One look at the first byte comes before a search, which costs more where marks stand close: a walk
-// over quotes alone takes 0.22 of the time.
+// The first quote. One look at the first byte comes before a search, which costs more if they stand
+// close: a walk over quotes alone takes 0.22 of the time.
 fn first_quote(bytes: &[u8]) -> Option<usize>
     ensures { IsFirstByte (is_byte QUOTE) bytes.now result }
 {
@@ -77,7 +77,7 @@ fn first_quote(bytes: &[u8]) -> Option<usize>
     }
 }
 
-// The first quote or separator, by one look and a search in the same way.
+// The first quote or separator, found in the same way.
 fn first_quote_or(separator: u8, bytes: &[u8]) -> Option<usize>
     ensures { IsFirstByte (is_byte2 QUOTE separator) bytes.now result }
 {
@@ -87,7 +87,8 @@ fn first_quote_or(separator: u8, bytes: &[u8]) -> Option<usize>
     }
 }
 
-// The next quote, or separator at a counting place, from a place on that stands inside quotes or outside.
+// The next quote or separator at a counting place, from a place that stands inside or outside
+// quotes.
 fn find_mark(bytes: &[u8], separator: u8, from: usize, is_open: bool) -> Option<Mark>
     requires separator { separator ≢ QUOTE }
     requires from { from ≤ length bytes.now }
@@ -113,7 +114,7 @@ fn find_mark(bytes: &[u8], separator: u8, from: usize, is_open: bool) -> Option<
 }
 
 impl<'a> Scan<'a> {
-    /// A scan from the first byte on, for a separator that is no quote.
+    /// A scan from the first byte on, for a separator other than a quote.
     pub fn new(bytes: &'a [u8], separator: u8) -> Scan<'a>
         requires { separator ≢ QUOTE }
         ensures { result ≡ record {
@@ -133,8 +134,8 @@ impl<'a> Scan<'a> {
         }
     }
 
-    /// The next quote or counting separator at or after the scan's place, which moves past it. With none
-    /// left the scan moves to the end, and later calls search no more.
+    /// The next quote or counting separator at or after the scan's place, which moves past it. If
+    /// none is left, the scan moves to the end, and later calls make no search.
     pub fn next_mark(&mut self) -> Option<Mark>
         ensures found { FindsMark self.old.separator self.old.bytes self.old.place result }
         ensures place { self.new.place ≡ place_after self.old.bytes result }

@@ -1,30 +1,30 @@
-//! The bytes that part the items of a list.
+//! The bytes that separate the items of a list.
 ghost use Rattle.std.specs.Prelude.{◌≡◌, ℕ};
 ghost use Rattle.headers_items.specs.Separator.{IsSeparator};
 
-/// A byte of text that is no quote, space or tab.
+/// A separator: a byte of text other than a quote, a space or a tab.
 pub trait Separator {
     /// The byte itself.
     const BYTE: u8;
 
     ghost BYTE: { ℕ };
 
-    /// The byte itself, as a function.
+    /// The same byte, for contracts.
     final fn separator_byte() -> u8
         ensures { result ≡ BYTE }
     {
         Self::BYTE
     }
 
-    // It is a byte of text, and no quote, space or tab.
+    // It is a byte of text other than a quote, a space or a tab.
     ghost lawful: { IsSeparator BYTE };
 }
 
-/// Items parted by commas.
+/// Items separated by commas.
 #[derive(Clone, Copy, Debug)]
 pub struct Comma;
 
-/// Items parted by semicolons.
+/// Items separated by semicolons.
 #[derive(Clone, Copy, Debug)]
 pub struct SemiColon;
 

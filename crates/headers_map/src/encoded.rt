@@ -31,8 +31,8 @@ pub fn encoding<H: Header>(alloc: Global, header: &H) -> Result<Encoded, AllocEr
     })
 }
 
-/// The encoding of what the lines under the header's name read. `Ok(None)` is that there is no line,
-/// and `Invalid` that the lines read nothing.
+/// The encoding of the value that the lines under the header's name read. `Ok(None)` if there is no
+/// line, `Invalid` if the lines read no value.
 pub fn canonical<H: Header>(
     alloc: Global,
     map: &HeaderMap,

@@ -24,9 +24,9 @@ pub trait HeaderMapExt: sealed::Sealed {
     // The names of the map, each with its values.
     ghost entries: { Self → Entries FieldValue };
 
-    /// Puts the lines that are written of the header in place of all lines under its name. No line
-    /// leaves the map as it was. If the call is refused, the name has its old lines or a beginning of
-    /// the new ones; other names are never changed.
+    /// Replaces all lines under the header's name by those that are written of the header. If no
+    /// line is written, the map stays as it was. If the call is refused, the name has its old lines
+    /// or the first of the new ones. Other names never change.
     fn typed_insert<H: Header>(&mut self, alloc: Global, header: H) -> Result<(), InsertError>
         ensures ok { OnOk result ((name : List ℕ) → lines_at (entries self.new) name
             ≡ put (lines_at (entries self.old)) H.field_name (H.writes header) name) }
@@ -35,16 +35,16 @@ pub trait HeaderMapExt: sealed::Sealed {
         ensures err { IfErr result
             (IsRefusedPut (entries self.old) (entries self.new) H.field_name (H.writes header)) };
 
-    /// The value that the lines under the header's name read, or `None`: if there is no line, if the
-    /// lines read nothing, or if the allocator had no memory. `typed_try_get` tells these apart.
+    /// The value that the lines under the header's name read. `None` if there is no line, if the
+    /// lines read no value, or if the allocator had no memory; `typed_try_get` tells these apart.
     fn typed_get<H: Header>(&self, alloc: Global) -> Option<H>
         ensures some { IfSome result (λ value. HasLine (lines_at (entries self.now) H.field_name)
             × H.reads (lines_at (entries self.now) H.field_name) value) }
         ensures none { IsTrue H.free → IfNone result
             (ReadsNothing H.reads (lines_at (entries self.now) H.field_name)) };
 
-    /// The value that the lines under the header's name read. `Ok(None)` is that there is no line, and
-    /// `Invalid` that the lines read nothing.
+    /// The value that the lines under the header's name read. `Ok(None)` if there is no line,
+    /// `Invalid` if the lines read no value.
     fn typed_try_get<H: Header>(&self, alloc: Global) -> Result<Option<H>, Refused<Error>>
         ensures value { IsTypedRead H.reads (lines_at (entries self.now) H.field_name) result }
         ensures memory { IsTrue H.free → NeverMemory result };

@@ -15,7 +15,7 @@ use std::fmt;
 pub enum InsertError {
     /// The allocator had no memory.
     Memory,
-    /// The map has no room for the lines: it has as many names or values as it can count.
+    /// The map has no room for the lines: it has as many names or values as it can hold.
     Full,
 }
 
@@ -58,7 +58,7 @@ impl From<HeaderMapError> for InsertError {
     }
 }
 
-// Puts the lines in place of all those under the name. No line leaves the map as it was.
+// Replaces all lines under the name by these. Without a line the map stays as it was.
 pub(crate) fn put_lines(
     map: &mut HeaderMap,
     name: &HeaderName,

@@ -13,7 +13,7 @@ use std::fmt;
 /// One change of a map.
 #[derive(Debug, Drop)]
 pub enum Step {
-    /// Puts the lines in place of all those under the name. No line changes nothing.
+    /// Replaces all lines under the name by these. Without a line nothing changes.
     Put(Encoded),
     /// Removes the name with all its lines.
     Remove(HeaderName),
@@ -22,7 +22,7 @@ pub enum Step {
 /// Which step was refused, and why.
 #[derive(Clone, Copy, Debug, PartialEq, Eq)]
 pub struct ApplyError {
-    /// How many steps are done.
+    /// The number of steps that are done.
     pub done: usize,
     /// Why the next one was refused.
     pub cause: InsertError,
@@ -41,8 +41,8 @@ impl fmt::Display for ApplyError {
 
 impl Error for ApplyError {}
 
-/// Makes the changes in order. If a `Put` is refused, the steps before it are done whole and those
-/// behind it aren't begun.
+/// Takes the steps in order. If a `Put` is refused, the steps before it are done, and those after
+/// it aren't begun.
 pub fn apply(map: &mut HeaderMap, steps: Vec<Step>) -> Result<(), ApplyError>
     ensures ok { OnOk result ((name : List ℕ)
         → lines_at map.new name ≡ run (lines_at map.old) steps.items name) }

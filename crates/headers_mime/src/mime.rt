@@ -18,8 +18,9 @@ enum Text {
     Read(HeaderValue),
 }
 
-/// A media type (RFC 9110, section 8.3.1), by its canonical text: type, subtype and names of
-/// parameters in lower case, and each parameter after a semicolon and a space. Equality goes by it.
+/// A media type (RFC 9110, section 8.3.1), kept as its canonical text: type, subtype and names of
+/// parameters in lower case, each parameter after a semicolon and a space. Equality goes by that
+/// text.
 ///
 /// A contract sees that text.
 #[derive(Drop)]
@@ -111,9 +112,9 @@ impl Mime {
         })
     }
 
-    /// The media type that a text reads as, in canonical form. Spaces and tabs may stand at both ends
-    /// and around a semicolon, and nowhere else outside quotes; a semicolon need have no parameter
-    /// behind it. `Invalid` where the text is no media type.
+    /// Reads a media type, and puts it in canonical form. Spaces and tabs may stand at both ends
+    /// and around a semicolon, and nowhere else outside quotes. A semicolon need not have a
+    /// parameter behind it. `Invalid` if the text is no media type.
     pub fn parse(alloc: Global, text: &str) -> Result<Mime, Refused<Error>>
         ensures { ReadsMime text.now result }
     {
@@ -144,7 +145,7 @@ impl Mime {
         }
     }
 
-    /// The same media type.
+    /// A copy of the media type.
     pub fn clone(&self, _alloc: Global) -> Result<Mime, AllocError>
         ensures { IfOk result (λ copy. copy ≡ self.now) }
     {
@@ -186,8 +187,8 @@ impl fmt::Debug for Mime {
     }
 }
 
-/// A text has one reading at most. The canonical text of a reading reads as its parts in canonical
-/// form, whose canonical text it is.
+/// A text has at most one reading. The canonical text of a reading reads as its parts in canonical
+/// form, and is their canonical text too.
 pub fn media_types_are_read_once()
     ensures once { (text : List ℕ) (m n : MediaType) → IsMediaType text m → IsMediaType text n → m ≡ n }
     ensures back { (text : List ℕ) (m : MediaType) → IsMediaType text m

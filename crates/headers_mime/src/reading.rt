@@ -1,4 +1,4 @@
-//! Media types as they are read from the front on.
+//! Media types, read from the front.
 ghost use Rattle.std.specs.Prelude.{◌≡◌, ◌+◌, ◌≤◌, length, false, IfSome, option_map};
 ghost use Rattle.std.specs.List.{prefix_len};
 ghost use Rattle.std.specs.Option.{option_copied};
@@ -11,7 +11,7 @@ ghost use Rattle.headers_mime.specs.MediaTypeReading.{read_essence, read_shown, 
 use http_header::is_token_char;
 use std::marker::Model;
 
-/// A parameter as it is written; a quoted value has its quotes.
+/// A parameter as it is written. A quoted value keeps its quotes.
 #[derive(Drop)]
 pub struct ParameterRef<'a> {
     pub name: &'a [u8],
@@ -38,7 +38,7 @@ fn is_text(byte: u8) -> bool
     byte == b'\t' || (byte >= b' ' && byte < 0x7f)
 }
 
-// How many spaces and tabs stand at the head.
+// How many spaces and tabs the bytes begin with.
 fn blanks_len(bytes: &[u8]) -> usize
     ensures value { result ≡ prefix_len is_blank bytes.now }
     ensures within { result ≤ length bytes.now }
@@ -51,14 +51,14 @@ fn blanks_len(bytes: &[u8]) -> usize
     bytes.len()
 }
 
-// The bytes without the spaces and tabs at their head.
+// The bytes without leading spaces and tabs.
 fn skip_blanks(bytes: &[u8]) -> &[u8]
     ensures { result.now ≡ trim_start bytes.now }
 {
     &bytes[blanks_len(bytes)..]
 }
 
-// How many bytes of a token stand at the head.
+// How many bytes of a token the bytes begin with.
 fn token_bytes_len(bytes: &[u8]) -> usize
     ensures value { result ≡ prefix_len is_token_byte bytes.now }
     ensures within { result ≤ length bytes.now }
@@ -71,7 +71,7 @@ fn token_bytes_len(bytes: &[u8]) -> usize
     bytes.len()
 }
 
-// How many bytes the token at the head has.
+// The length of the token at the front.
 fn token_len(bytes: &[u8]) -> Option<usize>
     ensures value { result ≡ token_len bytes.now }
     ensures within { IfSome result (λ n. n ≤ length bytes.now) }
@@ -82,7 +82,7 @@ fn token_len(bytes: &[u8]) -> Option<usize>
     }
 }
 
-// How many bytes stand up to the closing quote, and with it.
+// How many bytes stand up to and with the closing quote.
 fn quoted_len(bytes: &[u8]) -> Option<usize>
     ensures value { result ≡ quoted_len false bytes.now }
     ensures within { IfSome result (λ n. n ≤ length bytes.now) }
@@ -100,7 +100,7 @@ fn quoted_len(bytes: &[u8]) -> Option<usize>
     None
 }
 
-// How many bytes the token or the quoted string at the head has.
+// The length of the token or the quoted string at the front.
 #[tactic(auto, unfolding(crate::specs::MediaTypeReading::value_len))]
 fn value_len(bytes: &[u8]) -> Option<usize>
     ensures value { result ≡ value_len bytes.now }
@@ -112,7 +112,7 @@ fn value_len(bytes: &[u8]) -> Option<usize>
     }
 }
 
-// What follows a byte at the head.
+// What follows this byte, if the bytes begin with it.
 fn after_byte(byte: u8, bytes: &[u8]) -> Option<&[u8]>
     ensures { option_copied result ≡ after_byte byte bytes.now }
 {
@@ -122,7 +122,7 @@ fn after_byte(byte: u8, bytes: &[u8]) -> Option<&[u8]>
     }
 }
 
-// The token at the head, and what follows it.
+// The token at the front, and what follows it.
 #[tactic(auto, unfolding(crate::specs::MediaTypeReading::read_token))]
 fn read_token(bytes: &[u8]) -> Option<(&[u8], &[u8])>
     ensures { option_map two_pieces result ≡ read_token bytes.now }
@@ -131,7 +131,7 @@ fn read_token(bytes: &[u8]) -> Option<(&[u8], &[u8])>
     Some(bytes.split_at(len))
 }
 
-// The value at the head, and what follows it.
+// The value at the front, and what follows it.
 #[tactic(auto, unfolding(crate::specs::MediaTypeReading::read_value))]
 fn read_value(bytes: &[u8]) -> Option<(&[u8], &[u8])>
     ensures { option_map two_pieces result ≡ read_value bytes.now }
@@ -140,7 +140,7 @@ fn read_value(bytes: &[u8]) -> Option<(&[u8], &[u8])>
     Some(bytes.split_at(len))
 }
 
-// The parameter at the head, and what follows it.
+// The parameter at the front, and what follows it.
 #[tactic(auto, unfolding(crate::specs::MediaTypeReading::read_parameter))]
 fn read_parameter(bytes: &[u8]) -> Option<(ParameterRef<'_>, &[u8])>
     ensures { option_map read_shown result ≡ read_parameter bytes.now }
@@ -150,7 +150,7 @@ fn read_parameter(bytes: &[u8]) -> Option<(ParameterRef<'_>, &[u8])>
     Some((ParameterRef { name, value }, rest))
 }
 
-// The parameter at the head, if one begins there, and what follows it and blanks.
+// The parameter at the front, if one begins there, and what follows it and blanks.
 #[tactic(auto, unfolding(crate::specs::MediaTypeReading::read_optional))]
 fn read_optional(bytes: &[u8]) -> Option<(Option<ParameterRef<'_>>, &[u8])>
     ensures { option_map read_shown result ≡ read_optional bytes.now }
@@ -164,7 +164,7 @@ fn read_optional(bytes: &[u8]) -> Option<(Option<ParameterRef<'_>>, &[u8])>
     }
 }
 
-/// A semicolon at the head and the parameter behind it, if any, and what follows.
+/// A semicolon at the front with the parameter behind it, if any, and what follows.
 #[tactic(auto, unfolding(crate::specs::MediaTypeReading::read_segment))]
 pub(crate) fn read_segment(bytes: &[u8]) -> Option<(Option<ParameterRef<'_>>, &[u8])>
     ensures { option_map read_shown result ≡ read_segment bytes.now }
@@ -172,7 +172,7 @@ pub(crate) fn read_segment(bytes: &[u8]) -> Option<(Option<ParameterRef<'_>>, &[
     read_optional(skip_blanks(after_byte(b';', bytes)?))
 }
 
-/// Type, subtype and what follows them and blanks.
+/// The type, the subtype, and what follows them and blanks.
 #[tactic(auto, unfolding(crate::specs::MediaTypeReading::read_essence))]
 pub(crate) fn read_essence(bytes: &[u8]) -> Option<(&[u8], &[u8], &[u8])>
     ensures { option_map three_pieces result ≡ read_essence bytes.now }

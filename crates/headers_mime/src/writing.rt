@@ -27,7 +27,7 @@ fn is_charset(name: &[u8]) -> bool
     name.eq_ignore_ascii_case(b"charset")
 }
 
-// Whether all are bytes of a token.
+// Whether each is a byte of a token.
 fn are_token_bytes(bytes: &[u8]) -> bool
     ensures { result ≡ list_all is_token_byte bytes.now }
 {

@@ -1,4 +1,4 @@
-//! Names and methods in lists: how they are joined, and walks over them.
+//! Lists of field names and of methods: how they are joined, and the walks over them.
 #![tactic(auto)]
 
 mod list_header;

@@ -15,12 +15,12 @@ use std::marker::{Model, PhantomData};
 
 /// The field of a list header.
 pub trait ListField: NamedField {
-    /// What an item is read as.
+    /// What its items are read as.
     type Item: ListItem;
 }
 
-/// The lines of a list field, joined by a comma and a space; none refuses. Equality goes by the joined
-/// bytes.
+/// The lines of a list field, joined by a comma and a space, and never refused. Equality goes by
+/// the joined bytes.
 #[derive(Debug, Drop, PartialEq)]
 pub struct ListHeader<N: ListField> {
     list: FlatCsv<Comma>,
@@ -38,7 +38,7 @@ impl<N: ListField> Model for ListHeader<N> {
 }
 
 impl<N: ListField> ListHeader<N> {
-    /// The names or methods of an iterator, joined by a comma and a space; its size hint is not read.
+    /// Joins the names or methods of an iterator by a comma and a space. Its size hint isn't read.
     /// `iter` gives them back.
     pub fn from_iter<I: Iterator<Item = N::Item> + Drop>(
         alloc: Global,
@@ -51,7 +51,7 @@ impl<N: ListField> ListHeader<N> {
         Ok(ListHeader::from_form(list_of(alloc, items)?))
     }
 
-    /// The items that are a name or a method, in order.
+    /// The items that are a name or a method, in order. Other items are skipped.
     pub fn iter(&self, alloc: Global) -> ItemsRead<'_, N::Item>
         ensures answer { result ≡ values N.Item.value_of (items comma self.now) }
         ensures cuts { SurvivesCuts comma
@@ -62,7 +62,7 @@ impl<N: ListField> ListHeader<N> {
         ItemsRead::new(alloc, &self.list)
     }
 
-    /// The same value.
+    /// A copy of the value.
     pub fn clone(&self, alloc: Global) -> Result<ListHeader<N>, AllocError>
         ensures { IfOk result (λ copy. copy ≡ self.now) }
     {

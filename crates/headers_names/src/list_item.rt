@@ -1,4 +1,4 @@
-//! What an item of a list by comma may be read as.
+//! What an item of a list by comma can be read as.
 ghost use Rattle.std.specs.Prelude.{◌≡◌, ℕ, List, [], Option, None, IfOk, IfErr, option_map};
 ghost use Rattle.std.specs.Iterator.{IsFinite};
 ghost use Rattle.headers_names.specs.ListItem.{Reading, ItemWants, ReadsAsItself, ListsValues};
@@ -9,7 +9,7 @@ use http::method::MethodError;
 use http_header::{HeaderName, HeaderNameError, HeaderValue, HeaderValueError};
 use std::alloc::{AllocError, Global};
 
-/// A value that stands as an item of a list: a field name or a method.
+/// A value that an item of a list can be: a field name or a method.
 pub trait ListItem: Drop {
     // The bytes of a value.
     ghost bytes_of: { Self → List ℕ };
@@ -20,12 +20,12 @@ pub trait ListItem: Drop {
     // The values that may want for memory.
     ghost wants: { List ℕ → Type 0 };
 
-    /// The value that an item is, if it is one.
+    /// Reads an item. `Ok(None)` if it is no such value.
     fn from_item(alloc: Global, item: &str) -> Result<Option<Self>, AllocError>
         ensures ok { IfOk result (λ value. option_map bytes_of value ≡ value_of item.now) }
         ensures err { IfErr result (λ _. ItemWants value_of wants item.now) };
 
-    /// The value as a line, which is a token and reads as that value.
+    /// The value as a line. The line is a token, and reads as that value.
     fn into_line(self, alloc: Global) -> Result<HeaderValue, AllocError>
         ensures bytes { IfOk result (λ line. line.bytes ≡ bytes_of self) }
         ensures reads { IfOk result (λ line. ReadsAsItself value_of line.bytes) };
@@ -89,7 +89,8 @@ impl ListItem for Method {
     }
 }
 
-/// The values of an iterator in one list; its size hint is not read. No value gives the empty list.
+/// Joins the values of an iterator to a list. Its size hint isn't read. Without a value the list is
+/// empty.
 pub(crate) fn list_of<T: ListItem, I: Iterator<Item = T> + Drop>(
     alloc: Global,
     values: I,

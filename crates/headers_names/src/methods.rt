@@ -11,7 +11,7 @@ use http::Method;
 /// The items that are methods (RFC 9110, section 9.1).
 pub type Methods<'a> = ItemsRead<'a, Method>;
 
-/// Methods that are joined by commas and spaces are given back by the walk, also if there are none.
+/// The walk gives back the methods that were joined, also if there are none.
 pub fn methods_of_own_list()
     ensures { (given : List (List ℕ)) → All IsToken given
         → IsListOf method_of given (merge comma given) }

@@ -1,4 +1,4 @@
-//! A walk over the field names of a list, up to the first item that is none.
+//! A walk over the field names of a list, up to the first item that isn't one.
 ghost use Rattle.std.specs.Prelude.{◌≡◌, List, ℕ, All, IfOk};
 ghost use Rattle.http_header.specs.FieldName.{IsHeaderName};
 ghost use Rattle.headers_items.specs.Merge.{merge};
@@ -12,8 +12,8 @@ use http_header::HeaderName;
 use std::alloc::{AllocError, Global};
 use std::marker::Model;
 
-/// The field names of a list before the first item that is none (RFC 9110, section 5.1). Without
-/// memory for a name the walk hands out the error, and ends.
+/// The field names of a list, up to the first item that isn't a field name (RFC 9110, section 5.1).
+/// If there is no memory for a name, the walk hands out the error and ends.
 ///
 /// A contract sees the bytes of the names that are left.
 #[derive(Drop)]
@@ -34,7 +34,7 @@ impl<'a> Model for Names<'a> {
 }
 
 impl<'a> Names<'a> {
-    /// The names of a list; a list that is no text has none.
+    /// The names of a list. A list that isn't text has none.
     pub fn new(alloc: Global, list: &'a FlatCsv<Comma>) -> Names<'a>
         ensures { result ≡ names (items comma list.now) }
     {
@@ -81,8 +81,8 @@ impl<'a> Iterator for Names<'a> {
     }
 }
 
-/// The names of an iterator in one list, joined by a comma and a space; its size hint is not read.
-/// Walks over the list give the names back.
+/// Joins the names of an iterator by a comma and a space. Its size hint isn't read. Walks over the
+/// list give the names back.
 pub fn list_of_names<I: Iterator<Item = HeaderName> + Drop>(
     alloc: Global,
     names: I,
@@ -94,7 +94,7 @@ pub fn list_of_names<I: Iterator<Item = HeaderName> + Drop>(
     list_of(alloc, names)
 }
 
-/// Names that are joined by commas and spaces are given back by both walks, also if there are none.
+/// Both walks give back the names that were joined, also if there are none.
 pub fn names_of_own_list()
     ensures { (given : List (List ℕ)) → All IsHeaderName given
         → IsListOf name_of given (merge comma given) }

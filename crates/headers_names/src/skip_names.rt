@@ -1,4 +1,4 @@
-//! A walk over the items of a list that are values, and passes over the others.
+//! A walk over the items of a list that are names or methods.
 ghost use Rattle.std.specs.Prelude.{◌≡◌, [], MatchResult};
 ghost use Rattle.std.specs.Iterator.{item_count};
 ghost use Rattle.headers_items.specs.Places.{comma, items};
@@ -11,8 +11,8 @@ use http_header::HeaderName;
 use std::alloc::{AllocError, Global};
 use std::marker::{Model, PhantomData};
 
-/// The values of the items that are one, in order; items that are none are passed over. Without memory
-/// for a value the walk hands out the error, and ends.
+/// The items of a list that read as a value, in order. Other items are skipped. If there is no
+/// memory for a value, the walk hands out the error and ends.
 ///
 /// A contract sees the bytes of the values that are left.
 #[derive(Drop)]
@@ -55,7 +55,7 @@ fn next_value<T: ListItem>(
 }
 
 impl<'a, T: ListItem> ItemsRead<'a, T> {
-    /// The values of a list; a list that is no text has none.
+    /// The values of a list. A list that isn't text has none.
     pub fn new(alloc: Global, list: &'a FlatCsv<Comma>) -> ItemsRead<'a, T>
         ensures { result ≡ values T.value_of (items comma list.now) }
     {

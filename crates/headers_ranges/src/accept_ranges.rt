@@ -7,7 +7,8 @@ use http_header::{ACCEPT_RANGES, HeaderName};
 use std::alloc::{AllocError, Global};
 use std::marker::Model;
 
-/// The range units that a resource can be asked for (RFC 9110, section 14.3).
+/// The range units that a resource supports (RFC 9110, section 14.3). All lines are read, joined by
+/// a comma and a space, and never refused. Equality goes by the joined bytes.
 #[derive(Debug, PartialEq, Drop)]
 pub struct AcceptRanges {
     units: FlatCsv<Comma>,
@@ -50,7 +51,7 @@ impl AcceptRanges {
         self.units.as_bytes() == b"none".as_slice()
     }
 
-    /// The same value.
+    /// A copy of the value.
     pub fn clone(&self, alloc: Global) -> Result<AcceptRanges, AllocError>
         ensures { IfOk result (λ copy. copy ≡ self.now) }
     {

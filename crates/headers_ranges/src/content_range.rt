@@ -18,9 +18,10 @@ use std::fmt;
 use std::marker::Model;
 use std::ops::Bound;
 
-/// The part of a representation that a message carries (RFC 9110, section 14.4): the first line, text
-/// with the unit `bytes`, a range of positions or `*`, and the length of the whole or `*`. Positions and
-/// lengths are counted in bytes and lie below 2^64. Equality goes by the positions and the length.
+/// The part of a representation that a message carries (RFC 9110, section 14.4): the first line,
+/// which is the unit `bytes`, a range of positions or `*`, and the length of the whole or `*`;
+/// anything else is refused. Positions and lengths are counted in bytes and lie below 2^64.
+/// Equality goes by the positions and the length.
 #[derive(Clone, Debug, Drop, PartialEq)]
 pub struct ContentRange {
     range: Option<(u64, u64)>,
@@ -39,7 +40,7 @@ impl Model for ContentRange {
     ghost inverse = { λ content. record { range = content.range; complete_length = content.length } };
 }
 
-/// The bounds are no range of positions.
+/// The bounds have no first or no last position.
 #[derive(Clone, Copy, Debug, PartialEq, Eq)]
 pub struct InvalidContentRange;
 
@@ -79,7 +80,7 @@ fn last_position(end: Bound<u64>, complete_length: Option<u64>) -> Option<u64>
     }
 }
 
-// A range of two positions in order, or a star.
+// A range of two positions in order, or `*`.
 fn read_range(text: &str) -> Option<Option<(u64, u64)>>
     ensures { result ≡ read_or_star positions text.now }
 {
@@ -95,7 +96,7 @@ fn read_range(text: &str) -> Option<Option<(u64, u64)>>
     Some(Some((first, last)))
 }
 
-// A length, or a star.
+// A length, or `*`.
 fn read_length(text: &str) -> Option<Option<u64>>
     ensures { result ≡ read_or_star number text.now }
 {
@@ -106,9 +107,10 @@ fn read_length(text: &str) -> Option<Option<u64>>
 }
 
 impl ContentRange {
-    /// The range between two bounds, each a `u64`, of a whole of some length. An unbounded end is the
-    /// last position of that length. `InvalidContentRange` if there is no such first or last position.
-    /// A start past the end is taken, but what is written of it is refused when it is read.
+    /// The range between two bounds, which count bytes from 0, of a whole of this length. An
+    /// unbounded start is position 0, an unbounded end the last position of the whole.
+    /// `InvalidContentRange` if there is no first or no last position. A start past the end is
+    /// accepted, but what is written of it is refused when it is read.
     pub fn bytes(
         range: (Bound<u64>, Bound<u64>),
         complete_length: Option<u64>,
@@ -126,7 +128,7 @@ impl ContentRange {
         }
     }
 
-    /// No range of a whole of so many bytes could be satisfied.
+    /// No range of a whole of this many bytes could be satisfied.
     pub fn unsatisfied_bytes(complete_length: u64) -> ContentRange
         ensures { result ≡ record { range = None; length = Some complete_length } }
     {
@@ -163,7 +165,7 @@ impl ContentRange {
         }
     }
 
-    // What stands behind a unit, which is to be `bytes`.
+    // What stands behind the unit, which must be `bytes`.
     fn in_bytes(unit: &str, rest: &str) -> Option<ContentRange>
         ensures { result ≡ in_bytes (unit.now, rest.now) }
     {
@@ -174,7 +176,7 @@ impl ContentRange {
         ContentRange::sized(range, length)
     }
 
-    // What a line says.
+    // Reads a line.
     fn from_val(value: &HeaderValue) -> Option<ContentRange>
         ensures { result ≡ content_bytes value.now.bytes }
     {
@@ -211,8 +213,8 @@ fn print_content(
     }
 }
 
-/// What is written of any content range, built or read, reads as it if its first position is at most its
-/// last, or if it has none; and else it is refused.
+/// Every content range, built or read, is written as a line that reads as it if its first position
+/// is at most its last or if it has none, and is refused otherwise.
 pub fn content_ranges_read_back(range: &ContentRange)
     ensures { content_range_grammar.value_of (written_by content_range_grammar range.now)
         ≡ (if is_ordered range.now then Some range.now else None) }

@@ -18,8 +18,9 @@ use std::fmt;
 use std::marker::Model;
 use std::ops::Bound;
 
-/// The ranges that a request asks for (RFC 9110, section 14.2): the first line, text that begins with
-/// `bytes=`, kept and written as it came. Equality goes by the bytes.
+/// The ranges that a request asks for: the first line, which is refused if it isn't text that
+/// begins with `bytes=` (RFC 9110, section 14.2). It is kept and written as it came. Equality goes
+/// by the bytes.
 #[derive(Debug, Drop, PartialEq)]
 pub struct Range {
     value: HeaderValue,
@@ -39,7 +40,7 @@ impl Model for Range {
     ghost inverse = { λ value. record { value = value } };
 }
 
-/// The bounds have no text as a range of bytes.
+/// The bounds can't be written as a range of bytes.
 #[derive(Clone, Copy, Debug, PartialEq, Eq)]
 pub struct InvalidRange;
 
@@ -56,9 +57,9 @@ impl fmt::Display for InvalidRange {
 impl std::error::Error for InvalidRange {}
 
 impl Range {
-    /// The range between two bounds, each a `u64`: from a first position that is included, up to a last
-    /// that is included, to just before one that isn't, or on to the end. `InvalidRange` if the first
-    /// bound is another, or if nothing lies before the last one.
+    /// The range between two bounds, which count bytes from 0. The start must be `Included`; the
+    /// end may be any bound. `InvalidRange` if the start is another bound, or if the end is
+    /// `Excluded(0)`.
     pub fn bytes(
         alloc: Global,
         range: (Bound<u64>, Bound<u64>),
@@ -76,9 +77,9 @@ impl Range {
         }
     }
 
-    /// The ranges that a representation of so many bytes can satisfy, in the order in which they are
-    /// asked for (RFC 9110, section 14.1.2): each is a first and a last position below the length, both
-    /// included. A part that is no range, or that covers no position, is passed over.
+    /// The ranges that a representation of this many bytes can satisfy, in the order in which they
+    /// are asked for (RFC 9110, section 14.1.2). Each has a first and a last position below the
+    /// length, both included. A part that is no range, or that covers no position, is skipped.
     pub fn satisfiable_ranges(&self, len: u64) -> Satisfiable<'_>
         ensures ranges { result ≡ filter_map (gives len) (specs self.now.bytes) }
         ensures each { (spec : Spec) → GivesCovered len spec }
@@ -89,7 +90,7 @@ impl Range {
         Satisfiable::new(self.rest(), len)
     }
 
-    /// The same ranges again.
+    /// A copy of the ranges.
     pub fn clone(&self, _alloc: Global) -> Result<Range, AllocError>
         ensures { IfOk result (λ range. range ≡ self.now) }
     {
@@ -112,7 +113,7 @@ impl Range {
         Range::from_text(format!(in alloc; "bytes={first}-")?)
     }
 
-    // The range that a text writes.
+    // The range of a text.
     fn from_text(text: String) -> Result<Range, AllocError>
         requires { is_range_line (string_bytes text) ≡ true }
         ensures { IfOk result (λ range. range ≡ plain_value (string_bytes text)) }
@@ -148,7 +149,7 @@ impl Range {
     }
 }
 
-/// What is written of any range, built or read, reads as it.
+/// Every range, built or read, is written as a line that reads as it.
 pub fn ranges_read_back(range: &Range)
     ensures { ReadsBy range_grammar (written_by range_grammar range.now) range.now }
 {

@@ -11,11 +11,11 @@ use headers_core::parse_number;
 use std::marker::Model;
 use std::ops::Bound;
 
-/// What stands on both sides of a dash, each a number or nothing.
+/// The two sides of a dash, each a number or nothing.
 type Spec = (Option<u64>, Option<u64>);
 
-/// The ranges of a `Range` that a representation of some length can satisfy, in order (RFC 9110, section
-/// 14.1.2). It takes no memory, and gives nothing more after its end.
+/// The ranges of a `Range` that a representation of some length can satisfy, in order (RFC 9110,
+/// section 14.1.2). The walk takes no memory, and stays ended.
 #[derive(Drop)]
 pub struct Satisfiable<'a> {
     rest: Option<&'a str>,
@@ -53,7 +53,7 @@ fn next_piece<'a>(rest: &mut Option<&'a str>) -> Option<&'a str>
     }
 }
 
-// The number that a half writes, or nothing.
+// The number of a half, or nothing if the half is empty.
 fn half(text: &str) -> Option<Option<u64>>
     ensures { result ≡ half text.now }
 {

@@ -12,7 +12,7 @@ pub struct Answer {
 }
 
 impl Answer {
-    /// No word.
+    /// An answer without a word.
     pub fn new(alloc: Global) -> Answer {
         Answer {
             alloc,
@@ -54,7 +54,7 @@ impl Answer {
         }
     }
 
-    /// Adds a count, and so many times bytes.
+    /// Adds a count, and that many byte strings.
     pub fn list<T: AsSlice<u8>>(&mut self, items: &[T]) -> Result<(), AllocError> {
         self.word(items.len())?;
         for item in items {

@@ -73,7 +73,7 @@ impl<'a> Arguments<'a> {
         }
     }
 
-    /// The next word, or `None` where it is `none`.
+    /// The next word, or `None` if it is `none`.
     pub fn option(&mut self) -> Result<Option<&'a str>, Failure> {
         let word = self.word()?;
         Ok(if word == "none" { None } else { Some(word) })
@@ -197,7 +197,7 @@ impl<'a> Arguments<'a> {
         Ok(decode_values(self.alloc, &[line])?)
     }
 
-    /// The header that all words read that are left.
+    /// The header that all words that are left read.
     pub fn header_of_rest<H: Header>(&mut self) -> Result<H, Failure> {
         Ok(decode_values(self.alloc, &self.lines()?)?)
     }
@@ -207,7 +207,7 @@ impl<'a> Arguments<'a> {
         self.header()
     }
 
-    /// The entity tag that the next word reads, or `None` where it is `none`.
+    /// The entity tag that the next word reads, or `None` if it is `none`.
     pub fn optional_tag(&mut self) -> Result<Option<ETag>, Failure> {
         match self.option()? {
             Some(word) => {

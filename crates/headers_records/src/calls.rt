@@ -10,7 +10,7 @@ pub trait Calls {
     fn make(name: &str, arguments: &mut Arguments<'_>, answer: &mut Answer) -> Result<(), Failure>;
 }
 
-/// What a call answers, with the arguments behind its name. It is `refused` where the call refuses.
+/// What a call with these arguments answers: `refused` if the call refuses.
 pub fn answer_of<C: Calls>(alloc: Global, name: &str, arguments: &str) -> Result<Answer, Failure> {
     let mut arguments = Arguments::new(alloc, arguments);
     let mut answer = Answer::new(alloc);

@@ -9,8 +9,8 @@ use anyhow::{Context, Result};
 use std::alloc::Global;
 use std::io::{self, Read, Write};
 
-/// A line of the records: a call, what the port has to answer, and the kind of difference where that
-/// isn't what the Rust crate answers.
+/// A line of the records: a call, what the port has to answer, and the kind of difference if the
+/// Rust crate answers otherwise.
 #[derive(Clone, Copy)]
 struct Record<'a> {
     call: &'a str,
@@ -18,8 +18,8 @@ struct Record<'a> {
     kind: Option<&'a str>,
 }
 
-// A call, ` = ` and the crate's answer; behind these, where the port has to answer otherwise, ` ! `,
-// the kind and the port's answer.
+// A call, ` = ` and the crate's answer. If the port has to answer otherwise, ` ! `, the kind and
+// the port's answer follow.
 fn read_record(line: &str) -> Option<Record<'_>> {
     let (call, answers) = line.split_once(" = ")?;
     let (wanted, kind) = match answers.split_once(" ! ") {
@@ -32,7 +32,7 @@ fn read_record(line: &str) -> Option<Record<'_>> {
     Some(Record { call, wanted, kind })
 }
 
-// Makes the call of a line, counts it, and prints it where the answer isn't the wanted one.
+// Makes the call of a line, counts it, and prints it if the answer isn't the wanted one.
 fn replay_line<C: Calls, W: Write>(
     alloc: Global,
     line: &str,
@@ -72,8 +72,8 @@ fn replay<C: Calls, W: Write>(alloc: Global, text: &str, writer: &mut W) -> Resu
     Ok(tally)
 }
 
-/// Makes each call that the lines of the whole input record, and prints those that are answered
-/// otherwise, and then the counts.
+/// Makes each call that the input records, a line each. Prints those that are answered otherwise
+/// than is wanted, and then the counts.
 pub fn replay_all<C: Calls, R: Read + Drop, W: Write>(
     alloc: Global,
     reader: R,

@@ -5,7 +5,7 @@ use std::alloc::{AllocError, Global};
 use std::collections::BTreeMap;
 use std::io::{self, Write};
 
-/// How often each word came.
+/// How often each word came up.
 #[derive(Drop)]
 struct Counts {
     alloc: Global,
@@ -42,14 +42,14 @@ impl Counts {
 pub struct Tally {
     by_call: Counts,
     by_kind: Counts,
-    /// How many calls were made.
+    /// The number of calls that were made.
     pub calls: u64,
-    /// How many of them were answered otherwise than is wanted.
+    /// The number of calls that were answered otherwise than is wanted.
     pub differing: u64,
 }
 
 impl Tally {
-    /// No call.
+    /// No call yet.
     pub fn new(alloc: Global) -> Tally
         ensures calls { result.calls ≡ 0 }
         ensures differing { result.differing ≡ 0 }
@@ -62,7 +62,7 @@ impl Tally {
         }
     }
 
-    /// Counts a call, and whether it was answered as is wanted. It has a kind where the port has to
+    /// Counts a call, and whether it was answered as is wanted. It has a kind if the port has to
     /// differ from the crate.
     pub fn add(&mut self, name: &str, kind: Option<&str>, agrees: bool) -> Result<(), AllocError>
         requires room { self.old.calls + 1 < 2 ^ 64 }

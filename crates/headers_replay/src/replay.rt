@@ -43,7 +43,7 @@ pub fn writes<H: Header>(alloc: Global, header: &H, text: &str) -> Result<bool, 
     })
 }
 
-/// Whether a header writes one line, which is marked sensitive.
+/// Whether a header writes one line, which is sensitive.
 pub fn is_sensitive<H: Header>(alloc: Global, header: &H) -> Result<bool, AllocError> {
     let lines = written(alloc, header)?;
     Ok(match lines.as_slice() {

@@ -22,8 +22,9 @@ enum Policy {
     StrictOriginWhenCrossOrigin,
 }
 
-/// How much a request tells of the page that it comes from (W3C Referrer Policy, section 8.1). Of all
-/// lines that are text, cut at every comma, the last known word is read; with none it is refused.
+/// How much a request reveals of the page that it comes from (W3C Referrer Policy, section 8.1).
+/// All lines that are text are cut at every comma, and the last known word is read. If there is
+/// none, they are refused.
 #[derive(Clone, Debug, PartialEq, Eq, Hash, Drop)]
 pub struct ReferrerPolicy {
     policy: Policy,
@@ -80,7 +81,7 @@ impl ReferrerPolicy {
         policy: Policy::StrictOriginWhenCrossOrigin,
     };
 
-    /// The eight constants, each of which is written as the word that its name says.
+    /// The eight constants. Each is written as the word that its name says.
     pub fn all() -> [ReferrerPolicy; 8]
         ensures { map word_of result ≡ words }
     {
@@ -131,7 +132,7 @@ impl Policy {
     }
 }
 
-// The last policy that the line names, or else the one before.
+// The last policy that the line names, or the one before if it names none.
 fn last_policy(line: &HeaderValue, before: Option<Policy>) -> Option<Policy>
     ensures { result ≡ last_or before (filter_map policy_named (parts comma line.now.bytes)) }
 {
@@ -183,7 +184,7 @@ impl Header for ReferrerPolicy {
     }
 }
 
-/// What is written of any policy is read back as it.
+/// Every policy is written as a line that reads as it.
 #[tactic(auto, using(crate::specs::ReferrerPolicyLaws::referrer_back))]
 pub fn policies_read_back()
     ensures { (policy : ReferrerPolicy)

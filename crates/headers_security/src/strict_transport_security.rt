@@ -22,9 +22,10 @@ use std::fmt::Write;
 use std::marker::Model;
 use std::time::Duration;
 
-/// For how long a host is to be reached by secure transport alone, in seconds below 2^64, and whether
-/// its subdomains are too (RFC 6797, section 6.1). The only line is cut at every semicolon; exactly one
-/// part carries an age and one at most names `includeSubdomains`, or else it is refused.
+/// For how long a host, and perhaps its subdomains, may be reached only by secure transport, in
+/// seconds below 2^64 (RFC 6797, section 6.1). The only line is cut at every semicolon. It is
+/// refused unless exactly one part carries an age and at most one names `includeSubdomains`.
+/// Equality goes by both.
 #[derive(Clone, Debug, PartialEq, Drop)]
 pub struct StrictTransportSecurity {
     include_subdomains: bool,
@@ -42,7 +43,7 @@ impl Model for StrictTransportSecurity {
 }
 
 impl StrictTransportSecurity {
-    /// So many whole seconds, for the host and its subdomains.
+    /// The host and its subdomains, for this duration, which must be whole seconds.
     pub fn including_subdomains(max_age: Duration) -> StrictTransportSecurity
         requires { IsWholeSeconds max_age }
         ensures { result ≡ record { include_subdomains = true; max_age = as_nanos max_age / 1_000_000_000 } }
@@ -53,7 +54,7 @@ impl StrictTransportSecurity {
         }
     }
 
-    /// So many whole seconds, for the host alone.
+    /// The host alone, for this duration, which must be whole seconds.
     pub fn excluding_subdomains(max_age: Duration) -> StrictTransportSecurity
         requires { IsWholeSeconds max_age }
         ensures { result ≡ record { include_subdomains = false; max_age = as_nanos max_age / 1_000_000_000 } }
@@ -64,14 +65,14 @@ impl StrictTransportSecurity {
         }
     }
 
-    /// Whether subdomains are meant too.
+    /// Whether the subdomains are included.
     pub fn include_subdomains(&self) -> bool
         ensures { result ≡ self.now.include_subdomains }
     {
         self.include_subdomains
     }
 
-    /// The time, in whole seconds.
+    /// The duration, in whole seconds.
     pub fn max_age(&self) -> Duration
         ensures { LastsSeconds result self.now.max_age }
     {
@@ -79,7 +80,7 @@ impl StrictTransportSecurity {
     }
 }
 
-// The age that the part carries, if it does; one that can't be read is there, but is no number.
+// The age that the part carries, if it carries one: a number, or none if it can't be read.
 fn age_of(part: &str) -> Option<Option<u64>>
     ensures { result ≡ age_of part.now }
 {
@@ -90,7 +91,7 @@ fn age_of(part: &str) -> Option<Option<u64>>
     Some(parse_number(unquoted(trim_text(value))))
 }
 
-// How many parts name `includeSubdomains`.
+// The number of parts that name `includeSubdomains`.
 fn subdomains_named(text: &str) -> usize
     ensures { result ≡ count_by names_subdomains (pieces text.now) }
 {
@@ -100,7 +101,7 @@ fn subdomains_named(text: &str) -> usize
         .count()
 }
 
-// The number of the only part that carries an age: of two, neither counts.
+// The number of the only part that carries an age. If two carry one, neither counts.
 fn only_age(text: &str) -> Option<u64>
     ensures { result ≡ option_and_then age_in (only_line (filter carries_age (pieces text.now))) }
 {
@@ -110,7 +111,7 @@ fn only_age(text: &str) -> Option<u64>
         .flatten()
 }
 
-// What a line says.
+// Reads a line.
 #[tactic(auto, using(crate::proofs::SecurityLemmas::subdomains_counted))]
 fn read_security(line: &HeaderValue) -> Option<StrictTransportSecurity>
     ensures { result ≡ read_security line.now.bytes }
@@ -186,7 +187,7 @@ impl Header for StrictTransportSecurity {
     }
 }
 
-/// What is written of any value is read back as it.
+/// Every value is written as a line that reads as it.
 #[tactic(auto, using(crate::specs::StrictTransportSecurityLaws::built_back))]
 pub fn security_reads_back(header: &StrictTransportSecurity)
     ensures { ReadsBy security_grammar (written_by security_grammar header.now) header.now }

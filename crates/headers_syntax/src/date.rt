@@ -17,7 +17,7 @@ use httpdate::HttpDate;
 use std::alloc::{AllocError, Global};
 use std::marker::Model;
 
-/// A second from 1970 to 9999, as header fields date things (RFC 9110, section 5.6.7).
+/// A date of a header field: a second from 1970 to 9999 (RFC 9110, section 5.6.7).
 #[derive(Clone, Copy, Debug, PartialEq, Eq, PartialOrd, Ord, Hash)]
 pub struct Date1 {
     seconds: u64,
@@ -37,8 +37,8 @@ impl Model for Date1 {
 }
 
 impl Date1 {
-    /// The date that the value shows: text, and without the spaces and tabs at its ends one of the
-    /// three formats of RFC 9110, section 5.6.7.
+    /// The date in the value, in one of the three formats of RFC 9110, section 5.6.7. Leading and
+    /// trailing spaces and tabs are ignored.
     pub fn from_val(value: &HeaderValue) -> Option<Date1>
         ensures { result ≡ date value.now.bytes }
     {
@@ -53,7 +53,7 @@ impl Date1 {
         })
     }
 
-    /// The date so many seconds after the start of 1970, before the year 10000.
+    /// The date this many seconds after the start of 1970. It must lie before the year 10000.
     pub fn from_unix_secs(seconds: u64) -> Date1
         requires { IsDated seconds }
         ensures { result ≡ seconds }
@@ -87,7 +87,7 @@ impl Date1 {
     }
 }
 
-/// The date that the only line shows.
+/// The date in the only line. `None` if there are none or several lines, or if it is no date.
 pub fn only_date<I: Iterator>(values: &mut I) -> Option<Date1>
 where
     I::Item: AsHeaderValue,
@@ -101,7 +101,7 @@ where
     }
 }
 
-/// What is written of a second from 1970 to 9999 reads as that second.
+/// A second from 1970 to 9999 is written as a line that reads as that second.
 pub fn date_reads_back(seconds: u64)
     requires { IsDated seconds }
     ensures { date (fixdate seconds) ≡ Some seconds }

@@ -31,7 +31,7 @@ fn is_tag_byte(byte: u8) -> bool
     byte == 0x21 || (byte >= 0x23 && byte <= 0x7e) || byte >= 0x80
 }
 
-// What stands between the quotes, where the bytes begin and end with one.
+// What stands between the quotes, if the bytes begin and end with one.
 fn quoted(bytes: &[u8]) -> Option<&[u8]>
     ensures { FindsQuoted bytes.now result }
 {
@@ -41,7 +41,7 @@ fn quoted(bytes: &[u8]) -> Option<&[u8]>
     }
 }
 
-// The parts that the mark and the quotes give, whatever bytes stand between the quotes.
+// The parts by `W/` and the quotes alone, whatever bytes stand between the quotes.
 fn shaped(bytes: &[u8]) -> Option<EntityTagRef<'_>>
     ensures { MatchOption result ((parts : TagParts) → bytes.now ≢ tag_text parts)
         (λ parts. bytes.now ≡ tag_text parts) }
@@ -56,8 +56,8 @@ fn shaped(bytes: &[u8]) -> Option<EntityTagRef<'_>>
 
 #[tactic(auto, using(crate::proofs::EntityTagLemmas::passes_from_text))]
 impl<'a> EntityTagRef<'a> {
-    /// The entity tag that the bytes are, all of them: `W/` where it is weak, and the opaque part in
-    /// quotes, of bytes 0x21, 0x23 to 0x7E and 0x80 to 0xFF; None where they are no entity tag.
+    /// Reads all of the bytes as an entity tag: `W/` if it is weak, then the opaque part in quotes,
+    /// of the bytes 0x21, 0x23 to 0x7E and 0x80 to 0xFF. `None` if they are no entity tag.
     pub fn parse(bytes: &'a [u8]) -> Option<EntityTagRef<'a>>
         ensures { FindsTag bytes.now result }
     {
@@ -128,7 +128,7 @@ fn is_tag(bytes: &[u8]) -> bool
 
 #[tactic(auto, using(crate::proofs::EntityTagLemmas::is_tag_iff))]
 impl EntityTag {
-    /// A copy of the value, where it is an entity tag.
+    /// A copy of the value if it is an entity tag.
     pub fn from_val(_alloc: Global, value: &HeaderValue) -> Result<Option<EntityTag>, AllocError>
         ensures { IfOk result (λ found. found ≡ (if is_tag value.now.bytes then Some value.now else None)) }
     {
@@ -141,7 +141,7 @@ impl EntityTag {
         }
     }
 
-    /// The value, where it is an entity tag.
+    /// The value if it is an entity tag.
     pub fn from_owned(value: HeaderValue) -> Option<EntityTag>
         ensures { result ≡ (if is_tag value.bytes then Some value else None) }
     {
@@ -152,7 +152,7 @@ impl EntityTag {
         }
     }
 
-    /// The tag, by its parts.
+    /// The tag in parts.
     pub fn view(&self) -> EntityTagRef<'_>
         ensures { IsTag self.now.bytes result }
     {
@@ -179,7 +179,7 @@ impl EntityTag {
     pub fn weak_eq_bytes(&self, bytes: &[u8]) -> bool
         ensures { IsTrue result ↔ AreTags WeaklyEqual bytes.now self.now.bytes }
     {
-        // Where a tag's opaque part stands between the quotes, the bytes are a tag.
+        // If a tag's opaque part stands between the quotes, the bytes are a tag.
         match shaped(bytes) {
             Some(other) => other.weak_eq(&self.view()),
             None => false,
@@ -193,7 +193,7 @@ impl EntityTag {
         self.value
     }
 
-    /// The same tag again.
+    /// A copy of the tag.
     pub fn clone(&self, _alloc: Global) -> Result<EntityTag, AllocError>
         ensures { IfOk result (λ tag. tag ≡ self.now) }
     {

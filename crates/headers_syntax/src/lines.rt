@@ -10,7 +10,7 @@ use crate::item::AsHeaderValue;
 use http_header::HeaderValue;
 use std::alloc::AllocError;
 
-/// The first value; one call is made.
+/// The first value. The iterator is asked once.
 pub fn first<I: Iterator>(values: &mut I) -> Option<I::Item>
 where
     I::Item: AsHeaderValue,
@@ -22,7 +22,7 @@ where
     values.next()
 }
 
-/// The value, where there is exactly one.
+/// The only value. `None` if there are none or several.
 pub fn just_one<I: Iterator>(values: &mut I) -> Option<I::Item>
 where
     I::Item: AsHeaderValue,

@@ -4,7 +4,7 @@ ghost use Rattle.headers_syntax.specs.Number.{number};
 
 use http_header::HeaderValue;
 
-/// The number that the value writes: an optional plus and decimal digits, below 2^64.
+/// The number in the value, below 2^64: an optional plus and decimal digits.
 pub fn read_number(value: &HeaderValue) -> Option<u64>
     ensures { result ≡ number value.now.bytes }
 {
@@ -14,14 +14,14 @@ pub fn read_number(value: &HeaderValue) -> Option<u64>
     }
 }
 
-/// The number that a text writes, as `read_number` reads it.
+/// The number in a text, as `read_number` reads it.
 pub fn parse_number(text: &str) -> Option<u64>
     ensures { result ≡ number text.now }
 {
     text.parse::<u64>().ok()
 }
 
-/// What is written of a number below 2^64 reads as that number.
+/// A number below 2^64 is written as a line that reads as that number.
 pub fn numbers_read_back()
     ensures { (n : ℕ) → n < 2 ^ 64 → number (decimal n) ≡ Some n }
 {}

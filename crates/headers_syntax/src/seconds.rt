@@ -32,7 +32,7 @@ impl Model for Seconds {
 }
 
 impl Seconds {
-    /// The number that the value writes: an optional plus and decimal digits, below 2^64; nothing is
+    /// The number in the value, below 2^64: an optional plus and decimal digits. Nothing is
     /// trimmed.
     pub fn from_val(value: &HeaderValue) -> Option<Seconds>
         ensures { result ≡ number value.now.bytes }
@@ -43,7 +43,7 @@ impl Seconds {
         }
     }
 
-    /// So many seconds.
+    /// This many seconds.
     pub fn from_secs(seconds: u64) -> Seconds
         ensures { result ≡ seconds }
     {
@@ -60,7 +60,7 @@ impl Seconds {
         }
     }
 
-    /// How many seconds.
+    /// The number of seconds.
     pub fn as_u64(&self) -> u64
         ensures { result ≡ self.now }
     {
@@ -83,7 +83,7 @@ impl From<Seconds> for Duration {
     }
 }
 
-/// The seconds that the only line writes.
+/// The seconds in the only line. `None` if there are none or several lines, or if it is no number.
 pub fn only_seconds<I: Iterator>(values: &mut I) -> Option<Seconds>
 where
     I::Item: AsHeaderValue,

@@ -1,4 +1,4 @@
-//! The reader of text, and texts without what stands at their ends.
+//! Header values as text, and texts trimmed of blanks and of quotes.
 ghost use Rattle.std.specs.Prelude.{◌≡◌, true, false, MatchOption};
 ghost use Rattle.std.specs.Option.{option_copied};
 ghost use Rattle.headers_syntax.specs.Text.{is_text};
@@ -11,7 +11,8 @@ const BLANKS: [char; 2] = ['\t', ' '];
 
 const QUOTES: [char; 1] = ['"'];
 
-/// The value as text, if it is: visible ASCII, spaces and tabs alone (RFC 9110, section 5.5).
+/// The value as text: visible ASCII, spaces and tabs (RFC 9110, section 5.5). `None` if it has
+/// another byte.
 pub fn read_text(value: &HeaderValue) -> Option<&str>
     ensures value { option_copied result ≡ text_line value.now.bytes }
     ensures cases { MatchOption result (is_text value.now.bytes ≡ false)
@@ -23,14 +24,14 @@ pub fn read_text(value: &HeaderValue) -> Option<&str>
     }
 }
 
-/// The text without the spaces and tabs at its ends (RFC 9110, section 5.6.3).
+/// The text without leading and trailing spaces and tabs (RFC 9110, section 5.6.3).
 pub fn trim_text(text: &str) -> &str
     ensures { result.now ≡ trim text.now }
 {
     text.trim_start_matches(BLANKS).trim_end_matches(BLANKS)
 }
 
-/// The text without the quotes at its ends, paired or not.
+/// The text without leading and trailing quotes, paired or not.
 pub fn unquoted(text: &str) -> &str
     ensures { result.now ≡ without_quotes text.now }
 {

@@ -34,7 +34,8 @@ fn without_trailing(bytes: &[u8]) -> usize
     end
 }
 
-/// Where the piece from `start` up to `end` begins and ends without the spaces and tabs at its ends.
+/// The bounds of the piece from `start` up to `end`, once its leading and trailing spaces and tabs
+/// are cut off.
 pub fn trimmed(bytes: &[u8], start: usize, end: usize) -> (usize, usize)
     requires order { start ≤ end }
     requires within { end ≤ length bytes.now }
@@ -48,7 +49,7 @@ pub fn trimmed(bytes: &[u8], start: usize, end: usize) -> (usize, usize)
     (start + low, start + low + without_trailing(rest))
 }
 
-/// The bytes without the spaces and tabs at their ends (RFC 9110, section 5.6.3).
+/// The bytes without leading and trailing spaces and tabs (RFC 9110, section 5.6.3).
 pub fn trim(bytes: &[u8]) -> &[u8]
     ensures { result.now ≡ trim bytes.now }
 {

@@ -33,7 +33,7 @@ impl Model for HeaderValueString {
 }
 
 impl HeaderValueString {
-    /// A copy of the value, where it is text: a byte past ASCII is refused (RFC 9110, section 5.5).
+    /// A copy of the value if it is text: visible ASCII, spaces and tabs (RFC 9110, section 5.5).
     pub fn from_val(
         _alloc: Global,
         value: &HeaderValue,
@@ -50,7 +50,7 @@ impl HeaderValueString {
         })
     }
 
-    /// A copy of the text. It may hold what a header value may, also characters past ASCII.
+    /// A copy of the text, which may hold all that a header value may, also characters past ASCII.
     pub fn from_str(alloc: Global, text: &str) -> Result<HeaderValueString, Refused<Error>>
         ensures ok { IfOk result (λ copy. copy ≡ plain_value text.now) }
         ensures valid { IfOk result (λ _. IsFieldValue text.now) }
@@ -63,7 +63,7 @@ impl HeaderValueString {
         }
     }
 
-    /// The static text with no copy. It must be visible ASCII, spaces and tabs.
+    /// The static text, not copied. It must be visible ASCII, spaces and tabs.
     pub fn from_static(text: &'static str) -> HeaderValueString
         requires { IsTrue (is_text text.now) }
         ensures { result ≡ plain_value text.now }
@@ -88,7 +88,7 @@ impl HeaderValueString {
         &self.value
     }
 
-    /// The same text, also as to whether it is kept out of logs.
+    /// A copy of the text, sensitive exactly if the original is.
     pub fn clone(&self, _alloc: Global) -> Result<HeaderValueString, AllocError>
         ensures { IfOk result (λ copy. copy ≡ self.now) }
     {

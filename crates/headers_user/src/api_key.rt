@@ -11,8 +11,8 @@ use std::alloc::{AllocError, Global};
 use std::marker::Model;
 use std::str;
 
-/// A key: behind the scheme `ApiKey`, in any case, and one space, one letter, digit, `-` or `_` at
-/// least, and nothing else.
+/// A key: after the scheme `ApiKey`, in any case, and one space, one or more letters, digits, `-`
+/// or `_`, and nothing else.
 #[derive(Drop)]
 pub struct ApiKey {
     text: String,
@@ -96,8 +96,8 @@ impl Credentials for ApiKey {
     }
 }
 
-/// The key that the lines of `authorization` carry. `Ok(None)` is that there is no line, and
-/// `Invalid` that they carry none.
+/// The key that the lines of `authorization` carry. `Ok(None)` if there is no line, `Invalid` if
+/// they carry no key.
 pub fn key_of(alloc: Global, map: &HeaderMap) -> Result<Option<ApiKey>, Refused<Error>>
     ensures { IsTypedRead CarryKey (lines_at map.now (codes "authorization")) result }
 {

@@ -15,9 +15,9 @@ use std::fmt;
 pub enum Forwarded {
     /// It has no hop left, and is for this proxy.
     Stop,
-    /// It is passed on, with so many hops.
+    /// It is passed on, with this many hops.
     Passed(u64),
-    /// It is passed on, and has no limit.
+    /// It is passed on without a limit.
     Unlimited,
 }
 

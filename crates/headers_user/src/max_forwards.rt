@@ -6,8 +6,8 @@ use http_header::MAX_FORWARDS;
 use std::alloc::{AllocError, Global};
 use std::marker::Model;
 
-/// How often a request may still be forwarded: the only line, a number below 2^64 (RFC 9110, section
-/// 7.6.2). Equality goes by the number.
+/// How often a request may still be forwarded: the only line, a number below 2^64; anything else is
+/// refused (RFC 9110, section 7.6.2). Equality goes by the number.
 #[derive(Clone, Copy, Debug, PartialEq, Eq)]
 pub struct MaxForwards {
     limit: Option<u64>,
@@ -24,21 +24,21 @@ impl Model for MaxForwards {
 }
 
 impl MaxForwards {
-    /// So many hops.
+    /// This many hops.
     pub fn new(hops: u64) -> MaxForwards
         ensures { result ≡ Some hops }
     {
         MaxForwards { limit: Some(hops) }
     }
 
-    /// No limit, of which no line is written.
+    /// No limit. No line is written of it.
     pub fn none() -> MaxForwards
         ensures { result ≡ None }
     {
         MaxForwards { limit: None }
     }
 
-    /// How many hops, or `None` if there is no limit.
+    /// The number of hops, or `None` if there is no limit.
     pub fn hops(&self) -> Option<u64>
         ensures { result ≡ self.now }
     {

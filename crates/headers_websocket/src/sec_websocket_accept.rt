@@ -12,7 +12,7 @@ use sha1::Sha1;
 use std::alloc::{AllocError, Global};
 use std::marker::Model;
 
-/// The proof that a server took a client's handshake: the first line, whatever it is, as it came
+/// The proof that a server accepts a client's handshake: the first line, whatever it is, as it came
 /// (RFC 6455, section 11.3.3). Equality and hash go by the bytes.
 #[derive(Debug, Drop, PartialEq, Eq, Hash)]
 pub struct SecWebsocketAccept {
@@ -31,7 +31,7 @@ impl Model for SecWebsocketAccept {
 
 impl SecWebsocketAccept {
     /// What a server answers to a key: the base64 of the SHA-1 digest of the key's bytes, as they
-    /// are, and the protocol's GUID (RFC 6455, section 4.2.2).
+    /// came, followed by the protocol's GUID (RFC 6455, section 4.2.2).
     pub fn from_key(alloc: Global, key: &SecWebsocketKey) -> Result<SecWebsocketAccept, AllocError>
         ensures { IfOk result (λ accept. accept ≡ plain_value
             (base64 (sha1 (key.now.bytes ++ codes "258EAFA5-E914-47DA-95CA-C5AB0DC85B11")))) }
@@ -42,7 +42,7 @@ impl SecWebsocketAccept {
         Ok(SecWebsocketAccept::from_form(base64_value(alloc, "", &hasher.finalize())?))
     }
 
-    /// The same value, also as to whether it is kept out of logs.
+    /// A copy of the value, sensitive exactly if the original is.
     pub fn clone(&self, _alloc: Global) -> Result<SecWebsocketAccept, AllocError>
         ensures { IfOk result (λ copy. copy ≡ self.now) }
     {

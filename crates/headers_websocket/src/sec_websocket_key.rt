@@ -27,7 +27,7 @@ impl Model for SecWebsocketKey {
 }
 
 impl SecWebsocketKey {
-    /// The base64 of sixteen bytes, kept out of logs.
+    /// The base64 of sixteen bytes. The value is sensitive.
     pub fn from_bytes16(alloc: Global, bytes: [u8; 16]) -> Result<SecWebsocketKey, AllocError>
         ensures { IfOk result (λ key. key ≡ record { bytes = base64 bytes; is_sensitive = true }) }
     {
@@ -36,7 +36,7 @@ impl SecWebsocketKey {
         Ok(SecWebsocketKey::from_form(value))
     }
 
-    /// The same value, also as to whether it is kept out of logs.
+    /// A copy of the value, sensitive exactly if the original is.
     pub fn clone(&self, _alloc: Global) -> Result<SecWebsocketKey, AllocError>
         ensures { IfOk result (λ copy. copy ≡ self.now) }
     {

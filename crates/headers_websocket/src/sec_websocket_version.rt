@@ -4,7 +4,8 @@ use headers_core::{AsHeaderValue, Error, Header, Refused, first_word};
 use http_header::{HeaderName, HeaderValue, SEC_WEBSOCKET_VERSION};
 use std::alloc::{AllocError, Global};
 
-/// The version of the WebSocket protocol: the first line is `13` (RFC 6455, section 11.3.5).
+/// The version of the WebSocket protocol: the first line, which is `13`; anything else is refused
+/// (RFC 6455, section 11.3.5).
 #[derive(Clone, Copy, Debug, PartialEq, Eq, Hash)]
 pub struct SecWebsocketVersion {
     _priv: (),
