@@ -18,7 +18,7 @@ module _ {V : Type 0} (scheme : List ℕ) (same : V → V → Type 0) (reads : L
     pub keeps_scheme : (line : Line) (v : V) → HasScheme scheme line → reads line v → HasScheme scheme (writes v)
     pub reads_back : (line : Line) (v : V) → HasScheme scheme line → reads line v → reads (writes v) v
 
-  -- a header that keeps credentials, read of the first line, is lawful if they are
+  -- a header that keeps the credentials of the first line is lawful if they are
   pub first_laws : {H : Type 0} (kept : H → V) → CredentialLaws
       → HeaderLaws (λ (v w : H). same (kept v) (kept w)) (λ lines v. FirstReads scheme reads lines (kept v))
       (λ v. writes (kept v) ∷ [])

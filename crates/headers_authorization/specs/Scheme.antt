@@ -18,6 +18,6 @@ module _ {V : Type 0} (scheme : List ℕ) (reads : Line → V → Type 0) where
     pub named : HasScheme scheme line
     pub read : reads line v
 
-  -- what is written of the credentials is read as they are
+  -- what is written of the credentials reads as them
   abbrev pub IsReadBack : (V → Line) → V → Type 0
   IsReadBack writes v = FirstReads (writes v ∷ []) v

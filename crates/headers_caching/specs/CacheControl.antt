@@ -14,7 +14,7 @@ use Rattle.headers_syntax.specs.AsciiCase.{same_name}
 use Rattle.headers_syntax.specs.Text.{without_quotes}
 use Rattle.headers_items.specs.Places.{comma}
 
--- the flags that are set, and the numbers that are given (RFC 9111, section 5.2, and RFC 8246)
+-- the flags and the numbers that are set (RFC 9111, section 5.2, and RFC 8246)
 pub record Directives : Type 0 where
   pub no_cache : Bool
   pub no_store : Bool
@@ -54,17 +54,17 @@ number_rows =
     ∷ (codes "s-maxage", λ d. d.s_max_age)
     ∷ []
 
--- a duration of so many seconds, where a number is given
+-- a duration of this many seconds, if there is a number
 abbrev pub GivesSeconds : Option Duration → Option ℕ → Type 0
 GivesSeconds duration number = option_map as_nanos duration ≡ option_map (λ seconds. seconds * 1_000_000_000) number
 
--- an entry carries a directive where the slice before its first `=` is the directive's name, and the slice after it
--- is not empty
+-- an entry carries a directive if the slice before its first `=` is the directive's name, and the slice after it
+-- isn't empty
 abbrev pub carries : List ℕ → List ℕ → Bool
 carries directive entry =
     same_name (before_first is_equals entry) directive && not (length (after_first is_equals entry) == 0)
 
--- the number that stands after the first `=`, in quotes or not
+-- the number after the first `=`, in quotes or not
 abbrev pub number_in : List ℕ → Option ℕ
 number_in entry = number (without_quotes (after_first is_equals entry))
 
@@ -72,7 +72,7 @@ number_in entry = number (without_quotes (after_first is_equals entry))
 abbrev pub is_bad_for : List ℕ → List ℕ → Bool
 is_bad_for directive entry = carries directive entry && is_none (number_in entry)
 
--- an entry is bad where it is for some directive that carries a number
+-- an entry is bad if it is bad for some directive with a number
 abbrev pub is_bad : List ℕ → Bool
 is_bad entry = list_any (λ row. is_bad_for row.0 entry) number_rows
 
@@ -84,11 +84,11 @@ is_set flag es = list_any (λ entry. same_name entry flag) es
 abbrev pub last_number : List ℕ → List (List ℕ) → Option ℕ
 last_number directive es = option_and_then number_in (last_or None (filter (carries directive) es))
 
--- each row's new value is what a step makes of its old one
+-- each row's new value is what the step makes of its old one
 abbrev pub Steps : {V : Type 0} → (List ℕ → V → V) → List (List ℕ × (Directives → V)) → Directives → Directives → Type 0
 Steps step rows old new = AllByRecursion (λ row. row.1 new ≡ step row.0 (row.1 old)) rows
 
--- a flag, and a number, after one entry more
+-- a flag, and a number, after one more entry
 abbrev pub next_flag : List ℕ → List ℕ → Bool → Bool
 next_flag entry flag before = before || same_name entry flag
 
@@ -115,7 +115,7 @@ directives es =
       s_max_age = last_number (codes "s-maxage") es;
     }
 
--- entries of which none is bad, and what they direct
+-- no entry is bad, and this is what they direct
 abbrev pub Direct : List (List ℕ) → Directives → Type 0
 Direct es d = (d ≡ directives es) × (list_any is_bad es ≡ false)
 
@@ -127,7 +127,7 @@ directives_of lines = if list_any is_bad (entries lines) then None else Some (di
 abbrev pub print_flag : List ℕ → Bool → List (List ℕ)
 print_flag flag set = if set then flag ∷ [] else []
 
--- a number that is given is printed in decimal after its name and `=`
+-- a number that is set is printed in decimal after its name and `=`
 abbrev pub print_number : List ℕ → Option ℕ → List (List ℕ)
 print_number directive None = []
 print_number directive (Some n) = (directive ++ 61 ∷ decimal n) ∷ []
@@ -137,6 +137,6 @@ abbrev pub printed : Directives → List (List ℕ)
 printed d = flat_map (λ row. print_flag row.0 (row.1 d)) flag_rows
     ++ flat_map (λ row. print_number row.0 (row.1 d)) number_rows
 
--- they are joined by a comma and a space; the line is empty where nothing is printed
+-- they are joined by a comma and a space; the line is empty if nothing is printed
 abbrev pub lines_of_directives : Directives → List Line
 lines_of_directives d = merge comma (printed d) ∷ []

@@ -29,7 +29,7 @@ use Rattle.headers_caching.specs.CacheControl.{flag_rows, number_rows, print_fla
 use Rattle.headers_syntax.proofs.PlainLemmas.{decimal_plain, is_plain, is_piece, unquoted_piece}
 use Rattle.headers_items.proofs.JoinedLemmas.{entries_joined}
 
--- directives are equal where each row is
+-- directives are equal if each row is
 pub same_rows : (a b : Directives) → AllByRecursion (λ row. row.1 a ≡ row.1 b) flag_rows
     → AllByRecursion (λ row. row.1 a ≡ row.1 b) number_rows → a ≡ b
 same_rows a b flags numbers = λ i.
@@ -60,12 +60,12 @@ pub both : {X : Type 0} (P Q R : X → Type 0) → ((x : X) → P x → Q x → 
 both P Q R h [] ps qs = tt
 both P Q R h (x ∷ xs) ps qs = (h x ps.0 qs.0, both P Q R h xs ps.1 qs.1)
 
--- and each row is where they are
+-- and each row is equal if they are
 pub rows_same : {V : Type 0} (a b : Directives) → a ≡ b → (rows : List (List ℕ × (Directives → V)))
     → AllByRecursion (λ row. row.1 a ≡ row.1 b) rows
 rows_same a b e = every _ (λ row. ap row.1 e)
 
--- a number that is given is one of the type's
+-- a number that is set is in the range of its type
 abbrev pub FitsOption : Option ℕ → Type 0
 FitsOption o = (n : ℕ) → o ≡ Some n → n < 2 ^ 64
 
@@ -153,11 +153,11 @@ printed_pieces d f =
 
 -- ---- flags
 
--- no flag's name has a `=`
+-- no flag's name has an `=`
 pub flag_names : AllByRecursion (λ row. list_any is_equals (lowercase row.0) ≡ false) flag_rows
 flag_names = (refl, (refl, (refl, (refl, (refl, (refl, (refl, (refl, (refl, (refl, tt))))))))))
 
--- a flag's name has no `=`, and what is printed of a number has one
+-- a flag's name has no `=`, and the printed text of a number has one
 pub no_flag : (flag name ds : List ℕ) → list_any is_equals (lowercase flag) ≡ false
     → same_name (name ++ 61 ∷ ds) flag ≡ false
 no_flag flag name ds h =

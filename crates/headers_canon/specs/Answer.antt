@@ -1,5 +1,5 @@
--- What the answers of `run` tell of the bytes that its reader had and has left,
--- and of those that its writer held and holds.
+-- What the answers of `run` say of the bytes that its reader had and has left, and of those that its writer held and
+-- holds.
 use Rattle.std.specs.Prelude.{◌⊎◌, ℕ, ◌<◌, ◌≤◌, Bool, List, ◌++◌, length, Option, IfSome, Result, Ok, Err}
 use Rattle.std.specs.Io.KnownBytes.{Appends, Keeps, IsAtEnd}
 use Rattle.headers_canon.specs.Section.{input_limit, section, HasNoField, HasTooManyFields}
@@ -18,7 +18,7 @@ status_of (Err Io) = 3
 status_of (Err Memory) = 4
 status_of (Err Room) = 4
 
--- what the reader had, what it has left, what the writer held and what it holds, where these are known
+-- what the reader had, what it has left, what the writer held and what it holds, if these are known
 module _ (had left held holds : Option (List ℕ)) where
   -- the whole input was read, it is within the limit, and its canonical text was written and nothing else
   abbrev pub WroteText : Bool → Type 0

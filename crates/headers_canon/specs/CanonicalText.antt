@@ -19,11 +19,11 @@ abbrev pub first_appearances : List (List ℕ) → List (List ℕ)
 first_appearances [] = []
 first_appearances (name ∷ rest) = name ∷ filter (λ other. not (bytes_eq other name)) (first_appearances rest)
 
--- the lines that stand for those of a name, or `None` where the name's header refuses them
+-- the lines that stand for those of a name, or `None` if the name's header refuses them
 abbrev pub Block : Type 0
 Block = Option (List Line)
 
--- what is written of the value that the lines read, or `None` where they read nothing
+-- what is written of the value that the lines read, or `None` if they read nothing
 abbrev pub IsTypedBlock : {V : Type 0} → (List Line → V → Type 0) → (V → List Line) → List Line → Block → Type 0
 IsTypedBlock {V} reads writes lines None = (v : V) → ¬ (reads lines v)
 IsTypedBlock {V} reads writes lines (Some written) = (v : V) × reads lines v × (written ≡ writes v)
@@ -48,7 +48,7 @@ abbrev pub block_text : List ℕ → Block → List ℕ
 block_text name None = 33 ∷ 32 ∷ name ++ 10 ∷ []
 block_text name (Some lines) = flat_map (line_text name) lines
 
--- the text is the block of each name, in this order, where these lines stand under a name
+-- the text is the block of each name, in this order, if these lines stand under a name
 pub record HasBlocks (lines : List ℕ → List Line) (order : List (List ℕ)) (text : List ℕ) (some_refused : Bool)
     : Type 0 where
   pub blocks : List (List ℕ × Block)

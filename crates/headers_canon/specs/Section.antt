@@ -16,7 +16,7 @@ input_limit = 8388608
 abbrev pub is_newline : ℕ → Bool
 is_newline b = b == 10
 
--- the line without the byte 13 that it ends with, if it does
+-- the line without the byte 13 at its end, if one is there
 abbrev pub without_return : Line → Line
 without_return line = if slice_index line (length line - 1) == 13 then take (length line - 1) line else line
 
@@ -36,7 +36,8 @@ section input = take_while is_filled (input_lines input)
 abbrev pub Field : Type 0
 Field = List ℕ × FieldValue
 
--- the line is a name, the first colon of the line, and a value, which counts without the spaces and tabs at its ends
+-- the line is a name, the first colon of the line, and a value, of which leading and trailing spaces and tabs are no
+-- part
 pub record IsField (line : Line) (field : Field) : Type 0 where
   pub name : List ℕ
   pub rest : List ℕ

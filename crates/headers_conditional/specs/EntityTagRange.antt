@@ -7,11 +7,11 @@ use Rattle.headers_syntax.specs.HeaderLaws.{Grammar}
 use Rattle.headers_conditional.specs.declared.entity_tag_range.EntityTagRange.{EntityTagRange}
 use Rattle.headers_conditional.specs.declared.entity_tag_range.EntityTagRange.TheVariants as range
 
--- the one byte that stands for any tag
+-- the byte that stands for any tag
 abbrev pub star : List ℕ
 star = codes "*"
 
--- some item of the value is a tag of which R holds beside the other tag; other items are ignored
+-- some item of the value is a tag that R relates to the other tag; other items are ignored
 abbrev pub HasItem : (TagParts → TagParts → Type 0) → List ℕ → List ℕ → Type 0
 HasItem R value tag = Any (λ item. AreTags R item tag) (items comma value)
 
@@ -24,12 +24,12 @@ abbrev pub range_text : EntityTagRange → List ℕ
 range_text range.Any = star
 range_text (range.Tags tags) = tags
 
--- any, or some item is a tag of which R holds beside the other tag
+-- any, or some item is a tag that R relates to the other tag
 abbrev pub Matches : (TagParts → TagParts → Type 0) → EntityTagRange → List ℕ → Type 0
 Matches R range.Any tag = ⊤
 Matches R (range.Tags tags) tag = HasItem R tags tag
 
--- all lines, joined by a comma and a space; it never refuses
+-- all lines, joined by a comma and a space; never refused
 abbrev pub tags_grammar : Grammar EntityTagRange EntityTagRange
 tags_grammar =
     record {

@@ -18,7 +18,7 @@ range_back lines tags e =
     let some : range_of (merge comma lines) ≡ tags = cc e in
     rw (← some) (ap (λ (r : EntityTagRange). Some r) (range_of-text (merge comma lines)))
 
--- of built ranges, those that are no list of the one byte `*`
+-- of the ranges that can be built, those that aren't a list of the one byte `*`
 pub built_back : (range : EntityTagRange)
     → ReadsBy tags_grammar (written_by tags_grammar range) range ↔ range ≢ Tags star
 built_back Any = (λ h e. absurd (cc e), λ h. refl)

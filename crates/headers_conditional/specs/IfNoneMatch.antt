@@ -4,6 +4,6 @@ use Rattle.headers_syntax.specs.EntityTag.{WeaklyEqual}
 use Rattle.headers_conditional.specs.EntityTagRange.{Matches}
 use Rattle.headers_conditional.specs.declared.entity_tag_range.EntityTagRange.{EntityTagRange}
 
--- the condition holds of a tag: it is not any, and no item is a tag that is weakly equal
+-- the condition holds of a tag: it isn't any, and no item is a tag that is weakly equal
 abbrev pub NoneMatchPasses : EntityTagRange → List ℕ → Type 0
 NoneMatchPasses tags tag = ¬ (Matches WeaklyEqual tags tag)

@@ -11,12 +11,12 @@ pub data Validator : Type 0 where
   Tag : FieldValue → Validator
   Second : ℕ → Validator
 
--- the same without the mark that a value is kept out of logs, which is no part of a line
+-- the same, leaving out whether the value is sensitive, which is no part of a line
 abbrev pub unmarked : Validator → Validator
 unmarked (Tag value) = Tag (plain_value value.bytes)
 unmarked (Second secs) = Second secs
 
--- an entity tag, and any other line is to show a date
+-- an entity tag, or else a date
 abbrev pub validator : Line → Option Validator
 validator line = if is_tag line then Some (Tag (plain_value line)) else option_map Second (date line)
 
@@ -26,9 +26,7 @@ validator_line (Tag value) = value.bytes
 validator_line (Second secs) = fixdate secs
 
 -- a representation with this tag, if any, that was last modified at this second, if any, is not the one that is
--- named: by
--- the second where that is earlier or none is given, and by the tag where the two are not strongly equal or none is
--- given
+-- named. By a second: that is earlier, or none is known. By a tag: the two aren't strongly equal, or none is known.
 abbrev pub IsModified : Validator → Option (Bor FieldValue) → Option (Bor ℕ) → Type 0
 IsModified (Second secs) etag None = ⊤
 IsModified (Second secs) etag (Some modified) = secs < modified.now

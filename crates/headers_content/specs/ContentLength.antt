@@ -9,7 +9,7 @@ use Rattle.headers_content.specs.declared.content_length.ContentLength.{ContentL
 abbrev pub content_length_same : ContentLength → ContentLength → Type 0
 content_length_same v w = v.0 ≡ w.0
 
--- each line is text that writes this number, be it with a plus or with zeros before it
+-- each line is text that writes this number, perhaps with a plus or leading zeros
 abbrev pub AllWrite : ℕ → List Line → Type 0
 AllWrite n lines = AllByRecursion (λ line. number line ≡ Some n) lines
 

@@ -5,6 +5,6 @@ use Rattle.headers_syntax.specs.Lines.{Line}
 use Rattle.headers_syntax.specs.Text.{is_text}
 use Rattle.headers_items.specs.Places.{semicolon}
 
--- what stands before the first semicolon, or the whole line; a line that is not text names none
+-- what stands before the first semicolon, or the whole line; a line that isn't text names none
 abbrev pub disposition_of : Line → Option Line
 disposition_of line = if is_text line then Some (before_first (λ b. b == semicolon) line) else None

@@ -6,7 +6,7 @@ use Rattle.headers_syntax.specs.Durations.{LastsSeconds}
 use Rattle.headers_syntax.specs.Lines.{Line}
 use Rattle.headers_syntax.specs.Number.{number}
 
--- after so many seconds, or from that second since 1970 on
+-- after this many seconds, or from that second since 1970 on
 pub data RetryTime : Type 0 where
   Delay : ℕ → RetryTime
   Until : ℕ → RetryTime
@@ -16,7 +16,7 @@ abbrev pub IsDelay : Duration → RetryTime → Type 0
 IsDelay duration (Delay secs) = LastsSeconds duration secs
 IsDelay duration (Until secs) = ⊥
 
--- a number is a delay, and without one a date
+-- a number is a delay, and anything else must be a date
 abbrev pub number_else_date : Option ℕ → Option ℕ → Option RetryTime
 number_else_date (Some secs) date = Some (Delay secs)
 number_else_date None date = option_map Until date

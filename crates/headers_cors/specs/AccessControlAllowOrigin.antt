@@ -45,6 +45,6 @@ abbrev pub IsKindText : List ℕ → OriginOrAny → Type 0
 IsKindText text (One origin) = IsOriginText text origin
 IsKindText text Any = ⊥
 
--- a text that is a header value, and an origin as a line; the star is none
+-- a text that is a header value, and an origin as a line; `*` is no origin
 abbrev pub IsAllowedText : List ℕ → AccessControlAllowOrigin → Type 0
 IsAllowedText text header = IsKindText text header.kind

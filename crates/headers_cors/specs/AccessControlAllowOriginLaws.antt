@@ -1,4 +1,4 @@
--- The laws of the header `access-control-allow-origin`: the star is no origin.
+-- The laws of the header `access-control-allow-origin`: `*` is no origin.
 use Rattle.std.specs.Prelude.{◌≡◌, List, length, codes, refl}
 use Rattle.std.proofs.Common.{ap, arith, length-append}
 use Rattle.headers_syntax.specs.Lines.{Line, only_line}

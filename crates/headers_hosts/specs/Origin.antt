@@ -13,12 +13,12 @@ IsOriginUri text scheme authority =
     (kept : List ℕ) × IsUriText text (Some scheme) (Some authority) kept × (path_of kept ≡ codes "/") ×
     (query_of kept ≡ None)
 
--- what lies under an origin, read of a line
+-- the parts of an origin, read from a line
 abbrev pub IsKindLine : Line → OriginOrNull → Type 0
 IsKindLine line (Tuple scheme authority) = IsOriginUri line scheme authority
 IsKindLine line Null = line ≡ codes "null"
 
--- `null`, or such a URI, of which scheme and authority are kept
+-- `null`, or such a URI, whose scheme and authority are kept
 abbrev pub IsOriginLine : Line → Origin → Type 0
 IsOriginLine line origin = IsKindLine line origin.kind
 
@@ -57,7 +57,7 @@ abbrev pub kind_host : OriginOrNull → List ℕ
 kind_host (Tuple scheme authority) = authority_host authority
 kind_host Null = []
 
--- whether it is `null`; its scheme and its host, which are empty for null; its authority
+-- whether it is `null`; its scheme and its host, which are empty for `null`; its authority
 abbrev pub origin_is_null : Origin → Bool
 origin_is_null origin = kind_is_null origin.kind
 
@@ -70,7 +70,7 @@ origin_host origin = kind_host origin.kind
 abbrev pub origin_authority : Origin → Option (List ℕ)
 origin_authority origin = kind_authority origin.kind
 
--- scheme, `://`, host and, if there is one, a colon and the port
+-- the scheme, `://`, the host and, if there is a port, a colon and the port
 abbrev pub parts_text : List ℕ → List ℕ → Option ℕ → List ℕ
 parts_text scheme host None = tuple_text scheme host
 parts_text scheme host (Some port) = tuple_text scheme host ++ codes ":" ++ decimal port

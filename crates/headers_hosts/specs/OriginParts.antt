@@ -1,4 +1,4 @@
--- Origins out of a URI, and out of a text.
+-- Origins from a URI, and from a text.
 use Rattle.std.specs.Prelude.{◌≡◌, List, ℕ, Some, None, codes}
 use Rattle.http_header.specs.FieldValue.{IsFieldValue}
 use Rattle.http_uri.specs.declared.uri.Uri.{Uri}

@@ -12,8 +12,8 @@ module _ {A R : Type 0} (answers : A → R → Type 0) where
   abbrev pub SameAnswers : A → A → Type 0
   SameAnswers v w = (result : R) → answers v result ↔ answers w result
 
--- a text that is cut at any choice of its counting places has the answers of that text as one line; and lines of text,
--- where each but the last has an even number of quotes, have the answers of their merged line
+-- a text that is cut at any choice of its counting places has the answers of that text as one line; and lines of
+-- text, of which each but the last has an even number of quotes, have the answers of their merged line
 pub record SurvivesCuts {R : Type 0} (separator : ℕ) (answers : List Line → R → Type 0) : Type 0 where
   pub cut : (text places : List ℕ) → is_text text ≡ true → AreCuts separator text 0 places
       → SameAnswers answers (pieces text 0 places) (text ∷ [])

@@ -15,7 +15,7 @@ EvenButLast [] = Unit {0}
 EvenButLast (x ∷ []) = Unit {0}
 EvenButLast (x ∷ y ∷ ys) = (is_even (count_by is_quote x) ≡ true) × EvenButLast (y ∷ ys)
 
--- the items of a value are those of the lines, one line after the other, where there is a line, all are text and each
+-- the items of a value are those of the lines, one line after the other, if there is a line, all are text and each
 -- but the last has an even number of quotes
 abbrev pub HasItemsOf : ℕ → List (List ℕ) → List ℕ → Type 0
 HasItemsOf sep [] value = Unit {0}

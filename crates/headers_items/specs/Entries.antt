@@ -5,7 +5,7 @@ use Rattle.headers_syntax.specs.Lines.{Line}
 use Rattle.headers_items.specs.Places.{comma, items}
 use Rattle.headers_items.specs.ItemsState.{is_entry}
 
--- the items by comma of one line that are not empty; a line that is no text has none
+-- the items by comma of one line that aren't empty; a line that isn't text has none
 abbrev pub line_entries : Line → List (List ℕ)
 line_entries line = filter is_entry (items comma line)
 

@@ -7,8 +7,8 @@ use Rattle.headers_syntax.specs.Text.{is_text, trim}
 use Rattle.headers_items.specs.Places.{is_counting_place, hits, items_from}
 use Rattle.headers_items.specs.ScanState.{ScanState, end_search}
 
--- the text and the separator, where the next piece begins, whether the last piece was given, and how far the scan has
--- come
+-- the text and the separator, where the next piece begins, whether the last piece was handed out, and how far the
+-- scan has come
 pub record ItemsState : Type 0 where
   pub text : List ℕ
   pub separator : ℕ
@@ -22,7 +22,7 @@ pub record ItemsState : Type 0 where
 abbrev pub items_left : ItemsState → List (List ℕ)
 items_left s = if s.is_done then [] else items_from s.separator s.text s.start
 
--- a walk over the items of s that has made no search; over a value that is no text it is done
+-- a walk over the items of s that has made no search; over a value that isn't text it is done
 abbrev pub walk_over : ℕ → List ℕ → ItemsState
 walk_over sep s =
     record {
@@ -50,15 +50,15 @@ pub record IsNextCut (sep : ℕ) (s : List ℕ) (i q : ℕ) : Type 0 where
 abbrev pub FindsCut : ℕ → List ℕ → ℕ → Option ℕ → Type 0
 FindsCut sep s i r = MatchOption r (NoCut sep s i (length s)) (IsNextCut sep s i)
 
--- the piece of s from place i gave `item`: it ends at a counting place, and p is just past that, or it ends where s
--- does, and so is p
+-- the piece of s from place i is `item`: it ends at a counting place, and p is just past that, or it ends at the end
+-- of s, where p is too
 abbrev pub GivesPiece : ℕ → List ℕ → ℕ → List ℕ → ℕ → Type 0
 GivesPiece sep s i item p =
     ((q : ℕ) × IsNextCut sep s i q × (item ≡ trim (slice_range s i q)) × (p ≡ q + 1))
     ⊎ (NoCut sep s i (length s) × (item ≡ trim (drop i s)) × (p ≡ length s))
 
 -- a call from s that gave r and left t: the scan stands just past the piece that was handed out, and stays at the end
--- of the text where none is left; so far it made one search for each hit before its place, and one more for the end
+-- of the text if none is left; so far it made one search for each hit before its place, and one more for the end
 pub record ScansPiece (s : ItemsState) (r : Option (Bor (List ℕ))) (t : ItemsState) : Type 0 where
   pub text : t.text ≡ s.text
   pub separator : t.separator ≡ s.separator
@@ -84,15 +84,15 @@ pub record ItemsInvariant (sep : ℕ) (text : List ℕ) (scan : ScanState) (star
   pub at_end : is_done ≡ true → scan.place ≡ length text
   pub searches : scan.searches ≡ hits sep text scan.place + end_search scan.is_ended
 
--- an item that is not empty
+-- an item that isn't empty
 abbrev pub is_entry : List ℕ → Bool
 is_entry x = not (length x == 0)
 
--- the entries that are left: the items that are not empty
+-- the entries that are left: the items that aren't empty
 abbrev pub entries_left : ItemsState → List (List ℕ)
 entries_left s = filter is_entry (items_left s)
 
--- a piece of s begins at place j when one begins at i: j is i, or it is just past a counting place at or after i
+-- a piece of s begins at place j if one begins at i: j is i, or it is just past a counting place at or after i
 abbrev pub BeginsPiece : ℕ → List ℕ → ℕ → ℕ → Type 0
 BeginsPiece sep s i j =
     (j ≡ i) ⊎ ((q : ℕ) × (i ≤ q) × (q < length s) × (is_counting_place sep s q ≡ true) × (j ≡ q + 1))
@@ -108,8 +108,8 @@ pub record GivesWanted (wanted : List ℕ → Bool) (s : ItemsState) (item : Lis
   pub gives : GivesPiece s.separator s.text begin item p
 
 -- a call of a walk that hands out only the wanted items, from s to t, gave r, which shows an item: the scan stands
--- just past its piece, or at the end of the text where none was left; so far it made one search for each hit before
--- its place, and one more for the end, and a walk that was done makes none
+-- just past its piece, or at the end of the text if none was left; so far it made one search for each hit before its
+-- place, and one more for the end, and a walk that was done makes none
 pub record ScansWanted {A : Type 0} (wanted : List ℕ → Bool) (Shows : A → List ℕ → Type 0) (s : ItemsState)
     (r : Option A) (t : ItemsState) : Type 0 where
   pub text : t.text ≡ s.text

@@ -9,7 +9,7 @@ merge sep [] = []
 merge sep (x ∷ []) = x
 merge sep (x ∷ y ∷ ys) = x ++ (sep ∷ 32 ∷ merge sep (y ∷ ys))
 
--- the lines joined by a separator and a space, kept and written; it never refuses
+-- the lines joined by a separator and a space, kept and written; never refused
 abbrev pub merged : {V : Type 0} → ℕ → (V → Line) → Grammar V Line
 merged separator kept =
     record {

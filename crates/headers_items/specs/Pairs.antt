@@ -14,23 +14,23 @@ Pair = List ℕ × List ℕ
 abbrev pub is_equals : ℕ → Bool
 is_equals b = b == 61
 
--- the trimmed halves of an item round one of its places
+-- the trimmed halves of an item on both sides of one of its places
 abbrev pub halves_at : List ℕ → ℕ → Pair
 halves_at item place = (trim (take place item), trim (drop (place + 1) item))
 
--- the trimmed halves round the first `=`, where there is one
+-- the trimmed halves on both sides of the first `=`, if there is one
 unfoldable pub pair_of : List ℕ → Option Pair
 pair_of item = option_map (halves_at item) (position is_equals item)
 
--- an item that has a `=`
+-- an item that has an `=`
 abbrev pub has_pair : List ℕ → Bool
 has_pair item = is_some (pair_of item)
 
--- the pairs of the items that have a `=`, in order
+-- the pairs of the items that have an `=`, in order
 abbrev pub pairs : List (List ℕ) → List Pair
 pairs items = filter_map pair_of items
 
--- the value of the first pair of that name
+-- the value of the first pair with that name
 abbrev pub first_value : List ℕ → List Pair → Option (List ℕ)
 first_value name all = option_map (λ (pair : Pair). pair.1) (find (λ (pair : Pair). bytes_eq pair.0 name) all)
 

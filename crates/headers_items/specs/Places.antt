@@ -41,15 +41,15 @@ pieces s i (p ∷ ps) = slice_range s i p ∷ pieces s (p + 1) ps
 abbrev pub items_from : ℕ → List ℕ → ℕ → List (List ℕ)
 items_from sep s i = map trim (pieces s i (counting_from sep s i))
 
--- the items of s; a value that is no text has none
+-- the items of s; a value that isn't text has none
 abbrev pub items : ℕ → List ℕ → List (List ℕ)
 items sep s = if is_text s then items_from sep s 0 else []
 
--- quotes and separators of s
+-- the quotes and the separators of s
 abbrev pub marks : ℕ → List ℕ → ℕ
 marks sep s = count_by is_quote s + count_by (λ b. b == sep) s
 
--- quotes and counting places of s before place p
+-- the quotes and the counting places of s before place p
 unfoldable pub hits : ℕ → List ℕ → ℕ → ℕ
 hits sep s p = quotes_before s p + count_by (is_counting_place sep s) (places 0 p)
 

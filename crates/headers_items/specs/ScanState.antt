@@ -6,7 +6,7 @@ use Rattle.headers_items.specs.Places.{is_counting_place, NoHit}
 use Rattle.headers_items.specs.declared.scan.Mark.{Mark}
 
 -- the bytes and the separator, the place that the scan has reached, whether it has come to the end, and how many
--- searches it took
+-- searches it has made
 pub record ScanState : Type 0 where
   pub bytes : List ℕ
   pub separator : ℕ
@@ -22,7 +22,7 @@ pub record IsNextMark (sep : ℕ) (s : List ℕ) (i : ℕ) (m : Mark) : Type 0 w
   pub a_quote : m.quote ≡ true → slice_index s m.place ≡ quote
   pub a_cut : m.quote ≡ false → is_counting_place sep s m.place ≡ true
 
--- r is the first mark at or after place i, if there is one
+-- r is the first quote or counting place at or after place i, if there is one
 abbrev pub FindsMark : ℕ → List ℕ → ℕ → Option Mark → Type 0
 FindsMark sep s i r = MatchOption r (NoHit sep s i (length s)) (IsNextMark sep s i)
 

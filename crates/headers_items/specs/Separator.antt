@@ -5,7 +5,7 @@ use Rattle.http_header.specs.Token.{is_visible_or_blank}
 use Rattle.headers_syntax.specs.Text.{quote, is_blank}
 use Rattle.headers_items.specs.Places.{comma, semicolon}
 
--- a byte of text that is no quote, space or tab
+-- a byte of text other than a quote, a space or a tab
 pub record IsSeparator (b : ℕ) : Type 0 where
   pub is_text : is_visible_or_blank b ≡ true
   pub no_quote : b ≢ quote

@@ -19,7 +19,7 @@ abbrev pub insert_error_of : HeaderMapError → InsertError
 insert_error_of MaxSizeReached = Full
 insert_error_of OutOfMemory = Memory
 
--- what the errors show
+-- what the errors print
 abbrev pub insert_error_text : InsertError → List ℕ
 insert_error_text Memory = codes "out of memory"
 insert_error_text Full = codes "max size reached"
@@ -27,16 +27,16 @@ insert_error_text Full = codes "max size reached"
 abbrev pub apply_error_text : ApplyError → List ℕ
 apply_error_text e = codes "after " ++ decimal e.done ++ codes " steps: " ++ insert_error_text e.cause
 
--- one of the lines at least and not all, from the first on
+-- at least one of the lines and not all, from the first on
 abbrev pub IsProperBeginning : List Line → List Line → Type 0
 IsProperBeginning begun lines = HasLine begun × ((rest : List Line) × HasLine rest × (begun ++ rest ≡ lines))
 
--- the name has its old values, or a proper beginning of the lines, which are then two at least
+-- the name has its old values, or a proper beginning of the lines, which are then at least two
 abbrev pub KeepsOrBegins : Entries FieldValue → Entries FieldValue → List ℕ → List Line → Type 0
 KeepsOrBegins old new name lines = (get_all new name ≡ get_all old name) ⊎ IsProperBeginning (lines_at new name) lines
 
--- what a refused put of lines leaves at their name. The map is full where it refuses one more line under the name;
--- one line in place of others always has room.
+-- what a refused put of lines leaves at their name. The map is full if it refuses one more line under the name; one
+-- line in place of others always has room.
 pub record IsRefusedPut (old new : Entries FieldValue) (name : List ℕ) (lines : List Line) (cause : InsertError)
     : Type 0 where
   pub own : KeepsOrBegins old new name lines

@@ -31,8 +31,8 @@ GivesLines lines (Err (Invalid e)) = ⊥
 GivesLines lines (Err (Memory e)) = ⊤
 
 module _ {V E : Type 0} (same : V → V → Type 0) (reads : List Line → V → Type 0) (writes : V → List Line) where
-  -- A `Put` is read, and its value is given where its lines are an encoding. After a `Remove` there is no line.
-  -- The lines that stood there before are read where no step touched the name.
+  -- A `Put` is read, and gives its value if its lines are an encoding. After a `Remove` there is no line. If no step
+  -- touched the name, the lines that stood there before are read.
   abbrev pub IsLastRead : List Line → Option Step → Result (Option V) (Refused E) → Type 0
   IsLastRead before None read = IsTypedRead reads before read
   IsLastRead before (Some (Put e)) read =

@@ -16,7 +16,7 @@ LineMap = List ℕ → List Line
 abbrev pub lines_at : Entries FieldValue → LineMap
 lines_at m name = lines_of (get_all m name)
 
--- the map with the lines at the name, or the map itself where there is no line
+-- the map with the lines at the name, or the map itself if there is no line
 abbrev pub put : LineMap → List ℕ → List Line → LineMap
 put m name [] other = m other
 put m name (line ∷ lines) other = if bytes_eq name other then line ∷ lines else m other
@@ -35,7 +35,7 @@ abbrev pub run : LineMap → List Step → LineMap
 run m [] = m
 run m (step ∷ steps) = run (after_step m step) steps
 
--- the step is a `Remove` of the name, or a `Put` under it of one line at least
+-- the step is a `Remove` of the name, or a `Put` under it of at least one line
 abbrev pub touches : List ℕ → Step → Bool
 touches name (Put e) = bytes_eq e.name name && nat_lt 0 (length e.lines.items)
 touches name (Remove other) = bytes_eq other name
@@ -49,6 +49,6 @@ abbrev pub lines_left : Step → List Line
 lines_left (Put e) = lines_of e.lines.items
 lines_left (Remove name) = []
 
--- what the last step that touches the name left there, or what the map has there, where none does
+-- what the last step that touches the name left there, or what the map has there if none does
 abbrev pub last : LineMap → List Step → LineMap
 last m steps name = option_map_or lines_left (last_step steps name) (m name)

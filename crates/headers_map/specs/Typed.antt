@@ -8,7 +8,7 @@ use Rattle.headers_syntax.specs.declared.error.Refused.TheVariants.{Invalid, Mem
 abbrev pub HasLine : List Line → Type 0
 HasLine lines = 0 < length lines
 
--- `Ok(None)` just where there is no line, a value only where they read it, and `Invalid` only where they read nothing
+-- `Ok(None)` exactly if there is no line, a value only if they read it, and `Invalid` only if they read nothing
 abbrev pub IsTypedRead : {V E : Type 0} → (List Line → V → Type 0) → List Line → Result (Option V) (Refused E) → Type 0
 IsTypedRead reads lines (Ok None) = lines ≡ []
 IsTypedRead reads lines (Ok (Some v)) = HasLine lines × reads lines v

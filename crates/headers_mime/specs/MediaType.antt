@@ -21,7 +21,7 @@ equals = 61
 abbrev pub backslash : ℕ
 backslash = 92
 
--- a parameter as it is written; a quoted value has its quotes
+-- a parameter as it is written; a quoted value keeps its quotes
 pub record Parameter : Type 0 where
   pub name : List ℕ
   pub value : List ℕ
@@ -32,7 +32,7 @@ pub record MediaType : Type 0 where
   pub subtype : List ℕ
   pub parameters : List Parameter
 
--- spaces and tabs alone
+-- only spaces and tabs
 abbrev pub IsBlanks : List ℕ → Type 0
 IsBlanks s = AllPass is_blank s
 
@@ -106,7 +106,7 @@ pub record IsMediaType (text : List ℕ) (media : MediaType) : Type 0 where
 abbrev pub is_charset_token : Parameter → Bool
 is_charset_token p = bytes_eq (lowercase p.name) (codes "charset") && list_all is_token_byte p.value
 
--- the value of a `charset` in lower case where it is a token, and any other as it is written
+-- the value of a `charset` in lower case if it is a token, and any other value as it is written
 abbrev pub canonical_value : Parameter → List ℕ
 canonical_value p = if is_charset_token p then lowercase p.value else p.value
 

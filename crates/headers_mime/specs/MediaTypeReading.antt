@@ -1,4 +1,4 @@
--- Media types as they are read from the front on. That this is the grammar is proved in proofs/ReadingLemmas.
+-- Media types, read from the front. That this is the grammar is proved in proofs/ReadingLemmas.
 use Rattle.std.specs.Prelude.{◌≡◌, ℕ, zero, suc, ◌+◌, Bool, false, ◌&&◌, not, ◌==◌, List, [], ◌∷◌, ◌++◌, length, take}
 use Rattle.std.specs.Prelude.{drop, Option, Some, None, map, option_map, if◌then◌else◌}
 use Rattle.std.specs.List.{prefix_len, cons_option}
@@ -12,8 +12,7 @@ use Rattle.std.specs.Prelude.{Result, Ok, Err, ⊤}
 use Rattle.headers_syntax.specs.declared.error.Refused.{Refused}
 use Rattle.headers_syntax.specs.declared.error.Refused.TheVariants.{Invalid, Memory}
 
--- how many bytes stand from here up to the closing quote, and with it; `is_escaped` is whether a backslash
--- stands before
+-- how many bytes stand from here up to and with the closing quote; `is_escaped` is whether a backslash stands before
 abbrev pub quoted_len : Bool → List ℕ → Option ℕ
 quoted_len is_escaped [] = None
 quoted_len is_escaped (b ∷ s) =
@@ -21,21 +20,21 @@ quoted_len is_escaped (b ∷ s) =
     else if is_visible_or_blank b then option_map (λ n. 1 + n) (quoted_len (b == backslash && not is_escaped) s)
     else None
 
--- the length of the token at the head, where there is one
+-- the length of the token at the front, if there is one
 abbrev pub token_len : List ℕ → Option ℕ
 token_len s = let n = prefix_len is_token_byte s in if n == 0 then None else Some n
 
--- the length of the value at the head, where there is one
+-- the length of the value at the front, if there is one
 unfoldable pub value_len : List ℕ → Option ℕ
 value_len [] = None
 value_len (b ∷ s) = if b == quote then option_map (λ n. 1 + n) (quoted_len false s) else token_len (b ∷ s)
 
--- what follows one byte at the head, where it stands there
+-- what follows this byte, if the bytes begin with it
 abbrev pub after_byte : ℕ → List ℕ → Option (List ℕ)
 after_byte c [] = None
 after_byte c (b ∷ s) = if b == c then Some s else None
 
--- whether the byte at the head passes a test
+-- whether the first byte passes a test
 abbrev pub begins_with : (ℕ → Bool) → List ℕ → Bool
 begins_with test [] = false
 begins_with test (b ∷ s) = test b
@@ -44,14 +43,14 @@ begins_with test (b ∷ s) = test b
 abbrev pub split_at : List ℕ → ℕ → List ℕ × List ℕ
 split_at s n = (take n s, drop n s)
 
--- the token at the head and what follows it
+-- the token at the front, and what follows it
 unfoldable pub read_token : List ℕ → Option (List ℕ × List ℕ)
 read_token s = option_map (split_at s) (token_len s)
 
 unfoldable pub read_value : List ℕ → Option (List ℕ × List ℕ)
 read_value s = option_map (split_at s) (value_len s)
 
--- the parameter at the head and what follows it
+-- the parameter at the front, and what follows it
 unfoldable pub read_parameter : List ℕ → Option (Parameter × List ℕ)
 read_parameter s =
     option_and_then
@@ -64,7 +63,7 @@ read_parameter s =
     (after_byte equals name.1))
     (read_token s)
 
--- a parameter or nothing, and what follows it without the blanks at its head
+-- a parameter or nothing, and what follows it without its leading blanks
 unfoldable pub read_optional : List ℕ → Option (Option Parameter × List ℕ)
 read_optional s =
     if begins_with is_token_byte s
@@ -89,7 +88,7 @@ read_segments (suc n) (b ∷ s) =
 unfoldable pub read_parameters : List ℕ → Option (List Parameter)
 read_parameters s = read_segments (length s) s
 
--- type, subtype and what follows them and blanks
+-- the type, the subtype, and what follows them and blanks
 unfoldable pub read_essence : List ℕ → Option (List ℕ × List ℕ × List ℕ)
 read_essence s =
     option_and_then
@@ -100,7 +99,7 @@ read_essence s =
     (after_byte slash top_level.1))
     (read_token (trim_start s))
 
--- the parts of a text, where it is a media type
+-- the parts of a text, if it is a media type
 unfoldable pub read_media : List ℕ → Option MediaType
 read_media s =
     option_and_then
@@ -119,7 +118,7 @@ canonical_rest s =
 abbrev pub optional_canonical : Option Parameter → List ℕ
 optional_canonical o = parameters_text (map canonical_parameter (cons_option o []))
 
--- the canonical text of a text, where it is a media type
+-- the canonical text of a text, if it is a media type
 abbrev pub canonical_of : List ℕ → Option (List ℕ)
 canonical_of s = option_map canonical (read_media s)
 

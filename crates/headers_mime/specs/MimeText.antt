@@ -30,7 +30,7 @@ abbrev pub IsMimeText : Text → Type 0
 IsMimeText (Known text) = IsTrue (list_any (λ (known : List ℕ). bytes_eq known text.now) known_texts)
 IsMimeText (Read value) = IsCanonical value.bytes
 
--- an answer of a reader of text: the canonical text of its reading, and `Invalid` only where it has none
+-- an answer of a reader of text: the canonical text of its reading, and `Invalid` only if it has none
 abbrev pub ReadsMime : {E : Type 0} → List ℕ → Result (List ℕ) (Refused E) → Type 0
 ReadsMime text (Ok mime) = (m : MediaType) × IsMediaType text m × (mime ≡ canonical m)
 ReadsMime text (Err (Invalid e)) = (m : MediaType) → ¬ (IsMediaType text m)

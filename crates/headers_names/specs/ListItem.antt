@@ -25,19 +25,19 @@ method_of item = if is_token item then Some item else None
 abbrev pub Reading : Type 0
 Reading = List ℕ → Option (List ℕ)
 
--- the values of the items that are one, in order
+-- the values of the items that read as one, in order
 abbrev pub values : Reading → List (List ℕ) → List (List ℕ)
 values value_of items = filter_map value_of items
 
--- the values of the items before the first that is none
+-- the values of the items before the first that reads as none
 abbrev pub leading_values : Reading → List (List ℕ) → List (List ℕ)
 leading_values value_of items = values value_of (take_while (λ item. is_some (value_of item)) items)
 
--- the field names before the first item that is none
+-- the field names before the first item that isn't one
 abbrev pub names : List (List ℕ) → List (List ℕ)
 names items = leading_values name_of items
 
--- values that may want for memory: a name that is no standard one; a method past 15 bytes
+-- values that may want for memory: a name that isn't a standard one; a method past 15 bytes
 abbrev pub NameWants : List ℕ → Type 0
 NameWants name = ¬ (IsStandardName name)
 

@@ -26,11 +26,11 @@ bytes_unit = codes "bytes="
 unfoldable pub is_range_line : Line → Bool
 is_range_line line = is_text line && starts_with nat_eq line bytes_unit
 
--- the line, if it is so
+-- the line, if it is such text
 abbrev pub range_line : Line → Option Line
 range_line line = line_if is_range_line line
 
--- what stands on both sides of a dash: a number, or nothing
+-- the two sides of a dash: a number, or nothing
 abbrev pub Spec : Type 0
 Spec = Option ℕ × Option ℕ
 
@@ -38,12 +38,12 @@ Spec = Option ℕ × Option ℕ
 abbrev pub ByteRange : Type 0
 ByteRange = Bound ℕ × Bound ℕ
 
--- a half of a piece: empty, or a number; any other text is none
+-- a half of a piece: empty, or a number; any other text is no half
 abbrev pub half : List ℕ → Option (Option ℕ)
 half [] = Some None
 half (b ∷ bs) = option_map Some (number (b ∷ bs))
 
--- the halves round the first dash of a piece, without the spaces and tabs at its ends
+-- the halves on both sides of the first dash of a piece, once the piece is trimmed
 abbrev pub spec_of : List ℕ → Option Spec
 spec_of piece =
     option_and_then (λ (parts : List ℕ × List ℕ). option_zip (half parts.0) (half parts.1)) (cut dash (trim piece))
@@ -52,7 +52,7 @@ spec_of piece =
 abbrev pub pieces : List ℕ → List (List ℕ)
 pieces text = slice_split (λ b. b == comma) text
 
--- the specs of what follows `bytes=`, in order; a piece that is none is left out
+-- the specs of what follows `bytes=`, in order; a piece that is no spec is left out
 abbrev pub specs : Line → List Spec
 specs line = filter_map spec_of (pieces (drop (length bytes_unit) line))
 
@@ -63,7 +63,7 @@ Names (Some a) None len p = a ≤ p
 Names None (Some n) len p = len ≤ p + n
 Names None None len p = ⊥
 
--- a spec covers position p of a representation of so many bytes
+-- a spec covers position p of a representation of this many bytes
 abbrev pub Covers : ℕ → ℕ → Spec → Type 0
 Covers len p spec = (p < len) × Names spec.0 spec.1 len p
 
@@ -122,7 +122,7 @@ LiesIn p range = IsFrom range.0 p × IsUpTo range.1 p
 abbrev pub IsWithin : ℕ → ByteRange → Type 0
 IsWithin len range = (a : ℕ) × (b : ℕ) × (range ≡ (Included a, Included b)) × (a ≤ b) × (b < len)
 
--- what a spec gives: nothing, if it covers no position, and else the range of just the positions that it covers
+-- what a spec gives: nothing if it covers no position, else the range of just the positions that it covers
 abbrev pub GivesCovered : ℕ → Spec → Type 0
 GivesCovered len spec =
     MatchOption (gives len spec) ((p : ℕ) → ¬ (Covers len p spec))

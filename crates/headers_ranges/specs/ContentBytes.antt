@@ -28,7 +28,7 @@ space = 32
 abbrev pub slash : ℕ
 slash = 47
 
--- the one byte that stands for no range, and for no length
+-- the byte that stands for no range, and for no length
 abbrev pub star : Line
 star = codes "*"
 
@@ -47,7 +47,7 @@ numbers parts = option_and_then in_order (option_zip (number parts.0) (number pa
 abbrev pub positions : Line → Option (ℕ × ℕ)
 positions text = option_and_then numbers (cut dash text)
 
--- a range or a star, and a length or a star
+-- a range or `*`, and a length or `*`
 abbrev pub sized : Line × Line → Option ContentBytes
 sized parts = option_map of_parts (option_zip (read_or_star positions parts.0) (read_or_star number parts.1))
 

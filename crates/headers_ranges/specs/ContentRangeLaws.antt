@@ -23,7 +23,7 @@ use Rattle.headers_ranges.specs.PrintedLaws.{decimal_text, decimal_lacks, text_a
 
 -- ---- what is printed is read
 
--- what has no star in it is not the star
+-- what has no star in it isn't the star
 no_star : (s : Line) → Lacks 42 s → bytes_eq s star ≡ false
 no_star s lacks =
     false_from_ne_true (bytes_eq s star)
@@ -92,7 +92,7 @@ parts_read : (range : Option (ℕ × ℕ)) (length : Option ℕ)
 parts_read range length =
     elim (cases_Bool (is_ordered (of_parts (range, length)))) [ inl y ↦ rw y refl | inr n ↦ rw n refl ]
 
--- what is written reads as the value, if its positions are in order, and else as nothing
+-- what is written reads as the value if its positions are in order, else as nothing
 pub content_read : (v : ContentBytes) → FitsContent v
     → content_bytes (content_text v) ≡ (if is_ordered v then Some v else None)
 unfolding content_bytes content_text

@@ -9,7 +9,7 @@ use Rattle.headers_syntax.specs.declared.error.Refused.TheVariants.{Invalid, Mem
 use Rattle.headers_ranges.specs.ByteRanges.{range_line}
 use Rattle.headers_ranges.specs.declared.range.Range.{Range}
 
--- the line is kept and written
+-- the line is kept, and written as it came
 abbrev pub range_grammar : Grammar Range Line
 range_grammar = one_line (λ range. range.bytes) first_line range_line (λ line. line)
 

@@ -8,6 +8,6 @@ use Rattle.headers_security.specs.StrictTransportSecurity.{carries_age, age_in}
 abbrev pub pieces : List ℕ → List (List ℕ)
 pieces text = map trim (slice_split (λ b. b == 59) text)
 
--- the age that a part carries, if it does
+-- the age that a part carries, if it carries one
 abbrev pub age_of : List ℕ → Option (Option ℕ)
 age_of part = if carries_age part then Some (age_in part) else None

@@ -12,7 +12,7 @@ use Rattle.headers_syntax.specs.Parts.{parts}
 use Rattle.headers_syntax.specs.AsciiCase.{same_name}
 use Rattle.headers_syntax.specs.Text.{without_quotes}
 
--- for how many seconds a host is to be reached by secure transport alone, and whether its subdomains are too (RFC
+-- for how many seconds a host may be reached only by secure transport, and whether its subdomains are included (RFC
 -- 6797, section 6.1)
 pub record TransportSecurity : Type 0 where
   pub include_subdomains : Bool
@@ -22,15 +22,15 @@ pub record TransportSecurity : Type 0 where
 abbrev pub names_subdomains : List ℕ → Bool
 names_subdomains part = same_name part (codes "includeSubdomains")
 
--- a part carries an age where it has a `=`, and what stands before the first is `max-age`, in any case
+-- a part carries an age if it has an `=`, and what stands before the first one is `max-age`, in any case
 abbrev pub carries_age : List ℕ → Bool
 carries_age part = list_any is_equals part && same_name (trim (before_first is_equals part)) (codes "max-age")
 
--- the number that stands after the first `=`, in quotes or not
+-- the number after the first `=`, in quotes or not
 abbrev pub age_in : List ℕ → Option ℕ
 age_in part = number (without_quotes (trim (after_first is_equals part)))
 
--- one part at most names `includeSubdomains`, exactly one carries an age, and that age is readable; other parts say
+-- at most one part names `includeSubdomains`, exactly one carries an age, and that age is readable; other parts say
 -- nothing
 abbrev pub security_of : List (List ℕ) → Option TransportSecurity
 security_of ps =

@@ -8,7 +8,7 @@ use Rattle.httpdate.specs.Valid.{IsValid, parts_secs}
 use Rattle.headers_syntax.specs.Lines.{Line}
 use Rattle.headers_syntax.specs.Text.{is_text, trim}
 
--- the second that a line shows: text, and without the spaces and tabs at its ends a date in one of the three formats
+-- the second that a line shows: text that is, once trimmed of spaces and tabs, a date in one of the three formats
 unfoldable pub date : Line → Option ℕ
 date line = if is_text line then parse_secs (trim line) else None
 
@@ -16,8 +16,7 @@ date line = if is_text line then parse_secs (trim line) else None
 abbrev pub IsDated : ℕ → Type 0
 IsDated secs = secs < 253_402_300_800
 
--- The year in which a day lies, and how many days of it have passed, where `days` have passed of the years from
--- `year` on.
+-- The year in which a day lies, and how many days of that year have passed, if `days` have passed since `year` began.
 -- At most n years are counted off.
 unfoldable pub year_of : ℕ → ℕ → ℕ → ℕ × ℕ
 year_of zero year days = (year, days)
@@ -31,7 +30,7 @@ month_of (suc n) year month days =
     if nat_lt days (days_in_month year month) then (month, days)
     else month_of n year (month + 1) (days - days_in_month year month)
 
--- the date and the time of day that lie so many seconds after the start of 1970, up to 8029 years and 11 months later
+-- the date and the time of day this many seconds after the start of 1970, up to 8029 years and 11 months later
 abbrev pub parts_at : ℕ → Parts
 parts_at secs =
     let days = secs / 86400 in
@@ -51,8 +50,7 @@ parts_at secs =
 unfoldable pub fixdate : ℕ → Line
 fixdate secs = imf_fixdate (parts_at secs)
 
--- the line is text, and without the spaces and tabs at its ends it shows the date of that second in one of the three
--- formats
+-- the line is text, and once trimmed of spaces and tabs it shows the date of that second in one of the three formats
 abbrev pub ShowsDate : Line → ℕ → Type 0
 ShowsDate line secs = IsTrue (is_text line)
     × ((p : Parts) × IsValid p × IsPartsText (trim line) p × (parts_secs p ≡ secs))

@@ -7,6 +7,6 @@ use Rattle.std.specs.declared.time.Duration.{Duration}
 abbrev pub IsWholeSeconds : Duration → Type 0
 IsWholeSeconds d = as_nanos d % 1_000_000_000 ≡ 0
 
--- it lasts so many seconds, and no part of another
+-- it lasts this many seconds, and no part of another
 abbrev pub LastsSeconds : Duration → ℕ → Type 0
 LastsSeconds d secs = as_nanos d ≡ secs * 1_000_000_000

@@ -15,7 +15,7 @@ pub record TagParts : Type 0 where
   pub is_weak : Bool
   pub opaque : List ℕ
 
--- what stands before the first quote: `W/`, with an upper case W, where the tag is weak
+-- what stands before the first quote: `W/`, with an upper case W, if the tag is weak
 abbrev pub weak_prefix : Bool → List ℕ
 weak_prefix is_weak = if is_weak then codes "W/" else []
 
@@ -61,11 +61,11 @@ WeaklyEqual s t = s.opaque ≡ t.opaque
 abbrev pub AreTags : (TagParts → TagParts → Type 0) → List ℕ → List ℕ → Type 0
 AreTags R a b = (s : TagParts) × (t : TagParts) × IsTag a s × IsTag b t × R s t
 
--- the parts of the bytes where they are a tag, and none where they are not
+-- the parts of the bytes if they are a tag, and none if they aren't
 abbrev pub FindsTag : List ℕ → Option TagParts → Type 0
 FindsTag bytes found = MatchOption found (¬ (IsSomeTag bytes)) (IsTag bytes)
 
--- the bytes are a quote, what was found, and a quote; there are no such bytes where nothing was found
+-- the bytes are a quote, what was found, and a quote; there are no such bytes if nothing was found
 abbrev pub FindsQuoted : List ℕ → Option (Bor (List ℕ)) → Type 0
 FindsQuoted bytes found =
     MatchOption found ((inner : List ℕ) → bytes ≢ quote ∷ (inner ++ quote ∷ []))

@@ -15,18 +15,18 @@ abbrev pub first_line : List Line → Option Line
 first_line [] = None
 first_line (line ∷ lines) = Some line
 
--- the line where there is exactly one
+-- the line, if there is exactly one
 abbrev pub only_line : List Line → Option Line
 only_line [] = None
 only_line (line ∷ []) = Some line
 only_line (line ∷ other ∷ lines) = None
 
--- the lines where there is one at least
+-- the lines, if there is at least one
 abbrev pub some_lines : List Line → Option (List Line)
 some_lines [] = None
 some_lines (line ∷ lines) = Some (line ∷ lines)
 
--- behind the old values stand new ones, of which these are the lines
+-- new values stand behind the old ones, and these are their lines
 pub record Appends (old new : List FieldValue) (lines : List Line) : Type 0 where
   pub added : List FieldValue
   pub behind : new ≡ old ++ added

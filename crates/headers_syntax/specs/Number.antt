@@ -4,12 +4,12 @@ use Rattle.std.specs.Prelude.{◌==◌, nat_lt}
 use Rattle.std.specs.Str.{all_ascii_digits}
 use Rattle.headers_syntax.specs.Lines.{Line}
 
--- what stands after an optional plus
+-- what follows an optional plus
 abbrev pub after_plus : Line → Line
 after_plus [] = []
 after_plus (c ∷ cs) = if c == 43 then cs else c ∷ cs
 
--- the number that decimal digits write: each digit has the weight of its place
+-- the number that decimal digits write, each digit by the weight of its place
 abbrev pub decimal_value : Line → ℕ
 decimal_value [] = 0
 decimal_value (c ∷ cs) = (c - 48) * 10 ^ length cs + decimal_value cs

@@ -4,7 +4,7 @@ use Rattle.std.specs.List.{slice_split, flat_map}
 use Rattle.headers_syntax.specs.Lines.{Line}
 use Rattle.headers_syntax.specs.Text.{is_text, trim}
 
--- the trimmed slices between all bytes c of a line; a line that is no text has none
+-- the trimmed slices between all bytes c of a line; a line that isn't text has none
 abbrev pub parts : ℕ → Line → List (List ℕ)
 parts c line = if is_text line then map trim (slice_split (λ b. b == c) line) else []
 

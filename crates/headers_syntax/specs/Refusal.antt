@@ -3,19 +3,19 @@ use Rattle.std.specs.Prelude.{ℕ, List, Option, Some, codes, ⊤, Result, Ok, E
 use Rattle.headers_syntax.specs.declared.error.Refused.{Refused}
 use Rattle.headers_syntax.specs.declared.error.Refused.TheVariants.{Invalid, Memory}
 
--- the result is no want of memory
+-- the result isn't `Memory`
 abbrev pub NeverMemory : {V E : Type 0} → Result V (Refused E) → Type 0
 NeverMemory (Ok v) = ⊤
 NeverMemory (Err (Invalid e)) = ⊤
 NeverMemory (Err (Memory e)) = ⊥
 
--- the result is that there is no such value
+-- the result is `Invalid`: there is no such value
 abbrev pub IsInvalid : {V E : Type 0} → Result V (Refused E) → Type 0
 IsInvalid (Ok v) = ⊥
 IsInvalid (Err (Invalid e)) = ⊤
 IsInvalid (Err (Memory e)) = ⊥
 
--- what a refusal shows: what its error does, or that there was no memory
+-- what a refusal prints: what its error does, or that there was no memory
 abbrev pub refusal_output : {E : Type 0} → (E → Option (List ℕ)) → Refused E → Option (List ℕ)
 refusal_output output (Invalid e) = output e
 refusal_output output (Memory e) = Some (codes "memory allocation failed")

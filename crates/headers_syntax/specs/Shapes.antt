@@ -8,19 +8,19 @@ use Rattle.headers_syntax.specs.EntityTag.{is_tag}
 use Rattle.headers_syntax.specs.Text.{is_text}
 use Rattle.headers_syntax.specs.HeaderLaws.{Grammar}
 
--- the line, where it passes a test
+-- the line, if it passes a test
 abbrev pub line_if : (Line → Bool) → Line → Option Line
 line_if test line = if test line then Some line else None
 
--- the line, where it is text
+-- the line, if it is text
 abbrev pub text_line : Line → Option Line
 text_line line = line_if is_text line
 
--- the word, where the line is it, byte for byte
+-- the word, if the line is it, byte for byte
 abbrev pub word_line : Line → Line → Option Line
 word_line word line = if bytes_eq line word then Some word else None
 
--- the line, where it is an entity tag
+-- the line, if it is an entity tag
 abbrev pub tag_line : Line → Option Line
 tag_line line = line_if is_tag line
 
@@ -60,7 +60,7 @@ module _ {V : Type 0} where
   abbrev pub first_word : Line → (V → Line) → Grammar V Line
   first_word word kept = one_line kept first_line (word_line word) (λ line. line)
 
-  -- all lines, of which there is one at least, kept and written
+  -- all lines, of which there is at least one, kept and written
   abbrev pub all_kept : (V → List Line) → Grammar V (List Line)
   all_kept kept =
       record {

@@ -1,4 +1,4 @@
--- Text, and what is taken off its ends.
+-- Text, and text without the blanks or the quotes at its ends.
 use Rattle.std.specs.Prelude.{ℕ, ◌-◌, Bool, ◌||◌, ◌==◌, List, take, drop, length}
 use Rattle.std.specs.List.{list_all, prefix_len, suffix_len}
 use Rattle.http_header.specs.Token.{is_visible_or_blank}
@@ -18,7 +18,7 @@ is_blank b = b == 9 || b == 32
 abbrev pub is_text : List ℕ → Bool
 is_text s = list_all is_visible_or_blank s
 
--- s without the spaces and tabs at its ends
+-- s without leading and trailing spaces and tabs
 abbrev pub trim_start : List ℕ → List ℕ
 trim_start s = drop (prefix_len is_blank s) s
 
@@ -28,7 +28,7 @@ trim_end s = take (length s - suffix_len is_blank s) s
 abbrev pub trim : List ℕ → List ℕ
 trim s = trim_end (trim_start s)
 
--- s without the quotes at its ends
+-- s without leading and trailing quotes
 abbrev pub without_quotes : List ℕ → List ℕ
 without_quotes s =
     let rest = drop (prefix_len is_quote s) s in take (length rest - suffix_len is_quote rest) rest

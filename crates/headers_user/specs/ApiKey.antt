@@ -1,4 +1,4 @@
--- Credentials of the scheme `ApiKey`: behind the scheme and one space stands a key.
+-- Credentials of the scheme `ApiKey`: a key stands after the scheme and one space.
 use Rattle.std.specs.Prelude.{◌≡◌, ℕ, Bool, ◌&&◌, ◌||◌, ◌==◌, List, ◌++◌, drop, length, nat_lt, codes, IsTrue}
 use Rattle.std.specs.Char.{is_ascii_alphanumeric}
 use Rattle.std.specs.List.{list_all}
@@ -12,7 +12,7 @@ api_key_scheme = codes "ApiKey"
 abbrev pub is_key_byte : ℕ → Bool
 is_key_byte b = is_ascii_alphanumeric b || (b == 45 || b == 95)
 
--- one such byte at least, and no other
+-- one or more such bytes, and no other
 abbrev pub is_key : List ℕ → Bool
 is_key key = nat_lt 0 (length key) && list_all is_key_byte key
 

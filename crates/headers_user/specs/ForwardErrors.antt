@@ -1,4 +1,4 @@
--- What the errors of `forward` show.
+-- What the errors of `forward` print.
 use Rattle.std.specs.Prelude.{ℕ, List, codes}
 use Rattle.headers_user.specs.declared.forwarding.ForwardError.{ForwardError}
 use Rattle.headers_user.specs.declared.forwarding.ForwardError.TheVariants.{BadHops, Memory}
