@@ -1,21 +1,15 @@
 -- A tag as the one item of a list.
-use Rattle.std.proofs.Common.{◌≡◌, ◌≢◌, get_or, ℕ, ◌-◌, Bool, true, false, List, [], ◌∷◌, ◌++◌, length, length-append}
-use Rattle.std.proofs.Common.{take, map, ◌↔◌, refl, sym, ◌∙◌, ap, subst, arith, Option, Some, None, IsTrue, is_some}
-use Rattle.std.proofs.Common.{◌↔◌}
+use Rattle.std.proofs.Common.{◌≡◌, ℕ, ◌-◌, Bool, true, false, List, [], ◌∷◌, ◌++◌, length}
+use Rattle.std.proofs.Common.{take, map, refl, sym, ◌∙◌, ap, subst, arith}
 use Rattle.std.specs.List.{list_all, suffix_len, onto_first}
-use Rattle.std.proofs.lemmas.Bool.{and_parts, and_from, and_right, ne_eqb, false_from_ne_true}
+use Rattle.std.proofs.lemmas.Bool.{and_parts, and_right, ne_eqb}
 use Rattle.std.proofs.lemmas.List.{reverse-append, take_all}
-use Rattle.std.proofs.Math.Seq.{take-append_seam}
-use Rattle.std.proofs.lemmas.Slice.Eq.{bytes_eq-Decides}
-use Rattle.std.specs.Prelude.{bytes_eq}
-use Rattle.std.proofs.lemmas.List.Sums.{AllPass-from_list_all, list_all-from_AllPass}
+use Rattle.std.proofs.lemmas.List.Sums.{list_all-from_AllPass}
 use Rattle.headers_syntax.specs.Text.{quote, is_blank, is_text, trim, trim_end}
 use Rattle.headers_syntax.specs.Text.{is_quote}
 use Rattle.headers_items.specs.Places.{items, pieces, places}
 use Rattle.headers_items.specs.Separator.{comma_is_separator}
-use Rattle.headers_syntax.specs.EntityTag.{is_tag_byte, between_quotes, TagParts, tag_text, IsTag, IsSomeTag}
-use Rattle.headers_syntax.specs.EntityTag.{FindsTag, is_tag, parts_of}
-use Rattle.headers_conditional.specs.EntityTagRange.{star}
+use Rattle.headers_syntax.specs.EntityTag.{is_tag_byte, TagParts, tag_text, IsTag}
 use Rattle.headers_items.proofs.CutLemmas.{cuts, cuts_quote, cuts_byte, items_cuts, pieces_cuts}
 use Rattle.headers_items.proofs.CutLemmas.{cuts, cuts_quote, cuts_byte, items_cuts, pieces_cuts}
 

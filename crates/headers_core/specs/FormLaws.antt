@@ -1,6 +1,5 @@
 -- The laws of a header that keeps one form.
-use Rattle.std.specs.Prelude.{◌≡◌, List, Option, Some, refl}
-use Rattle.std.proofs.Common.{sym, ◌∙◌, ap}
+use Rattle.std.specs.Prelude.{List}
 use Rattle.headers_syntax.specs.Lines.{Line}
 use Rattle.headers_syntax.specs.HeaderLaws.{HeaderLaws, Grammar, SameBy, ReadsBy, written_by, ReadsBack, laws_by}
 

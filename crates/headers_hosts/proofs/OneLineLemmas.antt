@@ -1,5 +1,5 @@
 -- Decoding by the one line that a header reads.
-use Rattle.std.proofs.Common.{◌≡◌, List, [], ◌∷◌, Option, Some, None, Result, Ok, Err, option_map, subst, ap}
+use Rattle.std.proofs.Common.{◌≡◌, List, Option, Some, None, Result, Ok, Err, subst}
 use Rattle.http_header.specs.FieldValue.{FieldValue}
 use Rattle.headers_syntax.specs.Lines.{Line}
 use Rattle.headers_syntax.specs.OfLines.{OfLines}

@@ -1,5 +1,5 @@
 -- The laws of the header `host`.
-use Rattle.std.specs.Prelude.{◌≡◌, ◌≤◌, ◌↔◌, List, length, refl}
+use Rattle.std.specs.Prelude.{◌≡◌, ◌≤◌, ◌↔◌, length, refl}
 use Rattle.std.proofs.Common.{sym, ◌∙◌, ap, subst}
 use Rattle.http_uri.specs.Grammar.{IsAuthority}
 use Rattle.headers_syntax.specs.Lines.{Line, first_line}

@@ -1,5 +1,5 @@
 -- The header `origin` (RFC 6454, section 7).
-use Rattle.std.specs.Prelude.{◌≡◌, ℕ, Bool, true, false, List, [], ◌∷◌, ◌++◌, Option, Some, None, codes, decimal}
+use Rattle.std.specs.Prelude.{◌≡◌, ℕ, Bool, true, false, List, [], ◌++◌, Option, Some, None, codes, decimal}
 use Rattle.http_uri.specs.Grammar.{IsUriText, path_of, query_of, authority_host}
 use Rattle.headers_syntax.specs.Lines.{Line, only_line}
 use Rattle.headers_hosts.specs.OneLine.{ReadsLine, written_line}

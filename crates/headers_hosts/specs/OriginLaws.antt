@@ -1,7 +1,6 @@
 -- The laws of the header `origin`: a text is read as one URI at most, and an origin as it is written.
-use Rattle.std.specs.Prelude.{◌≡◌, ◌≢◌, ◌⊎◌, ℕ, suc, ◌+◌, ◌<◌, ◌≤◌, Bool, true, false, not, ◌||◌, List, [], ◌∷◌, ◌++◌}
-use Rattle.std.specs.Prelude.{length, Option, Some, None, codes, bytes_eq, IsTrue, slice_index, count_by, refl}
-use Rattle.std.specs.Prelude.{if◌then◌else◌}
+use Rattle.std.specs.Prelude.{◌≡◌, ℕ, suc, ◌+◌, ◌<◌, Bool, true, false, not, List, [], ◌∷◌, ◌++◌}
+use Rattle.std.specs.Prelude.{length, Option, Some, None, codes, bytes_eq, IsTrue, slice_index, refl}
 use Rattle.std.specs.List.{prefix_len, list_all}
 use Rattle.std.specs.Char.{to_ascii_lowercase}
 use Rattle.std.proofs.Common.{sym, ◌∙◌, ap, subst, arith, inl, inr, append_assoc, append-nil, length-append, lit≤}
@@ -13,8 +12,8 @@ use Rattle.std.proofs.lemmas.List.{length-map}
 use Rattle.std.proofs.lemmas.List.Folds.{list_all-append}
 use Rattle.std.proofs.lemmas.List.Sums.{AllPass-from_list_all, list_all-from_AllPass}
 use Rattle.http_uri.specs.ByteClasses.{lowercase, is_scheme_byte, is_authority_byte, is_delimiter, slash}
-use Rattle.http_uri.specs.Grammar.{IsScheme, IsAuthority, IsTail, IsAbsoluteForm, IsForm, IsUriText, StartsOrigin}
-use Rattle.http_uri.specs.Grammar.{IsPathInput, normal_scheme, without_fragment, AllPass}
+use Rattle.http_uri.specs.Grammar.{IsScheme, IsAuthority, IsTail, IsAbsoluteForm, IsUriText, StartsOrigin}
+use Rattle.http_uri.specs.Grammar.{normal_scheme}
 use Rattle.headers_syntax.specs.Lines.{Line, only_line}
 use Rattle.headers_syntax.specs.HeaderLaws.{HeaderLaws}
 use Rattle.headers_hosts.specs.OneLine.{Same, line_laws}

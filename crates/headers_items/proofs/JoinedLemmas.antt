@@ -1,12 +1,11 @@
 -- Pieces that are joined by comma and space have themselves as their entries.
-use Rattle.std.proofs.Common.{◌≡◌, ◌≢◌, ℕ, ◌+◌, ◌-◌, ◌<◌, Bool, true, false, not, ◌&&◌, ◌==◌, nat_lt, nat_le, cond}
-use Rattle.std.proofs.Common.{List, [], ◌∷◌, ◌++◌, length, take, drop, get_or, filter, refl, ◌∙◌, ap, arith}
-use Rattle.std.specs.List.{list_all, flat_map, prefix_len, suffix_len, count_by}
-use Rattle.std.proofs.lemmas.Bool.{and_parts, and_from, or_right, le-leb, lt-ltb, ltb-true, ne_eqb, eqb-false, not-true}
-use Rattle.std.proofs.lemmas.List.{append-nil, take_all}
-use Rattle.std.proofs.lemmas.List.Sums.{AllPass-from_list_all, prefix_len_is, suffix_len_is, sum_by-cons}
-use Rattle.http_header.specs.Token.{is_visible_or_blank}
-use Rattle.headers_syntax.specs.Text.{is_blank, is_text, trim}
+use Rattle.std.proofs.Common.{◌≡◌, ℕ, ◌+◌, true, not, nat_lt, cond}
+use Rattle.std.proofs.Common.{List, [], ◌∷◌, ◌++◌, length, filter, refl, ◌∙◌, ap, arith}
+use Rattle.std.specs.List.{list_all, flat_map, count_by}
+use Rattle.std.proofs.lemmas.Bool.{and_parts, and_from, ltb-true, ne_eqb}
+use Rattle.std.proofs.lemmas.List.{append-nil}
+use Rattle.std.proofs.lemmas.List.Sums.{sum_by-cons}
+use Rattle.headers_syntax.specs.Text.{is_text}
 use Rattle.headers_items.specs.Places.{pieces, places, is_even, items}
 use Rattle.headers_syntax.specs.Text.{is_quote}
 use Rattle.headers_items.specs.Separator.{comma_is_separator}
@@ -17,7 +16,6 @@ use Rattle.headers_items.specs.Entries.{entries, line_entries}
 use Rattle.headers_items.proofs.CutLemmas.{HasItemsOf-merge}
 use Rattle.headers_items.proofs.ItemsLemmas.{items_last}
 use Rattle.headers_items.proofs.PlacesLemmas.{counting_place_other}
-use Rattle.headers_syntax.specs.Text.{without_quotes}
 use Rattle.headers_syntax.proofs.PlainLemmas.{is_plain, is_piece, plain_bounds, piece_at, trim_piece, text_piece}
 use Rattle.headers_syntax.proofs.PlainLemmas.{no_quote}
 

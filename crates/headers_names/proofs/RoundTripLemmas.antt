@@ -1,8 +1,8 @@
 -- Tokens that are joined in a list are its items.
-use Rattle.std.proofs.Common.{◌≡◌, ◌≢◌, ℕ, suc, ◌+◌, ◌-◌, ◌<◌, ◌≤◌, Bool, true, false, cond, List, [], ◌∷◌, ◌++◌}
-use Rattle.std.proofs.Common.{length, map, take, drop, get_or, Option, Some, None, is_some, Result, Ok, Err, IfOk}
+use Rattle.std.proofs.Common.{◌≡◌, ◌≢◌, ℕ, ◌-◌, true, false, cond, List, [], ◌∷◌, ◌++◌}
+use Rattle.std.proofs.Common.{length, map, Option, None, is_some, Result, Ok, Err, IfOk}
 use Rattle.std.proofs.Common.{IsTrue, refl, sym, ◌∙◌, ap, subst, arith}
-use Rattle.std.specs.List.{filter_map, flat_map, take_while, list_all, prefix_len, suffix_len, count_by}
+use Rattle.std.specs.List.{flat_map, take_while, list_all, prefix_len, suffix_len, count_by}
 use Rattle.std.proofs.Math.Seq.{take-length}
 use Rattle.std.proofs.lemmas.Bool.{and_from, ne_eqb}
 use Rattle.std.proofs.lemmas.Bool.Decides.{nat_tests}
@@ -19,8 +19,7 @@ use Rattle.http_header.specs.Token.{IsToken, is_token_byte, AllPass}
 use Rattle.http_header.proofs.TokenLemmas.{token_byte_range, IsVisibleAscii-from_token}
 use Rattle.headers_syntax.specs.Text.{is_blank, is_text, trim}
 use Rattle.headers_syntax.specs.Text.{is_quote}
-use Rattle.headers_items.specs.Places.{is_even, comma, is_counting_place, places, pieces, items}
-use Rattle.headers_items.specs.Separator.{comma_is_separator}
+use Rattle.headers_items.specs.Places.{is_even, comma, places, pieces, items}
 use Rattle.headers_items.specs.ItemsState.{NoCut}
 use Rattle.headers_items.specs.CutLaw.{EvenButLast, IsMerged, MergesItems}
 use Rattle.headers_syntax.specs.Lines.{lines_of}

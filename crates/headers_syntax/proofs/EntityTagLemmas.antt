@@ -1,15 +1,14 @@
 -- Facts on entity tags.
-use Rattle.std.proofs.Common.{◌≡◌, ◌≢◌, get_or, ℕ, ◌-◌, Bool, true, false, List, [], ◌∷◌, ◌++◌, length, length-append}
-use Rattle.std.proofs.Common.{take, map, ◌↔◌, refl, sym, ◌∙◌, ap, subst, arith, Option, Some, None, IsTrue, is_some}
+use Rattle.std.proofs.Common.{◌≡◌, ℕ, ◌-◌, Bool, true, false, List, [], ◌∷◌, ◌++◌, length, length-append}
+use Rattle.std.proofs.Common.{take, ◌↔◌, sym, ◌∙◌, ap, subst, arith, Option, Some, None, IsTrue, is_some}
 use Rattle.std.proofs.Common.{◌↔◌}
-use Rattle.std.specs.List.{list_all, suffix_len, onto_first}
-use Rattle.std.proofs.lemmas.Bool.{and_parts, and_from, and_right, ne_eqb, false_from_ne_true}
-use Rattle.std.proofs.lemmas.List.{reverse-append, take_all}
+use Rattle.std.specs.List.{list_all}
+use Rattle.std.proofs.lemmas.Bool.{and_parts, and_from, false_from_ne_true}
 use Rattle.std.proofs.Math.Seq.{take-append_seam}
 use Rattle.std.proofs.lemmas.Slice.Eq.{bytes_eq-Decides}
 use Rattle.std.specs.Prelude.{bytes_eq}
 use Rattle.std.proofs.lemmas.List.Sums.{AllPass-from_list_all, list_all-from_AllPass}
-use Rattle.headers_syntax.specs.Text.{quote, is_blank, is_text, trim, trim_end}
+use Rattle.headers_syntax.specs.Text.{quote}
 use Rattle.http_header.specs.Token.{AllPass}
 use Rattle.headers_syntax.specs.EntityTag.{is_tag_byte, between_quotes, TagParts, tag_text, IsTag, IsSomeTag}
 use Rattle.headers_syntax.specs.EntityTag.{FindsTag, is_tag, parts_of}

@@ -1,4 +1,4 @@
-use Rattle.std.proofs.Common.{refl, sym, ◌∙◌}
+use Rattle.std.proofs.Common.{refl, ◌∙◌}
 use Rattle.std.specs.Prelude.{codes}
 use Rattle.headers_hosts.proofs.OriginLemmas.{origin_path, origin_query, is_word, none_is_none}
 use Rattle.headers_hosts.proofs.origin.origin_of.Goals as goal

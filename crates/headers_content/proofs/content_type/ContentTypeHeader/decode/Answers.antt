@@ -1,4 +1,3 @@
-use Rattle.std.proofs.Common.{◌∙◌, ap, sym}
 use Rattle.headers_content.proofs.ContentTypeLemmas.{decodes_first}
 use Rattle.headers_content.proofs.content_type.ContentTypeHeader.decode.Goals as goal
 
