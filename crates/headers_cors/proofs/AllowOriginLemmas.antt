@@ -1,5 +1,5 @@
 -- What is no origin is not allowed, but for the star.
-use Rattle.std.proofs.Common.{◌≡◌, List, ℕ, Err, Result}
+use Rattle.std.proofs.Common.{◌≡◌, List, ℕ, Err}
 use Rattle.std.specs.Prelude.{codes}
 use Rattle.headers_syntax.specs.Lines.{Line}
 use Rattle.headers_syntax.specs.declared.error.Refused.{Refused}

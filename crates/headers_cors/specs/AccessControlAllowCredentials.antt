@@ -3,7 +3,7 @@ use Rattle.std.specs.Prelude.{codes}
 use Rattle.headers_syntax.specs.Lines.{Line}
 use Rattle.headers_syntax.specs.HeaderLaws.{Grammar}
 use Rattle.headers_syntax.specs.Shapes.{first_word}
-use Rattle.headers_cors.specs.declared.access_control_allow_credentials.AccessControlAllowCredentials.{AccessControlAllowCredentials}
+use Rattle.headers_cors.specs.declared.access_control_allow_credentials.AccessControlAllowCredentials as declared
 
-abbrev pub access_control_allow_credentials_grammar : Grammar AccessControlAllowCredentials Line
+abbrev pub access_control_allow_credentials_grammar : Grammar declared.AccessControlAllowCredentials Line
 access_control_allow_credentials_grammar = first_word (codes "true") (λ _. codes "true")

@@ -1,6 +1,5 @@
 -- The header `access-control-allow-origin` (W3C CORS, section 5.1).
 use Rattle.std.specs.Prelude.{◌≡◌, ℕ, List, Option, Some, None, codes}
-use Rattle.http_header.specs.FieldValue.{IsFieldValue}
 use Rattle.headers_syntax.specs.Lines.{Line, only_line}
 use Rattle.headers_hosts.specs.OneLine.{ReadsLine, written_line}
 use Rattle.headers_hosts.specs.Origin.{IsOriginLine, origin_text}

@@ -1,5 +1,5 @@
 -- The laws of the header `access-control-allow-origin`: `*` is no origin.
-use Rattle.std.specs.Prelude.{◌≡◌, List, length, codes, refl}
+use Rattle.std.specs.Prelude.{◌≡◌, length, codes, refl}
 use Rattle.std.proofs.Common.{ap, arith, length-append}
 use Rattle.headers_syntax.specs.Lines.{Line, only_line}
 use Rattle.headers_syntax.specs.HeaderLaws.{HeaderLaws}

@@ -3,19 +3,19 @@ use Rattle.std.specs.Prelude.{◌≡◌, ℕ, List}
 use Rattle.http_header.specs.Token.{IsToken}
 use Rattle.headers_syntax.specs.Lines.{Line, first_line}
 use Rattle.headers_hosts.specs.OneLine.{ReadsLine, written_line}
-use Rattle.headers_cors.specs.declared.access_control_request_method.AccessControlRequestMethod.{AccessControlRequestMethod}
+use Rattle.headers_cors.specs.declared.access_control_request_method.AccessControlRequestMethod as declared
 
 -- the bytes of the method
-abbrev pub method_bytes : AccessControlRequestMethod → List ℕ
+abbrev pub method_bytes : declared.AccessControlRequestMethod → List ℕ
 method_bytes header = header.method
 
 -- a method (RFC 9110, section 9.1), kept as it is
-abbrev pub IsMethodLine : Line → AccessControlRequestMethod → Type 0
+abbrev pub IsMethodLine : Line → declared.AccessControlRequestMethod → Type 0
 IsMethodLine line header = IsToken line × (method_bytes header ≡ line)
 
 -- the first line is a method, and so is what is written
-abbrev pub request_method_reads : List Line → AccessControlRequestMethod → Type 0
+abbrev pub request_method_reads : List Line → declared.AccessControlRequestMethod → Type 0
 request_method_reads = ReadsLine first_line IsMethodLine
 
-abbrev pub request_method_writes : AccessControlRequestMethod → List Line
+abbrev pub request_method_writes : declared.AccessControlRequestMethod → List Line
 request_method_writes = written_line method_bytes

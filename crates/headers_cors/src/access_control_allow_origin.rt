@@ -6,7 +6,7 @@ ghost use Rattle.headers_hosts.specs.OneLine.{LineDecodesTo};
 ghost use Rattle.headers_cors.specs.AccessControlAllowOrigin.{IsAllowedLine, IsAllowedText, allowed_text};
 ghost use Rattle.headers_cors.specs.AccessControlAllowOrigin.{allowed_origin, allow_origin_reads};
 ghost use Rattle.headers_cors.specs.AccessControlAllowOrigin.{allow_origin_writes};
-ghost use Rattle.headers_cors.specs.declared.access_control_allow_origin.AccessControlAllowOrigin.{AccessControlAllowOrigin as Seen};
+ghost use Rattle.headers_cors.specs.declared.access_control_allow_origin.AccessControlAllowOrigin as declared;
 
 use headers_core::{AsHeaderValue, Error, Header, Refused, just_one};
 use headers_hosts::{Origin, line_of_origin, origin_of_line, origin_of_text};
@@ -102,9 +102,9 @@ impl AccessControlAllowOrigin {
 
 /// Any origin, and each origin that some line reads as, is written as a line that reads as it.
 pub fn allow_origin_of_own_text()
-    ensures any { (header : Seen) → allowed_origin header ≡ None
+    ensures any { (header : declared.AccessControlAllowOrigin) → allowed_origin header ≡ None
         → allow_origin_reads (allow_origin_writes header) header }
-    ensures others { (line : List ℕ) (header : Seen) (origin : Origin)
+    ensures others { (line : List ℕ) (header : declared.AccessControlAllowOrigin) (origin : Origin)
         → allowed_origin header ≡ Some origin → IsOriginLine line origin
         → allow_origin_reads (allow_origin_writes header) header }
 {}

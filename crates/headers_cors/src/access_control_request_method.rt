@@ -4,7 +4,7 @@ ghost use Rattle.http_header.specs.Token.{IsToken};
 ghost use Rattle.headers_hosts.specs.OneLine.{LineDecodesTo};
 ghost use Rattle.headers_cors.specs.AccessControlRequestMethod.{method_bytes, IsMethodLine, request_method_reads};
 ghost use Rattle.headers_cors.specs.AccessControlRequestMethod.{request_method_writes};
-ghost use Rattle.headers_cors.specs.declared.access_control_request_method.AccessControlRequestMethod.{AccessControlRequestMethod as Seen};
+ghost use Rattle.headers_cors.specs.declared.access_control_request_method.AccessControlRequestMethod as declared;
 
 use headers_core::{AsHeaderValue, Error, Header, Refused, first};
 use http::Method;
@@ -57,7 +57,7 @@ impl AccessControlRequestMethod {
 
 /// A method is written as a line that reads as it.
 pub fn request_method_of_own_text()
-    ensures { (header : Seen) → IsToken (method_bytes header)
+    ensures { (header : declared.AccessControlRequestMethod) → IsToken (method_bytes header)
         → request_method_reads (request_method_writes header) header }
 {}
 
