@@ -26,7 +26,7 @@ pub trait HeaderMapExt: sealed::Sealed {
 
     /// Replaces all lines under the header's name by those that are written of the header. If no
     /// line is written, the map stays as it was. If the call is refused, the name has its old lines
-    /// or the first of the new ones. Other names never change.
+    /// or a beginning of the new ones. Other names never change.
     fn typed_insert<H: Header>(&mut self, alloc: Global, header: H) -> Result<(), InsertError>
         ensures ok { OnOk result ((name : List ℕ) → lines_at (entries self.new) name
             ≡ put (lines_at (entries self.old)) H.field_name (H.writes header) name) }

@@ -24,8 +24,8 @@ use std::time::Duration;
 
 /// For how long a host, and perhaps its subdomains, may be reached only by secure transport, in
 /// seconds below 2^64 (RFC 6797, section 6.1). The only line is cut at every semicolon. It is
-/// refused unless exactly one part carries an age and at most one names `includeSubdomains`.
-/// Equality goes by both.
+/// refused unless exactly one part carries an age, that age is a number, and at most one part names
+/// `includeSubdomains`. Equality goes by both.
 #[derive(Clone, Debug, PartialEq, Drop)]
 pub struct StrictTransportSecurity {
     include_subdomains: bool,
