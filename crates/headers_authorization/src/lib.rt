@@ -12,6 +12,3 @@ pub use crate::basic::Basic;
 pub use crate::bearer::{Bearer, InvalidBearerToken};
 pub use crate::credentials::Credentials;
 pub use crate::proxy_authorization::ProxyAuthorization;
-
-#[cfg(test)]
-mod tests;

@@ -12,6 +12,3 @@ pub use crate::content_encoding::ContentEncoding;
 pub use crate::content_length::ContentLength;
 pub use crate::content_location::{ContentLocation, ContentLocationField};
 pub use crate::content_type::{ContentType, content_type_reads_back};
-
-#[cfg(test)]
-mod tests;

@@ -8,6 +8,3 @@ pub use crate::host::{Host, host_of_short_authority};
 pub use crate::origin::{
     InvalidOrigin, Origin, line_of_origin, origin_of_line, origin_of_own_text, origin_of_text,
 };
-
-#[cfg(test)]
-mod tests;

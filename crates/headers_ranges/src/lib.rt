@@ -11,6 +11,3 @@ pub use crate::accept_ranges::AcceptRanges;
 pub use crate::content_range::{ContentRange, InvalidContentRange, content_ranges_read_back};
 pub use crate::range::{InvalidRange, Range, ranges_read_back};
 pub use crate::satisfiable::Satisfiable;
-
-#[cfg(test)]
-mod tests;

@@ -1,4 +1,7 @@
+ghost use Rattle.std.specs.Prelude.{◌≡◌, ◌↔◌, IsTrue};
+
 use crate::rows::{TWELVE, TWELVE_MERGED, decoded, differ, writes};
+use headers::{ContentType, Mime, Refused};
 use headers_lists::ContentEncoding;
 use headers_values::{ContentDisposition, ContentLength, ContentLocation};
 use std::process::Abort;
@@ -64,4 +67,44 @@ fn content_locations(rt: HostRuntime) -> Result<(), Fail> {
     let location: ContentLocation = decoded(&rt, &["/"]);
     assert_eq!(rt; location.clone(rt.alloc())?, location);
     Ok(())
+}
+
+#[test]
+fn content_types(rt: HostRuntime) {
+    rows!(rt, ContentType, "content-type",
+        [" Text/HTML;Charset=UTF-8;"] => "text/html; charset=utf-8", ["application/json", "x"] => "application/json";
+        refuses ["invalid-mimetype"], ["", "a/b"], ["a/b;c=\"\u{e9}\""], []);
+    stays_sensitive!(rt, ContentType, "a/b" => false, clone(rt.alloc()));
+    differ::<ContentType>(&rt, &["text/plain", "text/plain;charset=utf-8"]);
+}
+
+// Equality goes by the canonical texts.
+fn same_content_type(one: &ContentType, other: &ContentType) -> bool
+    ensures { IsTrue result ↔ (one.now ≡ other.now) }
+{
+    one == other
+}
+
+#[test]
+fn content_types_of_texts(rt: HostRuntime) -> Result<(), Fail> {
+    let read: ContentType = decoded(&rt, &["Text/Plain;charset=Utf-8"]);
+    assert!(rt; same_content_type(&read, &ContentType::text_utf8()));
+    assert!(rt; same_content_type(&read.clone(rt.alloc())?, &read));
+    let json = ContentType::from_str(rt.alloc(), "application/json")?;
+    assert!(rt; same_content_type(&json, &ContentType::json()));
+    assert_eq!(rt;
+        format!(in rt.alloc(); "{json:>17}")?.as_str(),
+        " application/json"
+    );
+    let text = ContentType::from_str(rt.alloc(), "text");
+    assert!(rt; matches!(text, Err(Refused::Invalid(_))));
+    Ok(())
+}
+
+#[test]
+fn content_types_of_mimes(rt: HostRuntime) {
+    let header = ContentType::from(Mime::TEXT_XML);
+    assert!(rt; same_content_type(&header, &ContentType::xml()));
+    let mime = Mime::from(header);
+    assert_eq!(rt; mime.as_str(), "text/xml");
 }

@@ -4,7 +4,7 @@ ghost use Rattle.std.specs.Hash as fed;
 ghost use Rattle.std.specs.Hash.DefaultHasher as sip;
 ghost use Rattle.std.specs.Ordering.{nat_cmp};
 
-use crate::rows::{decoded, differ, writes};
+use crate::rows::{decoded, differ, prints, prints_name, writes};
 use headers_core::Refused;
 use headers_values::{
     Date, InvalidReferer, InvalidServer, InvalidUserAgent, Location, Referer, RetryAfter, Server,
@@ -12,7 +12,6 @@ use headers_values::{
 };
 use std::alloc::AllocError;
 use std::cmp::Ordering;
-use std::error::Error;
 use std::hash::{DefaultHasher, Hash, Hasher};
 use std::process::Abort;
 use std::test::Fail;
@@ -177,27 +176,19 @@ fn no_header_values(rt: HostRuntime) {
     assert_eq!(rt; referer, Err(Refused::Invalid(InvalidReferer)));
 }
 
-fn prints(rt: &(impl Abort + AllocGlobal), error: &impl Error, text: &str) -> Result<(), Fail> {
-    assert_eq!(rt; format!(in rt.alloc(); "{error}")?.as_str(), text);
-    Ok(())
-}
-
 #[test]
 fn errors(rt: HostRuntime) -> Result<(), Fail> {
-    prints(&rt, &InvalidReferer, "InvalidReferer")?;
-    prints(&rt, &InvalidServer, "InvalidServer")?;
-    prints(&rt, &InvalidUserAgent, "InvalidUserAgent")
+    prints_name(&rt, &InvalidReferer, "InvalidReferer")?;
+    prints_name(&rt, &InvalidServer, "InvalidServer")?;
+    prints_name(&rt, &InvalidUserAgent, "InvalidUserAgent")
 }
 
 #[test]
 fn printed_texts(rt: HostRuntime) -> Result<(), Fail> {
-    let referer = Referer::from_static("/a");
-    assert_eq!(rt; format!(in rt.alloc(); "{referer}")?.as_str(), "/a");
+    prints(&rt, &Referer::from_static("/a"), "/a")?;
     let server = Server::from_static("b/1");
     assert_eq!(rt; format!(in rt.alloc(); "{server:>5}")?.as_str(), "  b/1");
-    let agent = UserAgent::from_static("c/2");
-    assert_eq!(rt; format!(in rt.alloc(); "{agent}")?.as_str(), agent.as_str());
-    Ok(())
+    prints(&rt, &UserAgent::from_static("c/2"), "c/2")
 }
 
 // Equality, order and hash of a text go by its bytes alone.

@@ -3,14 +3,17 @@
 
 // Lines, and the one line that is written of the header that they read; and lines that are refused.
 #[cfg(test)]
+macro_rules! table {
+    ($($lines:expr => $written:expr),* $(; refuses $($refused:expr),*)?) => {
+        &[$((&$lines, Some($written)),)* $($((&$refused, None),)*)?]
+    };
+}
+
+// The header has the name, and answers such a table. What it writes isn't sensitive.
+#[cfg(test)]
 macro_rules! rows {
-    ($rt:expr, $header:ty, $name:expr, $($lines:expr => $written:expr),*
-     $(; refuses $($refused:expr),*)?) => {
-        $crate::rows::rows::<$header>(
-            &$rt,
-            $name,
-            &[$((&$lines, Some($written)),)* $($((&$refused, None),)*)?],
-        )
+    ($rt:expr, $header:ty, $name:expr, $($table:tt)*) => {
+        $crate::rows::rows::<$header>(&$rt, $name, false, table!($($table)*))
     };
 }
 
@@ -24,6 +27,8 @@ macro_rules! stays_sensitive {
     };
 }
 
+#[cfg(test)]
+mod authorization;
 #[cfg(test)]
 mod caching;
 #[cfg(test)]
@@ -42,6 +47,8 @@ mod cors;
 mod full_map;
 #[cfg(test)]
 mod hostile;
+#[cfg(test)]
+mod hosts;
 #[cfg(test)]
 mod map;
 #[cfg(test)]

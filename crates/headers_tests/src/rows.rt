@@ -1,7 +1,10 @@
 //! What is seen of every header: what its lines read and write, its copies, and equality.
 use headers_core::{Header, Refused, decode_values};
 use http_header::{HeaderName, HeaderValue};
+use std::error::Error;
+use std::fmt::Display;
 use std::process::Abort;
+use std::test::Fail;
 
 /// Lines of a list field.
 pub const TWELVE: [&str; 12] = ["a", "b", "c", "d", "e", "f", "g", "h", "i", "j", "k", "l"];
@@ -62,8 +65,14 @@ fn sees(rt: &impl Abort, value: Option<&HeaderValue>, text: &str, is_sensitive: 
     );
 }
 
-/// The header writes these lines, not sensitive, behind a value that is sensitive and stays so.
-pub fn writes<H: Header>(rt: &(impl Abort + AllocGlobal), header: &H, wanted: &[&str]) {
+// The header writes these lines, which are sensitive or not, behind a value that is sensitive and
+// stays so.
+fn appends<H: Header>(
+    rt: &(impl Abort + AllocGlobal),
+    header: &H,
+    wanted: &[&str],
+    is_sensitive: bool,
+) {
     let mut before = HeaderValue::from_static("before");
     before.set_sensitive(true);
     let mut values = Vec::new(rt.alloc());
@@ -72,9 +81,14 @@ pub fn writes<H: Header>(rt: &(impl Abort + AllocGlobal), header: &H, wanted: &[
     let mut written = values.iter();
     sees(rt, written.next(), "before", true);
     for text in wanted {
-        sees(rt, written.next(), text, false);
+        sees(rt, written.next(), text, is_sensitive);
     }
     assert!(rt; written.next().is_none());
+}
+
+/// The header writes these lines, not sensitive, behind a value that is sensitive and stays so.
+pub fn writes<H: Header>(rt: &(impl Abort + AllocGlobal), header: &H, wanted: &[&str]) {
+    appends(rt, header, wanted, false);
 }
 
 /// Each of the headers writes this line, which is sensitive or it is not.
@@ -92,17 +106,19 @@ pub fn writes_sensitive<H: Header>(
     }
 }
 
-/// The lines of a row, and the one line that is written of what they read; none if they are refused.
+/// The lines of a row, and the one line that is written of what they read, sensitive or not; none if
+/// they are refused.
 pub fn rows<H: Header>(
     rt: &(impl Abort + AllocGlobal),
     name: &str,
+    is_sensitive: bool,
     table: &[(&[&str], Option<&str>)],
 ) {
     assert_eq!(rt; H::name().as_str(), name);
     for (texts, wanted) in table {
         let answer: Result<H, _> = decode_values(rt.alloc(), &lines(rt, texts));
         match (answer, wanted) {
-            (Ok(header), Some(line)) => writes(rt, &header, &[*line]),
+            (Ok(header), Some(line)) => appends(rt, &header, &[*line], is_sensitive),
             (Err(Refused::Invalid(_)), None) => {}
             _ => assert!(rt; false, "{name}: {texts:?}"),
         }
@@ -121,4 +137,26 @@ pub fn differ<H: Header + PartialEq>(rt: &(impl Abort + AllocGlobal), lines: &[&
             );
         }
     }
+}
+
+/// The value prints this text.
+pub fn prints(
+    rt: &(impl Abort + AllocGlobal),
+    value: &impl Display,
+    text: &str,
+) -> Result<(), Fail> {
+    assert_eq!(rt; format!(in rt.alloc(); "{value}")?.as_str(), text);
+    Ok(())
+}
+
+/// The error prints its name, whatever width and precision are asked for.
+pub fn prints_name(
+    rt: &(impl Abort + AllocGlobal),
+    error: &impl Error,
+    name: &str,
+) -> Result<(), Fail> {
+    assert_eq!(rt; format!(in rt.alloc(); "{error}")?.as_str(), name);
+    assert_eq!(rt; format!(in rt.alloc(); "{error:>40.3}")?.as_str(), name);
+    assert_eq!(rt; format!(in rt.alloc(); "{error:?}")?.as_str(), name);
+    Ok(())
 }

@@ -8,6 +8,3 @@ mod sec_websocket_version;
 pub use crate::sec_websocket_accept::SecWebsocketAccept;
 pub use crate::sec_websocket_key::SecWebsocketKey;
 pub use crate::sec_websocket_version::SecWebsocketVersion;
-
-#[cfg(test)]
-mod tests;
