@@ -1,4 +1,4 @@
--- Lines of credentials: a scheme, a space, and what the credentials read (RFC 7235, section 2.1).
+-- Lines of credentials: a scheme, a space, and what the credentials read (RFC 9110, section 11.4).
 use Rattle.std.specs.Prelude.{◌≡◌, ℕ, ◌<◌, List, [], ◌∷◌, length, take, slice_index, Some}
 use Rattle.http_header.specs.Token.{space}
 use Rattle.headers_syntax.specs.AsciiCase.{SameButForCase}

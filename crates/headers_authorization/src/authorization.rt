@@ -6,8 +6,8 @@ use http_header::{AUTHORIZATION, HeaderName, HeaderValue};
 use std::alloc::{AllocError, Global};
 
 /// The credentials of a request to a server: the first line, which is the scheme in any case, a
-/// space, and what the credentials read (RFC 7235, section 4.2). Anything else is refused. What is
-/// written is sensitive. Equality goes by the credentials.
+/// space, and what the credentials read (RFC 9110, section 11.6.2). Anything else is refused. What
+/// is written is sensitive. Equality goes by the credentials.
 #[derive(Debug, Drop, PartialEq)]
 pub struct Authorization<C>(pub C);
 

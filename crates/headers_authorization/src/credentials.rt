@@ -10,7 +10,7 @@ use headers_core::{AsHeaderValue, Error, Refused, first};
 use http_header::HeaderValue;
 use std::alloc::{AllocError, Global};
 
-/// The credentials of a scheme: how a line is read, and what is written (RFC 7235, section 2.1).
+/// The credentials of a scheme: how a line is read, and what is written (RFC 9110, section 11.4).
 pub trait Credentials: Drop {
     // The scheme's name.
     ghost scheme: { List ℕ };

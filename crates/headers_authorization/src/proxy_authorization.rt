@@ -7,8 +7,8 @@ use http_header::{HeaderName, HeaderValue, PROXY_AUTHORIZATION};
 use std::alloc::{AllocError, Global};
 
 /// The credentials of a request to a proxy: the first line, which is the scheme in any case, a
-/// space, and what the credentials read (RFC 7235, section 4.4). Anything else is refused. Equality
-/// goes by the credentials.
+/// space, and what the credentials read (RFC 9110, section 11.7.2). Anything else is refused. What
+/// is written isn't sensitive, as in the Rust crate. Equality goes by the credentials.
 #[derive(Debug, Drop, PartialEq)]
 pub struct ProxyAuthorization<C>(pub C);
 
