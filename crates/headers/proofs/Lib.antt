@@ -1,1 +1,3 @@
+pub use Rattle.headers_ranges.proofs.RangeLemmas
+pub use Rattle.headers_syntax.proofs.EntityTagLemmas
 pub use Rattle.headers_syntax.proofs.TextLemmas

@@ -10,6 +10,7 @@ pub use Rattle.headers_conditional.specs.IfMatch
 pub use Rattle.headers_conditional.specs.IfNoneMatch
 pub use Rattle.headers_conditional.specs.IfRange
 pub use Rattle.headers_conditional.specs.Validator
+pub use Rattle.headers_conditional.specs.declared.entity_tag_range
 pub use Rattle.headers_connection.specs.Chunked
 pub use Rattle.headers_connection.specs.Connection
 pub use Rattle.headers_connection.specs.Expect
@@ -38,7 +39,9 @@ pub use Rattle.headers_ranges.specs.Range
 pub use Rattle.headers_security.specs.ReferrerPolicy
 pub use Rattle.headers_security.specs.StrictTransportSecurity
 pub use Rattle.headers_security.specs.StrictTransportSecurityGrammar
+pub use Rattle.headers_syntax.specs.Date
 pub use Rattle.headers_syntax.specs.DecodesTo
+pub use Rattle.headers_syntax.specs.EntityTag
 pub use Rattle.headers_syntax.specs.HeaderLaws
 pub use Rattle.headers_syntax.specs.Lines
 pub use Rattle.headers_syntax.specs.OfLines

@@ -1,5 +1,5 @@
 -- What the header `if-range` names (RFC 9110, section 13.1.5), and how a line says it.
-use Rattle.std.specs.Prelude.{ℕ, ◌<◌, ⊤, Option, Some, None, option_map, if◌then◌else◌}
+use Rattle.std.specs.Prelude.{◌≡◌, ℕ, ◌<◌, ⊤, Option, Some, None, option_map, if◌then◌else◌}
 use denote.Ref.{Bor}
 use Rattle.http_header.specs.FieldValue.{FieldValue, plain_value}
 use Rattle.headers_syntax.specs.Date.{date, fixdate}
@@ -32,3 +32,21 @@ IsModified (Second secs) etag None = ⊤
 IsModified (Second secs) etag (Some modified) = secs < modified.now
 IsModified (Tag value) None modified = ⊤
 IsModified (Tag value) (Some etag) modified = ¬ (AreTags StronglyEqual value.bytes etag.now.bytes)
+
+-- A representation with this tag, if any, that was last modified at this second, if any, is the one that is named. By a
+-- tag: the two are strongly equal. By a second: it is exactly that one.
+abbrev pub ValidatorMatches : Validator → Option (Bor FieldValue) → Option (Bor ℕ) → Type 0
+ValidatorMatches (Second secs) etag None = ⊥
+ValidatorMatches (Second secs) etag (Some modified) = secs ≡ modified.now
+ValidatorMatches (Tag value) None modified = ⊥
+ValidatorMatches (Tag value) (Some etag) modified = AreTags StronglyEqual value.bytes etag.now.bytes
+
+-- the tag that is named, if one is
+abbrev pub named_tag : Validator → Option FieldValue
+named_tag (Tag value) = Some value
+named_tag (Second secs) = None
+
+-- the second that is named, if one is
+abbrev pub named_second : Validator → Option ℕ
+named_second (Tag value) = None
+named_second (Second secs) = Some secs

@@ -6,10 +6,9 @@ ghost use Rattle.headers_items.specs.Answers.{GoesByItems, SurvivesCuts};
 ghost use Rattle.headers_items.specs.Merge.{merge};
 ghost use Rattle.headers_items.specs.Places.{comma};
 ghost use Rattle.headers_conditional.specs.EntityTagRange.{range_of};
-ghost use Rattle.headers_conditional.specs.declared.entity_tag_range.EntityTagRange.TheVariants.{Any, Tags};
+ghost use Rattle.headers_conditional.specs.declared.entity_tag_range.EntityTagRange.TheVariants.{Tags};
 ghost use Rattle.headers_conditional.specs.IfMatch.{MatchPasses};
 
-use crate::entity_tag_range::EntityTagRange;
 use crate::etag::{ETag, tag_of};
 use crate::tag_condition::TagCondition;
 use headers_core::{FormHeader, NamedField};
@@ -36,13 +35,6 @@ impl NamedField for IfMatchField {
 }
 
 impl TagCondition<IfMatchField> {
-    /// Whether it is `*`.
-    pub fn is_any(&self) -> bool
-        ensures { IsTrue result ↔ (self.now ≡ Any) }
-    {
-        *self.as_form() == EntityTagRange::Any
-    }
-
     /// Whether it is any, or some item is an entity tag that is strongly equal to this one.
     pub fn precondition_passes(&self, etag: &ETag) -> bool
         ensures answer { IsTrue result ↔ MatchPasses self.now etag.now.bytes }

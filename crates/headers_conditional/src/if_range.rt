@@ -1,15 +1,19 @@
 //! The header `if-range`.
 ghost use Rattle.std.specs.Prelude.{◌≡◌, ◌↔◌, ℕ, true, Some, IsTrue, IfOk, option_map};
+ghost use Rattle.std.specs.Bool.{MatchBool};
 ghost use Rattle.http_header.specs.FieldValue.{FieldValue};
 ghost use Rattle.headers_syntax.specs.Date.{IsDated, date, fixdate};
 ghost use Rattle.headers_syntax.specs.EntityTag.{is_tag};
 ghost use Rattle.headers_syntax.specs.HeaderLaws.{ReadsBy, written_by};
 ghost use Rattle.headers_conditional.specs.IfRange.{if_range_grammar};
-ghost use Rattle.headers_conditional.specs.Validator.{Tag, Second, unmarked, validator, IsModified};
+ghost use Rattle.headers_conditional.specs.Validator.{Tag, Second, unmarked, validator, IsModified, ValidatorMatches};
+ghost use Rattle.headers_conditional.specs.Validator.{named_tag, named_second};
 
 use crate::etag::{ETag, into_tag, tag_of};
 use crate::last_modified::LastModified;
-use headers_core::{AsHeaderValue, Date1, EntityTag, Error, FieldForm, Header, Refused, first};
+use headers_core::{
+    AsHeaderValue, Date1, EntityTag, Error, FieldForm, FormHeader, Header, Refused, first,
+};
 use http_header::{HeaderName, HeaderValue, IF_RANGE};
 use std::alloc::{AllocError, Global};
 use std::marker::Model;
@@ -60,6 +64,45 @@ impl IfRange {
     {
         IfRange {
             named: Named::Date(Date1::from_unix_secs(secs)),
+        }
+    }
+
+    /// Whether a representation with this tag and this time is the one that is named. If a tag is
+    /// named: the two are strongly equal. If a date is named: it is exactly that time, which must
+    /// be a strong validator (section 8.8.2.2); else the caller gives no time.
+    pub fn matches(&self, etag: Option<&ETag>, last_modified: Option<&LastModified>) -> bool
+        ensures { MatchBool result (ValidatorMatches self.now etag.entry last_modified.entry)
+            (¬ (ValidatorMatches self.now etag.entry last_modified.entry)) }
+    {
+        match &self.named {
+            Named::Date(own) => match last_modified {
+                Some(modified) => own.unix_secs() == modified.unix_secs(),
+                None => false,
+            },
+            Named::Tag(own) => match etag {
+                Some(etag) => own.strong_eq(tag_of(etag)),
+                None => false,
+            },
+        }
+    }
+
+    /// A copy of the tag that is named, or `None` if a date is.
+    pub fn named_tag(&self, alloc: Global) -> Result<Option<ETag>, AllocError>
+        ensures { IfOk result (λ tag. tag ≡ named_tag self.now) }
+    {
+        match &self.named {
+            Named::Tag(tag) => Ok(Some(ETag::from_form(tag.clone(alloc)?))),
+            Named::Date(_) => Ok(None),
+        }
+    }
+
+    /// The second after the start of 1970 that is named, or `None` if a tag is.
+    pub fn named_date(&self) -> Option<u64>
+        ensures { result ≡ named_second self.now }
+    {
+        match &self.named {
+            Named::Tag(_) => None,
+            Named::Date(date) => Some(date.unix_secs()),
         }
     }
 

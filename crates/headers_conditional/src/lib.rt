@@ -19,4 +19,4 @@ pub use crate::if_none_match::{IfNoneMatch, IfNoneMatchField, if_none_match_of_o
 pub use crate::if_range::{IfRange, if_range_reads_back};
 pub use crate::if_unmodified_since::IfUnmodifiedSince;
 pub use crate::last_modified::LastModified;
-pub use crate::tag_condition::TagCondition;
+pub use crate::tag_condition::{TagCondition, tag_conditions_read_all};

@@ -1,5 +1,10 @@
 //! Conditions on the entity tags that a target has.
-ghost use Rattle.std.specs.Prelude.{◌≡◌, IfOk};
+ghost use Rattle.std.specs.Prelude.{◌≡◌, ◌↔◌, List, IsTrue, IfOk};
+ghost use Rattle.headers_syntax.specs.HeaderLaws.{ReadsBy};
+ghost use Rattle.headers_syntax.specs.Lines.{Line};
+ghost use Rattle.headers_items.specs.Merge.{merge};
+ghost use Rattle.headers_items.specs.Places.{comma};
+ghost use Rattle.headers_conditional.specs.EntityTagRange.{range_of, tags_grammar};
 ghost use Rattle.headers_conditional.specs.declared.entity_tag_range.EntityTagRange.TheVariants.{Any};
 
 use crate::entity_tag_range::EntityTagRange;
@@ -34,6 +39,13 @@ impl<N: NamedField> TagCondition<N> {
         ensures { result ≡ Any }
     {
         TagCondition::from_form(EntityTagRange::Any)
+    }
+
+    /// Whether it is `*`.
+    pub fn is_any(&self) -> bool
+        ensures { IsTrue result ↔ (self.now ≡ Any) }
+    {
+        self.tags == EntityTagRange::Any
     }
 
     /// A copy of the condition.
@@ -76,3 +88,8 @@ impl<N: NamedField> FormHeader for TagCondition<N> {
         &self.tags
     }
 }
+
+/// A condition on tags reads every list of lines, so `decode` never answers `Invalid`.
+pub fn tag_conditions_read_all()
+    ensures { (lines : List Line) → ReadsBy tags_grammar lines (range_of (merge comma lines)) }
+{}

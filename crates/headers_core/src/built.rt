@@ -1,10 +1,11 @@
 //! Which values that were not read from lines, as those that a constructor makes, read back.
-ghost use Rattle.std.specs.Prelude.{◌↔◌, IsTrue};
+ghost use Rattle.std.specs.Prelude.{◌↔◌, List, IsTrue};
 ghost use Rattle.headers_syntax.specs.EntityTag.{is_tag};
 ghost use Rattle.headers_syntax.specs.Lines.{Line};
 ghost use Rattle.headers_syntax.specs.HeaderLaws.{ReadsBy, written_by};
 ghost use Rattle.headers_syntax.specs.Shapes.{first_word, only_word};
 ghost use Rattle.headers_syntax.specs.Text.{is_text};
+ghost use Rattle.headers_items.specs.Merge.{merge};
 
 use crate::field_form::FieldForm;
 use crate::form_header::FormHeader;
@@ -22,6 +23,12 @@ pub fn lines_read_back<H: FormHeader<Form = HeaderValue>>()
 pub fn lists_read_back<S: Separator>()
     ensures { (list : Line) → ReadsBy ⟦<FlatCsv<S> as FieldForm>⟧.grammar
         (written_by ⟦<FlatCsv<S> as FieldForm>⟧.grammar list) list }
+{}
+
+/// For a header that merges its lines: every list of lines is read, so `decode` never answers
+/// `Invalid`.
+pub fn lists_read_all<S: Separator>()
+    ensures { (lines : List Line) → ReadsBy ⟦<FlatCsv<S> as FieldForm>⟧.grammar lines (merge S.BYTE lines) }
 {}
 
 /// For a header that is one word: that word, whether the only line is read or the first.

@@ -14,7 +14,8 @@ mod seconds_header;
 mod value_header;
 
 pub use crate::built::{
-    lines_read_back, lists_read_back, tags_read_back, texts_read_back, words_read_back,
+    lines_read_back, lists_read_all, lists_read_back, tags_read_back, texts_read_back,
+    words_read_back,
 };
 pub use crate::date_header::DateHeader;
 pub use crate::field_form::FieldForm;

@@ -1,5 +1,5 @@
 -- The ranges of bytes that a line asks for (RFC 9110, section 14.1.2).
-use Rattle.std.specs.Prelude.{◌≡◌, ◌↔◌, ◌++◌, ℕ, ◌+◌, ◌-◌, ◌<◌, ◌≤◌, Bool, true, ◌&&◌, List, [], ◌∷◌, drop}
+use Rattle.std.specs.Prelude.{◌≡◌, ◌↔◌, ◌++◌, ℕ, ◌+◌, ◌-◌, ◌<◌, ◌≤◌, Bool, true, false, ◌&&◌, List, [], ◌∷◌, drop}
 use Rattle.std.specs.Prelude.{length, ◌==◌, nat_lt, nat_le, min, Option, Some, None, option_map, MatchOption, codes}
 use Rattle.std.specs.Prelude.{decimal, nat_eq, if◌then◌else◌}
 use denote.Ref.{Bor}
@@ -55,6 +55,17 @@ pieces text = slice_split (λ b. b == comma) text
 -- the specs of what follows `bytes=`, in order; a piece that is no spec is left out
 abbrev pub specs : Line → List Spec
 specs line = filter_map spec_of (pieces (drop (length bytes_unit) line))
+
+-- The grammar has a spec of these halves (section 14.1.1): they aren't both empty, and the first position isn't past the
+-- last.
+abbrev pub are_valid_halves : Option ℕ → Option ℕ → Bool
+are_valid_halves (Some a) (Some b) = nat_le a b
+are_valid_halves (Some a) None = true
+are_valid_halves None (Some n) = true
+are_valid_halves None None = false
+
+abbrev pub is_valid_spec : Spec → Bool
+is_valid_spec spec = are_valid_halves spec.0 spec.1
 
 -- the positions that two halves name: from a to b, from a on, or the last n; two empty ones name none
 abbrev pub Names : Option ℕ → Option ℕ → ℕ → ℕ → Type 0

@@ -1,15 +1,15 @@
 //! The header `range`.
 ghost use Rattle.std.specs.Prelude.{◌≡◌, ◌↔◌, ◌<◌, ◌^◌, ℕ, true, All, Any, IfOk, Some, None, drop, length};
 ghost use Rattle.std.specs.Prelude.{string_bytes, if◌then◌else◌};
-ghost use Rattle.std.specs.List.{filter_map};
+ghost use Rattle.std.specs.List.{filter_map, list_any};
 ghost use Rattle.http_header.specs.FieldValue.{plain_value};
 ghost use Rattle.headers_syntax.specs.Text.{is_text};
 ghost use Rattle.headers_syntax.specs.HeaderLaws.{ReadsBy, written_by};
 ghost use Rattle.headers_ranges.specs.ByteRanges.{Spec, bytes_unit, specs, gives, Covers, GivesCovered, LiesIn};
-ghost use Rattle.headers_ranges.specs.ByteRanges.{IsWithin, bytes_from_to, is_range_line, range_text};
+ghost use Rattle.headers_ranges.specs.ByteRanges.{IsWithin, bytes_from_to, is_range_line, is_valid_spec, range_text};
 ghost use Rattle.headers_ranges.specs.Range.{IsValueOf, range_grammar};
 
-use crate::satisfiable::Satisfiable;
+use crate::satisfiable::{Satisfiable, has_valid_spec};
 use bytes::Bytes;
 use headers_core::{AsHeaderValue, Error, Header, Refused, first, push_clone, read_text};
 use http_header::{HeaderName, HeaderValue, RANGE};
@@ -88,6 +88,14 @@ impl Range {
         ensures count { length result < 2 ^ 64 }
     {
         Satisfiable::new(self.rest(), len)
+    }
+
+    /// Whether some range that is asked for is one that the grammar has (RFC 9110, section 14.1.1):
+    /// its first position isn't past its last one. If none is, a server ignores the field.
+    pub fn has_valid_spec(&self) -> bool
+        ensures { result ≡ list_any is_valid_spec (specs self.now.bytes) }
+    {
+        has_valid_spec(self.rest())
     }
 
     /// A copy of the ranges.

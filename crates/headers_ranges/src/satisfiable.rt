@@ -1,10 +1,10 @@
 //! The ranges that a representation can satisfy.
 ghost use Rattle.std.specs.Prelude.{◌≡◌, ◌<◌, ◌^◌, true, length, IfSome};
-ghost use Rattle.std.specs.List.{filter_map};
+ghost use Rattle.std.specs.List.{filter_map, list_any};
 ghost use Rattle.std.specs.Iterator.{YieldsFirst, YieldsFirstBy, item_count};
 ghost use Rattle.headers_syntax.specs.Text.{is_text};
 ghost use Rattle.headers_ranges.specs.ByteRanges.{ByteRange, gives, half, pieces, ranges_in, pieces_left, spec_of};
-ghost use Rattle.headers_ranges.specs.ByteRanges.{plain_rest};
+ghost use Rattle.headers_ranges.specs.ByteRanges.{plain_rest, is_valid_spec};
 
 use crate::cut::cut_once;
 use headers_core::parse_number;
@@ -73,6 +73,33 @@ fn spec_of(piece: &str) -> Option<Spec>
 {
     let (first, last) = cut_once(piece.trim_ascii(), '-')?;
     half(first).zip(half(last))
+}
+
+// Whether the grammar has the spec.
+fn is_valid_spec(spec: Spec) -> bool
+    ensures { result ≡ is_valid_spec spec }
+{
+    match spec {
+        (Some(first), Some(last)) => first <= last,
+        (None, None) => false,
+        _ => true,
+    }
+}
+
+/// Whether some piece of the text is a spec that the grammar has.
+pub(crate) fn has_valid_spec(text: &str) -> bool
+    requires { is_text text.now ≡ true }
+    ensures { result ≡ list_any is_valid_spec (filter_map spec_of (pieces text.now)) }
+{
+    let mut rest = Some(text);
+    while let Some(piece) = next_piece(&mut rest) {
+        if let Some(spec) = spec_of(piece)
+            && is_valid_spec(spec)
+        {
+            return true;
+        }
+    }
+    false
 }
 
 // The range of the positions that a spec covers.
