@@ -14,6 +14,3 @@ pub use crate::items::Items;
 pub use crate::pairs::Pairs;
 pub use crate::scan::{Mark, Scan};
 pub use crate::separator::{Comma, SemiColon, Separator};
-
-#[cfg(test)]
-mod tests;

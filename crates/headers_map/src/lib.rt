@@ -12,6 +12,3 @@ pub use crate::ext::HeaderMapExt;
 pub use crate::insert::InsertError;
 pub use crate::laws::{reads_the_inserted, reads_the_last_put};
 pub use crate::steps::{ApplyError, Step, apply};
-
-#[cfg(test)]
-mod tests;

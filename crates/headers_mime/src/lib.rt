@@ -6,6 +6,3 @@ mod reading;
 mod writing;
 
 pub use crate::mime::{Mime, media_types_are_read_once};
-
-#[cfg(test)]
-mod tests;

@@ -1,6 +1,7 @@
 //! The calls.
 mod authorization;
 mod caching;
+mod canon;
 mod conditional;
 mod connection;
 mod content;
@@ -9,14 +10,19 @@ mod cookies;
 mod cors;
 mod errors;
 mod hosts;
+mod items;
+mod map;
+mod parts;
 mod ranges;
 mod security;
+mod user;
 mod websocket;
 
-use crate::replay::call;
+use crate::replay::{call, size_hint};
 use authorization::call_authorization;
+use canon::call_canon;
 use content::call_mime;
-use errors::display;
+use errors::{display, formats};
 use headers::authorization::{Authorization, Basic, Bearer, ProxyAuthorization};
 use headers::{
     AcceptRanges, AccessControlAllowCredentials, AccessControlAllowHeaders,
@@ -28,7 +34,13 @@ use headers::{
     Referer, ReferrerPolicy, RetryAfter, SecWebsocketAccept, SecWebsocketKey, SecWebsocketVersion,
     Server, SetCookie, StrictTransportSecurity, Te, TransferEncoding, Upgrade, UserAgent, Vary,
 };
-use headers_records::{Answer, Arguments, Calls, Failure};
+use headers_items::SemiColon;
+use headers_rows::{Answer, Arguments, Calls, Failure};
+use headers_user::MaxForwards;
+use items::{call_comma, call_list};
+use map::call_map;
+use parts::{call_tag, call_tag_range, call_text};
+use user::call_user;
 
 // Adds the answer of a call of a type.
 fn call_of_type(
@@ -77,6 +89,7 @@ fn call_of_type(
         "IfUnmodifiedSince" => call::<IfUnmodifiedSince>(word, arguments, answer),
         "LastModified" => call::<LastModified>(word, arguments, answer),
         "Location" => call::<Location>(word, arguments, answer),
+        "MaxForwards" => call::<MaxForwards>(word, arguments, answer),
         "Mime" => call_mime(word, arguments, answer),
         "Origin" => call::<Origin>(word, arguments, answer),
         "Pragma" => call::<Pragma>(word, arguments, answer),
@@ -97,6 +110,26 @@ fn call_of_type(
         "Upgrade" => call::<Upgrade>(word, arguments, answer),
         "UserAgent" => call::<UserAgent>(word, arguments, answer),
         "Vary" => call::<Vary>(word, arguments, answer),
+        _ => call_of_part(name, word, arguments, answer),
+    }
+}
+
+// Adds the answer of a call of what stands below the headers or above them.
+fn call_of_part(
+    name: &str,
+    word: &str,
+    arguments: &mut Arguments<'_>,
+    answer: &mut Answer,
+) -> Result<(), Failure> {
+    match name {
+        "canon" => call_canon(word, arguments, answer),
+        "Comma" => call_comma(word, arguments, answer),
+        "SemiColon" => call_list::<SemiColon>(word, arguments, answer),
+        "EntityTag" => call_tag(word, arguments, answer),
+        "EntityTagRange" => call_tag_range(word, arguments, answer),
+        "map" => call_map(word, arguments, answer),
+        "text" => call_text(word, arguments, answer),
+        "user" => call_user(word, arguments, answer),
         _ => Err(Failure::NoCall),
     }
 }
@@ -105,10 +138,13 @@ fn call_of_type(
 pub struct Port;
 
 impl Calls for Port {
-    // A name is `display`, or a type, a dot and a word.
+    // A name is a word of its own, or a type, a dot and a word.
     fn make(name: &str, arguments: &mut Arguments<'_>, answer: &mut Answer) -> Result<(), Failure> {
-        if name == "display" {
-            return display(arguments.word()?, answer);
+        match name {
+            "display" => return display(arguments, answer),
+            "formats" => return formats(arguments, answer),
+            "size_hint" => return size_hint(arguments, answer),
+            _ => {}
         }
         match name.split_once('.') {
             Some((name, word)) => call_of_type(name, word, arguments, answer),

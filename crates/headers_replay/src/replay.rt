@@ -1,17 +1,38 @@
 //! What is replayed of a header.
 ghost use Rattle.std.specs.Iterator.{IsFinite};
 
-use headers::{Header, HeaderMap, HeaderMapExt, HeaderName, HeaderValue, Methods, decode_values};
-use headers_records::{Answer, Arguments, Failure};
+mod everywhere;
+mod hinted;
+mod writing;
+
+use crate::replay::everywhere::everywhere;
+pub use crate::replay::everywhere::{holds, holds_beginning, is_same};
+pub use crate::replay::hinted::{hinted_methods, hinted_names, size_hint};
+use crate::replay::hinted::{harmless, lengths};
+pub use crate::replay::writing::{is_sensitive, writes};
+use crate::replay::writing::{add_with_copy, add_written, secret, written};
+use headers::{
+    Header, HeaderMap, HeaderMapExt, HeaderName, HeaderValue, Methods, Refused, decode_values,
+};
+use headers_rows::{Answer, Arguments, Failure};
 use std::alloc::{AllocError, Global};
 use std::cmp::Ordering;
+use std::fmt::Display;
 
-/// A header with the words of its getters.
+/// A header with the words of its getters, and its copy.
 pub trait Getters {
     /// Adds what its getters give.
     fn getters(&self, _answer: &mut Answer) -> Result<(), Failure> {
         Ok(())
     }
+
+    /// Whether its getters answer that its line is marked sensitive.
+    fn answers_mark() -> bool {
+        false
+    }
+
+    /// Its copy.
+    fn copy(&self, alloc: Global) -> Result<Self, AllocError>;
 }
 
 /// A header with the calls that it has beside those of every header. These show headers of its type, so
@@ -27,36 +48,26 @@ pub trait Replay {
     }
 }
 
-/// The lines that a header writes.
-pub fn written<H: Header>(alloc: Global, header: &H) -> Result<Vec<HeaderValue>, AllocError> {
-    let mut lines = Vec::new(alloc);
-    header.encode(alloc, &mut lines)?;
-    Ok(lines)
-}
-
-/// Whether a header writes one line, which is the text.
-pub fn writes<H: Header>(alloc: Global, header: &H, text: &str) -> Result<bool, AllocError> {
+// The lines that a header writes, and what its getters give. `(sensitive)` if a line is marked so, and no
+// getter says it.
+fn shown<H: Header + Getters>(alloc: Global, header: &H) -> Result<Answer, Failure> {
+    let mut answer = Answer::new(alloc);
     let lines = written(alloc, header)?;
-    Ok(match lines.as_slice() {
-        [line] => line.as_bytes() == text.as_bytes(),
-        _ => false,
-    })
-}
-
-/// Whether a header writes one line, which is sensitive.
-pub fn is_sensitive<H: Header>(alloc: Global, header: &H) -> Result<bool, AllocError> {
-    let lines = written(alloc, header)?;
-    Ok(match lines.as_slice() {
-        [line] => line.is_sensitive(),
-        _ => false,
-    })
-}
-
-/// Adds the lines that a header writes, and what its getters give.
-pub fn show<H: Header + Getters>(header: &H, answer: &mut Answer) -> Result<(), Failure> {
-    let lines = written(answer.alloc(), header)?;
     answer.list(lines.as_slice())?;
-    header.getters(answer)
+    header.getters(&mut answer)?;
+    if !H::answers_mark() && lines.iter().any(|line| line.is_sensitive()) {
+        answer.word("(sensitive)")?;
+    }
+    Ok(answer)
+}
+
+/// Adds the lines that a header writes, and what its getters give. If those of its copy are others, they
+/// follow.
+pub fn show<H: Header + Getters>(header: &H, answer: &mut Answer) -> Result<(), Failure> {
+    let alloc = answer.alloc();
+    let of_header = shown(alloc, header)?;
+    let of_copy = shown(alloc, &header.copy(alloc)?)?;
+    Ok(add_with_copy(&of_header, &of_copy, answer)?)
 }
 
 /// The same, and whether the lines read an equal header.
@@ -68,7 +79,8 @@ pub fn show_back<H: Header + Getters + PartialEq>(
     let lines = written(answer.alloc(), header)?;
     let is_equal = match decode_values::<H>(answer.alloc(), lines.as_slice()) {
         Ok(back) => back == *header,
-        Err(_) => false,
+        Err(Refused::Invalid(_)) => false,
+        Err(Refused::Memory(_)) => return Err(Failure::Memory),
     };
     Ok(answer.word(is_equal)?)
 }
@@ -101,14 +113,19 @@ pub fn show_methods(walk: Methods<'_>, answer: &mut Answer) -> Result<(), Failur
     Ok(())
 }
 
-/// Whether the headers of two lines are equal.
-pub fn eq<H: Header + PartialEq>(
+/// Whether the headers of two lines are equal; and `(copy)` if the copy of the first answers otherwise.
+pub fn eq<H: Header + Getters + PartialEq>(
     arguments: &mut Arguments<'_>,
     answer: &mut Answer,
 ) -> Result<(), Failure> {
     let first: H = arguments.header()?;
     let second: H = arguments.header()?;
-    Ok(answer.word(first == second)?)
+    let is_equal = first == second;
+    answer.word(is_equal)?;
+    if (first.copy(arguments.alloc())? == second) != is_equal {
+        answer.word("(copy)")?;
+    }
+    Ok(())
 }
 
 /// How the headers of two lines are ordered.
@@ -122,9 +139,19 @@ pub fn cmp<H: Header + PartialOrd>(
         Some(Ordering::Less) => "less",
         Some(Ordering::Equal) => "equal",
         Some(Ordering::Greater) => "greater",
-        None => "none",
+        None => "(none)",
     };
     Ok(answer.word(order)?)
+}
+
+/// The text of the header of a line, as it is printed to the right of 20 columns.
+pub fn padded<H: Header + Display>(
+    arguments: &mut Arguments<'_>,
+    answer: &mut Answer,
+) -> Result<(), Failure> {
+    let header: H = arguments.header()?;
+    let text = format!(in arguments.alloc(); "{header:>20}")?;
+    Ok(answer.bytes(text.as_bytes())?)
 }
 
 // The header of the lines under its name in a map that has other names before and behind it.
@@ -141,12 +168,17 @@ fn typed_try_get<H: Header + Getters>(
     map.append("x-after", HeaderValue::from_static("2"))?;
     let tried = map.typed_try_get::<H>(alloc);
     let has_header = matches!(tried, Ok(Some(_)));
-    if map.typed_get::<H>(alloc).is_some() != has_header {
-        return Ok(answer.word("typed_get")?);
+    let is_given = map.typed_get::<H>(alloc).is_some();
+    // A call was refused memory; or `typed_get` hides a header, and does so again.
+    if matches!(tried, Err(Refused::Memory(_))) || has_header && !is_given {
+        return Err(Failure::Memory);
+    }
+    if is_given != has_header {
+        return Ok(answer.word("(typed_get)")?);
     }
     match tried? {
         Some(header) => show(&header, answer),
-        None => Ok(answer.word("none")?),
+        None => Ok(answer.none()?),
     }
 }
 
@@ -189,6 +221,11 @@ pub fn call<H: Header + Getters + Replay>(
     match call {
         "name" => Ok(answer.bytes(H::name().as_bytes())?),
         "decode" | "decode_one_hint" => show(&arguments.header_of_rest::<H>()?, answer),
+        "writes" => Ok(add_written(&arguments.header_of_rest::<H>()?, answer)?),
+        "secret" => secret::<H>(arguments, answer),
+        "everywhere" => everywhere::<H>(arguments, answer),
+        "harmless" => harmless::<H>(arguments, answer),
+        "lengths" => lengths::<H>(arguments, answer),
         "typed_try_get" => typed_try_get::<H>(arguments, answer),
         "typed_insert" => typed_insert::<H>(arguments, answer),
         _ => H::call(call, arguments, answer),

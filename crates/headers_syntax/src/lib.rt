@@ -26,6 +26,3 @@ pub use crate::seconds::{Seconds, only_seconds};
 pub use crate::text::{read_text, trim_text, unquoted};
 pub use crate::trimming::{trim, trimmed};
 pub use crate::value_string::HeaderValueString;
-
-#[cfg(test)]
-mod tests;

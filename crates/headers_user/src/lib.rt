@@ -8,6 +8,3 @@ mod max_forwards;
 pub use crate::api_key::{ApiKey, key_of};
 pub use crate::forwarding::{ForwardError, Forwarded, forward};
 pub use crate::max_forwards::MaxForwards;
-
-#[cfg(test)]
-mod tests;

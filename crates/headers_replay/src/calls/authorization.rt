@@ -1,13 +1,22 @@
 //! Calls of the headers of credentials.
 use crate::replay::{Getters, Replay, eq, is_sensitive, show_back};
 use headers::authorization::{Authorization, Basic, Bearer, ProxyAuthorization};
-use headers_records::{Answer, Arguments, Failure};
+use headers_rows::{Answer, Arguments, Failure};
+use std::alloc::{AllocError, Global};
 
 impl Getters for Authorization<Basic> {
     fn getters(&self, answer: &mut Answer) -> Result<(), Failure> {
         answer.bytes(self.username().as_bytes())?;
         answer.bytes(self.password().as_bytes())?;
         Ok(answer.word(is_sensitive(answer.alloc(), self)?)?)
+    }
+
+    fn answers_mark() -> bool {
+        true
+    }
+
+    fn copy(&self, alloc: Global) -> Result<Authorization<Basic>, AllocError> {
+        self.clone(alloc)
     }
 }
 
@@ -24,6 +33,14 @@ impl Getters for Authorization<Bearer> {
     fn getters(&self, answer: &mut Answer) -> Result<(), Failure> {
         answer.bytes(self.token().as_bytes())?;
         Ok(answer.word(is_sensitive(answer.alloc(), self)?)?)
+    }
+
+    fn answers_mark() -> bool {
+        true
+    }
+
+    fn copy(&self, alloc: Global) -> Result<Authorization<Bearer>, AllocError> {
+        self.clone(alloc)
     }
 }
 
@@ -42,6 +59,14 @@ impl Getters for ProxyAuthorization<Basic> {
         answer.bytes(self.0.password().as_bytes())?;
         Ok(answer.word(is_sensitive(answer.alloc(), self)?)?)
     }
+
+    fn answers_mark() -> bool {
+        true
+    }
+
+    fn copy(&self, alloc: Global) -> Result<ProxyAuthorization<Basic>, AllocError> {
+        self.clone(alloc)
+    }
 }
 
 impl Replay for ProxyAuthorization<Basic> {
@@ -57,6 +82,14 @@ impl Getters for ProxyAuthorization<Bearer> {
     fn getters(&self, answer: &mut Answer) -> Result<(), Failure> {
         answer.bytes(self.0.token().as_bytes())?;
         Ok(answer.word(is_sensitive(answer.alloc(), self)?)?)
+    }
+
+    fn answers_mark() -> bool {
+        true
+    }
+
+    fn copy(&self, alloc: Global) -> Result<ProxyAuthorization<Bearer>, AllocError> {
+        self.clone(alloc)
     }
 }
 

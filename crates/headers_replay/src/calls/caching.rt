@@ -1,13 +1,18 @@
 //! Calls of the caching headers.
-use crate::replay::{Getters, Replay, cmp, eq, show, show_back};
-use headers::{Age, CacheControl, Expires, Pragma, Vary};
-use headers_records::{Answer, Arguments, Failure};
+use crate::replay::{Getters, Replay, cmp, eq, hinted_names, show, show_back};
+use headers::{Age, CacheControl, Expires, Pragma, Vary, equal_by_encoding};
+use headers_rows::{Answer, Arguments, Failure};
+use std::alloc::{AllocError, Global};
 use std::time::Duration;
 
 impl Getters for Age {
     fn getters(&self, answer: &mut Answer) -> Result<(), Failure> {
         answer.word(self.as_secs())?;
         Ok(answer.word(Duration::from(*self).as_secs())?)
+    }
+
+    fn copy(&self, _alloc: Global) -> Result<Age, AllocError> {
+        self.clone()
     }
 }
 
@@ -74,12 +79,21 @@ impl Getters for CacheControl {
         }
         Ok(())
     }
+
+    fn copy(&self, _alloc: Global) -> Result<CacheControl, AllocError> {
+        self.clone()
+    }
 }
 
 impl Replay for CacheControl {
     fn call(call: &str, arguments: &mut Arguments<'_>, answer: &mut Answer) -> Result<(), Failure> {
         match call {
             "eq" => eq::<CacheControl>(arguments, answer),
+            "equal_by_encoding" => {
+                let first: CacheControl = arguments.header()?;
+                let second: CacheControl = arguments.header()?;
+                Ok(answer.word(equal_by_encoding(&first, &second))?)
+            }
             "with" => show_back(&with_setters(arguments)?, answer),
             _ => Err(Failure::NoCall),
         }
@@ -89,6 +103,10 @@ impl Replay for CacheControl {
 impl Getters for Expires {
     fn getters(&self, answer: &mut Answer) -> Result<(), Failure> {
         Ok(answer.word(self.unix_secs())?)
+    }
+
+    fn copy(&self, _alloc: Global) -> Result<Expires, AllocError> {
+        self.clone()
     }
 }
 
@@ -106,6 +124,10 @@ impl Replay for Expires {
 impl Getters for Pragma {
     fn getters(&self, answer: &mut Answer) -> Result<(), Failure> {
         Ok(answer.word(self.is_no_cache())?)
+    }
+
+    fn copy(&self, alloc: Global) -> Result<Pragma, AllocError> {
+        self.clone(alloc)
     }
 }
 
@@ -125,6 +147,10 @@ impl Getters for Vary {
         let names: Vec<&str> = self.iter_strs().collect(answer.alloc())?;
         Ok(answer.list(names.as_slice())?)
     }
+
+    fn copy(&self, alloc: Global) -> Result<Vary, AllocError> {
+        self.clone(alloc)
+    }
 }
 
 impl Replay for Vary {
@@ -135,6 +161,9 @@ impl Replay for Vary {
             "any" => show(&Vary::any(), answer),
             "from_name" => show(&Vary::from_name(alloc, arguments.name()?)?, answer),
             "from_iter" => show(&Vary::from_iter(alloc, arguments.names()?)?, answer),
+            "from_hinted_iter" => {
+                show(&Vary::from_iter(alloc, hinted_names(arguments)?)?, answer)
+            }
             _ => Err(Failure::NoCall),
         }
     }

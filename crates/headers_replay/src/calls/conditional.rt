@@ -3,7 +3,8 @@ use crate::replay::{Getters, Replay, cmp, eq, show, show_back};
 use headers::{
     ETag, IfMatch, IfModifiedSince, IfNoneMatch, IfRange, IfUnmodifiedSince, LastModified,
 };
-use headers_records::{Answer, Arguments, Failure};
+use headers_rows::{Answer, Arguments, Failure};
+use std::alloc::{AllocError, Global};
 
 // What two tags are to each other, by each condition.
 fn compare(arguments: &mut Arguments<'_>, answer: &mut Answer) -> Result<(), Failure> {
@@ -18,6 +19,10 @@ fn compare(arguments: &mut Arguments<'_>, answer: &mut Answer) -> Result<(), Fai
 impl Getters for ETag {
     fn getters(&self, answer: &mut Answer) -> Result<(), Failure> {
         Ok(answer.word(self.is_weak())?)
+    }
+
+    fn copy(&self, alloc: Global) -> Result<ETag, AllocError> {
+        self.clone(alloc)
     }
 }
 
@@ -36,6 +41,10 @@ impl Replay for ETag {
 impl Getters for IfMatch {
     fn getters(&self, answer: &mut Answer) -> Result<(), Failure> {
         Ok(answer.word(self.is_any())?)
+    }
+
+    fn copy(&self, alloc: Global) -> Result<IfMatch, AllocError> {
+        self.clone(alloc)
     }
 }
 
@@ -58,7 +67,11 @@ impl Replay for IfMatch {
     }
 }
 
-impl Getters for IfNoneMatch {}
+impl Getters for IfNoneMatch {
+    fn copy(&self, alloc: Global) -> Result<IfNoneMatch, AllocError> {
+        self.clone(alloc)
+    }
+}
 
 impl Replay for IfNoneMatch {
     fn call(call: &str, arguments: &mut Arguments<'_>, answer: &mut Answer) -> Result<(), Failure> {
@@ -79,7 +92,11 @@ impl Replay for IfNoneMatch {
     }
 }
 
-impl Getters for IfRange {}
+impl Getters for IfRange {
+    fn copy(&self, alloc: Global) -> Result<IfRange, AllocError> {
+        self.clone(alloc)
+    }
+}
 
 impl Replay for IfRange {
     fn call(call: &str, arguments: &mut Arguments<'_>, answer: &mut Answer) -> Result<(), Failure> {
@@ -103,6 +120,10 @@ impl Getters for IfModifiedSince {
     fn getters(&self, answer: &mut Answer) -> Result<(), Failure> {
         Ok(answer.word(self.unix_secs())?)
     }
+
+    fn copy(&self, _alloc: Global) -> Result<IfModifiedSince, AllocError> {
+        self.clone()
+    }
 }
 
 impl Replay for IfModifiedSince {
@@ -123,6 +144,10 @@ impl Replay for IfModifiedSince {
 impl Getters for IfUnmodifiedSince {
     fn getters(&self, answer: &mut Answer) -> Result<(), Failure> {
         Ok(answer.word(self.unix_secs())?)
+    }
+
+    fn copy(&self, _alloc: Global) -> Result<IfUnmodifiedSince, AllocError> {
+        self.clone()
     }
 }
 
@@ -149,6 +174,10 @@ impl Replay for IfUnmodifiedSince {
 impl Getters for LastModified {
     fn getters(&self, answer: &mut Answer) -> Result<(), Failure> {
         Ok(answer.word(self.unix_secs())?)
+    }
+
+    fn copy(&self, _alloc: Global) -> Result<LastModified, AllocError> {
+        self.clone()
     }
 }
 

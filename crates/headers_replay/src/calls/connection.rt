@@ -1,9 +1,14 @@
 //! Calls of the headers of a connection.
-use crate::replay::{Getters, Replay, eq, show};
+use crate::replay::{Getters, Replay, eq, hinted_names, show};
 use headers::{Connection, Expect, HeaderName, Te, TransferEncoding, Upgrade};
-use headers_records::{Answer, Arguments, Failure};
+use headers_rows::{Answer, Arguments, Failure};
+use std::alloc::{AllocError, Global};
 
-impl Getters for Connection {}
+impl Getters for Connection {
+    fn copy(&self, alloc: Global) -> Result<Connection, AllocError> {
+        self.clone(alloc)
+    }
+}
 
 impl Replay for Connection {
     fn call(call: &str, arguments: &mut Arguments<'_>, answer: &mut Answer) -> Result<(), Failure> {
@@ -13,6 +18,10 @@ impl Replay for Connection {
             "keep_alive" => show(&Connection::keep_alive(), answer),
             "upgrade" => show(&Connection::upgrade(), answer),
             "from_iter" => show(&Connection::from_iter(alloc, arguments.names()?)?, answer),
+            "from_hinted_iter" => {
+                let header = Connection::from_iter(alloc, hinted_names(arguments)?)?;
+                show(&header, answer)
+            }
             "contains" => {
                 let option = arguments.text()?;
                 let header: Connection = arguments.header_of_rest()?;
@@ -32,6 +41,10 @@ impl Getters for Expect {
     fn getters(&self, answer: &mut Answer) -> Result<(), Failure> {
         Ok(answer.word(*self == Expect::CONTINUE)?)
     }
+
+    fn copy(&self, _alloc: Global) -> Result<Expect, AllocError> {
+        self.clone()
+    }
 }
 
 impl Replay for Expect {
@@ -44,7 +57,11 @@ impl Replay for Expect {
     }
 }
 
-impl Getters for Te {}
+impl Getters for Te {
+    fn copy(&self, alloc: Global) -> Result<Te, AllocError> {
+        self.clone(alloc)
+    }
+}
 
 impl Replay for Te {
     fn call(call: &str, arguments: &mut Arguments<'_>, answer: &mut Answer) -> Result<(), Failure> {
@@ -59,6 +76,10 @@ impl Replay for Te {
 impl Getters for TransferEncoding {
     fn getters(&self, answer: &mut Answer) -> Result<(), Failure> {
         Ok(answer.word(self.is_chunked())?)
+    }
+
+    fn copy(&self, alloc: Global) -> Result<TransferEncoding, AllocError> {
+        self.clone(alloc)
     }
 }
 
@@ -75,7 +96,11 @@ impl Replay for TransferEncoding {
     }
 }
 
-impl Getters for Upgrade {}
+impl Getters for Upgrade {
+    fn copy(&self, alloc: Global) -> Result<Upgrade, AllocError> {
+        self.clone(alloc)
+    }
+}
 
 impl Replay for Upgrade {
     fn call(call: &str, arguments: &mut Arguments<'_>, answer: &mut Answer) -> Result<(), Failure> {

@@ -1,15 +1,21 @@
 //! Calls of the content headers, and of media types.
-use crate::replay::{Getters, Replay, eq, show, writes};
+use crate::calls::parts::format_mime;
+use crate::replay::{Getters, Replay, eq, padded, show, writes};
 use headers::{
     ContentDisposition, ContentEncoding, ContentLength, ContentLocation, ContentType, Mime,
 };
-use headers_records::{Answer, Arguments, Failure};
+use headers_rows::{Answer, Arguments, Failure};
+use std::alloc::{AllocError, Global};
 
 impl Getters for ContentDisposition {
     fn getters(&self, answer: &mut Answer) -> Result<(), Failure> {
         answer.word(self.is_inline())?;
         answer.word(self.is_attachment())?;
         Ok(answer.word(self.is_form_data())?)
+    }
+
+    fn copy(&self, alloc: Global) -> Result<ContentDisposition, AllocError> {
+        self.clone(alloc)
     }
 }
 
@@ -26,7 +32,11 @@ impl Replay for ContentDisposition {
     }
 }
 
-impl Getters for ContentEncoding {}
+impl Getters for ContentEncoding {
+    fn copy(&self, alloc: Global) -> Result<ContentEncoding, AllocError> {
+        self.clone(alloc)
+    }
+}
 
 impl Replay for ContentEncoding {
     fn call(call: &str, arguments: &mut Arguments<'_>, answer: &mut Answer) -> Result<(), Failure> {
@@ -48,6 +58,10 @@ impl Getters for ContentLength {
     fn getters(&self, answer: &mut Answer) -> Result<(), Failure> {
         Ok(answer.word(self.0)?)
     }
+
+    fn copy(&self, _alloc: Global) -> Result<ContentLength, AllocError> {
+        self.clone()
+    }
 }
 
 impl Replay for ContentLength {
@@ -60,7 +74,11 @@ impl Replay for ContentLength {
     }
 }
 
-impl Getters for ContentLocation {}
+impl Getters for ContentLocation {
+    fn copy(&self, alloc: Global) -> Result<ContentLocation, AllocError> {
+        self.clone(alloc)
+    }
+}
 
 impl Replay for ContentLocation {
     fn call(call: &str, arguments: &mut Arguments<'_>, answer: &mut Answer) -> Result<(), Failure> {
@@ -79,6 +97,10 @@ impl Getters for ContentType {
         let is_displayed = writes(alloc, self, self.to_string(alloc)?.as_str())?;
         Ok(answer.word(is_displayed && mime.to_string(alloc)?.as_str() == mime.as_str())?)
     }
+
+    fn copy(&self, alloc: Global) -> Result<ContentType, AllocError> {
+        self.clone(alloc)
+    }
 }
 
 impl Replay for ContentType {
@@ -96,6 +118,11 @@ impl Replay for ContentType {
             "png" => show(&ContentType::png(), answer),
             "octet_stream" => show(&ContentType::octet_stream(), answer),
             "from_str" => show(&ContentType::from_str(alloc, &arguments.text()?)?, answer),
+            "from_mime" => {
+                let mime = Mime::parse(alloc, &arguments.text()?)?;
+                show(&ContentType::from(mime), answer)
+            }
+            "padded" => padded::<ContentType>(arguments, answer),
             _ => Err(Failure::NoCall),
         }
     }
@@ -114,6 +141,7 @@ pub fn call_mime(
 ) -> Result<(), Failure> {
     let alloc = arguments.alloc();
     match call {
+        "formats" => format_mime(arguments, answer),
         "parse" => show_mime(&Mime::parse(alloc, &arguments.text()?)?, answer),
         "APPLICATION_JSON" => show_mime(&Mime::APPLICATION_JSON, answer),
         "TEXT_PLAIN" => show_mime(&Mime::TEXT_PLAIN, answer),

@@ -1,11 +1,18 @@
 //! Calls of the headers of context.
-use crate::replay::{Getters, Replay, cmp, eq, show, show_back, show_methods, writes};
+use crate::replay::{
+    Getters, Replay, cmp, eq, hinted_methods, padded, show, show_back, show_methods, writes,
+};
 use headers::{Allow, Date, Location, Referer, RetryAfter, Server, UserAgent};
-use headers_records::{Answer, Arguments, Failure};
+use headers_rows::{Answer, Arguments, Failure};
+use std::alloc::{AllocError, Global};
 
 impl Getters for Allow {
     fn getters(&self, answer: &mut Answer) -> Result<(), Failure> {
         show_methods(self.iter(answer.alloc()), answer)
+    }
+
+    fn copy(&self, alloc: Global) -> Result<Allow, AllocError> {
+        self.clone(alloc)
     }
 }
 
@@ -15,6 +22,12 @@ impl Replay for Allow {
         match call {
             "eq" => eq::<Allow>(arguments, answer),
             "from_iter" => show(&Allow::from_iter(alloc, arguments.methods()?)?, answer),
+            "from_hinted_iter" => {
+                show(
+                    &Allow::from_iter(alloc, hinted_methods(arguments)?)?,
+                    answer,
+                )
+            }
             _ => Err(Failure::NoCall),
         }
     }
@@ -23,6 +36,10 @@ impl Replay for Allow {
 impl Getters for Date {
     fn getters(&self, answer: &mut Answer) -> Result<(), Failure> {
         Ok(answer.word(self.unix_secs())?)
+    }
+
+    fn copy(&self, _alloc: Global) -> Result<Date, AllocError> {
+        self.clone()
     }
 }
 
@@ -37,7 +54,11 @@ impl Replay for Date {
     }
 }
 
-impl Getters for Location {}
+impl Getters for Location {
+    fn copy(&self, alloc: Global) -> Result<Location, AllocError> {
+        self.clone(alloc)
+    }
+}
 
 impl Replay for Location {
     fn call(call: &str, arguments: &mut Arguments<'_>, answer: &mut Answer) -> Result<(), Failure> {
@@ -53,6 +74,10 @@ impl Getters for Referer {
         let text = self.to_string(answer.alloc())?;
         Ok(answer.word(writes(answer.alloc(), self, text.as_str())?)?)
     }
+
+    fn copy(&self, alloc: Global) -> Result<Referer, AllocError> {
+        self.clone(alloc)
+    }
 }
 
 impl Replay for Referer {
@@ -66,7 +91,11 @@ impl Replay for Referer {
     }
 }
 
-impl Getters for RetryAfter {}
+impl Getters for RetryAfter {
+    fn copy(&self, _alloc: Global) -> Result<RetryAfter, AllocError> {
+        self.clone()
+    }
+}
 
 impl Replay for RetryAfter {
     fn call(call: &str, arguments: &mut Arguments<'_>, answer: &mut Answer) -> Result<(), Failure> {
@@ -85,6 +114,10 @@ impl Getters for Server {
         let text = self.to_string(answer.alloc())?;
         Ok(answer.word(writes(answer.alloc(), self, text.as_str())?)?)
     }
+
+    fn copy(&self, alloc: Global) -> Result<Server, AllocError> {
+        self.clone(alloc)
+    }
 }
 
 impl Replay for Server {
@@ -93,6 +126,7 @@ impl Replay for Server {
         match call {
             "eq" => eq::<Server>(arguments, answer),
             "cmp" => cmp::<Server>(arguments, answer),
+            "padded" => padded::<Server>(arguments, answer),
             "from_str" => show_back(&Server::from_str(alloc, &arguments.text()?)?, answer),
             _ => Err(Failure::NoCall),
         }
@@ -104,6 +138,10 @@ impl Getters for UserAgent {
         answer.bytes(self.as_str().as_bytes())?;
         let text = self.to_string(answer.alloc())?;
         Ok(answer.word(writes(answer.alloc(), self, text.as_str())?)?)
+    }
+
+    fn copy(&self, alloc: Global) -> Result<UserAgent, AllocError> {
+        self.clone(alloc)
     }
 }
 

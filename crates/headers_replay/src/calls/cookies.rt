@@ -1,7 +1,8 @@
 //! Calls of the cookie headers.
 use crate::replay::{Getters, Replay};
 use headers::{Cookie, SetCookie};
-use headers_records::{Answer, Arguments, Failure};
+use headers_rows::{Answer, Arguments, Failure};
+use std::alloc::{AllocError, Global};
 
 impl Getters for Cookie {
     fn getters(&self, answer: &mut Answer) -> Result<(), Failure> {
@@ -11,6 +12,10 @@ impl Getters for Cookie {
             answer.bytes(text.as_bytes())?;
         }
         Ok(())
+    }
+
+    fn copy(&self, alloc: Global) -> Result<Cookie, AllocError> {
+        self.clone(alloc)
     }
 }
 
@@ -22,7 +27,7 @@ impl Replay for Cookie {
                 let header: Cookie = arguments.header_of_rest()?;
                 match header.get(key.as_str()) {
                     Some(text) => Ok(answer.bytes(text.as_bytes())?),
-                    None => Ok(answer.word("none")?),
+                    None => Ok(answer.none()?),
                 }
             }
             _ => Err(Failure::NoCall),
@@ -30,6 +35,10 @@ impl Replay for Cookie {
     }
 }
 
-impl Getters for SetCookie {}
+impl Getters for SetCookie {
+    fn copy(&self, alloc: Global) -> Result<SetCookie, AllocError> {
+        self.clone(alloc)
+    }
+}
 
 impl Replay for SetCookie {}

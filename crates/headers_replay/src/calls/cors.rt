@@ -1,18 +1,26 @@
 //! Calls of the access control headers.
 use crate::calls::hosts::show_origin;
-use crate::replay::{Getters, Replay, cmp, eq, show, show_methods, show_names};
+use crate::replay::{
+    Getters, Replay, cmp, eq, hinted_methods, hinted_names, show, show_methods, show_names,
+};
 use headers::{
     AccessControlAllowCredentials, AccessControlAllowHeaders, AccessControlAllowMethods,
     AccessControlAllowOrigin, AccessControlExposeHeaders, AccessControlMaxAge,
     AccessControlRequestHeaders, AccessControlRequestMethod,
 };
-use headers_records::{Answer, Arguments, Failure};
+use headers_rows::{Answer, Arguments, Failure};
 use http::Method;
+use http::method::MethodError;
+use std::alloc::{AllocError, Global};
 use std::time::Duration;
 
 impl Getters for AccessControlAllowCredentials {
     fn getters(&self, answer: &mut Answer) -> Result<(), Failure> {
         Ok(answer.word(*self == AccessControlAllowCredentials)?)
+    }
+
+    fn copy(&self, _alloc: Global) -> Result<AccessControlAllowCredentials, AllocError> {
+        self.clone()
     }
 }
 
@@ -30,6 +38,10 @@ impl Getters for AccessControlAllowHeaders {
     fn getters(&self, answer: &mut Answer) -> Result<(), Failure> {
         show_names(self.iter(answer.alloc()), answer)
     }
+
+    fn copy(&self, alloc: Global) -> Result<AccessControlAllowHeaders, AllocError> {
+        self.clone(alloc)
+    }
 }
 
 impl Replay for AccessControlAllowHeaders {
@@ -43,6 +55,10 @@ impl Replay for AccessControlAllowHeaders {
                     answer,
                 )
             }
+            "from_hinted_iter" => {
+                let header = AccessControlAllowHeaders::from_iter(alloc, hinted_names(arguments)?)?;
+                show(&header, answer)
+            }
             _ => Err(Failure::NoCall),
         }
     }
@@ -51,6 +67,10 @@ impl Replay for AccessControlAllowHeaders {
 impl Getters for AccessControlAllowMethods {
     fn getters(&self, answer: &mut Answer) -> Result<(), Failure> {
         show_methods(self.iter(answer.alloc()), answer)
+    }
+
+    fn copy(&self, alloc: Global) -> Result<AccessControlAllowMethods, AllocError> {
+        self.clone(alloc)
     }
 }
 
@@ -65,6 +85,13 @@ impl Replay for AccessControlAllowMethods {
                     answer,
                 )
             }
+            "from_hinted_iter" => {
+                let header = AccessControlAllowMethods::from_iter(
+                    alloc,
+                    hinted_methods(arguments)?,
+                )?;
+                show(&header, answer)
+            }
             _ => Err(Failure::NoCall),
         }
     }
@@ -74,8 +101,12 @@ impl Getters for AccessControlAllowOrigin {
     fn getters(&self, answer: &mut Answer) -> Result<(), Failure> {
         match self.origin() {
             Some(origin) => show_origin(origin, self, answer),
-            None => Ok(answer.word("none")?),
+            None => Ok(answer.none()?),
         }
+    }
+
+    fn copy(&self, alloc: Global) -> Result<AccessControlAllowOrigin, AllocError> {
+        self.clone(alloc)
     }
 }
 
@@ -101,6 +132,10 @@ impl Getters for AccessControlExposeHeaders {
     fn getters(&self, answer: &mut Answer) -> Result<(), Failure> {
         show_names(self.iter(answer.alloc()), answer)
     }
+
+    fn copy(&self, alloc: Global) -> Result<AccessControlExposeHeaders, AllocError> {
+        self.clone(alloc)
+    }
 }
 
 impl Replay for AccessControlExposeHeaders {
@@ -113,6 +148,13 @@ impl Replay for AccessControlExposeHeaders {
                     answer,
                 )
             }
+            "from_hinted_iter" => {
+                let header = AccessControlExposeHeaders::from_iter(
+                    alloc,
+                    hinted_names(arguments)?,
+                )?;
+                show(&header, answer)
+            }
             _ => Err(Failure::NoCall),
         }
     }
@@ -121,6 +163,10 @@ impl Replay for AccessControlExposeHeaders {
 impl Getters for AccessControlMaxAge {
     fn getters(&self, answer: &mut Answer) -> Result<(), Failure> {
         Ok(answer.word(Duration::from(self.clone()?).as_secs())?)
+    }
+
+    fn copy(&self, _alloc: Global) -> Result<AccessControlMaxAge, AllocError> {
+        self.clone()
     }
 }
 
@@ -144,6 +190,10 @@ impl Getters for AccessControlRequestHeaders {
     fn getters(&self, answer: &mut Answer) -> Result<(), Failure> {
         show_names(self.iter(answer.alloc()), answer)
     }
+
+    fn copy(&self, alloc: Global) -> Result<AccessControlRequestHeaders, AllocError> {
+        self.clone(alloc)
+    }
 }
 
 impl Replay for AccessControlRequestHeaders {
@@ -156,6 +206,13 @@ impl Replay for AccessControlRequestHeaders {
                     answer,
                 )
             }
+            "from_hinted_iter" => {
+                let header = AccessControlRequestHeaders::from_iter(
+                    alloc,
+                    hinted_names(arguments)?,
+                )?;
+                show(&header, answer)
+            }
             _ => Err(Failure::NoCall),
         }
     }
@@ -166,6 +223,10 @@ impl Getters for AccessControlRequestMethod {
         let method = Method::from(self.clone(answer.alloc())?);
         Ok(answer.bytes(method.as_str().as_bytes())?)
     }
+
+    fn copy(&self, alloc: Global) -> Result<AccessControlRequestMethod, AllocError> {
+        self.clone(alloc)
+    }
 }
 
 impl Replay for AccessControlRequestMethod {
@@ -174,9 +235,11 @@ impl Replay for AccessControlRequestMethod {
         match call {
             "eq" => eq::<AccessControlRequestMethod>(arguments, answer),
             "from_method" => {
-                let method = Method::from_bytes(alloc, &arguments.bytes()?);
-                let method = method.map_err(|_| Failure::Refused)?;
-                show(&AccessControlRequestMethod::from(method), answer)
+                match Method::from_bytes(alloc, &arguments.bytes()?) {
+                    Ok(method) => show(&AccessControlRequestMethod::from(method), answer),
+                    Err(MethodError::Invalid) => Err(Failure::Refused),
+                    Err(MethodError::OutOfMemory) => Err(Failure::Memory),
+                }
             }
             _ => Err(Failure::NoCall),
         }

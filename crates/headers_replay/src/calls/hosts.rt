@@ -1,8 +1,9 @@
 //! Calls of the headers of hosts.
 use crate::replay::{Getters, Replay, cmp, eq, show, writes};
 use headers::{Header, Host, Origin};
-use headers_records::{Answer, Arguments, Failure};
-use http_uri::Authority;
+use headers_rows::{Answer, Arguments, Failure};
+use http_uri::{Authority, UriError};
+use std::alloc::{AllocError, Global};
 
 /// Adds what the getters of an origin give, and whether its text is what the header writes.
 pub fn show_origin<H: Header>(
@@ -25,6 +26,10 @@ impl Getters for Host {
         let text = self.to_string(answer.alloc())?;
         Ok(answer.word(writes(answer.alloc(), self, text.as_str())?)?)
     }
+
+    fn copy(&self, alloc: Global) -> Result<Host, AllocError> {
+        self.clone(alloc)
+    }
 }
 
 impl Replay for Host {
@@ -34,9 +39,11 @@ impl Replay for Host {
             "eq" => eq::<Host>(arguments, answer),
             "cmp" => cmp::<Host>(arguments, answer),
             "from_authority" => {
-                let authority = Authority::from_bytes(alloc, &arguments.bytes()?);
-                let authority = authority.map_err(|_| Failure::Refused)?;
-                show(&Host::from(authority), answer)
+                match Authority::from_bytes(alloc, &arguments.bytes()?) {
+                    Ok(authority) => show(&Host::from(authority), answer),
+                    Err(UriError::OutOfMemory) => Err(Failure::Memory),
+                    Err(_) => Err(Failure::Refused),
+                }
             }
             _ => Err(Failure::NoCall),
         }
@@ -54,6 +61,10 @@ fn from_parts(arguments: &mut Arguments<'_>) -> Result<Origin, Failure> {
 impl Getters for Origin {
     fn getters(&self, answer: &mut Answer) -> Result<(), Failure> {
         show_origin(self, self, answer)
+    }
+
+    fn copy(&self, alloc: Global) -> Result<Origin, AllocError> {
+        self.clone(alloc)
     }
 }
 

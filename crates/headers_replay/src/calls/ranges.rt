@@ -1,12 +1,17 @@
 //! Calls of the headers of ranges.
 use crate::replay::{Getters, Replay, eq, show, show_back};
 use headers::{AcceptRanges, ContentRange, Range};
-use headers_records::{Answer, Arguments, Failure};
+use headers_rows::{Answer, Arguments, Failure};
+use std::alloc::{AllocError, Global};
 
 impl Getters for AcceptRanges {
     fn getters(&self, answer: &mut Answer) -> Result<(), Failure> {
         answer.word(self.is_bytes())?;
         Ok(answer.word(self.is_none())?)
+    }
+
+    fn copy(&self, alloc: Global) -> Result<AcceptRanges, AllocError> {
+        self.clone(alloc)
     }
 }
 
@@ -37,7 +42,11 @@ fn satisfiable_ranges(arguments: &mut Arguments<'_>, answer: &mut Answer) -> Res
     Ok(())
 }
 
-impl Getters for Range {}
+impl Getters for Range {
+    fn copy(&self, alloc: Global) -> Result<Range, AllocError> {
+        self.clone(alloc)
+    }
+}
 
 impl Replay for Range {
     fn call(call: &str, arguments: &mut Arguments<'_>, answer: &mut Answer) -> Result<(), Failure> {
@@ -61,9 +70,13 @@ impl Getters for ContentRange {
                 answer.word(first)?;
                 answer.word(last)?;
             }
-            None => answer.word("none")?,
+            None => answer.none()?,
         }
         Ok(answer.option(self.bytes_len())?)
+    }
+
+    fn copy(&self, _alloc: Global) -> Result<ContentRange, AllocError> {
+        self.clone()
     }
 }
 

@@ -1,7 +1,8 @@
 //! Calls of the security headers.
 use crate::replay::{Getters, Replay, eq, show};
 use headers::{ReferrerPolicy, StrictTransportSecurity};
-use headers_records::{Answer, Arguments, Failure};
+use headers_rows::{Answer, Arguments, Failure};
+use std::alloc::{AllocError, Global};
 
 // The constants, by name.
 const POLICIES: [(&str, ReferrerPolicy); 8] = [
@@ -33,12 +34,22 @@ impl Getters for ReferrerPolicy {
         }
         Ok(())
     }
+
+    fn copy(&self, _alloc: Global) -> Result<ReferrerPolicy, AllocError> {
+        self.clone()
+    }
 }
 
 impl Replay for ReferrerPolicy {
     fn call(call: &str, arguments: &mut Arguments<'_>, answer: &mut Answer) -> Result<(), Failure> {
         match call {
             "eq" => eq::<ReferrerPolicy>(arguments, answer),
+            "all" => {
+                for policy in ReferrerPolicy::all().iter() {
+                    policy.getters(answer)?;
+                }
+                Ok(())
+            }
             "const" => {
                 let wanted = arguments.word()?;
                 for (name, policy) in POLICIES.iter() {
@@ -57,6 +68,10 @@ impl Getters for StrictTransportSecurity {
     fn getters(&self, answer: &mut Answer) -> Result<(), Failure> {
         answer.word(self.max_age().as_secs())?;
         Ok(answer.word(self.include_subdomains())?)
+    }
+
+    fn copy(&self, _alloc: Global) -> Result<StrictTransportSecurity, AllocError> {
+        self.clone()
     }
 }
 

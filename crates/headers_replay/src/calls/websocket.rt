@@ -1,12 +1,20 @@
 //! Calls of the WebSocket headers.
 use crate::replay::{Getters, Replay, eq, is_sensitive, show};
 use headers::{SecWebsocketAccept, SecWebsocketKey, SecWebsocketVersion};
-use headers_records::{Answer, Arguments, Failure};
-use hex::FromHex;
+use headers_rows::{Answer, Arguments, Failure};
+use std::alloc::{AllocError, Global};
 
 impl Getters for SecWebsocketKey {
     fn getters(&self, answer: &mut Answer) -> Result<(), Failure> {
         Ok(answer.word(is_sensitive(answer.alloc(), self)?)?)
+    }
+
+    fn answers_mark() -> bool {
+        true
+    }
+
+    fn copy(&self, alloc: Global) -> Result<SecWebsocketKey, AllocError> {
+        self.clone(alloc)
     }
 }
 
@@ -15,7 +23,7 @@ impl Replay for SecWebsocketKey {
         match call {
             "eq" => eq::<SecWebsocketKey>(arguments, answer),
             "from_bytes16" => {
-                let bytes = <[u8; 16] as FromHex>::from_hex(arguments.word()?);
+                let bytes = <[u8; 16]>::try_from(arguments.bytes()?.as_slice());
                 let bytes = bytes.map_err(|_| Failure::NoCall)?;
                 show(
                     &SecWebsocketKey::from_bytes16(arguments.alloc(), bytes)?,
@@ -27,7 +35,11 @@ impl Replay for SecWebsocketKey {
     }
 }
 
-impl Getters for SecWebsocketAccept {}
+impl Getters for SecWebsocketAccept {
+    fn copy(&self, alloc: Global) -> Result<SecWebsocketAccept, AllocError> {
+        self.clone(alloc)
+    }
+}
 
 impl Replay for SecWebsocketAccept {
     fn call(call: &str, arguments: &mut Arguments<'_>, answer: &mut Answer) -> Result<(), Failure> {
@@ -48,6 +60,10 @@ impl Replay for SecWebsocketAccept {
 impl Getters for SecWebsocketVersion {
     fn getters(&self, answer: &mut Answer) -> Result<(), Failure> {
         Ok(answer.word(*self == SecWebsocketVersion::V13)?)
+    }
+
+    fn copy(&self, _alloc: Global) -> Result<SecWebsocketVersion, AllocError> {
+        self.clone()
     }
 }
 

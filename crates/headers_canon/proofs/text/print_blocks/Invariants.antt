@@ -1,9 +1,0 @@
-use Rattle.std.proofs.Common.{take}
-use Rattle.http_header.specs.HeaderMap.{get_all}
-use Rattle.headers.specs.Lines.{lines_of}
-use Rattle.headers_canon.specs.CanonicalText.{HasBlocks}
-use Rattle.headers_canon.proofs.text.print_blocks.Given as goal
-
-abbrev pub invariant-loop-name : goal.invariant-loop-name
-invariant-loop-name l =
-    HasBlocks (λ name. lines_of (get_all l.fn.map name)) (take l.name-index l.order) l.bytes.items l.some_refused

@@ -1,0 +1,346 @@
+//! Calls of header maps: steps, `canonical`, and a map without room.
+//!
+//! A name in parentheses begins the lines of a field of the map, as in `(age) 5`. `(put:age) 5` is a
+//! step that puts these lines, `(remove:age)` one that removes the name, and `(sensitive)` marks the
+//! line before it. A map is answered as its fields, by their names.
+use crate::calls::items::show_each;
+use crate::replay::{holds, holds_beginning, is_same};
+use headers::{
+    Age, ApplyError, Encoded, Header, HeaderMap, HeaderMapExt, HeaderName, HeaderValue,
+    InsertError, Location, SetCookie, Step, apply, canonical,
+};
+use headers_rows::{Answer, Arguments, Failure};
+use std::alloc::Global;
+
+// What a word in parentheses begins.
+#[derive(Clone, Copy)]
+enum Kind {
+    Field,
+    Put,
+    Remove,
+}
+
+// A name with its lines.
+#[derive(Drop)]
+struct Part {
+    kind: Kind,
+    name: HeaderName,
+    lines: Vec<HeaderValue>,
+}
+
+fn begun_part(alloc: Global, word: &str) -> Result<Part, Failure> {
+    let (kind, name) = match word.split_once(':') {
+        None => (Kind::Field, word),
+        Some(("put", name)) => (Kind::Put, name),
+        Some(("remove", name)) => (Kind::Remove, name),
+        Some(_) => return Err(Failure::NoCall),
+    };
+    Ok(Part {
+        kind,
+        name: Arguments::new(alloc, name).name()?,
+        lines: Vec::new(alloc),
+    })
+}
+
+// The text in the parentheses of a word that isn't bytes.
+fn in_parentheses(word: &str) -> Option<&str> {
+    if word == "()" {
+        return None;
+    }
+    word.strip_prefix('(')?.strip_suffix(')')
+}
+
+fn mark_sensitive(parts: &mut Vec<Part>) -> Result<(), Failure> {
+    let part = parts.last_mut().ok_or(Failure::NoCall)?;
+    part.lines
+        .last_mut()
+        .ok_or(Failure::NoCall)?
+        .set_sensitive(true);
+    Ok(())
+}
+
+fn add_lines(parts: &mut Vec<Part>, lines: Vec<HeaderValue>) -> Result<(), Failure> {
+    let part = parts.last_mut().ok_or(Failure::NoCall)?;
+    for line in lines {
+        part.lines.push(line)?;
+    }
+    Ok(())
+}
+
+fn read_parts(alloc: Global, text: &str) -> Result<Vec<Part>, Failure> {
+    let mut parts = Vec::new(alloc);
+    for word in text.split_whitespace() {
+        match in_parentheses(word) {
+            Some("sensitive") => mark_sensitive(&mut parts)?,
+            Some(begin) => parts.push(begun_part(alloc, begin)?)?,
+            None => add_lines(&mut parts, Arguments::new(alloc, word).lines()?)?,
+        }
+    }
+    Ok(parts)
+}
+
+fn append_lines(
+    map: &mut HeaderMap,
+    name: &HeaderName,
+    lines: Vec<HeaderValue>,
+) -> Result<(), Failure> {
+    for line in lines {
+        map.append(name, line)?;
+    }
+    Ok(())
+}
+
+/// The map of the fields in a text, and its steps.
+pub fn read_map(alloc: Global, text: &str) -> Result<(HeaderMap, Vec<Step>), Failure> {
+    let mut map = HeaderMap::new(alloc);
+    let mut steps = Vec::new(alloc);
+    for part in read_parts(alloc, text)? {
+        let Part { kind, name, lines } = part;
+        match kind {
+            Kind::Field => append_lines(&mut map, &name, lines)?,
+            Kind::Put => steps.push(Step::Put(Encoded { name, lines }))?,
+            Kind::Remove => steps.push(Step::Remove(name))?,
+        }
+    }
+    Ok((map, steps))
+}
+
+/// Adds a line, and whether it is sensitive.
+pub fn show_line(line: &HeaderValue, answer: &mut Answer) -> Result<(), Failure> {
+    answer.bytes(line.as_bytes())?;
+    if line.is_sensitive() {
+        answer.word("(sensitive)")?;
+    }
+    Ok(())
+}
+
+/// Adds the fields of a map by their names, but for numbered ones, or `(none)`.
+pub fn show_map(map: &HeaderMap, answer: &mut Answer) -> Result<(), Failure> {
+    let mut names: Vec<&str> = map
+        .keys()
+        .map(|name| name.as_str())
+        .collect(answer.alloc())?;
+    names.sort_unstable();
+    if names.is_empty() {
+        answer.none()?;
+    }
+    for name in names.iter() {
+        if !is_numbered(name) {
+            answer.word(format_args!("({name})"))?;
+            for line in map.get_all(*name) {
+                show_line(line, answer)?;
+            }
+        }
+    }
+    Ok(())
+}
+
+// Whether two maps have the same lines under the name.
+fn has_same(one: &HeaderMap, other: &HeaderMap, name: &HeaderName) -> bool {
+    let lines = one.get_all(name);
+    let others = other.get_all(name);
+    let mut are_same = lines.iter().count() == others.iter().count();
+    for (line, other) in lines.iter().zip(others.iter()) {
+        are_same = are_same && is_same(line, other);
+    }
+    are_same
+}
+
+// Whether each name of a map has the same lines in another, but for one.
+fn has_all_but(one: &HeaderMap, other: &HeaderMap, but: Option<&HeaderName>) -> bool {
+    let mut are_same = true;
+    for name in one.keys() {
+        are_same = are_same && (but == Some(name) || has_same(one, other, name));
+    }
+    are_same
+}
+
+/// Whether two maps have the same lines.
+pub fn same_lines(one: &HeaderMap, other: &HeaderMap) -> bool {
+    has_all_but(one, other, None) && has_all_but(other, one, None)
+}
+
+// Whether a map is as it was before a step that was refused for want of memory, but for lines of that
+// step that may have been begun.
+fn is_left(map: &HeaderMap, before: &HeaderMap, step: &Step) -> bool {
+    if same_lines(map, before) {
+        return true;
+    }
+    let Step::Put(Encoded { name, lines }) = step else {
+        return false;
+    };
+    holds_beginning(map, name, lines.as_slice())
+        && has_all_but(map, before, Some(name))
+        && has_all_but(before, map, Some(name))
+}
+
+// The same of the step behind so many that are done.
+fn is_left_by(alloc: Global, map: &HeaderMap, text: &str, done: usize) -> Result<bool, Failure> {
+    let (mut before, steps) = read_map(alloc, text)?;
+    let mut first = Vec::new(alloc);
+    let mut left = steps.into_iter();
+    for _ in 0..done {
+        if let Some(step) = left.next() {
+            first.push(step)?;
+        }
+    }
+    if apply(&mut before, first).is_err() {
+        return Ok(false);
+    }
+    match left.next() {
+        Some(step) => Ok(is_left(map, &before, &step)),
+        None => Ok(false),
+    }
+}
+
+// How the steps end, and the map that they leave.
+fn show_applied(arguments: &mut Arguments<'_>, answer: &mut Answer) -> Result<(), Failure> {
+    let alloc = arguments.alloc();
+    let text = arguments.rest();
+    let (mut map, steps) = read_map(alloc, text)?;
+    if let Err(ApplyError { done, cause }) = apply(&mut map, steps) {
+        if cause == InsertError::Full {
+            answer.word(format_args!("(full) {done}"))?;
+        } else if is_left_by(alloc, &map, text, done)? {
+            return Err(Failure::Memory);
+        } else {
+            answer.word("(left)")?;
+        }
+    }
+    show_map(&map, answer)
+}
+
+// The lines of `canonical`, of a map that has these lines under the header's name.
+fn show_canonical<H: Header>(
+    arguments: &mut Arguments<'_>,
+    answer: &mut Answer,
+) -> Result<(), Failure> {
+    let alloc = arguments.alloc();
+    let mut map = HeaderMap::new(alloc);
+    append_lines(&mut map, &H::name(), arguments.lines()?)?;
+    match canonical::<H>(alloc, &map)? {
+        Some(encoded) if encoded.name == H::name() => show_each(encoded.lines.as_slice(), answer),
+        Some(_) => Ok(answer.word("(name)")?),
+        None => Ok(answer.none()?),
+    }
+}
+
+fn show_canonical_of(arguments: &mut Arguments<'_>, answer: &mut Answer) -> Result<(), Failure> {
+    match arguments.word()? {
+        "Age" => show_canonical::<Age>(arguments, answer),
+        "Location" => show_canonical::<Location>(arguments, answer),
+        "SetCookie" => show_canonical::<SetCookie>(arguments, answer),
+        _ => Err(Failure::NoCall),
+    }
+}
+
+// A name `x-7`, whose line is `7`.
+fn numbered(alloc: Global, number: usize) -> Result<(HeaderName, HeaderValue), Failure> {
+    let name = format!(in alloc; "x-{number}")?;
+    let line = format!(in alloc; "{number}")?;
+    let name = Arguments::new(alloc, name.as_str()).name()?;
+    let line = HeaderValue::from_string(line)?;
+    Ok((name, line))
+}
+
+// Adds numbered names until the map is full. How many they are.
+fn fill(alloc: Global, map: &mut HeaderMap) -> Result<usize, Failure> {
+    for number in 0..100_000usize {
+        let (name, line) = numbered(alloc, number)?;
+        if map.append(name, line).is_err() {
+            return Ok(number);
+        }
+    }
+    Err(Failure::NoCall)
+}
+
+fn is_numbered(name: &str) -> bool {
+    name.starts_with("x-")
+}
+
+// Whether the map has so many numbered names, each with its line and no other.
+fn is_filled(alloc: Global, map: &HeaderMap, count: usize) -> Result<bool, Failure> {
+    let mut names: usize = 0;
+    for name in map.keys() {
+        names = names.saturating_add(is_numbered(name.as_str()).into());
+    }
+    let mut is_filled = names == count;
+    for number in 0..count {
+        let (name, line) = numbered(alloc, number)?;
+        is_filled = is_filled && holds(map, &name, &[line]);
+    }
+    Ok(is_filled)
+}
+
+// What is left of a map that was filled with so many numbered names.
+fn show_full(map: &HeaderMap, count: usize, answer: &mut Answer) -> Result<(), Failure> {
+    answer.word(count)?;
+    if !is_filled(answer.alloc(), map, count)? {
+        answer.word("(changed)")?;
+    }
+    show_map(map, answer)
+}
+
+fn apply_full(arguments: &mut Arguments<'_>, answer: &mut Answer) -> Result<(), Failure> {
+    let alloc = arguments.alloc();
+    let (mut map, steps) = read_map(alloc, arguments.rest())?;
+    let count = fill(alloc, &mut map)?;
+    match apply(&mut map, steps) {
+        Ok(()) => {}
+        Err(ApplyError { done, cause }) if cause == InsertError::Full => {
+            answer.word(format_args!("(full) {done}"))?;
+        }
+        Err(_) => return Err(Failure::Memory),
+    }
+    show_full(&map, count, answer)
+}
+
+fn insert_full(arguments: &mut Arguments<'_>, answer: &mut Answer) -> Result<(), Failure> {
+    let alloc = arguments.alloc();
+    let age = Age::from_secs(arguments.number()?);
+    let (mut map, _steps) = read_map(alloc, arguments.rest())?;
+    let count = fill(alloc, &mut map)?;
+    match map.typed_insert(alloc, age) {
+        Ok(()) => {}
+        Err(InsertError::Full) => answer.word("(full)")?,
+        Err(InsertError::Memory) => return Err(Failure::Memory),
+    }
+    show_full(&map, count, answer)
+}
+
+// The texts of the errors of a step and of an insert.
+fn show_errors(arguments: &mut Arguments<'_>, answer: &mut Answer) -> Result<(), Failure> {
+    let alloc = arguments.alloc();
+    let cause = match arguments.word()? {
+        "memory" => InsertError::Memory,
+        "full" => InsertError::Full,
+        _ => return Err(Failure::NoCall),
+    };
+    let Ok(done) = usize::try_from(arguments.number()?) else {
+        return Err(Failure::NoCall);
+    };
+    answer.bytes(format!(in alloc; "{cause}")?.as_bytes())?;
+    let error = ApplyError { done, cause };
+    Ok(answer.bytes(format!(in alloc; "{error}")?.as_bytes())?)
+}
+
+/// Adds the answer of a call of a map.
+///
+/// `apply FIELD.. STEP..`: the map that the steps leave, behind `(full) DONE` if it has no room;
+/// `apply_full`: the same of a map that is filled with names `x-0`, `x-1` .. first, behind their
+/// number; `insert_full N FIELD..`: a typed insert of an age in such a map; `canonical TYPE LINE..`;
+/// `errors CAUSE DONE`: how the errors of an insert and of steps are printed.
+pub fn call_map(
+    call: &str,
+    arguments: &mut Arguments<'_>,
+    answer: &mut Answer,
+) -> Result<(), Failure> {
+    match call {
+        "apply" => show_applied(arguments, answer),
+        "apply_full" => apply_full(arguments, answer),
+        "insert_full" => insert_full(arguments, answer),
+        "canonical" => show_canonical_of(arguments, answer),
+        "errors" => show_errors(arguments, answer),
+        _ => Err(Failure::NoCall),
+    }
+}

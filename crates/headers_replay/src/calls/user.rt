@@ -1,0 +1,107 @@
+//! Calls of a user's own header and credentials. Fields are written as those of a map.
+use crate::calls::map::{read_map, same_lines, show_line, show_map};
+use crate::replay::{Getters, Replay, eq, show};
+use headers::authorization::Authorization;
+use headers::{HeaderMapExt, InsertError, encoding};
+use headers_rows::{Answer, Arguments, Failure};
+use headers_user::{ForwardError, Forwarded, MaxForwards, forward, key_of};
+use std::alloc::{AllocError, Global};
+
+impl Getters for MaxForwards {
+    fn getters(&self, answer: &mut Answer) -> Result<(), Failure> {
+        Ok(answer.option(self.hops())?)
+    }
+
+    fn copy(&self, _alloc: Global) -> Result<MaxForwards, AllocError> {
+        Ok(*self)
+    }
+}
+
+impl Replay for MaxForwards {
+    fn call(call: &str, arguments: &mut Arguments<'_>, answer: &mut Answer) -> Result<(), Failure> {
+        match call {
+            "eq" => eq::<MaxForwards>(arguments, answer),
+            "new" => show(&MaxForwards::new(arguments.number()?), answer),
+            "none" => show(&MaxForwards::none(), answer),
+            "insert_none" => insert_none(arguments, answer),
+            _ => Err(Failure::NoCall),
+        }
+    }
+}
+
+// The map that a typed insert of no limit leaves.
+fn insert_none(arguments: &mut Arguments<'_>, answer: &mut Answer) -> Result<(), Failure> {
+    let alloc = arguments.alloc();
+    let text = arguments.rest();
+    let (mut map, _steps) = read_map(alloc, text)?;
+    let (before, _steps) = read_map(alloc, text)?;
+    match map.typed_insert(alloc, MaxForwards::none()) {
+        Ok(()) => {}
+        Err(InsertError::Memory) if same_lines(&map, &before) => {
+            return Err(Failure::Memory);
+        }
+        Err(_) => answer.word("(left)")?,
+    }
+    show_map(&map, answer)
+}
+
+// What becomes of a request with these fields, and its fields then.
+fn show_forwarded(arguments: &mut Arguments<'_>, answer: &mut Answer) -> Result<(), Failure> {
+    let alloc = arguments.alloc();
+    let text = arguments.rest();
+    let (mut map, _steps) = read_map(alloc, text)?;
+    let (before, _steps) = read_map(alloc, text)?;
+    match forward(alloc, &mut map) {
+        Ok(Forwarded::Stop) => answer.word("stop")?,
+        Ok(Forwarded::Passed(hops)) => answer.word(format_args!("passed {hops}"))?,
+        Ok(Forwarded::Unlimited) => answer.word("unlimited")?,
+        Err(ForwardError::BadHops) => answer.word(ForwardError::BadHops)?,
+        Err(ForwardError::Memory) if same_lines(&map, &before) => {
+            return Err(Failure::Memory);
+        }
+        Err(ForwardError::Memory) => answer.word("(left)")?,
+    }
+    show_map(&map, answer)
+}
+
+// The key in these fields, and the lines that are written of it.
+fn show_key(arguments: &mut Arguments<'_>, answer: &mut Answer) -> Result<(), Failure> {
+    let alloc = arguments.alloc();
+    let (map, _steps) = read_map(alloc, arguments.rest())?;
+    let Some(key) = key_of(alloc, &map)? else {
+        return Ok(answer.none()?);
+    };
+    answer.bytes(key.key().as_bytes())?;
+    let encoded = encoding(alloc, &Authorization(key))?;
+    for line in &encoded.lines {
+        show_line(line, answer)?;
+    }
+    Ok(())
+}
+
+// How an error is printed: plainly, at a width and a precision, and for a programmer.
+fn show_error(error: ForwardError, answer: &mut Answer) -> Result<(), Failure> {
+    let alloc = answer.alloc();
+    answer.bytes(format!(in alloc; "{error}")?.as_bytes())?;
+    answer.bytes(format!(in alloc; "{error:>40.3}")?.as_bytes())?;
+    Ok(answer.bytes(format!(in alloc; "{error:?}")?.as_bytes())?)
+}
+
+/// Adds the answer of a call of a user's crate: `forward FIELD..`, `key_of FIELD..`, and
+/// `formats NAME`, how an error of `forward` is printed.
+pub fn call_user(
+    call: &str,
+    arguments: &mut Arguments<'_>,
+    answer: &mut Answer,
+) -> Result<(), Failure> {
+    match call {
+        "forward" => show_forwarded(arguments, answer),
+        "key_of" => show_key(arguments, answer),
+        "formats" => match arguments.word()? {
+            "BadHops" => show_error(ForwardError::BadHops, answer),
+            "Memory" => show_error(ForwardError::Memory, answer),
+            _ => Err(Failure::NoCall),
+        },
+        _ => Err(Failure::NoCall),
+    }
+}

@@ -1,0 +1,212 @@
+//! The arguments of a call.
+ghost use Rattle.std.specs.Prelude.{IfOk, IfSome};
+ghost use Rattle.headers_syntax.specs.Date.{IsDated};
+ghost use Rattle.headers_syntax.specs.Durations.{IsWholeSeconds};
+
+use crate::failure::Failure;
+use crate::word::{NONE, read_bytes};
+use headers::{ETag, Header, HeaderName, HeaderValue, decode_values};
+use http::Method;
+use std::alloc::Global;
+use std::ops::Bound;
+use std::time::Duration;
+
+/// The first second past the dates of HTTP.
+const END_OF_DATES: u64 = 253_402_300_800;
+
+/// The words that are left of a call.
+#[derive(Drop)]
+pub struct Arguments<'a> {
+    alloc: Global,
+    rest: &'a str,
+}
+
+fn read_value(alloc: Global, word: &str) -> Result<HeaderValue, Failure> {
+    Ok(HeaderValue::from_vec(read_bytes(alloc, word)?)?)
+}
+
+fn read_number(word: &str) -> Result<u64, Failure> {
+    word.parse().map_err(|_| Failure::NoCall)
+}
+
+impl<'a> Arguments<'a> {
+    /// The words of a text.
+    pub fn new(alloc: Global, rest: &'a str) -> Arguments<'a> {
+        Arguments { alloc, rest }
+    }
+
+    /// The allocator of the arguments.
+    pub fn alloc(&self) -> Global {
+        self.alloc
+    }
+
+    /// All words that are left.
+    pub fn rest(&mut self) -> &'a str {
+        let rest = self.rest;
+        self.rest = "";
+        rest
+    }
+
+    /// Whether no word is left.
+    pub fn is_empty(&self) -> bool {
+        self.rest.is_empty()
+    }
+
+    /// The next word.
+    pub fn word(&mut self) -> Result<&'a str, Failure> {
+        let rest = self.rest();
+        if rest.is_empty() {
+            return Err(Failure::NoCall);
+        }
+        match rest.split_once(' ') {
+            Some((word, others)) => {
+                self.rest = others;
+                Ok(word)
+            }
+            None => Ok(rest),
+        }
+    }
+
+    /// The next word, or `None` if it is `(none)`.
+    pub fn option(&mut self) -> Result<Option<&'a str>, Failure> {
+        let word = self.word()?;
+        Ok(if word == NONE { None } else { Some(word) })
+    }
+
+    /// The next word, as bytes.
+    pub fn bytes(&mut self) -> Result<Vec<u8>, Failure> {
+        read_bytes(self.alloc, self.word()?)
+    }
+
+    /// The next word, as text.
+    pub fn text(&mut self) -> Result<String, Failure> {
+        String::from_utf8(self.bytes()?).map_err(|_| Failure::NoCall)
+    }
+
+    /// The next word, as a number.
+    pub fn number(&mut self) -> Result<u64, Failure> {
+        read_number(self.word()?)
+    }
+
+    /// The next word, as a number or `(none)`.
+    pub fn optional_number(&mut self) -> Result<Option<u64>, Failure> {
+        match self.option()? {
+            Some(word) => Ok(Some(read_number(word)?)),
+            None => Ok(None),
+        }
+    }
+
+    /// The next word, as a port or `(none)`.
+    pub fn port(&mut self) -> Result<Option<u16>, Failure> {
+        match self.option()? {
+            Some(word) => Ok(Some(word.parse().map_err(|_| Failure::NoCall)?)),
+            None => Ok(None),
+        }
+    }
+
+    /// The next word, as a second that a date of HTTP may have.
+    pub fn date(&mut self) -> Result<u64, Failure>
+        ensures { IfOk result IsDated }
+    {
+        let seconds = self.number()?;
+        if seconds < END_OF_DATES {
+            Ok(seconds)
+        } else {
+            Err(Failure::NoCall)
+        }
+    }
+
+    /// The next word, as such a second or `(none)`.
+    pub fn optional_date(&mut self) -> Result<Option<u64>, Failure>
+        ensures { IfOk result (λ found. IfSome found IsDated) }
+    {
+        match self.optional_number()? {
+            Some(seconds) if seconds >= END_OF_DATES => Err(Failure::NoCall),
+            found => Ok(found),
+        }
+    }
+
+    /// The next word, as a number of seconds.
+    pub fn duration(&mut self) -> Result<Duration, Failure>
+        ensures { IfOk result IsWholeSeconds }
+    {
+        Ok(Duration::from_secs(self.number()?))
+    }
+
+    /// The next word, as a bound.
+    pub fn bound(&mut self) -> Result<Bound<u64>, Failure> {
+        let word = self.word()?;
+        if let Some(position) = word.strip_prefix('i') {
+            return Ok(Bound::Included(read_number(position)?));
+        }
+        if let Some(position) = word.strip_prefix('e') {
+            return Ok(Bound::Excluded(read_number(position)?));
+        }
+        if word == "u" {
+            Ok(Bound::Unbounded)
+        } else {
+            Err(Failure::NoCall)
+        }
+    }
+
+    /// The next word, as a name.
+    pub fn name(&mut self) -> Result<HeaderName, Failure> {
+        Ok(HeaderName::from_bytes(self.alloc, &self.bytes()?)?)
+    }
+
+    /// All words that are left, as lines.
+    pub fn lines(&mut self) -> Result<Vec<HeaderValue>, Failure> {
+        let mut lines = Vec::new(self.alloc);
+        for word in self.rest().split_whitespace() {
+            lines.push(read_value(self.alloc, word)?)?;
+        }
+        Ok(lines)
+    }
+
+    /// All words that are left, as names.
+    pub fn names(&mut self) -> Result<std::vec::IntoIter<HeaderName>, Failure> {
+        let mut names = Vec::new(self.alloc);
+        for word in self.rest().split_whitespace() {
+            let bytes = read_bytes(self.alloc, word)?;
+            names.push(HeaderName::from_bytes(self.alloc, &bytes)?)?;
+        }
+        Ok(names.into_iter())
+    }
+
+    /// All words that are left, as methods.
+    pub fn methods(&mut self) -> Result<std::vec::IntoIter<Method>, Failure> {
+        let mut methods = Vec::new(self.alloc);
+        for word in self.rest().split_whitespace() {
+            let bytes = read_bytes(self.alloc, word)?;
+            methods.push(Method::from_bytes(self.alloc, &bytes)?)?;
+        }
+        Ok(methods.into_iter())
+    }
+
+    /// The header that the next word reads.
+    pub fn header<H: Header>(&mut self) -> Result<H, Failure> {
+        let line = read_value(self.alloc, self.word()?)?;
+        Ok(decode_values(self.alloc, &[line])?)
+    }
+
+    /// The header that all words that are left read.
+    pub fn header_of_rest<H: Header>(&mut self) -> Result<H, Failure> {
+        Ok(decode_values(self.alloc, &self.lines()?)?)
+    }
+
+    /// The entity tag that the next word reads.
+    pub fn tag(&mut self) -> Result<ETag, Failure> {
+        self.header()
+    }
+
+    /// The entity tag that the next word reads, or `None` if it is `(none)`.
+    pub fn optional_tag(&mut self) -> Result<Option<ETag>, Failure> {
+        match self.option()? {
+            Some(word) => {
+                let line = read_value(self.alloc, word)?;
+                Ok(Some(decode_values(self.alloc, &[line])?))
+            }
+            None => Ok(None),
+        }
+    }
+}

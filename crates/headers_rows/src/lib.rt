@@ -1,0 +1,17 @@
+//! Rows: calls with their arguments and the answers that are wanted.
+#![tactic(auto)]
+
+mod answer;
+mod arguments;
+mod calls;
+mod failure;
+mod replay;
+mod tally;
+mod word;
+
+pub use crate::answer::Answer;
+pub use crate::arguments::Arguments;
+pub use crate::calls::Calls;
+pub use crate::failure::Failure;
+pub use crate::replay::replay_rows;
+pub use crate::tally::Tally;

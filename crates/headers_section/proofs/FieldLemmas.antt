@@ -1,0 +1,96 @@
+-- Where a field is cut, and what that makes of a line.
+use Rattle.std.proofs.Common.{◌≡◌, ℕ, suc, ◌+◌, ◌<◌, true, false, IsTrue, List, ◌∷◌, ◌++◌, length, take, drop, get_or}
+use Rattle.std.proofs.Common.{nat_lt, nat_le, refl, sym, ◌∙◌, ap, subst, inl, inr, arith, All}
+use Rattle.std.specs.List.{list_all, slice_split}
+use Rattle.std.proofs.lemmas.Bool.{cases_Bool}
+use Rattle.std.proofs.lemmas.Bool.Decides.{nat_tests}
+use Rattle.std.proofs.lemmas.List.{get_or_at, append_cancel_left, length-append}
+use Rattle.std.proofs.lemmas.List.Elements.{All-weaker}
+use Rattle.std.proofs.lemmas.List.Splits.{slice_split_at}
+use Rattle.std.proofs.lemmas.List.Sums.{list_all-from_AllPass}
+use Rattle.memchr.specs.Find.{NoneBefore, Nowhere, Passes, is_byte}
+use Rattle.http_header.specs.Token.{token_test, is_token_byte, lowercase}
+use Rattle.http_header.specs.FieldName.{IsFieldName, is_field_name}
+use Rattle.http_header.specs.FieldValue.{IsFieldValue, plain_value}
+use Rattle.http_header.proofs.TokenLemmas.{IsFieldName-from_test}
+use Rattle.headers.specs.Lines.{Line}
+use Rattle.headers.specs.Text.{trim}
+use Rattle.headers_section.specs.Section.{Field, IsField, IsNoField}
+use Rattle.headers_section.proofs.SectionLemmas.{split_at_place, none_before}
+
+test-from_IsFieldName : (bytes : List ℕ) → IsFieldName bytes → is_field_name bytes ≡ true
+unfolding is_token_byte
+test-from_IsFieldName bytes h =
+    let some : nat_lt 0 (length bytes) ≡ true = grind (arith, h.0.0) in
+    let fits : nat_le (length bytes) 65535 ≡ true = grind (arith, h.1) in
+    let tokens : list_all token_test bytes ≡ true = list_all-from_AllPass token_test bytes h.0.1 in
+    rw (some, fits, tokens) refl
+
+-- a name that is not refused is one
+pub IsFieldName-from_kept : (bytes : List ℕ) → ¬ (¬ (IsFieldName bytes)) → IsFieldName bytes
+IsFieldName-from_kept bytes kept =
+    elim (cases_Bool (is_field_name bytes)) [
+      | inl t ↦ IsFieldName-from_test bytes t
+      | inr f ↦ absurd (kept (λ valid. let t = test-from_IsFieldName bytes valid in absurd (cc (t, f))))
+    ]
+
+-- a line without a colon is no field
+pub IsNoField-without_colon : (line : Line) → Nowhere (Passes (is_byte 58) line) 0 (length line) → IsNoField line
+IsNoField-without_colon line none field is =
+    let here : get_or line (length is.name) 0 ≡ 58 =
+    ap (λ bytes. get_or bytes (length is.name) 0) is.line_is ∙ get_or_at is.name 58 is.rest 0 _ refl in
+    let whole : length line ≡ length is.name + suc (length is.rest) =
+    ap length is.line_is ∙ length-append is.name (58 ∷ is.rest) in
+    none (length is.name) (omega arith) (omega arith) (rw here refl)
+
+-- no byte of a name is a colon
+no_colon : (byte : ℕ) → IsTrue (is_token_byte byte) → is_byte 58 byte ≡ false
+unfolding is_token_byte
+no_colon byte token = grind (arith, nat_tests)
+
+pub names_have_none : (name : List ℕ) → IsFieldName name → All (λ byte. is_byte 58 byte ≡ false) name
+names_have_none name valid = All-weaker (λ byte. IsTrue (is_token_byte byte)) _ no_colon name valid.0.1
+
+-- the first colon of a line parts it as its field does
+pub parts_once : (line before after : Line) (field : Field) (is : IsField line field)
+    → All (λ byte. is_byte 58 byte ≡ false) before → line ≡ before ++ 58 ∷ after
+    → (is.name ≡ before) × (is.rest ≡ after)
+parts_once line before after field is none parted =
+    let same : is.name ++ 58 ∷ is.rest ≡ before ++ 58 ∷ after = sym is.line_is ∙ parted in
+    let pieces : is.name ∷ slice_split (is_byte 58) is.rest ≡ before ∷ slice_split (is_byte 58) after =
+    sym (slice_split_at (is_byte 58) is.name 58 is.rest (names_have_none is.name is.valid_name) refl)
+    ∙ ap (slice_split (is_byte 58)) same
+    ∙ slice_split_at (is_byte 58) before 58 after none refl in
+    let front : is.name ≡ before = cc pieces in
+    let back : 58 ∷ is.rest ≡ 58 ∷ after =
+    append_cancel_left before _ _ (ap (λ (name : List ℕ). name ++ 58 ∷ is.rest) (sym front) ∙ same) in
+    (front, cc back)
+
+split_at_colon : (line : Line) (colon : ℕ) → colon < length line → Passes (is_byte 58) line colon
+    → line ≡ take colon line ++ 58 ∷ drop (colon + 1) line
+split_at_colon line colon within here =
+    let byte : get_or line colon 0 ≡ 58 = grind (arith, here) in
+    split_at_place line colon within ∙ ap (λ middle. take colon line ++ middle ∷ drop (colon + 1) line) byte
+
+-- what a field says of the parts before and after the first colon
+pub parts_of_field : (line : Line) (colon : ℕ) → NoneBefore (Passes (is_byte 58) line) 0 (length line) colon
+    → Passes (is_byte 58) line colon → (field : Field) → IsField line field
+    → IsFieldName (take colon line) × IsFieldValue (trim (drop (colon + 1) line))
+parts_of_field line colon first here field is =
+    let parts =
+    parts_once line _ _ field is (none_before 58 line colon first) (split_at_colon line colon first.high here) in
+    (subst IsFieldName parts.0 is.valid_name, subst (λ rest. IsFieldValue (trim rest)) parts.1 is.valid_value)
+
+-- the parts before and after the first colon, where they are a name and a value
+pub IsField-from_parts : (line : Line) (colon : ℕ) (field : Field) → colon < length line
+    → Passes (is_byte 58) line colon → IsFieldName (take colon line) → IsFieldValue (trim (drop (colon + 1) line))
+    → field ≡ (lowercase (take colon line), plain_value (trim (drop (colon + 1) line))) → IsField line field
+IsField-from_parts line colon field within here valid_name valid_value is =
+    record {
+      name = take colon line;
+      rest = drop (colon + 1) line;
+      line_is = split_at_colon line colon within here;
+      valid_name = valid_name;
+      valid_value = valid_value;
+      field_is = is;
+    }

@@ -1,0 +1,13 @@
+//! The canonical text of a header section.
+#![tactic(auto)]
+
+mod block;
+mod field;
+mod input;
+mod output;
+mod runs;
+mod status;
+mod text;
+
+pub use crate::runs::{run, run_with_keys, run_with_system_keys};
+pub use crate::status::{Outcome, RunError, exit_status};

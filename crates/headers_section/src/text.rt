@@ -1,0 +1,149 @@
+//! The canonical text of a header section.
+ghost use Rattle.std.specs.Prelude.{◌≡◌, ◌≢◌, ◌<◌, ◌++◌, [], length, option_map, IfOk, IfSome, IfNone, OnOk, All};
+ghost use Rattle.std.specs.Prelude.{flat_map};
+ghost use Rattle.http_header.specs.HeaderMap.{keys, get_all, append_all};
+ghost use Rattle.headers.specs.Lines.{lines_of};
+ghost use Rattle.headers_section.specs.Section.{section, HasNoField, FillsMap, HasTooManyFields};
+ghost use Rattle.headers_section.specs.CanonicalText.{block_text, line_text, HasBlocks, IsTextOf, IsCanonicalText};
+
+use crate::block::read_block;
+use crate::field::{Field, read_fields};
+use crate::status::RunError;
+use bytes::Bytes;
+use headers::{HeaderMap, HeaderName, HeaderValue};
+use std::alloc::{AllocError, Global};
+use std::hash::RandomState;
+
+/// The canonical text of a header section, and whether the lines of some name were refused.
+#[derive(Drop)]
+pub struct CanonicalText {
+    pub bytes: Vec<u8>,
+    pub some_refused: bool,
+}
+
+// An empty map, which hashes with the keys where names collide.
+fn empty_map(alloc: Global, keys: Option<RandomState>) -> HeaderMap
+    ensures { result ≡ [] }
+{
+    match keys {
+        Some(keys) => HeaderMap::with_hasher(alloc, keys),
+        None => HeaderMap::new(alloc),
+    }
+}
+
+// The fields in one map.
+fn collect_fields(
+    alloc: Global,
+    keys: Option<RandomState>,
+    fields: Vec<Field>,
+) -> Result<HeaderMap, RunError>
+    ensures held { IfOk result (λ map. map ≡ append_all [] fields.items) }
+    ensures fits { IfOk result (λ _. ¬ (FillsMap fields.items)) }
+    ensures room { result ≡ Err RunError.Room → FillsMap fields.items }
+    ensures never_io { result ≢ Err RunError.Io }
+{
+    let mut map = empty_map(alloc, keys);
+    for (name, value) in fields {
+        map.append(name, value)?;
+    }
+    Ok(map)
+}
+
+// Prints each line after the name.
+fn print_lines(
+    text: &mut Vec<u8>,
+    name: &HeaderName,
+    lines: &[HeaderValue],
+) -> Result<(), AllocError>
+    ensures { OnOk result (text.new.items ≡ text.old.items ++ flat_map (line_text name.now) (lines_of lines.now)) }
+{
+    for line in lines {
+        text.extend_from_slice(name.as_bytes())?;
+        text.extend_from_slice(b": ")?;
+        text.extend_from_slice(line.as_bytes())?;
+        text.push(b'\n')?;
+    }
+    Ok(())
+}
+
+// Prints `! ` and the name.
+fn print_refusal(text: &mut Vec<u8>, name: &HeaderName) -> Result<(), AllocError>
+    ensures { OnOk result (text.new.items ≡ text.old.items ++ block_text name.now None) }
+{
+    text.extend_from_slice(b"! ")?;
+    text.extend_from_slice(name.as_bytes())?;
+    text.push(b'\n')?;
+    Ok(())
+}
+
+// Prints a block.
+fn print_block(
+    text: &mut Vec<u8>,
+    name: &HeaderName,
+    block: &Option<Vec<HeaderValue>>,
+) -> Result<(), AllocError>
+    ensures { OnOk result (text.new.items ≡ text.old.items
+        ++ block_text name.now (option_map (λ lines. lines_of lines.items) block.now)) }
+{
+    match block {
+        Some(lines) => print_lines(text, name, lines.as_slice()),
+        None => print_refusal(text, name),
+    }
+}
+
+// The block of each name, in the order of the map: that of their first appearance.
+fn print_blocks(alloc: Global, map: &HeaderMap) -> Result<CanonicalText, AllocError>
+    requires { All (λ name. 0 < length (get_all map.now name)) (keys map.now) }
+    ensures { IfOk result (λ text. HasBlocks (λ name. lines_of (get_all map.now name)) (keys map.now)
+        text.bytes.items text.some_refused) }
+{
+    let mut bytes = Vec::new(alloc);
+    let mut some_refused = false;
+    for name in map.keys() {
+        let block = read_block(alloc, map, name)?;
+        if block.is_none() {
+            some_refused = true;
+        }
+        print_block(&mut bytes, name, &block)?;
+    }
+    Ok(CanonicalText {
+        bytes,
+        some_refused,
+    })
+}
+
+// The canonical text of the fields.
+fn print_fields(
+    alloc: Global,
+    keys: Option<RandomState>,
+    fields: Vec<Field>,
+) -> Result<CanonicalText, RunError>
+    ensures text { IfOk result (λ text. IsTextOf fields.items text.bytes.items text.some_refused) }
+    ensures fits { IfOk result (λ _. ¬ (FillsMap fields.items)) }
+    ensures room { result ≡ Err RunError.Room → FillsMap fields.items }
+    ensures never_io { result ≢ Err RunError.Io }
+{
+    let map = collect_fields(alloc, keys, fields)?;
+    Ok(print_blocks(alloc, &map)?)
+}
+
+/// The canonical text of an input, or `None` if a line before the first empty one is no field.
+/// `Room` if a header map has no room for the fields. The keys are those of the map.
+pub fn canonical_text(
+    alloc: Global,
+    keys: Option<RandomState>,
+    input: Bytes,
+) -> Result<Option<CanonicalText>, RunError>
+    ensures text { IfOk result (λ found. IfSome found
+        (λ text. IsCanonicalText input text.bytes.items text.some_refused)) }
+    ensures fits { IfOk result (λ found. IfSome found (λ _. ¬ (HasTooManyFields input))) }
+    ensures no_field { IfOk result (λ found. IfNone found (HasNoField (section input))) }
+    ensures room { result ≡ Err RunError.Room
+        → HasTooManyFields input }
+    ensures never_io { result ≢ Err RunError.Io }
+{
+    match read_fields(alloc, input)? {
+        Some(fields) => Ok(Some(print_fields(alloc, keys, fields)?)),
+        None => Ok(None),
+    }
+}
