@@ -15,10 +15,10 @@ use std::time::Duration;
 const END_OF_DATES: u64 = 253_402_300_800;
 
 /// The words that are left of a call.
-#[derive(Drop)]
+#[derive(Clone, Copy)]
 pub struct Arguments<'a> {
     alloc: Global,
-    rest: &'a str,
+    pub(crate) rest: &'a str,
 }
 
 fn read_value(alloc: Global, word: &str) -> Result<HeaderValue, Failure> {
