@@ -87,7 +87,7 @@ pub(crate) fn canonical_text(alloc: Global, bytes: &[u8]) -> Result<Vec<u8>, Ref
     let Some((top_level, subtype, rest)) = read_essence(bytes) else {
         return Err(Refused::Invalid(Error::invalid()));
     };
-    let mut text = Vec::new(alloc);
+    let mut text = Vec::with_capacity(alloc, bytes.len())?;
     push_lowercase(&mut text, top_level)?;
     text.push(b'/')?;
     push_lowercase(&mut text, subtype)?;

@@ -1,5 +1,6 @@
 pub mod AsciiCaseLemmas
 pub mod DateLemmas
+pub mod DigitsLemmas
 pub mod EntityTagDateLemmas
 pub mod EntityTagLemmas
 pub mod NumberLemmas

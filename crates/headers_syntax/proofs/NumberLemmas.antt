@@ -1,5 +1,5 @@
 -- What `parse` reads of a line is its number, and a printed number is read back.
-use Rattle.std.proofs.Common.{◌≡◌, ℕ, ◌<◌, ◌≤◌, ◌≢◌, ◌^◌, ◌&&◌, true, false, [], ◌∷◌, length, Some, None, Result, Ok}
+use Rattle.std.proofs.Common.{if◌then◌else◌, ◌≡◌, ℕ, ◌<◌, ◌≤◌, ◌≢◌, ◌^◌, ◌&&◌, true, false, [], ◌∷◌, length, Some, None, Result, Ok}
 use Rattle.std.proofs.Common.{Err, refl, sym, ◌∙◌, ap, subst, inl, inr, arith, rules, nat_lt, nat_le, get_or, ◌==◌}
 use Rattle.std.specs.Str.{all_ascii_digits}
 use Rattle.std.specs.Str.Parse.{ParsesUnsigned}
@@ -51,6 +51,12 @@ number-parse {E} line (Ok n) h =
     let p = parse_after_plus {E = E} line (Ok n) h in
     rw (is_numeral-true (after_plus line) p.0) (ap (λ (m : ℕ). Some m) (sym p.1))
 number-parse {E} line (Err e) h = rw (is_numeral-false (after_plus line) (parse_after_plus {E = E} line (Err e) h))
+
+-- the number of a line by what follows its plus
+pub number-digits : (line digits : Line) → digits ≡ after_plus line
+    → (if is_numeral digits then Some (decimal_value digits) else None) ≡ number line
+unfolding number
+number-digits line digits e = rw e refl
 
 -- a first byte that is no plus stays
 after_plus-same : (line : Line) → get_or line 0 0 ≢ 43 → after_plus line ≡ line
