@@ -11,8 +11,8 @@ pub use headers_core::{
     lists_read_back, numbers_read_back, same_by_writes, tags_read_back, texts_read_back,
     words_read_back,
 };
-pub use headers_cors::{allow_origin_of_own_text, request_method_of_own_text};
-pub use headers_hosts::{host_of_short_authority, origin_of_own_text};
+pub use headers_cors::{allow_origin_of_own_text, request_methods_read_back};
+pub use headers_hosts::{hosts_read_back, origin_of_own_text};
 pub use headers_map::{reads_the_inserted, reads_the_last_put};
 pub use headers_ranges::{content_ranges_read_back, ranges_read_back};
 pub use headers_security::{policies_read_back, security_reads_back};

@@ -1,10 +1,8 @@
 //! The header `access-control-request-method`.
 ghost use Rattle.std.specs.Prelude.{◌≡◌, IfOk};
-ghost use Rattle.http_header.specs.Token.{IsToken};
 ghost use Rattle.headers_hosts.specs.OneLine.{LineDecodesTo};
 ghost use Rattle.headers_cors.specs.AccessControlRequestMethod.{method_bytes, IsMethodLine, request_method_reads};
 ghost use Rattle.headers_cors.specs.AccessControlRequestMethod.{request_method_writes};
-ghost use Rattle.headers_cors.specs.declared.access_control_request_method.AccessControlRequestMethod as declared;
 
 use headers_core::{AsHeaderValue, Error, Header, Refused, first};
 use http::Method;
@@ -56,10 +54,11 @@ impl AccessControlRequestMethod {
 }
 
 /// A method is written as a line that reads as it.
-pub fn request_method_of_own_text()
-    ensures { (header : declared.AccessControlRequestMethod) → IsToken (method_bytes header)
-        → request_method_reads (request_method_writes header) header }
-{}
+pub fn request_methods_read_back(header: &AccessControlRequestMethod)
+    ensures { request_method_reads (request_method_writes header.now) header.now }
+{
+    let _method = header.method.as_str();
+}
 
 impl From<Method> for AccessControlRequestMethod {
     ghost from_gives = { λ method header. method_bytes header ≡ method };

@@ -24,5 +24,5 @@ pub use crate::access_control_request_headers::{
     AccessControlRequestHeaders, AccessControlRequestHeadersField,
 };
 pub use crate::access_control_request_method::{
-    AccessControlRequestMethod, request_method_of_own_text,
+    AccessControlRequestMethod, request_methods_read_back,
 };

@@ -1,10 +1,9 @@
 //! The header `host`.
 ghost use Rattle.std.specs.Prelude.{◌≡◌, ◌≤◌, ◌↔◌, length, IfOk, Some};
-ghost use Rattle.http_uri.specs.Grammar.{IsAuthority, authority_host};
+ghost use Rattle.http_uri.specs.Grammar.{authority_host};
 ghost use Rattle.http_uri.specs.Port.{IsPortNumberOf};
 ghost use Rattle.headers_hosts.specs.OneLine.{LineDecodesTo};
 ghost use Rattle.headers_hosts.specs.Host.{host_bytes, host_reads, host_writes, IsHostLine};
-ghost use Rattle.headers_hosts.specs.declared.host.Host.{Host as Seen};
 
 use headers_core::{AsHeaderValue, Error, Header, Refused, first};
 use http_header::{HOST, HeaderName, HeaderValue, HeaderValueError};
@@ -71,11 +70,13 @@ impl Host {
     }
 }
 
-/// A host that was made of an authority is read back exactly if it has at most 65,534 bytes.
-pub fn host_of_short_authority()
-    ensures { (host : Seen) → IsAuthority (host_bytes host)
-        → (host_reads (host_writes host) host ↔ (length (host_bytes host) ≤ 65534)) }
-{}
+/// A host is read back exactly if it has at most 65,534 bytes. Only one that was made of an
+/// authority has more.
+pub fn hosts_read_back(host: &Host)
+    ensures { host_reads (host_writes host.now) host.now ↔ (length (host_bytes host.now) ≤ 65534) }
+{
+    let _text = host.authority.as_str();
+}
 
 impl From<Authority> for Host {
     ghost from_gives = { λ authority host. host_bytes host ≡ authority };
@@ -87,6 +88,8 @@ impl From<Authority> for Host {
 
 impl fmt::Display for Host {
     ghost output = { λ host. Some (host_bytes host) };
+
+    ghost styled_output = { λ host _. Some (host_bytes host) };
 
     fn fmt<W: fmt::Write>(&self, f: &mut fmt::Formatter<W>) -> fmt::Result {
         f.write_str(self.authority.as_str())

@@ -38,6 +38,8 @@ pub struct InvalidOrigin;
 impl fmt::Display for InvalidOrigin {
     ghost output = { λ _. Some (codes "InvalidOrigin") };
 
+    ghost styled_output = { λ _ _. Some (codes "InvalidOrigin") };
+
     fn fmt<W: fmt::Write>(&self, f: &mut fmt::Formatter<W>) -> fmt::Result {
         f.write_str("InvalidOrigin")
     }

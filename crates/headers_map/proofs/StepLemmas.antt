@@ -3,10 +3,12 @@ use Rattle.std.proofs.Common.{◌≡◌, ◌≢◌, ℕ, Bool, true, false, Some
 use Rattle.std.proofs.Common.{if◌then◌else◌, reverse, length, refl, sym, ◌∙◌, ap, subst, inl, inr, arith, ◌<◌}
 use Rattle.std.proofs.Common.{take, length-append}
 use Rattle.std.specs.Prelude.{find}
+use Rattle.std.specs.List.{All}
 use Rattle.std.specs.Option.{option_map_or}
 use Rattle.std.proofs.lemmas.Bool.{cases_Bool, lt-ltb}
 use Rattle.std.proofs.lemmas.Grind.{reverse_onto}
 use Rattle.std.proofs.lemmas.List.{reverse-reverse}
+use Rattle.std.proofs.lemmas.List.Elements.{All-head, All-tail}
 use Rattle.std.proofs.lemmas.Option.{slice_get_read}
 use Rattle.std.proofs.Math.Seq.{take-append_seam, get_or-append_seam}
 use Rattle.std.proofs.lemmas.Slice.Eq.{bytes_eq-Decides}
@@ -14,7 +16,7 @@ use Rattle.http_header.specs.FieldValue.{FieldValue}
 use Rattle.http_header.specs.HeaderMap.{Entries, get_all}
 use Rattle.headers_syntax.specs.Lines.{Line, lines_of}
 use Rattle.headers_map.specs.LineMap.{LineMap, lines_at, put, remove, run, last, after_step, touches}
-use Rattle.headers_map.specs.LineMap.{lines_left, last_step}
+use Rattle.headers_map.specs.LineMap.{lines_left, last_step, IsOfOther}
 use Rattle.headers_map.specs.Typed.{HasLine}
 use Rattle.headers_map.specs.InsertErrors.{AppliesPart, IsRefusedStep}
 use Rattle.headers_map.specs.declared.steps.ApplyError.{ApplyError}
@@ -83,6 +85,13 @@ remove-from_parts old new name gone others other =
       | inl t ↦ rw t (ap (λ (n : List ℕ). lines_at new n) (sym ((bytes_eq-Decides name other).0 t)) ∙ ap lines_of gone)
       | inr f ↦ rw f (ap lines_of (others other (λ e. absurd (cc (f, (bytes_eq-Decides name other).1 e)))))
     ]
+
+-- where no step is of the name, each is of another
+pub IsOfOther-step : (name : List ℕ) (first later : List Step) (step : Step)
+    → All (IsOfOther name) (first ++ step ∷ later) → IsOfOther name step
+IsOfOther-step name [] later step h = All-head (IsOfOther name) step later h
+IsOfOther-step name (s ∷ first) later step h =
+    IsOfOther-step name first later step (All-tail (IsOfOther name) s (first ++ step ∷ later) h)
 
 -- a step was refused, with those before it done
 pub AppliesPart-from_split : (old new before : Entries FieldValue) (steps first later : List Step) (step : Step)

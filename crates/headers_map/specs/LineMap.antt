@@ -1,5 +1,5 @@
 -- A map gives each name a list of lines, and steps change it.
-use Rattle.std.specs.Prelude.{ℕ, Bool, ◌&&◌, List, [], ◌∷◌, length, reverse, Option, if◌then◌else◌, bytes_eq}
+use Rattle.std.specs.Prelude.{◌≢◌, ℕ, Bool, ◌&&◌, List, [], ◌∷◌, length, reverse, Option, if◌then◌else◌, bytes_eq}
 use Rattle.std.specs.Prelude.{nat_lt, find}
 use Rattle.std.specs.Option.{option_map_or}
 use Rattle.http_header.specs.FieldValue.{FieldValue}
@@ -39,6 +39,15 @@ run m (step ∷ steps) = run (after_step m step) steps
 abbrev pub touches : List ℕ → Step → Bool
 touches name (Put e) = bytes_eq e.name name && nat_lt 0 (length e.lines.items)
 touches name (Remove other) = bytes_eq other name
+
+-- the step's own name
+abbrev pub step_name : Step → List ℕ
+step_name (Put e) = e.name
+step_name (Remove name) = name
+
+-- the step is one of another name
+abbrev pub IsOfOther : List ℕ → Step → Type 0
+IsOfOther name step = step_name step ≢ name
 
 -- the last step that touches the name, if one does
 abbrev pub last_step : List Step → List ℕ → Option Step

@@ -1,7 +1,8 @@
 //! Lists of steps that change a header map.
 ghost use Rattle.std.specs.Prelude.{◌≡◌, ◌≢◌, ℕ, List, [], OnOk, IfErr};
+ghost use Rattle.std.specs.List.{All};
 ghost use Rattle.http_header.specs.HeaderMap.{get_all};
-ghost use Rattle.headers_map.specs.LineMap.{lines_at, run, last, after_step};
+ghost use Rattle.headers_map.specs.LineMap.{lines_at, run, last, after_step, IsOfOther};
 ghost use Rattle.headers_map.specs.InsertErrors.{AppliesPart, IsRefusedStep};
 
 use crate::encoded::Encoded;
@@ -42,13 +43,15 @@ impl fmt::Display for ApplyError {
 impl Error for ApplyError {}
 
 /// Takes the steps in order. If a `Put` is refused, the steps before it are done, and those after
-/// it aren't begun.
+/// it aren't begun. The values under names that no step has stay, whatever comes.
 pub fn apply(map: &mut HeaderMap, steps: Vec<Step>) -> Result<(), ApplyError>
     ensures ok { OnOk result ((name : List ℕ)
         → lines_at map.new name ≡ run (lines_at map.old) steps.items name) }
     ensures last { OnOk result ((name : List ℕ)
         → lines_at map.new name ≡ last (lines_at map.old) steps.items name) }
     ensures err { IfErr result (AppliesPart map.old map.new steps.items) }
+    ensures others { (name : List ℕ) → All (IsOfOther name) steps.items
+        → get_all map.new name ≡ get_all map.old name }
 {
     let mut done = 0;
     let mut left = steps.into_iter();
@@ -65,6 +68,8 @@ fn apply_step(map: &mut HeaderMap, step: Step) -> Result<(), InsertError>
     ensures ok { OnOk result ((name : List ℕ)
         → lines_at map.new name ≡ after_step (lines_at map.old) step name) }
     ensures err { IfErr result (IsRefusedStep map.old map.new step) }
+    ensures others { (name : List ℕ) → IsOfOther name step
+        → get_all map.new name ≡ get_all map.old name }
 {
     match step {
         Step::Put(Encoded { name, lines }) => put_lines(map, &name, lines),

@@ -49,6 +49,8 @@ impl fmt::Display for InvalidContentRange {
 
     ghost output = { λ _. Some (codes "InvalidContentRange") };
 
+    ghost styled_output = { λ _ _. Some (codes "InvalidContentRange") };
+
     fn fmt<W: fmt::Write>(&self, f: &mut fmt::Formatter<W>) -> fmt::Result {
         f.write_str("InvalidContentRange")
     }

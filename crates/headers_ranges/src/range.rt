@@ -49,6 +49,8 @@ impl fmt::Display for InvalidRange {
 
     ghost output = { λ _. Some (codes "InvalidRange") };
 
+    ghost styled_output = { λ _ _. Some (codes "InvalidRange") };
+
     fn fmt<W: fmt::Write>(&self, f: &mut fmt::Formatter<W>) -> fmt::Result {
         f.write_str("InvalidRange")
     }

@@ -1,17 +1,19 @@
 -- Keys are text.
-use Rattle.std.proofs.Common.{◌≡◌, ℕ, ◌<◌, true, List, Err, rules}
+use Rattle.std.proofs.Common.{◌≡◌, ℕ, ◌<◌, true, List, Err, rules, refl, codes}
 use Rattle.std.specs.List.{list_all}
 use Rattle.std.specs.Str.{IsUtf8}
-use Rattle.std.proofs.lemmas.List.Elements.{All-weaker}
+use Rattle.std.proofs.lemmas.List.Elements.{All-append, All-weaker}
 use Rattle.std.proofs.lemmas.List.Sums.{AllPass-from_list_all}
 use Rattle.std.proofs.lemmas.Str.{IsUtf8-from_ascii}
 use Rattle.std.proofs.lemmas.Str.Ascii.{IsAscii-from_all}
+use Rattle.http_header.specs.FieldValue.{IsFieldValue}
+use Rattle.http_header.specs.Token.{is_value_byte}
 use Rattle.headers.specs.Lines.{Line}
 use Rattle.headers.specs.Typed.{IsTypedRead}
 use Rattle.headers.specs.declared.Refused.{Refused}
 use Rattle.headers.specs.declared.Refused.TheVariants.{Invalid, Memory}
 use Rattle.headers.specs.declared.authorization.Authorization.{Authorization}
-use Rattle.headers_user.specs.ApiKey.{is_key, is_key_byte, CarryKey}
+use Rattle.headers_user.specs.ApiKey.{is_key, is_key_byte, api_key_writes, CarryKey}
 
 key_byte_ascii : (b : ℕ) → is_key_byte b ≡ true → b < 128
 key_byte_ascii b e = search rules
@@ -23,6 +25,18 @@ IsUtf8-key key e =
     (IsAscii-from_all key
     (All-weaker (λ b. is_key_byte b ≡ true) (λ b. b < 128) key_byte_ascii key
     (AllPass-from_list_all is_key_byte key all)))
+
+key_byte_value : (b : ℕ) → is_key_byte b ≡ true → is_value_byte b ≡ true
+key_byte_value b e = search rules
+
+-- what is written of a key is a header value
+pub IsFieldValue-line : (key : List ℕ) → is_key key ≡ true → IsFieldValue (api_key_writes key)
+IsFieldValue-line key e =
+    let all : list_all is_key_byte key ≡ true = search rules in
+    All-append (λ b. is_value_byte b ≡ true) (codes "ApiKey ") key
+    (AllPass-from_list_all is_value_byte (codes "ApiKey ") refl)
+    (All-weaker (λ b. is_key_byte b ≡ true) (λ b. is_value_byte b ≡ true) key_byte_value key
+    (AllPass-from_list_all is_key_byte key all))
 
 -- a header keeps a key and nothing else
 pub IsTypedRead-of_key : {E : Type 0} (lines : List Line) (refused : Refused E)

@@ -7,6 +7,7 @@ ghost use Rattle.headers_user.specs.ApiKey.{is_key, is_key_byte, CarryKey};
 
 use headers::authorization::{Authorization, Credentials};
 use headers::{Error, HeaderMap, HeaderMapExt, HeaderValue, Refused};
+use http_header::HeaderValueError;
 use std::alloc::{AllocError, Global};
 use std::marker::Model;
 use std::str;
@@ -19,11 +20,14 @@ pub struct ApiKey {
 }
 
 impl Model for ApiKey {
-    ghost use Rattle.std.specs.Prelude.{ℕ, List, string_bytes};
+    ghost use Rattle.std.specs.Prelude.{◌≡◌, ℕ, List, true, string_bytes};
+    ghost use Rattle.headers_user.specs.ApiKey.{is_key};
 
     ghost Value = { List ℕ };
 
     ghost view = { λ key. string_bytes key.text };
+
+    ghost invariant = { λ key. is_key (string_bytes key.text) ≡ true };
 }
 
 impl ApiKey {
@@ -91,7 +95,8 @@ impl Credentials for ApiKey {
         line.push_str(self.text.as_str())?;
         match HeaderValue::from_string(line) {
             Ok(value) => Ok(value),
-            Err(_) => Err(AllocError),
+            Err(HeaderValueError::Invalid) => unreachable!(),
+            Err(HeaderValueError::OutOfMemory) => Err(AllocError),
         }
     }
 }

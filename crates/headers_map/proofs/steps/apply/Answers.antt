@@ -1,8 +1,9 @@
-use Rattle.std.proofs.Common.{◌≡◌, ℕ, List, [], ◌∷◌, ◌++◌, ◌+◌, length, sym, ◌∙◌, ap, arith}
+use Rattle.std.proofs.Common.{◌≡◌, ℕ, List, [], ◌∷◌, ◌++◌, ◌+◌, length, sym, ◌∙◌, ap, subst, arith}
 use Rattle.std.proofs.lemmas.List.{append-nil, append_assoc, length_push, nil_from_length}
-use Rattle.headers_map.specs.LineMap.{lines_at, run}
+use Rattle.std.specs.List.{All}
+use Rattle.headers_map.specs.LineMap.{lines_at, run, IsOfOther}
 use Rattle.headers_map.specs.declared.steps.Step.{Step}
-use Rattle.headers_map.proofs.StepLemmas.{run-step, run-last, AppliesPart-from_split}
+use Rattle.headers_map.proofs.StepLemmas.{run-step, run-last, AppliesPart-from_split, IsOfOther-step}
 use Rattle.headers_map.proofs.steps.apply.Goals as goal
 
 pub returns-in-Err-clause-err : goal.returns-in-Err-clause-err
@@ -12,6 +13,14 @@ returns-in-Err-clause-err c =
     kept.0 c.next.new.self.rest.items c.in-Some.step _
     (ap (λ (steps : List Step). kept.0 ++ steps) (sym c.in-Some.ensures.items) ∙ kept.1)
     kept.2 kept.3 c.in-Err.ensures.err
+
+pub returns-in-Err-clause-others : goal.returns-in-Err-clause-others
+returns-in-Err-clause-others c = λ name none.
+    let kept = c.loop-step.invariant in
+    let split = ap (λ (steps : List Step). kept.0 ++ steps) (sym c.in-Some.ensures.items) ∙ kept.1 in
+    c.apply_step.ensures.others name (IsOfOther-step name kept.0 c.next.new.self.rest.items c.in-Some.step
+    (subst (All (IsOfOther name)) (sym split) none))
+    ∙ kept.4 name none
 
 pub loop-step-preserved : goal.loop-step-preserved
 loop-step-preserved c =
@@ -23,6 +32,11 @@ loop-step-preserved c =
       ap (λ (n : ℕ). n + 1) kept.2 ∙ sym (length_push kept.0 c.in-Some.step),
       run-step (lines_at c.args.map.now) (lines_at c.loop-step.map) (lines_at c.apply_step.new.map) kept.0
           c.in-Some.step kept.3 c.in_default-apply_step.ensures.ok,
+      λ name none.
+          let split = ap (λ (steps : List Step). kept.0 ++ steps) (sym c.in-Some.ensures.items) ∙ kept.1 in
+          c.apply_step.ensures.others name (IsOfOther-step name kept.0 c.next.new.self.rest.items c.in-Some.step
+          (subst (All (IsOfOther name)) (sym split) none))
+          ∙ kept.4 name none,
     )
 
 pub returns-clause-ok : goal.returns-clause-ok
@@ -38,3 +52,6 @@ returns-clause-ok c = λ name.
 
 pub returns-clause-last : goal.returns-clause-last
 returns-clause-last c = λ name. returns-clause-ok c name ∙ run-last (lines_at c.args.map.now) c.args.steps.items name
+
+pub returns-clause-others : goal.returns-clause-others
+returns-clause-others c = c.loop-step.invariant.4
