@@ -2,17 +2,18 @@
 //! otherwise than is wanted.
 #![tactic(auto)]
 
-mod calls;
-mod replay;
-mod streams;
-
-use crate::calls::Port;
 use anyhow::Context;
+use headers_replay_http::Http;
+use headers_replay_parts::Parts;
+use headers_replay_web::Web;
 use headers_rows::{Tally, replay_rows};
 use std::env;
 use std::fs::File;
 use std::io::{BufWriter, Write};
 use std::process::ExitCode;
+
+/// The calls of the port.
+type Port = (Http, (Web, Parts));
 
 fn main(rt: HostRuntime) -> anyhow::Result<ExitCode> {
     let alloc = rt.alloc();

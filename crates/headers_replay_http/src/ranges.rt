@@ -1,10 +1,11 @@
 //! Calls of the headers of ranges.
-use crate::replay::{Getters, Replay, eq, show, show_back};
+use crate::Http;
 use headers::{AcceptRanges, ContentRange, Range};
+use headers_replay_each::{Getters, Replay, eq, show, show_back};
 use headers_rows::{Answer, Arguments, Failure};
 use std::alloc::{AllocError, Global};
 
-impl Getters for AcceptRanges {
+impl Getters<Http> for AcceptRanges {
     fn getters(&self, answer: &mut Answer) -> Result<(), Failure> {
         answer.word(self.is_bytes())?;
         Ok(answer.word(self.is_none())?)
@@ -15,10 +16,10 @@ impl Getters for AcceptRanges {
     }
 }
 
-impl Replay for AcceptRanges {
+impl Replay<Http> for AcceptRanges {
     fn call(call: &str, arguments: &mut Arguments<'_>, answer: &mut Answer) -> Result<(), Failure> {
         match call {
-            "eq" => eq::<AcceptRanges>(arguments, answer),
+            "eq" => eq::<AcceptRanges, _>(arguments, answer),
             "bytes" => show(&AcceptRanges::bytes(), answer),
             "none" => show(&AcceptRanges::none(), answer),
             _ => Err(Failure::NoCall),
@@ -42,17 +43,17 @@ fn satisfiable_ranges(arguments: &mut Arguments<'_>, answer: &mut Answer) -> Res
     Ok(())
 }
 
-impl Getters for Range {
+impl Getters<Http> for Range {
     fn copy(&self, alloc: Global) -> Result<Range, AllocError> {
         self.clone(alloc)
     }
 }
 
-impl Replay for Range {
+impl Replay<Http> for Range {
     fn call(call: &str, arguments: &mut Arguments<'_>, answer: &mut Answer) -> Result<(), Failure> {
         let alloc = arguments.alloc();
         match call {
-            "eq" => eq::<Range>(arguments, answer),
+            "eq" => eq::<Range, _>(arguments, answer),
             "bytes" => {
                 let range = (arguments.bound()?, arguments.bound()?);
                 show(&Range::bytes(alloc, range)?, answer)
@@ -63,7 +64,7 @@ impl Replay for Range {
     }
 }
 
-impl Getters for ContentRange {
+impl Getters<Http> for ContentRange {
     fn getters(&self, answer: &mut Answer) -> Result<(), Failure> {
         match self.bytes_range() {
             Some((first, last)) => {
@@ -80,10 +81,10 @@ impl Getters for ContentRange {
     }
 }
 
-impl Replay for ContentRange {
+impl Replay<Http> for ContentRange {
     fn call(call: &str, arguments: &mut Arguments<'_>, answer: &mut Answer) -> Result<(), Failure> {
         match call {
-            "eq" => eq::<ContentRange>(arguments, answer),
+            "eq" => eq::<ContentRange, _>(arguments, answer),
             "bytes" => {
                 let range = (arguments.bound()?, arguments.bound()?);
                 let header = ContentRange::bytes(range, arguments.optional_number()?);

@@ -1,138 +1,15 @@
 //! Calls of header maps: steps, `canonical`, and a map without room.
-//!
-//! A name in parentheses begins the lines of a field of the map, as in `(age) 5`. `(put:age) 5` is a
-//! step that puts these lines, `(remove:age)` one that removes the name, and `(sensitive)` marks the
-//! line before it. A map is answered as its fields, by their names.
-use crate::calls::items::show_each;
-use crate::replay::{holds, holds_beginning, is_same};
+use crate::items::show_each;
 use headers::{
     Age, ApplyError, Encoded, Header, HeaderMap, HeaderMapExt, HeaderName, HeaderValue,
     InsertError, Location, SetCookie, Step, apply, canonical,
 };
-use headers_rows::{Answer, Arguments, Failure};
+use headers_replay_each::{holds, holds_beginning, is_same};
+use headers_rows::{Answer, Arguments, Failure, append_lines};
 use std::alloc::Global;
 
-// What a word in parentheses begins.
-#[derive(Clone, Copy)]
-enum Kind {
-    Field,
-    Put,
-    Remove,
-}
-
-// A name with its lines.
-#[derive(Drop)]
-struct Part {
-    kind: Kind,
-    name: HeaderName,
-    lines: Vec<HeaderValue>,
-}
-
-fn begun_part(alloc: Global, word: &str) -> Result<Part, Failure> {
-    let (kind, name) = match word.split_once(':') {
-        None => (Kind::Field, word),
-        Some(("put", name)) => (Kind::Put, name),
-        Some(("remove", name)) => (Kind::Remove, name),
-        Some(_) => return Err(Failure::NoCall),
-    };
-    Ok(Part {
-        kind,
-        name: Arguments::new(alloc, name).name()?,
-        lines: Vec::new(alloc),
-    })
-}
-
-// The text in the parentheses of a word that isn't bytes.
-fn in_parentheses(word: &str) -> Option<&str> {
-    if word == "()" {
-        return None;
-    }
-    word.strip_prefix('(')?.strip_suffix(')')
-}
-
-fn mark_sensitive(parts: &mut Vec<Part>) -> Result<(), Failure> {
-    let part = parts.last_mut().ok_or(Failure::NoCall)?;
-    part.lines
-        .last_mut()
-        .ok_or(Failure::NoCall)?
-        .set_sensitive(true);
-    Ok(())
-}
-
-fn add_lines(parts: &mut Vec<Part>, lines: Vec<HeaderValue>) -> Result<(), Failure> {
-    let part = parts.last_mut().ok_or(Failure::NoCall)?;
-    for line in lines {
-        part.lines.push(line)?;
-    }
-    Ok(())
-}
-
-fn read_parts(alloc: Global, text: &str) -> Result<Vec<Part>, Failure> {
-    let mut parts = Vec::new(alloc);
-    for word in text.split_whitespace() {
-        match in_parentheses(word) {
-            Some("sensitive") => mark_sensitive(&mut parts)?,
-            Some(begin) => parts.push(begun_part(alloc, begin)?)?,
-            None => add_lines(&mut parts, Arguments::new(alloc, word).lines()?)?,
-        }
-    }
-    Ok(parts)
-}
-
-fn append_lines(
-    map: &mut HeaderMap,
-    name: &HeaderName,
-    lines: Vec<HeaderValue>,
-) -> Result<(), Failure> {
-    for line in lines {
-        map.append(name, line)?;
-    }
-    Ok(())
-}
-
-/// The map of the fields in a text, and its steps.
-pub fn read_map(alloc: Global, text: &str) -> Result<(HeaderMap, Vec<Step>), Failure> {
-    let mut map = HeaderMap::new(alloc);
-    let mut steps = Vec::new(alloc);
-    for part in read_parts(alloc, text)? {
-        let Part { kind, name, lines } = part;
-        match kind {
-            Kind::Field => append_lines(&mut map, &name, lines)?,
-            Kind::Put => steps.push(Step::Put(Encoded { name, lines }))?,
-            Kind::Remove => steps.push(Step::Remove(name))?,
-        }
-    }
-    Ok((map, steps))
-}
-
-/// Adds a line, and whether it is sensitive.
-pub fn show_line(line: &HeaderValue, answer: &mut Answer) -> Result<(), Failure> {
-    answer.bytes(line.as_bytes())?;
-    if line.is_sensitive() {
-        answer.word("(sensitive)")?;
-    }
-    Ok(())
-}
-
-/// Adds the fields of a map by their names, but for numbered ones, or `(none)`.
-pub fn show_map(map: &HeaderMap, answer: &mut Answer) -> Result<(), Failure> {
-    let mut names: Vec<&str> = map
-        .keys()
-        .map(|name| name.as_str())
-        .collect(answer.alloc())?;
-    names.sort_unstable();
-    if names.is_empty() {
-        answer.none()?;
-    }
-    for name in names.iter() {
-        if !is_numbered(name) {
-            answer.word(format_args!("({name})"))?;
-            for line in map.get_all(*name) {
-                show_line(line, answer)?;
-            }
-        }
-    }
-    Ok(())
+fn is_numbered(name: &str) -> bool {
+    name.starts_with("x-")
 }
 
 // Whether two maps have the same lines under the name.
@@ -176,7 +53,7 @@ fn is_left(map: &HeaderMap, before: &HeaderMap, step: &Step) -> bool {
 
 // The same of the step behind so many that are done.
 fn is_left_by(alloc: Global, map: &HeaderMap, text: &str, done: usize) -> Result<bool, Failure> {
-    let (mut before, steps) = read_map(alloc, text)?;
+    let (mut before, steps) = Arguments::new(alloc, text).map_and_steps()?;
     let mut first = Vec::new(alloc);
     let mut left = steps.into_iter();
     for _ in 0..done {
@@ -197,7 +74,7 @@ fn is_left_by(alloc: Global, map: &HeaderMap, text: &str, done: usize) -> Result
 fn show_applied(arguments: &mut Arguments<'_>, answer: &mut Answer) -> Result<(), Failure> {
     let alloc = arguments.alloc();
     let text = arguments.rest();
-    let (mut map, steps) = read_map(alloc, text)?;
+    let (mut map, steps) = Arguments::new(alloc, text).map_and_steps()?;
     if let Err(ApplyError { done, cause }) = apply(&mut map, steps) {
         if cause == InsertError::Full {
             answer.word(format_args!("(full) {done}"))?;
@@ -207,7 +84,7 @@ fn show_applied(arguments: &mut Arguments<'_>, answer: &mut Answer) -> Result<()
             answer.word("(left)")?;
         }
     }
-    show_map(&map, answer)
+    answer.map(&map)
 }
 
 // The lines of `canonical`, of a map that has these lines under the header's name.
@@ -254,10 +131,6 @@ fn fill(alloc: Global, map: &mut HeaderMap) -> Result<usize, Failure> {
     Err(Failure::NoCall)
 }
 
-fn is_numbered(name: &str) -> bool {
-    name.starts_with("x-")
-}
-
 // Whether the map has so many numbered names, each with its line and no other.
 fn is_filled(alloc: Global, map: &HeaderMap, count: usize) -> Result<bool, Failure> {
     let mut names: usize = 0;
@@ -278,12 +151,18 @@ fn show_full(map: &HeaderMap, count: usize, answer: &mut Answer) -> Result<(), F
     if !is_filled(answer.alloc(), map, count)? {
         answer.word("(changed)")?;
     }
-    show_map(map, answer)
+    let mut others: Vec<&str> = map
+        .keys()
+        .map(|name| name.as_str())
+        .filter(|name| !is_numbered(name))
+        .collect(answer.alloc())?;
+    others.sort_unstable();
+    answer.fields(map, others.as_slice())
 }
 
 fn apply_full(arguments: &mut Arguments<'_>, answer: &mut Answer) -> Result<(), Failure> {
     let alloc = arguments.alloc();
-    let (mut map, steps) = read_map(alloc, arguments.rest())?;
+    let (mut map, steps) = arguments.map_and_steps()?;
     let count = fill(alloc, &mut map)?;
     match apply(&mut map, steps) {
         Ok(()) => {}
@@ -298,7 +177,7 @@ fn apply_full(arguments: &mut Arguments<'_>, answer: &mut Answer) -> Result<(), 
 fn insert_full(arguments: &mut Arguments<'_>, answer: &mut Answer) -> Result<(), Failure> {
     let alloc = arguments.alloc();
     let age = Age::from_secs(arguments.number()?);
-    let (mut map, _steps) = read_map(alloc, arguments.rest())?;
+    let mut map = arguments.map()?;
     let count = fill(alloc, &mut map)?;
     match map.typed_insert(alloc, age) {
         Ok(()) => {}

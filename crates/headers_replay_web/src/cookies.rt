@@ -1,10 +1,11 @@
 //! Calls of the cookie headers.
-use crate::replay::{Getters, Replay};
+use crate::Web;
 use headers::{Cookie, SetCookie};
+use headers_replay_each::{Getters, Replay};
 use headers_rows::{Answer, Arguments, Failure};
 use std::alloc::{AllocError, Global};
 
-impl Getters for Cookie {
+impl Getters<Web> for Cookie {
     fn getters(&self, answer: &mut Answer) -> Result<(), Failure> {
         answer.word(self.len())?;
         for (key, text) in self.iter() {
@@ -19,7 +20,7 @@ impl Getters for Cookie {
     }
 }
 
-impl Replay for Cookie {
+impl Replay<Web> for Cookie {
     fn call(call: &str, arguments: &mut Arguments<'_>, answer: &mut Answer) -> Result<(), Failure> {
         match call {
             "get" => {
@@ -35,10 +36,10 @@ impl Replay for Cookie {
     }
 }
 
-impl Getters for SetCookie {
+impl Getters<Web> for SetCookie {
     fn copy(&self, alloc: Global) -> Result<SetCookie, AllocError> {
         self.clone(alloc)
     }
 }
 
-impl Replay for SetCookie {}
+impl Replay<Web> for SetCookie {}

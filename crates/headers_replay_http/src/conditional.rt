@@ -1,8 +1,9 @@
 //! Calls of the headers of conditional requests.
-use crate::replay::{Getters, Replay, cmp, eq, show, show_back};
+use crate::Http;
 use headers::{
     ETag, IfMatch, IfModifiedSince, IfNoneMatch, IfRange, IfUnmodifiedSince, LastModified,
 };
+use headers_replay_each::{Getters, Replay, cmp, eq, show, show_back};
 use headers_rows::{Answer, Arguments, Failure};
 use std::alloc::{AllocError, Global};
 
@@ -16,7 +17,7 @@ fn compare(arguments: &mut Arguments<'_>, answer: &mut Answer) -> Result<(), Fai
     Ok(answer.word(IfRange::etag(first).is_modified(Some(&second), None))?)
 }
 
-impl Getters for ETag {
+impl Getters<Http> for ETag {
     fn getters(&self, answer: &mut Answer) -> Result<(), Failure> {
         Ok(answer.word(self.is_weak())?)
     }
@@ -26,11 +27,11 @@ impl Getters for ETag {
     }
 }
 
-impl Replay for ETag {
+impl Replay<Http> for ETag {
     fn call(call: &str, arguments: &mut Arguments<'_>, answer: &mut Answer) -> Result<(), Failure> {
         let alloc = arguments.alloc();
         match call {
-            "eq" => eq::<ETag>(arguments, answer),
+            "eq" => eq::<ETag, _>(arguments, answer),
             "from_str" => show_back(&ETag::from_str(alloc, &arguments.text()?)?, answer),
             "compare" => compare(arguments, answer),
             _ => Err(Failure::NoCall),
@@ -38,7 +39,7 @@ impl Replay for ETag {
     }
 }
 
-impl Getters for IfMatch {
+impl Getters<Http> for IfMatch {
     fn getters(&self, answer: &mut Answer) -> Result<(), Failure> {
         Ok(answer.word(self.is_any())?)
     }
@@ -48,10 +49,10 @@ impl Getters for IfMatch {
     }
 }
 
-impl Replay for IfMatch {
+impl Replay<Http> for IfMatch {
     fn call(call: &str, arguments: &mut Arguments<'_>, answer: &mut Answer) -> Result<(), Failure> {
         match call {
-            "eq" => eq::<IfMatch>(arguments, answer),
+            "eq" => eq::<IfMatch, _>(arguments, answer),
             "any" => show(&IfMatch::any(), answer),
             "from_etag" => show(&IfMatch::from(arguments.tag()?), answer),
             "any_passes" => {
@@ -67,16 +68,16 @@ impl Replay for IfMatch {
     }
 }
 
-impl Getters for IfNoneMatch {
+impl Getters<Http> for IfNoneMatch {
     fn copy(&self, alloc: Global) -> Result<IfNoneMatch, AllocError> {
         self.clone(alloc)
     }
 }
 
-impl Replay for IfNoneMatch {
+impl Replay<Http> for IfNoneMatch {
     fn call(call: &str, arguments: &mut Arguments<'_>, answer: &mut Answer) -> Result<(), Failure> {
         match call {
-            "eq" => eq::<IfNoneMatch>(arguments, answer),
+            "eq" => eq::<IfNoneMatch, _>(arguments, answer),
             "any" => show(&IfNoneMatch::any(), answer),
             "from_etag" => show(&IfNoneMatch::from(arguments.tag()?), answer),
             "any_passes" => {
@@ -92,16 +93,16 @@ impl Replay for IfNoneMatch {
     }
 }
 
-impl Getters for IfRange {
+impl Getters<Http> for IfRange {
     fn copy(&self, alloc: Global) -> Result<IfRange, AllocError> {
         self.clone(alloc)
     }
 }
 
-impl Replay for IfRange {
+impl Replay<Http> for IfRange {
     fn call(call: &str, arguments: &mut Arguments<'_>, answer: &mut Answer) -> Result<(), Failure> {
         match call {
-            "eq" => eq::<IfRange>(arguments, answer),
+            "eq" => eq::<IfRange, _>(arguments, answer),
             "etag" => show(&IfRange::etag(arguments.tag()?), answer),
             "date" => show(&IfRange::date(arguments.date()?), answer),
             "is_modified" => {
@@ -116,7 +117,7 @@ impl Replay for IfRange {
     }
 }
 
-impl Getters for IfModifiedSince {
+impl Getters<Http> for IfModifiedSince {
     fn getters(&self, answer: &mut Answer) -> Result<(), Failure> {
         Ok(answer.word(self.unix_secs())?)
     }
@@ -126,10 +127,10 @@ impl Getters for IfModifiedSince {
     }
 }
 
-impl Replay for IfModifiedSince {
+impl Replay<Http> for IfModifiedSince {
     fn call(call: &str, arguments: &mut Arguments<'_>, answer: &mut Answer) -> Result<(), Failure> {
         match call {
-            "eq" => eq::<IfModifiedSince>(arguments, answer),
+            "eq" => eq::<IfModifiedSince, _>(arguments, answer),
             "cmp" => cmp::<IfModifiedSince>(arguments, answer),
             "from_unix_secs" => show(&IfModifiedSince::from_unix_secs(arguments.date()?), answer),
             "is_modified" => {
@@ -141,7 +142,7 @@ impl Replay for IfModifiedSince {
     }
 }
 
-impl Getters for IfUnmodifiedSince {
+impl Getters<Http> for IfUnmodifiedSince {
     fn getters(&self, answer: &mut Answer) -> Result<(), Failure> {
         Ok(answer.word(self.unix_secs())?)
     }
@@ -151,10 +152,10 @@ impl Getters for IfUnmodifiedSince {
     }
 }
 
-impl Replay for IfUnmodifiedSince {
+impl Replay<Http> for IfUnmodifiedSince {
     fn call(call: &str, arguments: &mut Arguments<'_>, answer: &mut Answer) -> Result<(), Failure> {
         match call {
-            "eq" => eq::<IfUnmodifiedSince>(arguments, answer),
+            "eq" => eq::<IfUnmodifiedSince, _>(arguments, answer),
             "cmp" => cmp::<IfUnmodifiedSince>(arguments, answer),
             "from_unix_secs" => {
                 show(
@@ -171,7 +172,7 @@ impl Replay for IfUnmodifiedSince {
     }
 }
 
-impl Getters for LastModified {
+impl Getters<Http> for LastModified {
     fn getters(&self, answer: &mut Answer) -> Result<(), Failure> {
         Ok(answer.word(self.unix_secs())?)
     }
@@ -181,10 +182,10 @@ impl Getters for LastModified {
     }
 }
 
-impl Replay for LastModified {
+impl Replay<Http> for LastModified {
     fn call(call: &str, arguments: &mut Arguments<'_>, answer: &mut Answer) -> Result<(), Failure> {
         match call {
-            "eq" => eq::<LastModified>(arguments, answer),
+            "eq" => eq::<LastModified, _>(arguments, answer),
             "cmp" => cmp::<LastModified>(arguments, answer),
             "from_unix_secs" => show(&LastModified::from_unix_secs(arguments.date()?), answer),
             _ => Err(Failure::NoCall),

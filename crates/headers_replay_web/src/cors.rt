@@ -1,12 +1,13 @@
 //! Calls of the access control headers.
-use crate::calls::hosts::show_origin;
-use crate::replay::{
-    Getters, Replay, cmp, eq, hinted_methods, hinted_names, show, show_methods, show_names,
-};
+use crate::Web;
+use crate::hosts::show_origin;
 use headers::{
     AccessControlAllowCredentials, AccessControlAllowHeaders, AccessControlAllowMethods,
     AccessControlAllowOrigin, AccessControlExposeHeaders, AccessControlMaxAge,
     AccessControlRequestHeaders, AccessControlRequestMethod,
+};
+use headers_replay_each::{
+    Getters, Replay, cmp, eq, hinted_methods, hinted_names, show, show_methods, show_names,
 };
 use headers_rows::{Answer, Arguments, Failure};
 use http::Method;
@@ -14,7 +15,7 @@ use http::method::MethodError;
 use std::alloc::{AllocError, Global};
 use std::time::Duration;
 
-impl Getters for AccessControlAllowCredentials {
+impl Getters<Web> for AccessControlAllowCredentials {
     fn getters(&self, answer: &mut Answer) -> Result<(), Failure> {
         Ok(answer.word(*self == AccessControlAllowCredentials)?)
     }
@@ -24,17 +25,17 @@ impl Getters for AccessControlAllowCredentials {
     }
 }
 
-impl Replay for AccessControlAllowCredentials {
+impl Replay<Web> for AccessControlAllowCredentials {
     fn call(call: &str, arguments: &mut Arguments<'_>, answer: &mut Answer) -> Result<(), Failure> {
         match call {
-            "eq" => eq::<AccessControlAllowCredentials>(arguments, answer),
+            "eq" => eq::<AccessControlAllowCredentials, _>(arguments, answer),
             "unit" => show(&AccessControlAllowCredentials, answer),
             _ => Err(Failure::NoCall),
         }
     }
 }
 
-impl Getters for AccessControlAllowHeaders {
+impl Getters<Web> for AccessControlAllowHeaders {
     fn getters(&self, answer: &mut Answer) -> Result<(), Failure> {
         show_names(self.iter(answer.alloc()), answer)
     }
@@ -44,11 +45,11 @@ impl Getters for AccessControlAllowHeaders {
     }
 }
 
-impl Replay for AccessControlAllowHeaders {
+impl Replay<Web> for AccessControlAllowHeaders {
     fn call(call: &str, arguments: &mut Arguments<'_>, answer: &mut Answer) -> Result<(), Failure> {
         let alloc = arguments.alloc();
         match call {
-            "eq" => eq::<AccessControlAllowHeaders>(arguments, answer),
+            "eq" => eq::<AccessControlAllowHeaders, _>(arguments, answer),
             "from_iter" => {
                 show(
                     &AccessControlAllowHeaders::from_iter(alloc, arguments.names()?)?,
@@ -64,7 +65,7 @@ impl Replay for AccessControlAllowHeaders {
     }
 }
 
-impl Getters for AccessControlAllowMethods {
+impl Getters<Web> for AccessControlAllowMethods {
     fn getters(&self, answer: &mut Answer) -> Result<(), Failure> {
         show_methods(self.iter(answer.alloc()), answer)
     }
@@ -74,11 +75,11 @@ impl Getters for AccessControlAllowMethods {
     }
 }
 
-impl Replay for AccessControlAllowMethods {
+impl Replay<Web> for AccessControlAllowMethods {
     fn call(call: &str, arguments: &mut Arguments<'_>, answer: &mut Answer) -> Result<(), Failure> {
         let alloc = arguments.alloc();
         match call {
-            "eq" => eq::<AccessControlAllowMethods>(arguments, answer),
+            "eq" => eq::<AccessControlAllowMethods, _>(arguments, answer),
             "from_iter" => {
                 show(
                     &AccessControlAllowMethods::from_iter(alloc, arguments.methods()?)?,
@@ -97,7 +98,7 @@ impl Replay for AccessControlAllowMethods {
     }
 }
 
-impl Getters for AccessControlAllowOrigin {
+impl Getters<Web> for AccessControlAllowOrigin {
     fn getters(&self, answer: &mut Answer) -> Result<(), Failure> {
         match self.origin() {
             Some(origin) => show_origin(origin, self, answer),
@@ -110,11 +111,11 @@ impl Getters for AccessControlAllowOrigin {
     }
 }
 
-impl Replay for AccessControlAllowOrigin {
+impl Replay<Web> for AccessControlAllowOrigin {
     fn call(call: &str, arguments: &mut Arguments<'_>, answer: &mut Answer) -> Result<(), Failure> {
         let alloc = arguments.alloc();
         match call {
-            "eq" => eq::<AccessControlAllowOrigin>(arguments, answer),
+            "eq" => eq::<AccessControlAllowOrigin, _>(arguments, answer),
             "ANY" => show(&AccessControlAllowOrigin::ANY, answer),
             "NULL" => show(&AccessControlAllowOrigin::NULL, answer),
             "try_from_str" => {
@@ -128,7 +129,7 @@ impl Replay for AccessControlAllowOrigin {
     }
 }
 
-impl Getters for AccessControlExposeHeaders {
+impl Getters<Web> for AccessControlExposeHeaders {
     fn getters(&self, answer: &mut Answer) -> Result<(), Failure> {
         show_names(self.iter(answer.alloc()), answer)
     }
@@ -138,7 +139,7 @@ impl Getters for AccessControlExposeHeaders {
     }
 }
 
-impl Replay for AccessControlExposeHeaders {
+impl Replay<Web> for AccessControlExposeHeaders {
     fn call(call: &str, arguments: &mut Arguments<'_>, answer: &mut Answer) -> Result<(), Failure> {
         let alloc = arguments.alloc();
         match call {
@@ -160,7 +161,7 @@ impl Replay for AccessControlExposeHeaders {
     }
 }
 
-impl Getters for AccessControlMaxAge {
+impl Getters<Web> for AccessControlMaxAge {
     fn getters(&self, answer: &mut Answer) -> Result<(), Failure> {
         Ok(answer.word(Duration::from(self.clone()?).as_secs())?)
     }
@@ -170,10 +171,10 @@ impl Getters for AccessControlMaxAge {
     }
 }
 
-impl Replay for AccessControlMaxAge {
+impl Replay<Web> for AccessControlMaxAge {
     fn call(call: &str, arguments: &mut Arguments<'_>, answer: &mut Answer) -> Result<(), Failure> {
         match call {
-            "eq" => eq::<AccessControlMaxAge>(arguments, answer),
+            "eq" => eq::<AccessControlMaxAge, _>(arguments, answer),
             "cmp" => cmp::<AccessControlMaxAge>(arguments, answer),
             "from_duration" => {
                 show(
@@ -186,7 +187,7 @@ impl Replay for AccessControlMaxAge {
     }
 }
 
-impl Getters for AccessControlRequestHeaders {
+impl Getters<Web> for AccessControlRequestHeaders {
     fn getters(&self, answer: &mut Answer) -> Result<(), Failure> {
         show_names(self.iter(answer.alloc()), answer)
     }
@@ -196,7 +197,7 @@ impl Getters for AccessControlRequestHeaders {
     }
 }
 
-impl Replay for AccessControlRequestHeaders {
+impl Replay<Web> for AccessControlRequestHeaders {
     fn call(call: &str, arguments: &mut Arguments<'_>, answer: &mut Answer) -> Result<(), Failure> {
         let alloc = arguments.alloc();
         match call {
@@ -218,7 +219,7 @@ impl Replay for AccessControlRequestHeaders {
     }
 }
 
-impl Getters for AccessControlRequestMethod {
+impl Getters<Web> for AccessControlRequestMethod {
     fn getters(&self, answer: &mut Answer) -> Result<(), Failure> {
         let method = Method::from(self.clone(answer.alloc())?);
         Ok(answer.bytes(method.as_str().as_bytes())?)
@@ -229,11 +230,11 @@ impl Getters for AccessControlRequestMethod {
     }
 }
 
-impl Replay for AccessControlRequestMethod {
+impl Replay<Web> for AccessControlRequestMethod {
     fn call(call: &str, arguments: &mut Arguments<'_>, answer: &mut Answer) -> Result<(), Failure> {
         let alloc = arguments.alloc();
         match call {
-            "eq" => eq::<AccessControlRequestMethod>(arguments, answer),
+            "eq" => eq::<AccessControlRequestMethod, _>(arguments, answer),
             "from_method" => {
                 match Method::from_bytes(alloc, &arguments.bytes()?) {
                     Ok(method) => show(&AccessControlRequestMethod::from(method), answer),

@@ -1,10 +1,11 @@
 //! Calls of the headers of credentials.
-use crate::replay::{Getters, Replay, eq, is_sensitive, show_back};
-use headers::authorization::{Authorization, Basic, Bearer, ProxyAuthorization};
+use crate::Web;
+use headers::authorization::{Authorization, Basic, Bearer, Credentials, ProxyAuthorization};
+use headers_replay_each::{Getters, Replay, eq, is_sensitive, show_back};
 use headers_rows::{Answer, Arguments, Failure};
 use std::alloc::{AllocError, Global};
 
-impl Getters for Authorization<Basic> {
+impl Getters<Web> for Authorization<Basic> {
     fn getters(&self, answer: &mut Answer) -> Result<(), Failure> {
         answer.bytes(self.username().as_bytes())?;
         answer.bytes(self.password().as_bytes())?;
@@ -20,16 +21,17 @@ impl Getters for Authorization<Basic> {
     }
 }
 
-impl Replay for Authorization<Basic> {
+impl Replay<Web> for Authorization<Basic> {
     fn call(call: &str, arguments: &mut Arguments<'_>, answer: &mut Answer) -> Result<(), Failure> {
         match call {
-            "eq" => eq::<Authorization<Basic>>(arguments, answer),
+            "eq" => eq::<Authorization<Basic>, _>(arguments, answer),
+            "scheme" => Ok(answer.word(Basic::SCHEME)?),
             _ => Err(Failure::NoCall),
         }
     }
 }
 
-impl Getters for Authorization<Bearer> {
+impl Getters<Web> for Authorization<Bearer> {
     fn getters(&self, answer: &mut Answer) -> Result<(), Failure> {
         answer.bytes(self.token().as_bytes())?;
         Ok(answer.word(is_sensitive(answer.alloc(), self)?)?)
@@ -44,16 +46,17 @@ impl Getters for Authorization<Bearer> {
     }
 }
 
-impl Replay for Authorization<Bearer> {
+impl Replay<Web> for Authorization<Bearer> {
     fn call(call: &str, arguments: &mut Arguments<'_>, answer: &mut Answer) -> Result<(), Failure> {
         match call {
-            "eq" => eq::<Authorization<Bearer>>(arguments, answer),
+            "eq" => eq::<Authorization<Bearer>, _>(arguments, answer),
+            "scheme" => Ok(answer.word(Bearer::SCHEME)?),
             _ => Err(Failure::NoCall),
         }
     }
 }
 
-impl Getters for ProxyAuthorization<Basic> {
+impl Getters<Web> for ProxyAuthorization<Basic> {
     fn getters(&self, answer: &mut Answer) -> Result<(), Failure> {
         answer.bytes(self.0.username().as_bytes())?;
         answer.bytes(self.0.password().as_bytes())?;
@@ -69,16 +72,16 @@ impl Getters for ProxyAuthorization<Basic> {
     }
 }
 
-impl Replay for ProxyAuthorization<Basic> {
+impl Replay<Web> for ProxyAuthorization<Basic> {
     fn call(call: &str, arguments: &mut Arguments<'_>, answer: &mut Answer) -> Result<(), Failure> {
         match call {
-            "eq" => eq::<ProxyAuthorization<Basic>>(arguments, answer),
+            "eq" => eq::<ProxyAuthorization<Basic>, _>(arguments, answer),
             _ => Err(Failure::NoCall),
         }
     }
 }
 
-impl Getters for ProxyAuthorization<Bearer> {
+impl Getters<Web> for ProxyAuthorization<Bearer> {
     fn getters(&self, answer: &mut Answer) -> Result<(), Failure> {
         answer.bytes(self.0.token().as_bytes())?;
         Ok(answer.word(is_sensitive(answer.alloc(), self)?)?)
@@ -93,10 +96,10 @@ impl Getters for ProxyAuthorization<Bearer> {
     }
 }
 
-impl Replay for ProxyAuthorization<Bearer> {
+impl Replay<Web> for ProxyAuthorization<Bearer> {
     fn call(call: &str, arguments: &mut Arguments<'_>, answer: &mut Answer) -> Result<(), Failure> {
         match call {
-            "eq" => eq::<ProxyAuthorization<Bearer>>(arguments, answer),
+            "eq" => eq::<ProxyAuthorization<Bearer>, _>(arguments, answer),
             _ => Err(Failure::NoCall),
         }
     }

@@ -1,13 +1,14 @@
 //! Calls of a user's own header and credentials. Fields are written as those of a map.
-use crate::calls::map::{read_map, same_lines, show_line, show_map};
-use crate::replay::{Getters, Replay, eq, show};
+use crate::Parts;
+use crate::map::same_lines;
 use headers::authorization::Authorization;
 use headers::{HeaderMapExt, InsertError, encoding};
+use headers_replay_each::{Getters, Replay, eq, show};
 use headers_rows::{Answer, Arguments, Failure};
 use headers_user::{ForwardError, Forwarded, MaxForwards, forward, key_of};
 use std::alloc::{AllocError, Global};
 
-impl Getters for MaxForwards {
+impl Getters<Parts> for MaxForwards {
     fn getters(&self, answer: &mut Answer) -> Result<(), Failure> {
         Ok(answer.option(self.hops())?)
     }
@@ -17,10 +18,10 @@ impl Getters for MaxForwards {
     }
 }
 
-impl Replay for MaxForwards {
+impl Replay<Parts> for MaxForwards {
     fn call(call: &str, arguments: &mut Arguments<'_>, answer: &mut Answer) -> Result<(), Failure> {
         match call {
-            "eq" => eq::<MaxForwards>(arguments, answer),
+            "eq" => eq::<MaxForwards, _>(arguments, answer),
             "new" => show(&MaxForwards::new(arguments.number()?), answer),
             "none" => show(&MaxForwards::none(), answer),
             "insert_none" => insert_none(arguments, answer),
@@ -33,8 +34,8 @@ impl Replay for MaxForwards {
 fn insert_none(arguments: &mut Arguments<'_>, answer: &mut Answer) -> Result<(), Failure> {
     let alloc = arguments.alloc();
     let text = arguments.rest();
-    let (mut map, _steps) = read_map(alloc, text)?;
-    let (before, _steps) = read_map(alloc, text)?;
+    let mut map = Arguments::new(alloc, text).map()?;
+    let before = Arguments::new(alloc, text).map()?;
     match map.typed_insert(alloc, MaxForwards::none()) {
         Ok(()) => {}
         Err(InsertError::Memory) if same_lines(&map, &before) => {
@@ -42,15 +43,15 @@ fn insert_none(arguments: &mut Arguments<'_>, answer: &mut Answer) -> Result<(),
         }
         Err(_) => answer.word("(left)")?,
     }
-    show_map(&map, answer)
+    answer.map(&map)
 }
 
 // What becomes of a request with these fields, and its fields then.
 fn show_forwarded(arguments: &mut Arguments<'_>, answer: &mut Answer) -> Result<(), Failure> {
     let alloc = arguments.alloc();
     let text = arguments.rest();
-    let (mut map, _steps) = read_map(alloc, text)?;
-    let (before, _steps) = read_map(alloc, text)?;
+    let mut map = Arguments::new(alloc, text).map()?;
+    let before = Arguments::new(alloc, text).map()?;
     match forward(alloc, &mut map) {
         Ok(Forwarded::Stop) => answer.word("stop")?,
         Ok(Forwarded::Passed(hops)) => answer.word(format_args!("passed {hops}"))?,
@@ -61,20 +62,20 @@ fn show_forwarded(arguments: &mut Arguments<'_>, answer: &mut Answer) -> Result<
         }
         Err(ForwardError::Memory) => answer.word("(left)")?,
     }
-    show_map(&map, answer)
+    answer.map(&map)
 }
 
 // The key in these fields, and the lines that are written of it.
 fn show_key(arguments: &mut Arguments<'_>, answer: &mut Answer) -> Result<(), Failure> {
     let alloc = arguments.alloc();
-    let (map, _steps) = read_map(alloc, arguments.rest())?;
+    let map = arguments.map()?;
     let Some(key) = key_of(alloc, &map)? else {
         return Ok(answer.none()?);
     };
     answer.bytes(key.key().as_bytes())?;
     let encoded = encoding(alloc, &Authorization(key))?;
     for line in &encoded.lines {
-        show_line(line, answer)?;
+        answer.line(line)?;
     }
     Ok(())
 }

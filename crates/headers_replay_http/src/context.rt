@@ -1,12 +1,13 @@
 //! Calls of the headers of context.
-use crate::replay::{
+use crate::Http;
+use headers::{Allow, Date, Location, Referer, RetryAfter, Server, UserAgent};
+use headers_replay_each::{
     Getters, Replay, cmp, eq, hinted_methods, padded, show, show_back, show_methods, writes,
 };
-use headers::{Allow, Date, Location, Referer, RetryAfter, Server, UserAgent};
 use headers_rows::{Answer, Arguments, Failure};
 use std::alloc::{AllocError, Global};
 
-impl Getters for Allow {
+impl Getters<Http> for Allow {
     fn getters(&self, answer: &mut Answer) -> Result<(), Failure> {
         show_methods(self.iter(answer.alloc()), answer)
     }
@@ -16,11 +17,11 @@ impl Getters for Allow {
     }
 }
 
-impl Replay for Allow {
+impl Replay<Http> for Allow {
     fn call(call: &str, arguments: &mut Arguments<'_>, answer: &mut Answer) -> Result<(), Failure> {
         let alloc = arguments.alloc();
         match call {
-            "eq" => eq::<Allow>(arguments, answer),
+            "eq" => eq::<Allow, _>(arguments, answer),
             "from_iter" => show(&Allow::from_iter(alloc, arguments.methods()?)?, answer),
             "from_hinted_iter" => {
                 show(
@@ -33,7 +34,7 @@ impl Replay for Allow {
     }
 }
 
-impl Getters for Date {
+impl Getters<Http> for Date {
     fn getters(&self, answer: &mut Answer) -> Result<(), Failure> {
         Ok(answer.word(self.unix_secs())?)
     }
@@ -43,10 +44,10 @@ impl Getters for Date {
     }
 }
 
-impl Replay for Date {
+impl Replay<Http> for Date {
     fn call(call: &str, arguments: &mut Arguments<'_>, answer: &mut Answer) -> Result<(), Failure> {
         match call {
-            "eq" => eq::<Date>(arguments, answer),
+            "eq" => eq::<Date, _>(arguments, answer),
             "cmp" => cmp::<Date>(arguments, answer),
             "from_unix_secs" => show(&Date::from_unix_secs(arguments.date()?), answer),
             _ => Err(Failure::NoCall),
@@ -54,22 +55,22 @@ impl Replay for Date {
     }
 }
 
-impl Getters for Location {
+impl Getters<Http> for Location {
     fn copy(&self, alloc: Global) -> Result<Location, AllocError> {
         self.clone(alloc)
     }
 }
 
-impl Replay for Location {
+impl Replay<Http> for Location {
     fn call(call: &str, arguments: &mut Arguments<'_>, answer: &mut Answer) -> Result<(), Failure> {
         match call {
-            "eq" => eq::<Location>(arguments, answer),
+            "eq" => eq::<Location, _>(arguments, answer),
             _ => Err(Failure::NoCall),
         }
     }
 }
 
-impl Getters for Referer {
+impl Getters<Http> for Referer {
     fn getters(&self, answer: &mut Answer) -> Result<(), Failure> {
         let text = self.to_string(answer.alloc())?;
         Ok(answer.word(writes(answer.alloc(), self, text.as_str())?)?)
@@ -80,27 +81,27 @@ impl Getters for Referer {
     }
 }
 
-impl Replay for Referer {
+impl Replay<Http> for Referer {
     fn call(call: &str, arguments: &mut Arguments<'_>, answer: &mut Answer) -> Result<(), Failure> {
         let alloc = arguments.alloc();
         match call {
-            "eq" => eq::<Referer>(arguments, answer),
+            "eq" => eq::<Referer, _>(arguments, answer),
             "from_str" => show_back(&Referer::from_str(alloc, &arguments.text()?)?, answer),
             _ => Err(Failure::NoCall),
         }
     }
 }
 
-impl Getters for RetryAfter {
+impl Getters<Http> for RetryAfter {
     fn copy(&self, _alloc: Global) -> Result<RetryAfter, AllocError> {
         self.clone()
     }
 }
 
-impl Replay for RetryAfter {
+impl Replay<Http> for RetryAfter {
     fn call(call: &str, arguments: &mut Arguments<'_>, answer: &mut Answer) -> Result<(), Failure> {
         match call {
-            "eq" => eq::<RetryAfter>(arguments, answer),
+            "eq" => eq::<RetryAfter, _>(arguments, answer),
             "delay" => show(&RetryAfter::delay(arguments.duration()?), answer),
             "date" => show(&RetryAfter::date(arguments.date()?), answer),
             _ => Err(Failure::NoCall),
@@ -108,7 +109,7 @@ impl Replay for RetryAfter {
     }
 }
 
-impl Getters for Server {
+impl Getters<Http> for Server {
     fn getters(&self, answer: &mut Answer) -> Result<(), Failure> {
         answer.bytes(self.as_str().as_bytes())?;
         let text = self.to_string(answer.alloc())?;
@@ -120,11 +121,11 @@ impl Getters for Server {
     }
 }
 
-impl Replay for Server {
+impl Replay<Http> for Server {
     fn call(call: &str, arguments: &mut Arguments<'_>, answer: &mut Answer) -> Result<(), Failure> {
         let alloc = arguments.alloc();
         match call {
-            "eq" => eq::<Server>(arguments, answer),
+            "eq" => eq::<Server, _>(arguments, answer),
             "cmp" => cmp::<Server>(arguments, answer),
             "padded" => padded::<Server>(arguments, answer),
             "from_str" => show_back(&Server::from_str(alloc, &arguments.text()?)?, answer),
@@ -133,7 +134,7 @@ impl Replay for Server {
     }
 }
 
-impl Getters for UserAgent {
+impl Getters<Http> for UserAgent {
     fn getters(&self, answer: &mut Answer) -> Result<(), Failure> {
         answer.bytes(self.as_str().as_bytes())?;
         let text = self.to_string(answer.alloc())?;
@@ -145,11 +146,11 @@ impl Getters for UserAgent {
     }
 }
 
-impl Replay for UserAgent {
+impl Replay<Http> for UserAgent {
     fn call(call: &str, arguments: &mut Arguments<'_>, answer: &mut Answer) -> Result<(), Failure> {
         let alloc = arguments.alloc();
         match call {
-            "eq" => eq::<UserAgent>(arguments, answer),
+            "eq" => eq::<UserAgent, _>(arguments, answer),
             "cmp" => cmp::<UserAgent>(arguments, answer),
             "from_str" => show_back(&UserAgent::from_str(alloc, &arguments.text()?)?, answer),
             _ => Err(Failure::NoCall),

@@ -1,16 +1,9 @@
 //! What is replayed of a header.
 ghost use Rattle.std.specs.Iterator.{IsFinite};
 
-mod everywhere;
-mod hinted;
-mod writing;
-
-use crate::replay::everywhere::everywhere;
-pub use crate::replay::everywhere::{holds, holds_beginning, is_same};
-pub use crate::replay::hinted::{hinted_methods, hinted_names, size_hint};
-use crate::replay::hinted::{harmless, lengths};
-pub use crate::replay::writing::{is_sensitive, writes};
-use crate::replay::writing::{add_with_copy, add_written, secret, written};
+use crate::everywhere::everywhere;
+use crate::hinted::{harmless, lengths};
+use crate::writing::{add_with_copy, add_written, secret, written};
 use headers::{
     Header, HeaderMap, HeaderMapExt, HeaderName, HeaderValue, Methods, Refused, decode_values,
 };
@@ -19,8 +12,9 @@ use std::alloc::{AllocError, Global};
 use std::cmp::Ordering;
 use std::fmt::Display;
 
-/// A header with the words of its getters, and its copy.
-pub trait Getters {
+/// A header with the words of its getters, and its copy. `P` is a type of the crate that has the impl, which
+/// so may stand apart from the header and from this trait.
+pub trait Getters<P> {
     /// Adds what its getters give.
     fn getters(&self, _answer: &mut Answer) -> Result<(), Failure> {
         Ok(())
@@ -37,7 +31,7 @@ pub trait Getters {
 
 /// A header with the calls that it has beside those of every header. These show headers of its type, so
 /// its getters are another trait's.
-pub trait Replay {
+pub trait Replay<P> {
     /// Adds the answer of a call of its own.
     fn call(
         _call: &str,
@@ -50,7 +44,7 @@ pub trait Replay {
 
 // The lines that a header writes, and what its getters give. `(sensitive)` if a line is marked so, and no
 // getter says it.
-fn shown<H: Header + Getters>(alloc: Global, header: &H) -> Result<Answer, Failure> {
+fn shown<H: Header + Getters<P>, P>(alloc: Global, header: &H) -> Result<Answer, Failure> {
     let mut answer = Answer::new(alloc);
     let lines = written(alloc, header)?;
     answer.list(lines.as_slice())?;
@@ -63,7 +57,7 @@ fn shown<H: Header + Getters>(alloc: Global, header: &H) -> Result<Answer, Failu
 
 /// Adds the lines that a header writes, and what its getters give. If those of its copy are others, they
 /// follow.
-pub fn show<H: Header + Getters>(header: &H, answer: &mut Answer) -> Result<(), Failure> {
+pub fn show<H: Header + Getters<P>, P>(header: &H, answer: &mut Answer) -> Result<(), Failure> {
     let alloc = answer.alloc();
     let of_header = shown(alloc, header)?;
     let of_copy = shown(alloc, &header.copy(alloc)?)?;
@@ -71,7 +65,7 @@ pub fn show<H: Header + Getters>(header: &H, answer: &mut Answer) -> Result<(), 
 }
 
 /// The same, and whether the lines read an equal header.
-pub fn show_back<H: Header + Getters + PartialEq>(
+pub fn show_back<H: Header + Getters<P> + PartialEq, P>(
     header: &H,
     answer: &mut Answer,
 ) -> Result<(), Failure> {
@@ -114,7 +108,7 @@ pub fn show_methods(walk: Methods<'_>, answer: &mut Answer) -> Result<(), Failur
 }
 
 /// Whether the headers of two lines are equal; and `(copy)` if the copy of the first answers otherwise.
-pub fn eq<H: Header + Getters + PartialEq>(
+pub fn eq<H: Header + Getters<P> + PartialEq, P>(
     arguments: &mut Arguments<'_>,
     answer: &mut Answer,
 ) -> Result<(), Failure> {
@@ -155,7 +149,7 @@ pub fn padded<H: Header + Display>(
 }
 
 // The header of the lines under its name in a map that has other names before and behind it.
-fn typed_try_get<H: Header + Getters>(
+fn typed_try_get<H: Header + Getters<P>, P>(
     arguments: &mut Arguments<'_>,
     answer: &mut Answer,
 ) -> Result<(), Failure> {
@@ -213,7 +207,7 @@ fn typed_insert<H: Header>(
 
 /// Adds the answer of a call of a header. No hint of an iterator is read, so that of a wrong one is
 /// that of none.
-pub fn call<H: Header + Getters + Replay>(
+pub fn call<H: Header + Getters<P> + Replay<P>, P>(
     call: &str,
     arguments: &mut Arguments<'_>,
     answer: &mut Answer,
@@ -222,11 +216,11 @@ pub fn call<H: Header + Getters + Replay>(
         "name" => Ok(answer.bytes(H::name().as_bytes())?),
         "decode" | "decode_one_hint" => show(&arguments.header_of_rest::<H>()?, answer),
         "writes" => Ok(add_written(&arguments.header_of_rest::<H>()?, answer)?),
-        "secret" => secret::<H>(arguments, answer),
-        "everywhere" => everywhere::<H>(arguments, answer),
+        "secret" => secret::<H, P>(arguments, answer),
+        "everywhere" => everywhere::<H, P>(arguments, answer),
         "harmless" => harmless::<H>(arguments, answer),
         "lengths" => lengths::<H>(arguments, answer),
-        "typed_try_get" => typed_try_get::<H>(arguments, answer),
+        "typed_try_get" => typed_try_get::<H, P>(arguments, answer),
         "typed_insert" => typed_insert::<H>(arguments, answer),
         _ => H::call(call, arguments, answer),
     }

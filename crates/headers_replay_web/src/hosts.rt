@@ -1,6 +1,7 @@
 //! Calls of the headers of hosts.
-use crate::replay::{Getters, Replay, cmp, eq, show, writes};
+use crate::Web;
 use headers::{Header, Host, Origin};
+use headers_replay_each::{Getters, Replay, cmp, eq, padded, show, writes};
 use headers_rows::{Answer, Arguments, Failure};
 use http_uri::{Authority, UriError};
 use std::alloc::{AllocError, Global};
@@ -19,7 +20,7 @@ pub fn show_origin<H: Header>(
     Ok(answer.word(writes(answer.alloc(), header, text.as_str())?)?)
 }
 
-impl Getters for Host {
+impl Getters<Web> for Host {
     fn getters(&self, answer: &mut Answer) -> Result<(), Failure> {
         answer.bytes(self.hostname().as_bytes())?;
         answer.option(self.port())?;
@@ -32,11 +33,12 @@ impl Getters for Host {
     }
 }
 
-impl Replay for Host {
+impl Replay<Web> for Host {
     fn call(call: &str, arguments: &mut Arguments<'_>, answer: &mut Answer) -> Result<(), Failure> {
         let alloc = arguments.alloc();
         match call {
-            "eq" => eq::<Host>(arguments, answer),
+            "eq" => eq::<Host, _>(arguments, answer),
+            "padded" => padded::<Host>(arguments, answer),
             "cmp" => cmp::<Host>(arguments, answer),
             "from_authority" => {
                 match Authority::from_bytes(alloc, &arguments.bytes()?) {
@@ -58,7 +60,7 @@ fn from_parts(arguments: &mut Arguments<'_>) -> Result<Origin, Failure> {
     Ok(Origin::try_from_parts(arguments.alloc(), scheme.as_str(), host.as_str(), port)?)
 }
 
-impl Getters for Origin {
+impl Getters<Web> for Origin {
     fn getters(&self, answer: &mut Answer) -> Result<(), Failure> {
         show_origin(self, self, answer)
     }
@@ -68,10 +70,11 @@ impl Getters for Origin {
     }
 }
 
-impl Replay for Origin {
+impl Replay<Web> for Origin {
     fn call(call: &str, arguments: &mut Arguments<'_>, answer: &mut Answer) -> Result<(), Failure> {
         match call {
-            "eq" => eq::<Origin>(arguments, answer),
+            "eq" => eq::<Origin, _>(arguments, answer),
+            "padded" => padded::<Origin>(arguments, answer),
             "NULL" => show(&Origin::NULL, answer),
             "try_from_parts" => show(&from_parts(arguments)?, answer),
             _ => Err(Failure::NoCall),

@@ -94,7 +94,7 @@ pub fn add_with_copy(
 }
 
 /// Adds the lines that are written of the header that marked lines read, and of its copy.
-pub fn secret<H: Header + Getters>(
+pub fn secret<H: Header + Getters<P>, P>(
     arguments: &mut Arguments<'_>,
     answer: &mut Answer,
 ) -> Result<(), Failure> {

@@ -1,5 +1,5 @@
 //! Iterators that hint wrongly at how much is left, and lines that mean harm.
-use crate::replay::writing::written;
+use crate::writing::written;
 use headers::{Error, Header, HeaderName, HeaderValue, Refused, decode_values};
 use headers_rows::{Answer, Arguments, Failure};
 use http::Method;

@@ -1,6 +1,7 @@
 //! Calls of the security headers.
-use crate::replay::{Getters, Replay, eq, show};
+use crate::Web;
 use headers::{ReferrerPolicy, StrictTransportSecurity};
+use headers_replay_each::{Getters, Replay, eq, show};
 use headers_rows::{Answer, Arguments, Failure};
 use std::alloc::{AllocError, Global};
 
@@ -25,7 +26,7 @@ const POLICIES: [(&str, ReferrerPolicy); 8] = [
     ),
 ];
 
-impl Getters for ReferrerPolicy {
+impl Getters<Web> for ReferrerPolicy {
     fn getters(&self, answer: &mut Answer) -> Result<(), Failure> {
         for (name, policy) in POLICIES.iter() {
             if policy == self {
@@ -40,10 +41,10 @@ impl Getters for ReferrerPolicy {
     }
 }
 
-impl Replay for ReferrerPolicy {
+impl Replay<Web> for ReferrerPolicy {
     fn call(call: &str, arguments: &mut Arguments<'_>, answer: &mut Answer) -> Result<(), Failure> {
         match call {
-            "eq" => eq::<ReferrerPolicy>(arguments, answer),
+            "eq" => eq::<ReferrerPolicy, _>(arguments, answer),
             "all" => {
                 for policy in ReferrerPolicy::all().iter() {
                     policy.getters(answer)?;
@@ -64,7 +65,7 @@ impl Replay for ReferrerPolicy {
     }
 }
 
-impl Getters for StrictTransportSecurity {
+impl Getters<Web> for StrictTransportSecurity {
     fn getters(&self, answer: &mut Answer) -> Result<(), Failure> {
         answer.word(self.max_age().as_secs())?;
         Ok(answer.word(self.include_subdomains())?)
@@ -75,10 +76,10 @@ impl Getters for StrictTransportSecurity {
     }
 }
 
-impl Replay for StrictTransportSecurity {
+impl Replay<Web> for StrictTransportSecurity {
     fn call(call: &str, arguments: &mut Arguments<'_>, answer: &mut Answer) -> Result<(), Failure> {
         match call {
-            "eq" => eq::<StrictTransportSecurity>(arguments, answer),
+            "eq" => eq::<StrictTransportSecurity, _>(arguments, answer),
             "including_subdomains" => {
                 let age = arguments.duration()?;
                 show(&StrictTransportSecurity::including_subdomains(age), answer)

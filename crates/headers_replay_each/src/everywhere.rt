@@ -1,6 +1,6 @@
 //! What each call writes of a header, and what it leaves if it is refused memory.
 use crate::replay::Getters;
-use crate::replay::writing::{lines_behind, value_before, written};
+use crate::writing::{lines_behind, value_before, written};
 use headers::{
     Encoded, Header, HeaderMap, HeaderMapExt, HeaderName, HeaderValue, canonical, encoding,
 };
@@ -167,7 +167,7 @@ fn add_calls<H: Header>(
 
 /// Adds the lines that each call writes of the header that the lines read, behind the name of a call that
 /// writes others. `(left)` if a call that was refused memory left what it must not.
-pub fn everywhere<H: Header + Getters>(
+pub fn everywhere<H: Header + Getters<P>, P>(
     arguments: &mut Arguments<'_>,
     answer: &mut Answer,
 ) -> Result<(), Failure> {

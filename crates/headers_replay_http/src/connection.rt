@@ -1,16 +1,17 @@
 //! Calls of the headers of a connection.
-use crate::replay::{Getters, Replay, eq, hinted_names, show};
+use crate::Http;
 use headers::{Connection, Expect, HeaderName, Te, TransferEncoding, Upgrade};
+use headers_replay_each::{Getters, Replay, eq, hinted_names, show};
 use headers_rows::{Answer, Arguments, Failure};
 use std::alloc::{AllocError, Global};
 
-impl Getters for Connection {
+impl Getters<Http> for Connection {
     fn copy(&self, alloc: Global) -> Result<Connection, AllocError> {
         self.clone(alloc)
     }
 }
 
-impl Replay for Connection {
+impl Replay<Http> for Connection {
     fn call(call: &str, arguments: &mut Arguments<'_>, answer: &mut Answer) -> Result<(), Failure> {
         let alloc = arguments.alloc();
         match call {
@@ -37,7 +38,7 @@ impl Replay for Connection {
     }
 }
 
-impl Getters for Expect {
+impl Getters<Http> for Expect {
     fn getters(&self, answer: &mut Answer) -> Result<(), Failure> {
         Ok(answer.word(*self == Expect::CONTINUE)?)
     }
@@ -47,33 +48,33 @@ impl Getters for Expect {
     }
 }
 
-impl Replay for Expect {
+impl Replay<Http> for Expect {
     fn call(call: &str, arguments: &mut Arguments<'_>, answer: &mut Answer) -> Result<(), Failure> {
         match call {
-            "eq" => eq::<Expect>(arguments, answer),
+            "eq" => eq::<Expect, _>(arguments, answer),
             "CONTINUE" => show(&Expect::CONTINUE, answer),
             _ => Err(Failure::NoCall),
         }
     }
 }
 
-impl Getters for Te {
+impl Getters<Http> for Te {
     fn copy(&self, alloc: Global) -> Result<Te, AllocError> {
         self.clone(alloc)
     }
 }
 
-impl Replay for Te {
+impl Replay<Http> for Te {
     fn call(call: &str, arguments: &mut Arguments<'_>, answer: &mut Answer) -> Result<(), Failure> {
         match call {
-            "eq" => eq::<Te>(arguments, answer),
+            "eq" => eq::<Te, _>(arguments, answer),
             "trailers" => show(&Te::trailers(), answer),
             _ => Err(Failure::NoCall),
         }
     }
 }
 
-impl Getters for TransferEncoding {
+impl Getters<Http> for TransferEncoding {
     fn getters(&self, answer: &mut Answer) -> Result<(), Failure> {
         Ok(answer.word(self.is_chunked())?)
     }
@@ -83,7 +84,7 @@ impl Getters for TransferEncoding {
     }
 }
 
-impl Replay for TransferEncoding {
+impl Replay<Http> for TransferEncoding {
     fn call(
         call: &str,
         _arguments: &mut Arguments<'_>,
@@ -96,16 +97,16 @@ impl Replay for TransferEncoding {
     }
 }
 
-impl Getters for Upgrade {
+impl Getters<Http> for Upgrade {
     fn copy(&self, alloc: Global) -> Result<Upgrade, AllocError> {
         self.clone(alloc)
     }
 }
 
-impl Replay for Upgrade {
+impl Replay<Http> for Upgrade {
     fn call(call: &str, arguments: &mut Arguments<'_>, answer: &mut Answer) -> Result<(), Failure> {
         match call {
-            "eq" => eq::<Upgrade>(arguments, answer),
+            "eq" => eq::<Upgrade, _>(arguments, answer),
             "websocket" => show(&Upgrade::websocket(), answer),
             _ => Err(Failure::NoCall),
         }

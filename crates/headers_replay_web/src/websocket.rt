@@ -1,10 +1,11 @@
 //! Calls of the WebSocket headers.
-use crate::replay::{Getters, Replay, eq, is_sensitive, show};
+use crate::Web;
 use headers::{SecWebsocketAccept, SecWebsocketKey, SecWebsocketVersion};
+use headers_replay_each::{Getters, Replay, eq, is_sensitive, show};
 use headers_rows::{Answer, Arguments, Failure};
 use std::alloc::{AllocError, Global};
 
-impl Getters for SecWebsocketKey {
+impl Getters<Web> for SecWebsocketKey {
     fn getters(&self, answer: &mut Answer) -> Result<(), Failure> {
         Ok(answer.word(is_sensitive(answer.alloc(), self)?)?)
     }
@@ -18,10 +19,10 @@ impl Getters for SecWebsocketKey {
     }
 }
 
-impl Replay for SecWebsocketKey {
+impl Replay<Web> for SecWebsocketKey {
     fn call(call: &str, arguments: &mut Arguments<'_>, answer: &mut Answer) -> Result<(), Failure> {
         match call {
-            "eq" => eq::<SecWebsocketKey>(arguments, answer),
+            "eq" => eq::<SecWebsocketKey, _>(arguments, answer),
             "from_bytes16" => {
                 let bytes = <[u8; 16]>::try_from(arguments.bytes()?.as_slice());
                 let bytes = bytes.map_err(|_| Failure::NoCall)?;
@@ -35,16 +36,16 @@ impl Replay for SecWebsocketKey {
     }
 }
 
-impl Getters for SecWebsocketAccept {
+impl Getters<Web> for SecWebsocketAccept {
     fn copy(&self, alloc: Global) -> Result<SecWebsocketAccept, AllocError> {
         self.clone(alloc)
     }
 }
 
-impl Replay for SecWebsocketAccept {
+impl Replay<Web> for SecWebsocketAccept {
     fn call(call: &str, arguments: &mut Arguments<'_>, answer: &mut Answer) -> Result<(), Failure> {
         match call {
-            "eq" => eq::<SecWebsocketAccept>(arguments, answer),
+            "eq" => eq::<SecWebsocketAccept, _>(arguments, answer),
             "from_key" => {
                 let key: SecWebsocketKey = arguments.header()?;
                 show(
@@ -57,7 +58,7 @@ impl Replay for SecWebsocketAccept {
     }
 }
 
-impl Getters for SecWebsocketVersion {
+impl Getters<Web> for SecWebsocketVersion {
     fn getters(&self, answer: &mut Answer) -> Result<(), Failure> {
         Ok(answer.word(*self == SecWebsocketVersion::V13)?)
     }
@@ -67,10 +68,10 @@ impl Getters for SecWebsocketVersion {
     }
 }
 
-impl Replay for SecWebsocketVersion {
+impl Replay<Web> for SecWebsocketVersion {
     fn call(call: &str, arguments: &mut Arguments<'_>, answer: &mut Answer) -> Result<(), Failure> {
         match call {
-            "eq" => eq::<SecWebsocketVersion>(arguments, answer),
+            "eq" => eq::<SecWebsocketVersion, _>(arguments, answer),
             "V13" => show(&SecWebsocketVersion::V13, answer),
             _ => Err(Failure::NoCall),
         }

@@ -1,11 +1,12 @@
 //! Calls of the caching headers.
-use crate::replay::{Getters, Replay, cmp, eq, hinted_names, show, show_back};
+use crate::Http;
 use headers::{Age, CacheControl, Expires, Pragma, Vary, equal_by_encoding};
+use headers_replay_each::{Getters, Replay, cmp, eq, hinted_names, show, show_back};
 use headers_rows::{Answer, Arguments, Failure};
 use std::alloc::{AllocError, Global};
 use std::time::Duration;
 
-impl Getters for Age {
+impl Getters<Http> for Age {
     fn getters(&self, answer: &mut Answer) -> Result<(), Failure> {
         answer.word(self.as_secs())?;
         Ok(answer.word(Duration::from(*self).as_secs())?)
@@ -16,10 +17,10 @@ impl Getters for Age {
     }
 }
 
-impl Replay for Age {
+impl Replay<Http> for Age {
     fn call(call: &str, arguments: &mut Arguments<'_>, answer: &mut Answer) -> Result<(), Failure> {
         match call {
-            "eq" => eq::<Age>(arguments, answer),
+            "eq" => eq::<Age, _>(arguments, answer),
             "cmp" => cmp::<Age>(arguments, answer),
             "from_secs" => show(&Age::from_secs(arguments.number()?), answer),
             "from_duration" => show(&Age::from_duration(arguments.duration()?), answer),
@@ -54,7 +55,7 @@ fn with_setters(arguments: &mut Arguments<'_>) -> Result<CacheControl, Failure> 
     Ok(value)
 }
 
-impl Getters for CacheControl {
+impl Getters<Http> for CacheControl {
     fn getters(&self, answer: &mut Answer) -> Result<(), Failure> {
         for flag in [
             self.no_cache(),
@@ -85,10 +86,10 @@ impl Getters for CacheControl {
     }
 }
 
-impl Replay for CacheControl {
+impl Replay<Http> for CacheControl {
     fn call(call: &str, arguments: &mut Arguments<'_>, answer: &mut Answer) -> Result<(), Failure> {
         match call {
-            "eq" => eq::<CacheControl>(arguments, answer),
+            "eq" => eq::<CacheControl, _>(arguments, answer),
             "equal_by_encoding" => {
                 let first: CacheControl = arguments.header()?;
                 let second: CacheControl = arguments.header()?;
@@ -100,7 +101,7 @@ impl Replay for CacheControl {
     }
 }
 
-impl Getters for Expires {
+impl Getters<Http> for Expires {
     fn getters(&self, answer: &mut Answer) -> Result<(), Failure> {
         Ok(answer.word(self.unix_secs())?)
     }
@@ -110,10 +111,10 @@ impl Getters for Expires {
     }
 }
 
-impl Replay for Expires {
+impl Replay<Http> for Expires {
     fn call(call: &str, arguments: &mut Arguments<'_>, answer: &mut Answer) -> Result<(), Failure> {
         match call {
-            "eq" => eq::<Expires>(arguments, answer),
+            "eq" => eq::<Expires, _>(arguments, answer),
             "cmp" => cmp::<Expires>(arguments, answer),
             "from_unix_secs" => show(&Expires::from_unix_secs(arguments.date()?), answer),
             _ => Err(Failure::NoCall),
@@ -121,7 +122,7 @@ impl Replay for Expires {
     }
 }
 
-impl Getters for Pragma {
+impl Getters<Http> for Pragma {
     fn getters(&self, answer: &mut Answer) -> Result<(), Failure> {
         Ok(answer.word(self.is_no_cache())?)
     }
@@ -131,17 +132,17 @@ impl Getters for Pragma {
     }
 }
 
-impl Replay for Pragma {
+impl Replay<Http> for Pragma {
     fn call(call: &str, arguments: &mut Arguments<'_>, answer: &mut Answer) -> Result<(), Failure> {
         match call {
-            "eq" => eq::<Pragma>(arguments, answer),
+            "eq" => eq::<Pragma, _>(arguments, answer),
             "no_cache" => show(&Pragma::no_cache(), answer),
             _ => Err(Failure::NoCall),
         }
     }
 }
 
-impl Getters for Vary {
+impl Getters<Http> for Vary {
     fn getters(&self, answer: &mut Answer) -> Result<(), Failure> {
         answer.word(self.is_any())?;
         let names: Vec<&str> = self.iter_strs().collect(answer.alloc())?;
@@ -153,11 +154,11 @@ impl Getters for Vary {
     }
 }
 
-impl Replay for Vary {
+impl Replay<Http> for Vary {
     fn call(call: &str, arguments: &mut Arguments<'_>, answer: &mut Answer) -> Result<(), Failure> {
         let alloc = arguments.alloc();
         match call {
-            "eq" => eq::<Vary>(arguments, answer),
+            "eq" => eq::<Vary, _>(arguments, answer),
             "any" => show(&Vary::any(), answer),
             "from_name" => show(&Vary::from_name(alloc, arguments.name()?)?, answer),
             "from_iter" => show(&Vary::from_iter(alloc, arguments.names()?)?, answer),

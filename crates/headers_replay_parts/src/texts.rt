@@ -1,5 +1,5 @@
-//! Calls of the parts of lines: entity tags, texts, and printed media types.
-use headers::{Error, HeaderValue, Mime, Refused};
+//! Calls of the parts of lines: entity tags and texts.
+use headers::{Error, HeaderValue, Refused};
 use headers_conditional::EntityTagRange;
 use headers_rows::{Answer, Arguments, Failure};
 use headers_syntax::{EntityTag, EntityTagRef, HeaderValueString, trim};
@@ -96,13 +96,4 @@ pub fn call_text(
         }
         _ => Err(Failure::NoCall),
     }
-}
-
-/// Adds how a media type is printed: plainly, at a width of 12 to the right, and cut to 4 characters.
-pub fn format_mime(arguments: &mut Arguments<'_>, answer: &mut Answer) -> Result<(), Failure> {
-    let alloc = arguments.alloc();
-    let mime = Mime::parse(alloc, &arguments.text()?)?;
-    answer.bytes(format!(in alloc; "{mime}")?.as_bytes())?;
-    answer.bytes(format!(in alloc; "{mime:>12}")?.as_bytes())?;
-    Ok(answer.bytes(format!(in alloc; "{mime:.4}")?.as_bytes())?)
 }

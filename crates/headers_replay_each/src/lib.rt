@@ -1,0 +1,14 @@
+//! The calls of rows that every header has.
+#![tactic(auto)]
+
+mod everywhere;
+mod hinted;
+mod replay;
+mod writing;
+
+pub use crate::everywhere::{holds, holds_beginning, is_same};
+pub use crate::hinted::{hinted_methods, hinted_names, size_hint};
+pub use crate::replay::{
+    Getters, Replay, call, cmp, eq, padded, show, show_back, show_methods, show_names,
+};
+pub use crate::writing::{is_sensitive, writes};
