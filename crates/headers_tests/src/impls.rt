@@ -7,8 +7,8 @@ ghost use Rattle.std.specs.Ordering.{nat_cmp};
 
 use crate::rows::decoded;
 use headers::{
-    AccessControlMaxAge, Age, CacheControl, ContentType, Date, Location, ReferrerPolicy,
-    RetryAfter, Server, StrictTransportSecurity,
+    AccessControlMaxAge, Age, CacheControl, ContentLength, ContentRange, ContentType, Date,
+    Location, ReferrerPolicy, RetryAfter, Server, StrictTransportSecurity,
 };
 use std::alloc::AllocError;
 use std::cmp::Ordering;
@@ -209,5 +209,32 @@ fn same_policy(policy: &ReferrerPolicy, other: &ReferrerPolicy) -> bool
 fn policies(rt: HostRuntime) -> Result<(), Fail> {
     let policy = ReferrerPolicy::SAME_ORIGIN;
     assert!(rt; same_policy(&copy_of_policy(&policy)?, &policy));
+    Ok(())
+}
+
+fn copy_of_content_range(range: &ContentRange) -> Result<ContentRange, AllocError>
+    ensures { IfOk result (λ copy. copy ≡ range.now) }
+{
+    range.clone()
+}
+
+fn same_content_range(range: &ContentRange, other: &ContentRange) -> bool
+    ensures { IsTrue result ↔ (range.now ≡ other.now) }
+{
+    range == other
+}
+
+fn same_length(length: &ContentLength, other: &ContentLength) -> bool
+    ensures { IsTrue result ↔ (length.now ≡ other.now) }
+{
+    length == other
+}
+
+#[test]
+fn lengths(rt: HostRuntime) -> Result<(), Fail> {
+    let range: ContentRange = decoded(&rt, &["bytes 0-4/5"]);
+    assert!(rt; same_content_range(&copy_of_content_range(&range)?, &range));
+    let length: ContentLength = decoded(&rt, &["5"]);
+    assert!(rt; same_length(&length, &ContentLength(5)));
     Ok(())
 }

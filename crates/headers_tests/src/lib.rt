@@ -14,5 +14,6 @@ mod map;
 mod rows;
 #[cfg(test)]
 mod schemes;
+pub mod traits;
 #[cfg(test)]
 mod walks;
