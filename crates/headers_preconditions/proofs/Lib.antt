@@ -1,0 +1,9 @@
+pub mod BoundaryLemmas
+pub mod ConditionLemmas
+pub mod HeadLemmas
+pub mod OnePlanLemmas
+pub mod PartLemmas
+pub mod PlanLemmas
+pub mod PreconditionLemmas
+pub mod SelectionLemmas
+pub mod StepLemmas

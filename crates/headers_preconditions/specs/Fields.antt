@@ -1,0 +1,151 @@
+-- The status and the header lines of an answer (RFC 9110).
+use Rattle.std.specs.Prelude.{◌≡◌, ◌≢◌, ℕ, ◌+◌, ◌^◌, ◌<◌, ◌≤◌, ⊤, Bool, nat_lt, List, [], ◌∷◌, length, All, Option, Some, None, codes, decimal, bytes_eq}
+use Rattle.std.specs.Prelude.{if◌then◌else◌}
+use Rattle.http_header.specs.FieldValue.{FieldValue}
+use Rattle.headers.specs.ContentBytes.{ContentBytes, content_text}
+use Rattle.headers.specs.Date.{fixdate}
+use Rattle.headers.specs.LineMap.{LineMap, after_step}
+use Rattle.headers.specs.Lines.{Line}
+use Rattle.headers.specs.declared.Step.{Step}
+use Rattle.headers_preconditions.specs.Conditions.{modified_of}
+use Rattle.headers_preconditions.specs.Parts.{part_size}
+use Rattle.headers_preconditions.specs.declared.content.Content.{Content}
+use Rattle.headers_preconditions.specs.declared.plan.Plan.{Plan}
+use Rattle.headers_preconditions.specs.declared.plan.Plan.TheVariants.{NotModified, Failed, Full, Single, Multiple, Unsatisfiable}
+use Rattle.headers_preconditions.specs.declared.resource.Resource.{Resource}
+use Rattle.headers_preconditions.specs.declared.resource.Resource.TheVariants.{Missing, Current}
+
+-- sections 15.3.1, 15.3.7, 15.4.5, 15.5.13 and 15.5.17
+abbrev pub status_of : Plan → ℕ
+status_of Full = 200
+status_of (Single part) = 206
+status_of (Multiple parts) = 206
+status_of NotModified = 304
+status_of Failed = 412
+status_of Unsatisfiable = 416
+
+-- the entity tag of the current representation, if it has one
+abbrev pub etag_of : Resource → Option FieldValue
+etag_of Missing = None
+etag_of (Current validators) = validators.etag
+
+-- ---- which values are sent
+
+-- the request names in If-Range what its client knows
+abbrev pub is_known_by : LineMap → Bool
+is_known_by request = nat_lt 0 (length (request (codes "if-range")))
+
+-- the value, unless the client knows it
+abbrev pub unless_known : {V : Type 0} → Bool → Option V → Option V
+unless_known is_known value = if is_known then None else value
+
+-- ETag: of 200, 206 (section 15.3.7) and 304 (section 15.4.5)
+abbrev pub etag_sent : Plan → Option FieldValue → Option FieldValue
+etag_sent Full etag = etag
+etag_sent (Single part) etag = etag
+etag_sent (Multiple parts) etag = etag
+etag_sent NotModified etag = etag
+etag_sent Failed etag = None
+etag_sent Unsatisfiable etag = None
+
+-- the second, if there is no tag
+abbrev pub modified_without : Option FieldValue → Option ℕ → Option ℕ
+modified_without None modified = modified
+modified_without (Some etag) modified = None
+
+-- Last-Modified: of 200, of 206 unless the client knows it (section 15.3.7), and of 304 if there is no tag by which a
+-- cache could be updated (section 15.4.5)
+abbrev pub modified_sent : Plan → Bool → Option FieldValue → Option ℕ → Option ℕ
+modified_sent Full is_known etag modified = modified
+modified_sent (Single part) is_known etag modified = unless_known is_known modified
+modified_sent (Multiple parts) is_known etag modified = unless_known is_known modified
+modified_sent NotModified is_known etag modified = modified_without etag modified
+modified_sent Failed is_known etag modified = None
+modified_sent Unsatisfiable is_known etag modified = None
+
+-- Accept-Ranges (section 14.3): of the answers that a range could have changed
+abbrev pub units_sent : Plan → Option Line
+units_sent Full = Some (codes "bytes")
+units_sent (Single part) = Some (codes "bytes")
+units_sent (Multiple parts) = Some (codes "bytes")
+units_sent NotModified = None
+units_sent Failed = None
+units_sent Unsatisfiable = Some (codes "bytes")
+
+-- Content-Range (section 14.4): of 206 with one part, which it names, and of 416, where it has the length alone. There
+-- is none beside several parts (section 15.3.7.2).
+abbrev pub range_sent : Plan → ℕ → Option ContentBytes
+range_sent Full len = None
+range_sent (Single part) len = Some (record { range = Some (part.first, part.last); length = Some len })
+range_sent (Multiple parts) len = None
+range_sent NotModified len = None
+range_sent Failed len = None
+range_sent Unsatisfiable len = Some (record { range = None; length = Some len })
+
+-- Content-Length (section 8.6): of 200 and of 206 with one part; 412 and 416 have no content here. The length of several
+-- parts is that of their encoding, and 304 has none.
+abbrev pub length_sent : Plan → ℕ → Option ℕ
+length_sent Full len = Some len
+length_sent (Single part) len = Some (part_size part)
+length_sent (Multiple parts) len = None
+length_sent NotModified len = None
+length_sent Failed len = Some 0
+length_sent Unsatisfiable len = Some 0
+
+-- Content-Type (section 8.3): that of the representation for 200, and for 206 with one part unless the client knows it
+-- (section 15.3.7), and `multipart/byteranges` with the boundary for several parts (section 15.3.7.2)
+abbrev pub type_sent : Plan → Bool → Option FieldValue → FieldValue → Option FieldValue
+type_sent Full is_known media_type multipart = media_type
+type_sent (Single part) is_known media_type multipart = unless_known is_known media_type
+type_sent (Multiple parts) is_known media_type multipart = Some multipart
+type_sent NotModified is_known media_type multipart = None
+type_sent Failed is_known media_type multipart = None
+type_sent Unsatisfiable is_known media_type multipart = None
+
+-- ---- which lines stand under each name
+
+-- one line of a value, or none
+abbrev pub lines_sent : {V : Type 0} → (V → Line) → Option V → List Line
+lines_sent text None = []
+lines_sent text (Some value) = text value ∷ []
+
+-- the names whose lines an answer sets
+abbrev pub sent_names : List (List ℕ)
+sent_names =
+    codes "etag" ∷ codes "last-modified" ∷ codes "accept-ranges" ∷ codes "content-range" ∷ codes "content-length"
+    ∷ codes "content-type" ∷ []
+
+-- The lines of an answer with this plan, made of what the map had before. `multipart` is the type of several parts. The
+-- client knows the representation if it names it in If-Range.
+pub record SendsFields (plan : Plan) (is_known : Bool) (resource : Resource) (content : Content)
+    (multipart : FieldValue) (before after : LineMap) : Type 0 where
+  pub etag : after (codes "etag") ≡ lines_sent (λ (tag : FieldValue). tag.bytes) (etag_sent plan (etag_of resource))
+  pub last_modified : after (codes "last-modified")
+      ≡ lines_sent fixdate (modified_sent plan is_known (etag_of resource) (modified_of resource))
+  pub accept_ranges : after (codes "accept-ranges") ≡ lines_sent (λ (units : Line). units) (units_sent plan)
+  pub content_range : after (codes "content-range") ≡ lines_sent content_text (range_sent plan content.len)
+  pub content_length : after (codes "content-length") ≡ lines_sent decimal (length_sent plan content.len)
+  pub content_type : after (codes "content-type")
+      ≡ lines_sent (λ (line : FieldValue). line.bytes) (type_sent plan is_known content.media_type multipart)
+  pub others : (name : List ℕ) → All (λ own. own ≢ name) sent_names → after name ≡ before name
+
+-- the positions of one part are in order, and their number fits a length
+abbrev pub IsSized : Plan → Type 0
+IsSized (Single part) = (part.first ≤ part.last) × (part.last + 1 < 2 ^ 64)
+IsSized plan = ⊤
+
+-- ---- one step for each name
+
+-- the map with these lines under the name, of which there may be none
+abbrev pub with_lines : LineMap → List ℕ → List Line → LineMap
+with_lines before name lines other = if bytes_eq name other then lines else before other
+
+-- the step leaves these lines under the name, and other names as they were
+abbrev pub IsStepTo : List ℕ → List Line → Step → Type 0
+IsStepTo name lines step = (before : LineMap) (other : List ℕ) → after_step before step other
+    ≡ with_lines before name lines other
+
+-- the lines that are written of a value, or none
+abbrev pub written : {V : Type 0} → (V → List Line) → Option V → List Line
+written writes None = []
+written writes (Some value) = writes value

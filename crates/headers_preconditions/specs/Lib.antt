@@ -1,0 +1,9 @@
+pub mod Boundaries
+pub mod Conditions
+pub mod Fields
+pub mod Merged
+pub mod Parts
+pub mod Plans
+pub mod Preconditions
+pub mod Responses
+pub mod Selection

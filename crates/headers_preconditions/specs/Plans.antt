@@ -1,0 +1,72 @@
+-- How a request for a representation is answered (RFC 9110, sections 13.2.2, 14.2 and 15).
+use Rattle.std.specs.Prelude.{◌≡◌, ◌≢◌, ◌⊎◌, ⊤, ℕ, ◌<◌, List, [], ◌∷◌, length, Option, Some, None}
+use Rattle.headers.specs.LineMap.{LineMap}
+use Rattle.headers.specs.Lines.{Line}
+use Rattle.headers_preconditions.specs.Fields.{status_of}
+use Rattle.headers_preconditions.specs.Preconditions.{Answers, IsGetOrHead}
+use Rattle.headers_preconditions.specs.Selection.{Applies, ArePartsAsked, Selects}
+use Rattle.headers_preconditions.specs.declared.part.Part.{Part}
+use Rattle.headers_preconditions.specs.declared.plan.Plan.{Plan}
+use Rattle.headers_preconditions.specs.declared.plan.Plan.TheVariants.{NotModified, Failed, Full, Single, Multiple, Unsatisfiable}
+use Rattle.headers_preconditions.specs.declared.precondition.Precondition.TheVariants as precondition
+use Rattle.headers_preconditions.specs.declared.resource.Resource.{Resource}
+use Rattle.headers_preconditions.specs.declared.resource.Resource.TheVariants.{Missing, Current}
+use Rattle.headers_preconditions.specs.declared.resource.Validators.{Validators}
+use Rattle.headers_preconditions.specs.declared.selection.Selection.{Selection}
+use Rattle.headers_preconditions.specs.declared.selection.Selection.TheVariants as selection
+
+module _ (method : List ℕ) (request : LineMap) (resource : Resource) (len : ℕ) where
+  -- the preconditions let the method go on, and it reads this current representation
+  pub record Reads (current : Validators) : Type 0 where
+    pub performs : Answers request resource method precondition.Perform
+    pub is_read : IsGetOrHead method
+    pub is_current : resource ≡ Current current
+
+  -- Range asks for these parts of a representation
+  abbrev pub AsksFor : Validators → List Part → Type 0
+  AsksFor current parts =
+      (line : Line) × Applies method request current len line × ArePartsAsked len line parts
+
+  -- Which facts give each answer: 412, 304, and of a read that goes on 200, 206 of one part, 206 of more than one, and
+  -- 416.
+  abbrev pub IsPlan : Plan → Type 0
+  IsPlan Failed = Answers request resource method precondition.Failed
+  IsPlan NotModified = Answers request resource method precondition.NotModified
+  IsPlan Full =
+      (current : Validators) × Reads current × Selects method request current len selection.Whole
+  IsPlan (Single part) = (current : Validators) × Reads current × AsksFor current (part ∷ [])
+  IsPlan (Multiple parts) =
+      (current : Validators) × Reads current × AsksFor current parts.items × (1 < length parts.items)
+  IsPlan Unsatisfiable =
+      (current : Validators) × Reads current × Selects method request current len selection.Unsatisfiable
+
+  -- there is no plan exactly for what the server performs and answers by itself: a method that is no read, or a read of
+  -- what is missing, whose preconditions let it
+  abbrev pub IsPlanned : Option Plan → Type 0
+  IsPlanned None =
+      Answers request resource method precondition.Perform × ((resource ≡ Missing) ⊎ ¬ (IsGetOrHead method))
+  IsPlanned (Some plan) = IsPlan plan
+
+-- how a selection is sent: as all, as one part, as several, or not at all
+abbrev pub IsSentAs : Selection → Plan → Type 0
+IsSentAs selection.Whole plan = plan ≡ Full
+IsSentAs selection.Unsatisfiable plan = plan ≡ Unsatisfiable
+IsSentAs (selection.Parts parts) (Single part) = parts.items ≡ part ∷ []
+IsSentAs (selection.Parts parts) (Multiple sent) = (sent.items ≡ parts.items) × (length parts.items ≢ 1)
+IsSentAs (selection.Parts parts) plan = ⊥
+
+-- the parts that are sent, if not all is
+abbrev pub parts_sent : Plan → List Part
+parts_sent (Single part) = part ∷ []
+parts_sent (Multiple parts) = parts.items
+parts_sent Full = []
+parts_sent NotModified = []
+parts_sent Failed = []
+parts_sent Unsatisfiable = []
+
+-- both are no plan, or have the same status and the same parts
+abbrev pub IsSamePlan : Option Plan → Option Plan → Type 0
+IsSamePlan None None = ⊤
+IsSamePlan (Some p) (Some q) = (status_of p ≡ status_of q) × (parts_sent p ≡ parts_sent q)
+IsSamePlan None (Some q) = ⊥
+IsSamePlan (Some p) None = ⊥

@@ -1,0 +1,23 @@
+//! Conditional and range requests: what the preconditions of a request come to (RFC 9110, section
+//! 13.2.2), which part of a representation it selects (section 14.2), and how it is answered.
+#![tactic(auto)]
+
+mod boundary;
+mod content;
+pub mod laws;
+mod part;
+mod plan;
+mod precondition;
+mod resource;
+mod response;
+mod selection;
+mod steps;
+
+pub use crate::boundary::{Boundary, InvalidBoundary};
+pub use crate::content::Content;
+pub use crate::part::Part;
+pub use crate::plan::{Plan, plan_answer};
+pub use crate::precondition::{Precondition, evaluate};
+pub use crate::resource::{Resource, Validators};
+pub use crate::response::{Response, respond};
+pub use crate::selection::{Selection, select};

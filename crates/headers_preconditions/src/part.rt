@@ -1,0 +1,102 @@
+//! Parts of a representation.
+ghost use Rattle.std.specs.Prelude.{◌≡◌, ◌↔◌, ◌+◌, ◌^◌, ◌<◌, ◌≤◌, ℕ, All, Any, IfOk, Some};
+ghost use Rattle.std.specs.List.Sorted.{IsNonDecreasingBy, IsPermutation};
+ghost use Rattle.headers_preconditions.specs.Merged.{merged, merged_from};
+ghost use Rattle.headers_preconditions.specs.Parts.{AreCoalesced, Holds, IsPartOf, part_between, part_size};
+
+use headers::ContentRange;
+use std::alloc::{AllocError, Global};
+use std::ops::Bound;
+
+/// A part of a representation: its bytes from one position to another, both included.
+#[derive(Clone, Copy, Debug, PartialEq, Eq)]
+pub struct Part {
+    /// The first position.
+    pub first: u64,
+    /// The last position.
+    pub last: u64,
+}
+
+impl Part {
+    /// How many bytes it has.
+    pub fn size(&self) -> u64
+        requires ordered { self.now.first ≤ self.now.last }
+        requires fits { self.now.last + 1 < 2 ^ 64 }
+        ensures { result ≡ part_size self.now }
+    {
+        self.last + 1 - self.first
+    }
+
+    /// What `Content-Range` says of it, in a whole of this length.
+    pub fn content_range(&self, complete_length: u64) -> ContentRange
+        ensures { result ≡ record { range = Some (self.now.first, self.now.last); length = Some complete_length } }
+    {
+        let bounds = (Bound::Included(self.first), Bound::Included(self.last));
+        match ContentRange::bytes(bounds, Some(complete_length)) {
+            Ok(range) => range,
+            Err(_) => unreachable!(),
+        }
+    }
+}
+
+// The part between two bounds, if both are included.
+pub(crate) fn part_between(bounds: (Bound<u64>, Bound<u64>)) -> Option<Part>
+    ensures { result ≡ part_between bounds }
+{
+    match bounds {
+        (Bound::Included(first), Bound::Included(last)) => Some(Part { first, last }),
+        _ => None,
+    }
+}
+
+// The parts in order, with those joined that overlap or touch. This takes the time of a sort, and
+// the memory of a copy.
+pub(crate) fn coalesce(
+    alloc: Global,
+    len: u64,
+    mut parts: Vec<Part>,
+) -> Result<Vec<Part>, AllocError>
+    requires { All (IsPartOf len) parts.items }
+    ensures coalesced { IfOk result (λ joined. AreCoalesced len joined.items) }
+    ensures same { IfOk result (λ joined. (p : ℕ) → Any (Holds p) joined.items ↔ Any (Holds p) parts.items) }
+{
+    sort(&mut parts);
+    let joined = merge(alloc, parts.as_slice())?;
+    Ok(joined)
+}
+
+// Sorts parts by their first positions.
+fn sort(parts: &mut Vec<Part>)
+    ensures permutation { IsPermutation parts.old.items parts.new.items }
+    ensures sorted { IsNonDecreasingBy (λ part. part.first) parts.new.items }
+{
+    parts.sort_unstable_by_key(|part| part.first);
+}
+
+// Joins parts that are in order.
+fn merge(alloc: Global, parts: &[Part]) -> Result<Vec<Part>, AllocError>
+    ensures { IfOk result (λ joined. joined.items ≡ merged parts.now) }
+{
+    let Some((first, rest)) = parts.split_first() else {
+        return Ok(Vec::new(alloc));
+    };
+    merge_from(alloc, *first, rest)
+}
+
+// Joins a part and those after it.
+fn merge_from(alloc: Global, first: Part, rest: &[Part]) -> Result<Vec<Part>, AllocError>
+    ensures { IfOk result (λ joined. joined.items ≡ merged_from first rest.now) }
+{
+    let mut joined = Vec::new(alloc);
+    let mut open = first;
+    for part in rest {
+        if part.first.saturating_sub(1) <= open.last {
+            open.last = open.last.max(part.last);
+        } else {
+            joined.push(open)?;
+            open = *part;
+        }
+    }
+    joined.push(open)?;
+    Ok(joined)
+}

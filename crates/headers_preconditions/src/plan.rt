@@ -1,0 +1,87 @@
+//! How a request for a representation is answered.
+ghost use Rattle.std.specs.Prelude.{◌≡◌, IfOk, Some, codes};
+ghost use Rattle.headers.specs.LineMap.{lines_at};
+ghost use Rattle.headers_preconditions.specs.Plans.{IsPlanned, IsSentAs};
+ghost use Rattle.headers_preconditions.specs.Fields.{status_of};
+
+use crate::part::Part;
+use crate::precondition::{Precondition, evaluate, is_get_or_head};
+use crate::resource::Resource;
+use crate::selection::{Selection, select};
+use headers::HeaderMap;
+use http::{Method, StatusCode};
+use std::alloc::{AllocError, Global};
+
+/// How a request for a representation is answered.
+#[derive(Debug, Drop)]
+pub enum Plan {
+    /// 200, with all of the representation.
+    Full,
+    /// 206, with this part.
+    Single(Part),
+    /// 206, with these parts as `multipart/byteranges`. There are two at least, in order, and no
+    /// two of them overlap or touch.
+    Multiple(Vec<Part>),
+    /// 304, without content.
+    NotModified,
+    /// 412: a precondition is false.
+    Failed,
+    /// 416: no byte that is asked for is there.
+    Unsatisfiable,
+}
+
+impl Plan {
+    /// The status of the answer.
+    pub fn status(&self) -> StatusCode
+        ensures { result ≡ status_of self.now }
+    {
+        match self {
+            Plan::Full => StatusCode::OK,
+            Plan::Single(_) | Plan::Multiple(_) => StatusCode::PARTIAL_CONTENT,
+            Plan::NotModified => StatusCode::NOT_MODIFIED,
+            Plan::Failed => StatusCode::PRECONDITION_FAILED,
+            Plan::Unsatisfiable => StatusCode::RANGE_NOT_SATISFIABLE,
+        }
+    }
+}
+
+/// How a request is answered by its preconditions and its ranges (RFC 9110, sections 13.2.2 and
+/// 14.2). The current representation has `len` bytes; `len` isn't read if there is none.
+///
+/// `None` if the preconditions let a request go on that isn't a GET or a HEAD of a current
+/// representation: the server performs its method, and answers it as it does without preconditions.
+pub fn plan_answer(
+    alloc: Global,
+    method: &Method,
+    request: &HeaderMap,
+    resource: &Resource,
+    len: u64,
+) -> Result<Option<Plan>, AllocError>
+    ensures { IfOk result (IsPlanned method.now (lines_at request.now) resource.now len) }
+{
+    match evaluate(alloc, method, request, resource)? {
+        Precondition::Failed => Ok(Some(Plan::Failed)),
+        Precondition::NotModified => Ok(Some(Plan::NotModified)),
+        Precondition::Perform => match resource {
+            Resource::Current(current) if is_get_or_head(method) => {
+                let selection = select(alloc, method, request, current, len)?;
+                Ok(Some(sent_as(selection)))
+            }
+            _ => Ok(None),
+        },
+    }
+}
+
+// How a selection is sent.
+fn sent_as(selection: Selection) -> Plan
+    ensures { IsSentAs selection result }
+{
+    match selection {
+        Selection::Whole => Plan::Full,
+        Selection::Unsatisfiable => Plan::Unsatisfiable,
+        Selection::Parts(parts) => match parts.as_slice() {
+            [part] => Plan::Single(*part),
+            _ => Plan::Multiple(parts),
+        },
+    }
+}

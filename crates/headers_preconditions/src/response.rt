@@ -1,0 +1,64 @@
+//! Answers to requests for a representation.
+ghost use Rattle.std.specs.Prelude.{◌≡◌, IfOk};
+ghost use Rattle.headers.specs.LineMap.{lines_at};
+ghost use Rattle.headers_preconditions.specs.Fields.{is_known_by};
+ghost use Rattle.headers_preconditions.specs.Responses.{IsAnswered};
+
+use crate::boundary::Boundary;
+use crate::content::Content;
+use crate::plan::{Plan, plan_answer};
+use crate::resource::Resource;
+use headers::{HeaderMap, Step};
+use http::{Method, StatusCode};
+use http_header::IF_RANGE;
+use std::alloc::{AllocError, Global};
+
+/// The answer to a request for a representation.
+#[derive(Debug, Drop)]
+pub struct Response {
+    /// What is sent.
+    pub plan: Plan,
+    /// The status.
+    pub status: StatusCode,
+    /// The header lines, as steps over the map of the answer: they set ETag, Last-Modified,
+    /// Accept-Ranges, Content-Range, Content-Length and Content-Type.
+    pub steps: Vec<Step>,
+}
+
+/// Answers a GET or a HEAD of a current representation, by its preconditions and its ranges (RFC
+/// 9110, sections 13.2.2 and 14.2), and any request whose preconditions are false. A HEAD is
+/// answered as a GET without `Range`, but for the content.
+///
+/// After the steps each of the six names has the lines that RFC 9110 wants of it (sections 14.3,
+/// 14.4, 15.3.7, 15.4.5 and 15.5.17), and no other, whatever the map had. Other names stay.
+///
+/// `None` if the preconditions let a request go on that isn't a GET or a HEAD of a current
+/// representation: the server performs its method, and answers it as it does without preconditions.
+pub fn respond(
+    alloc: Global,
+    method: &Method,
+    request: &HeaderMap,
+    resource: &Resource,
+    content: &Content,
+    boundary: &Boundary,
+) -> Result<Option<Response>, AllocError>
+    ensures { IfOk result
+        (IsAnswered method.now (lines_at request.now) resource.now content.now boundary.now) }
+{
+    let Some(plan) = plan_answer(alloc, method, request, resource, content.len)? else {
+        return Ok(None);
+    };
+    let steps = plan.steps(alloc, is_known_by(request), resource, content, boundary)?;
+    Ok(Some(Response {
+        status: plan.status(),
+        plan,
+        steps,
+    }))
+}
+
+// Whether the client knows a representation, which it names in If-Range.
+fn is_known_by(request: &HeaderMap) -> bool
+    ensures { result ≡ is_known_by (lines_at request.now) }
+{
+    request.get_all(IF_RANGE).iter().next().is_some()
+}

@@ -1,0 +1,138 @@
+//! The calls of rows.
+//!
+//! A row names a method, the fields of a request, and a resource: `missing`, or an entity tag, the
+//! second of its last modification, and `strong` or `weak` for that date. A tag or a second that it
+//! doesn't have is `(none)`.
+use headers::{HeaderMap, HeaderValue, LastModified, apply};
+use headers_preconditions::{
+    Boundary, Content, Part, Precondition, Resource, Response, Selection, Validators, evaluate,
+    respond, select,
+};
+use headers_rows::{Answer, Arguments, Calls, Failure};
+use http::Method;
+
+/// The calls of `headers_preconditions`.
+pub struct Decisions;
+
+// A method and the fields of a request.
+fn read_request(arguments: &mut Arguments<'_>) -> Result<(Method, HeaderMap), Failure> {
+    let alloc = arguments.alloc();
+    let method = Method::from_bytes(alloc, &arguments.bytes()?)?;
+    Ok((method, arguments.map()?))
+}
+
+fn read_validators(arguments: &mut Arguments<'_>) -> Result<Validators, Failure> {
+    let etag = arguments.optional_tag()?;
+    let last_modified = arguments.optional_date()?.map(LastModified::from_unix_secs);
+    let is_date_strong = match arguments.word()? {
+        "strong" => true,
+        "weak" => false,
+        _ => return Err(Failure::NoCall),
+    };
+    Ok(Validators {
+        etag,
+        last_modified,
+        is_date_strong,
+    })
+}
+
+fn read_resource(arguments: &mut Arguments<'_>) -> Result<Resource, Failure> {
+    let mut left = *arguments;
+    if left.word()? == "missing" {
+        *arguments = left;
+        return Ok(Resource::Missing);
+    }
+    Ok(Resource::Current(read_validators(arguments)?))
+}
+
+fn show_part(part: &Part, answer: &mut Answer) -> Result<(), Failure> {
+    Ok(answer.word(format_args!("{}-{}", part.first, part.last))?)
+}
+
+fn show_selection(selection: &Selection, answer: &mut Answer) -> Result<(), Failure> {
+    match selection {
+        Selection::Whole => answer.word("whole")?,
+        Selection::Unsatisfiable => answer.word("unsatisfiable")?,
+        Selection::Parts(parts) => {
+            for part in parts {
+                show_part(part, answer)?;
+            }
+        }
+    }
+    Ok(())
+}
+
+// `evaluate METHOD FIELD.. (/) RESOURCE`
+fn call_evaluate(arguments: &mut Arguments<'_>, answer: &mut Answer) -> Result<(), Failure> {
+    let (method, request) = read_request(arguments)?;
+    let resource = read_resource(arguments)?;
+    let word = match evaluate(arguments.alloc(), &method, &request, &resource)? {
+        Precondition::Perform => "perform",
+        Precondition::NotModified => "not_modified",
+        Precondition::Failed => "failed",
+    };
+    Ok(answer.word(word)?)
+}
+
+// `select METHOD FIELD.. (/) VALIDATORS LENGTH`
+fn call_select(arguments: &mut Arguments<'_>, answer: &mut Answer) -> Result<(), Failure> {
+    let (method, request) = read_request(arguments)?;
+    let current = read_validators(arguments)?;
+    let len = arguments.number()?;
+    let selection = select(arguments.alloc(), &method, &request, &current, len)?;
+    show_selection(&selection, answer)
+}
+
+fn read_content(arguments: &mut Arguments<'_>) -> Result<Content, Failure> {
+    let len = arguments.number()?;
+    let media_type = match arguments.option()? {
+        Some(text) => Some(HeaderValue::from_str(arguments.alloc(), text)?),
+        None => None,
+    };
+    Ok(Content { len, media_type })
+}
+
+// The status, and the fields that the steps leave of a map.
+fn show_response(
+    response: Response,
+    mut fields: HeaderMap,
+    answer: &mut Answer,
+) -> Result<(), Failure> {
+    answer.word(response.status.as_u16())?;
+    apply(&mut fields, response.steps).map_err(|_| Failure::Memory)?;
+    answer.map(&fields)
+}
+
+// `respond METHOD FIELD.. (/) RESOURCE LENGTH TYPE FIELD..`, with the fields that the answer's map has
+// before. The boundary is `THIS_STRING_SEPARATES`.
+fn call_respond(arguments: &mut Arguments<'_>, answer: &mut Answer) -> Result<(), Failure> {
+    let alloc = arguments.alloc();
+    let (method, request) = read_request(arguments)?;
+    let resource = read_resource(arguments)?;
+    let content = read_content(arguments)?;
+    let fields = arguments.map()?;
+    let boundary = Boundary::new(alloc, "THIS_STRING_SEPARATES")?;
+    match respond(alloc, &method, &request, &resource, &content, &boundary)? {
+        Some(response) => show_response(response, fields, answer),
+        None => Ok(answer.none()?),
+    }
+}
+
+// `boundary TEXT`: the line of Content-Type that names it.
+fn call_boundary(arguments: &mut Arguments<'_>, answer: &mut Answer) -> Result<(), Failure> {
+    let text = arguments.text()?;
+    let boundary = Boundary::new(arguments.alloc(), text.as_str())?;
+    answer.line(boundary.content_type())
+}
+
+impl Calls for Decisions {
+    fn make(name: &str, arguments: &mut Arguments<'_>, answer: &mut Answer) -> Result<(), Failure> {
+        match name {
+            "evaluate" => call_evaluate(arguments, answer),
+            "select" => call_select(arguments, answer),
+            "respond" => call_respond(arguments, answer),
+            "boundary" => call_boundary(arguments, answer),
+            _ => Err(Failure::NoCall),
+        }
+    }
+}
