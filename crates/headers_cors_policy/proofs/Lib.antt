@@ -1,0 +1,6 @@
+pub mod CheckLemmas
+pub mod ElementLemmas
+pub mod SameLemmas
+pub mod SettingLemmas
+pub mod VaryLemmas
+pub mod WrittenLemmas

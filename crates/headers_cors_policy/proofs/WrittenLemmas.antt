@@ -1,0 +1,35 @@
+-- Lists that are written of vectors.
+use Rattle.std.proofs.Common.{◌≡◌, ℕ, List, [], ◌∷◌, length, sym, subst, ◌∙◌}
+use Rattle.std.specs.Iterator.{Drains}
+use Rattle.std.specs.declared.vec.IntoIter.{IntoIter}
+use Rattle.std.specs.Vec.Iter.{into_iter_items, into_iter_len, into_iter_steps}
+use Rattle.std.proofs.lemmas.Iterator.{items_from_drains}
+use Rattle.std.proofs.lemmas.Iterator.Adapters.{YieldsList-from_vec}
+use Rattle.std.proofs.lemmas.List.{map-id}
+use Rattle.headers.specs.ListItem.{Reading, IsListOf, Lists, ListsValues}
+
+-- a vector's iterator gives its elements
+drained : {X Z : Type 0} (s : IntoIter X Z) (xs given : List X) → into_iter_items s ≡ xs
+    → into_iter_len s ≡ length xs → Drains into_iter_steps s given → given ≡ xs
+drained s xs given e l d =
+    sym (map-id given) ∙ items_from_drains given (d.1.0, d.1.1, λ _. (d.0, d.1.2)) (YieldsList-from_vec xs e l)
+
+-- the line of a list that was made of a vector is that of its elements
+moved : (reading : Reading) (given xs : List (List ℕ)) (value line : List ℕ) → IsListOf reading given value
+    → given ≡ xs → value ∷ [] ≡ line ∷ [] → IsListOf reading xs line
+moved reading given xs value line h e w =
+    let same : value ≡ line = cc w in
+    subst (λ (v : List ℕ). IsListOf reading xs v) same
+    (subst (λ (vs : List (List ℕ)). IsListOf reading vs value) e h)
+
+pub listed_by : {Z : Type 0} (reading : Reading) (s : IntoIter (List ℕ) Z) (xs : List (List ℕ)) (value line : List ℕ)
+    → into_iter_items s ≡ xs → into_iter_len s ≡ length xs → Lists reading into_iter_steps s value
+    → value ∷ [] ≡ line ∷ [] → IsListOf reading xs line
+listed_by reading s xs value line e l h w = moved reading h.0 xs value line h.2 (drained s xs h.0 e l h.1) w
+
+pub listed_values_by : {Z : Type 0} (reading : Reading) (s : IntoIter (List ℕ) Z) (xs : List (List ℕ))
+    (value line : List ℕ) → into_iter_items s ≡ xs → into_iter_len s ≡ length xs
+    → ListsValues (λ (bytes : List ℕ). bytes) reading into_iter_steps s value
+    → value ∷ [] ≡ line ∷ [] → IsListOf reading xs line
+listed_values_by reading s xs value line e l h w =
+    moved reading _ xs value line h.2 (map-id h.0 ∙ drained s xs h.0 e l h.1) w

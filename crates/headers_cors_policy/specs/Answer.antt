@@ -1,0 +1,24 @@
+-- What a policy answers a request.
+use Rattle.std.specs.Prelude.{◌≡◌, ℕ, Bool, true, List, Option, is_some, codes}
+use Rattle.headers.specs.LineMap.{LineMap}
+use Rattle.headers.specs.Lines.{Line}
+use Rattle.headers_cors_policy.specs.Kinds.{IsKindOf, is_preflight}
+use Rattle.headers_cors_policy.specs.Policy.{Policy}
+use Rattle.headers_cors_policy.specs.Settings.{granted, settings, SetAll}
+use Rattle.headers_cors_policy.specs.declared.kind.CorsKind.{CorsKind}
+use Rattle.headers_cors_policy.specs.declared.kind.CorsKind.TheVariants.{Preflight, Plain, NoOrigin}
+use Rattle.headers_cors_policy.specs.declared.policy.CorsAnswer.{CorsAnswer}
+
+-- a request without Origin is allowed; any other, if it is granted a line
+abbrev pub allows : CorsKind → Option Line → Bool
+allows NoOrigin line = true
+allows Preflight line = is_some line
+allows Plain line = is_some line
+
+-- the answer to a request of this method and these fields, for a response with these
+pub record IsAnswer (policy : Policy) (method : List ℕ) (request response : LineMap) (answer : CorsAnswer)
+    : Type 0 where
+  pub kind : IsKindOf method request answer.kind
+  pub allowed : answer.is_allowed ≡ allows answer.kind (granted policy (request (codes "origin")))
+  pub steps : SetAll answer.steps.items
+      (settings policy (is_preflight answer.kind) (request (codes "origin")) (response (codes "vary")))

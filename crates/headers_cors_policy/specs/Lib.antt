@@ -1,0 +1,11 @@
+pub mod Allowed
+pub mod Answer
+pub mod Browser
+pub mod Cache
+pub mod Elements
+pub mod Errors
+pub mod Inside
+pub mod Kinds
+pub mod Policy
+pub mod Rules
+pub mod Settings

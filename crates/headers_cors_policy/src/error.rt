@@ -1,0 +1,52 @@
+//! Why rules are no policy.
+use std::alloc::AllocError;
+use std::error::Error;
+use std::fmt;
+
+/// Why rules are no policy.
+#[derive(Clone, Copy, Debug, PartialEq, Eq)]
+pub enum RulesError {
+    /// Any origin would be allowed with credentials.
+    AnyOriginWithCredentials,
+    /// Any method would be allowed with credentials. Browsers don't read a star so.
+    AnyMethodWithCredentials,
+    /// Any request field would be allowed with credentials. Browsers don't read a star so.
+    AnyNameWithCredentials,
+    /// Any response field would be exposed with credentials. Browsers don't read a star so.
+    AnyExposedWithCredentials,
+    /// A listed method or field name is `*`, which browsers read as any.
+    Star,
+    /// The allocator had no memory.
+    Memory,
+}
+
+impl fmt::Display for RulesError {
+    ghost use Rattle.std.specs.Prelude.{Some};
+    ghost use Rattle.headers_cors_policy.specs.Errors.{rules_error_text};
+
+    ghost output = { λ e. Some (rules_error_text e) };
+
+    fn fmt<W: fmt::Write>(&self, f: &mut fmt::Formatter<W>) -> fmt::Result {
+        f.write_str(match self {
+            RulesError::AnyOriginWithCredentials => "any origin with credentials",
+            RulesError::AnyMethodWithCredentials => "any method with credentials",
+            RulesError::AnyNameWithCredentials => "any request field with credentials",
+            RulesError::AnyExposedWithCredentials => "any response field with credentials",
+            RulesError::Star => "a star in a list",
+            RulesError::Memory => "out of memory",
+        })
+    }
+}
+
+impl Error for RulesError {}
+
+impl From<AllocError> for RulesError {
+    ghost use Rattle.std.specs.Prelude.{◌≡◌};
+    ghost use Rattle.headers_cors_policy.specs.declared.error.RulesError.TheVariants.{Memory};
+
+    ghost from_gives = { λ _ e. e ≡ Memory };
+
+    fn from(_error: AllocError) -> RulesError {
+        RulesError::Memory
+    }
+}

@@ -1,0 +1,61 @@
+//! What a request is to a policy.
+ghost use Rattle.std.specs.Prelude.{◌≡◌};
+ghost use Rattle.std.specs.Bool.{MatchBool};
+ghost use Rattle.headers.specs.LineMap.{lines_at};
+ghost use Rattle.headers.specs.Typed.{HasLine};
+ghost use Rattle.headers_cors_policy.specs.Kinds.{is_preflight, AsksLeave, IsKindOf};
+
+use headers::{HeaderMap, HeaderName};
+use http::Method;
+use http_header::{ACCESS_CONTROL_REQUEST_METHOD, ORIGIN};
+
+/// What a request is to a policy.
+#[derive(Clone, Copy, Debug, PartialEq, Eq)]
+pub enum CorsKind {
+    /// It asks for leave to send another request: OPTIONS, with `Origin` and
+    /// `Access-Control-Request-Method`.
+    Preflight,
+    /// Any other request with an `Origin`.
+    Plain,
+    /// A request without an `Origin`.
+    NoOrigin,
+}
+
+impl CorsKind {
+    pub(crate) fn is_preflight(self) -> bool
+        ensures { result ≡ is_preflight self }
+    {
+        match self {
+            CorsKind::Preflight => true,
+            CorsKind::Plain | CorsKind::NoOrigin => false,
+        }
+    }
+}
+
+pub(crate) fn kind_of(method: &Method, request: &HeaderMap) -> CorsKind
+    ensures { IsKindOf method.now (lines_at request.now) result }
+{
+    if !has_line(request, ORIGIN) {
+        return CorsKind::NoOrigin;
+    }
+    if asks_leave(method, request) {
+        CorsKind::Preflight
+    } else {
+        CorsKind::Plain
+    }
+}
+
+fn asks_leave(method: &Method, request: &HeaderMap) -> bool
+    ensures { MatchBool result (AsksLeave method.now (lines_at request.now))
+        (¬ (AsksLeave method.now (lines_at request.now))) }
+{
+    *method == Method::OPTIONS && has_line(request, ACCESS_CONTROL_REQUEST_METHOD)
+}
+
+// Whether the map has a line under the name.
+fn has_line(map: &HeaderMap, name: HeaderName) -> bool
+    ensures { MatchBool result (HasLine (lines_at map.now name)) (¬ (HasLine (lines_at map.now name))) }
+{
+    let lines = map.get_all(name);
+    lines.iter().next().is_some()
+}

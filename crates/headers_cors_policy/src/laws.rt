@@ -1,0 +1,83 @@
+//! What follows from the definitions alone. A proof cites a law by calling it.
+ghost use Rattle.std.specs.Prelude.{◌≡◌, ◌≢◌, ◌↔◌, ◌⊎◌, ◌∷◌, [], ◌++◌, ℕ, List, None, IsTrue, codes};
+ghost use Rattle.headers.specs.LineMap.{LineMap, run};
+ghost use Rattle.headers.specs.Lines.{Line};
+ghost use Rattle.headers_cors_policy.specs.Answer.{IsAnswer};
+ghost use Rattle.headers_cors_policy.specs.Browser.{CorsCheck, IsExposed, IsOkStatus, IsPreflightFor, IsSentFor};
+ghost use Rattle.headers_cors_policy.specs.Browser.{PreflightPasses, Request};
+ghost use Rattle.headers_cors_policy.specs.Cache.{Serves};
+ghost use Rattle.headers_cors_policy.specs.Policy.{Policy};
+ghost use Rattle.headers_cors_policy.specs.Rules.{AllowsCredentials, AllowsOrigin, AllowsRequest, Exposes};
+ghost use Rattle.headers_cors_policy.specs.Rules.{IsLawful, IsPolicyOf};
+ghost use Rattle.headers_cors_policy.specs.declared.policy.CorsAnswer.{CorsAnswer};
+ghost use Rattle.headers_cors_policy.specs.declared.rules.CorsRules.{CorsRules};
+
+/// After the steps of an answer, whatever lines the response had before, a browser's CORS check
+/// holds exactly if the rules allow the origin and the credentials.
+pub fn check_goes_by_rules()
+    ensures { (rules : CorsRules) (policy : Policy) (method : List ℕ) (sent response before : LineMap)
+        (answer : CorsAnswer) (request : Request) → IsLawful rules → IsPolicyOf rules policy
+        → IsAnswer policy method sent response answer → sent (codes "origin") ≡ request.origin ∷ []
+        → CorsCheck (run before answer.steps.items) request
+        ↔ (AllowsOrigin rules request.origin × AllowsCredentials rules request.credentials) }
+{}
+
+/// A response to a preflight lets a browser send the request exactly if the rules allow it: its
+/// origin, its credentials, its method and each name that needs leave.
+pub fn preflight_goes_by_rules()
+    ensures { (rules : CorsRules) (policy : Policy) (method : List ℕ) (sent response before : LineMap)
+        (answer : CorsAnswer) (request : Request) (status : ℕ) → IsLawful rules → IsPolicyOf rules policy
+        → IsAnswer policy method sent response answer → IsPreflightFor request method sent → IsOkStatus status
+        → PreflightPasses status (run before answer.steps.items) request ↔ AllowsRequest rules request }
+{}
+
+/// Scripts may read exactly those fields of a response that passed the check that the rules expose.
+pub fn exposed_goes_by_rules()
+    ensures { (rules : CorsRules) (policy : Policy) (method : List ℕ) (sent response before : LineMap)
+        (answer : CorsAnswer) (request : Request) → IsLawful rules → IsPolicyOf rules policy
+        → IsAnswer policy method sent response answer → IsSentFor request sent
+        → CorsCheck (run before answer.steps.items) request → (name : Line)
+        → IsExposed (run before answer.steps.items) request name ↔ Exposes rules name }
+{}
+
+/// An answer says that a request is allowed exactly if the rules allow its origin.
+pub fn allowed_goes_by_rules()
+    ensures { (rules : CorsRules) (policy : Policy) (method : List ℕ) (sent response : LineMap)
+        (answer : CorsAnswer) (origin : Line) → IsPolicyOf rules policy
+        → IsAnswer policy method sent response answer → sent (codes "origin") ≡ origin ∷ []
+        → IsTrue answer.is_allowed ↔ AllowsOrigin rules origin }
+{}
+
+/// If a response is stored and `Vary` lets it serve another request of its method, that request
+/// would have got the same lines. A cache stores no answer to OPTIONS (RFC 9110, section 9.3.7).
+pub fn stored_lines_are_own()
+    ensures { (policy : Policy) (method : List ℕ) (r s response : LineMap) (a b : CorsAnswer)
+        → IsAnswer policy method r response a → IsAnswer policy method s response b → method ≢ codes "OPTIONS"
+        → Serves (run response a.steps.items (codes "vary")) r s → (name : List ℕ)
+        → run response a.steps.items name ≡ run response b.steps.items name }
+{}
+
+/// The lines of `Vary` stay, and at most `origin` comes after them.
+pub fn vary_stays()
+    ensures { (policy : Policy) (method : List ℕ) (sent response : LineMap) (answer : CorsAnswer)
+        → IsAnswer policy method sent response answer
+        → (run response answer.steps.items (codes "vary") ≡ response (codes "vary"))
+        ⊎ (run response answer.steps.items (codes "vary") ≡ response (codes "vary") ++ codes "origin" ∷ []) }
+{}
+
+/// Two requests of one method with equal lines of `Origin` and `Access-Control-Request-Method` get
+/// the same lines, whatever else they have.
+pub fn lines_go_by_origin()
+    ensures { (policy : Policy) (method : List ℕ) (r s response before : LineMap) (a b : CorsAnswer)
+        → IsAnswer policy method r response a → IsAnswer policy method s response b
+        → r (codes "origin") ≡ s (codes "origin")
+        → r (codes "access-control-request-method") ≡ s (codes "access-control-request-method")
+        → (name : List ℕ) → run before a.steps.items name ≡ run before b.steps.items name }
+{}
+
+/// If any origin is allowed, two requests of one kind get the same lines, whatever their origins.
+pub fn any_origin_gets_equal_lines()
+    ensures { (policy : Policy) (m n : List ℕ) (r s response before : LineMap) (a b : CorsAnswer)
+        → IsAnswer policy m r response a → IsAnswer policy n s response b → policy.origins ≡ None
+        → a.kind ≡ b.kind → (name : List ℕ) → run before a.steps.items name ≡ run before b.steps.items name }
+{}

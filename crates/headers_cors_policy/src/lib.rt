@@ -1,0 +1,20 @@
+//! Cross-origin requests: which lines a server's policy gives a response, and that browsers let
+//! through exactly what its rules allow (Fetch standard).
+#![tactic(auto)]
+
+mod error;
+mod kind;
+pub mod laws;
+mod listed;
+mod origin;
+mod policy;
+mod refusal;
+mod rules;
+mod steps;
+mod vary;
+mod written;
+
+pub use crate::error::RulesError;
+pub use crate::kind::CorsKind;
+pub use crate::policy::{CorsAnswer, CorsPolicy};
+pub use crate::rules::{Allowed, CorsRules};

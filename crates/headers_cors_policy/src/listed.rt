@@ -1,0 +1,14 @@
+//! Whether a text is listed.
+ghost use Rattle.std.specs.Prelude.{◌≡◌, bytes_eq};
+ghost use Rattle.std.specs.List.{list_any};
+
+use headers::HeaderValue;
+
+// Whether the line is one of the list, byte for byte.
+pub(crate) fn is_listed(listed: &[HeaderValue], line: &HeaderValue) -> bool
+    ensures { result ≡ list_any (λ value. bytes_eq line.now.bytes value.bytes) listed.now }
+{
+    listed
+        .iter()
+        .any(|value| line.as_bytes() == value.as_bytes())
+}

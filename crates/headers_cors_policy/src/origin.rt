@@ -1,0 +1,44 @@
+//! Which origin is granted a response.
+ghost use Rattle.std.specs.Prelude.{◌≡◌, IfOk, codes, option_map};
+ghost use Rattle.headers.specs.LineMap.{lines_at};
+ghost use Rattle.headers.specs.Lines.{lines_of, only_line};
+ghost use Rattle.headers_cors_policy.specs.Settings.{grant};
+
+use crate::listed::is_listed;
+use headers::{HeaderMap, HeaderValue};
+use http_header::ORIGIN;
+use std::alloc::AllocError;
+
+// The line of `Access-Control-Allow-Origin`, by the listed origins, or `None` for any.
+pub(crate) fn granted(
+    origins: &Option<Vec<HeaderValue>>,
+    request: &HeaderMap,
+) -> Result<Option<HeaderValue>, AllocError>
+    ensures { IfOk result (λ line. option_map (λ value. value.bytes) line
+        ≡ grant (option_map (λ listed. lines_of listed.items) origins.now)
+        (only_line (lines_at request.now (codes "origin")))) }
+{
+    let Some(listed) = origins else {
+        return Ok(Some(HeaderValue::from_static("*")));
+    };
+    let Some(line) = sole_origin(request) else {
+        return Ok(None);
+    };
+    if is_listed(listed, line) {
+        Ok(Some(line.clone()?))
+    } else {
+        Ok(None)
+    }
+}
+
+// The request's line of `Origin`, if it has exactly one.
+fn sole_origin(request: &HeaderMap) -> Option<&HeaderValue>
+    ensures { option_map (λ value. value.now.bytes) result ≡ only_line (lines_at request.now (codes "origin")) }
+{
+    let mut lines = request.get_all(ORIGIN).iter();
+    let first = lines.next()?;
+    match lines.next() {
+        Some(_) => None,
+        None => Some(first),
+    }
+}

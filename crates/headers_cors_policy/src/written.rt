@@ -1,0 +1,107 @@
+//! The lines that are written of rules.
+ghost use Rattle.std.specs.Prelude.{◌≡◌, ◌∷◌, [], decimal, length, map, IfOk, option_map};
+ghost use Rattle.headers.specs.Lines.{lines_of};
+ghost use Rattle.headers.specs.ListItem.{method_of, name_of, IsListOf};
+ghost use Rattle.headers.specs.Origin.{origin_text};
+ghost use Rattle.headers_cors_policy.specs.Rules.{IsListLine, texts};
+
+use crate::rules::Allowed;
+use headers::{
+    AccessControlAllowHeaders, AccessControlAllowMethods, AccessControlMaxAge, Header, HeaderName,
+    HeaderValue, Origin,
+};
+use http::Method;
+use std::alloc::{AllocError, Global};
+
+// The line that is written of a header that writes one.
+fn line_of<H: Header>(alloc: Global, header: &H) -> Result<HeaderValue, AllocError>
+    requires { length (H.writes header.now) ≡ 1 }
+    ensures { IfOk result (λ line. H.writes header.now ≡ line.bytes ∷ []) }
+{
+    let mut lines = Vec::new(alloc);
+    header.encode(alloc, &mut lines)?;
+    match lines.pop() {
+        Some(line) => Ok(line),
+        None => unreachable!(),
+    }
+}
+
+// The texts of listed origins, or `None` for any.
+pub(crate) fn texts_of(
+    alloc: Global,
+    origins: &Allowed<Origin>,
+) -> Result<Option<Vec<HeaderValue>>, AllocError>
+    ensures { IfOk result (λ found. option_map (λ listed. lines_of listed.items) found ≡ texts origins.now) }
+{
+    match origins {
+        Allowed::Any => Ok(None),
+        Allowed::Listed(listed) => Ok(Some(lines_of_origins(alloc, listed)?)),
+    }
+}
+
+fn lines_of_origins(alloc: Global, origins: &[Origin]) -> Result<Vec<HeaderValue>, AllocError>
+    ensures { IfOk result (λ lines. lines_of lines.items ≡ map origin_text origins.now) }
+{
+    let mut lines = Vec::new(alloc);
+    for origin in origins {
+        lines.push(line_of(alloc, origin)?)?;
+    }
+    Ok(lines)
+}
+
+// A star, or the methods.
+pub(crate) fn line_of_methods(
+    alloc: Global,
+    methods: Allowed<Method>,
+) -> Result<HeaderValue, AllocError>
+    ensures { IfOk result (λ line. IsListLine method_of methods line.bytes) }
+{
+    match methods {
+        Allowed::Any => Ok(HeaderValue::from_static("*")),
+        Allowed::Listed(methods) => line_of_listed_methods(alloc, methods),
+    }
+}
+
+fn line_of_listed_methods(alloc: Global, methods: Vec<Method>) -> Result<HeaderValue, AllocError>
+    ensures { IfOk result (λ line. IsListOf method_of methods.items line.bytes) }
+{
+    let header = AccessControlAllowMethods::from_iter(alloc, methods.into_iter())?;
+    let line = line_of(alloc, &header)?;
+    Ok(line)
+}
+
+// A star, or the names.
+pub(crate) fn line_of_names(
+    alloc: Global,
+    names: Allowed<HeaderName>,
+) -> Result<HeaderValue, AllocError>
+    ensures { IfOk result (λ line. IsListLine name_of names line.bytes) }
+{
+    match names {
+        Allowed::Any => Ok(HeaderValue::from_static("*")),
+        Allowed::Listed(names) => line_of_listed_names(alloc, names),
+    }
+}
+
+fn line_of_listed_names(alloc: Global, names: Vec<HeaderName>) -> Result<HeaderValue, AllocError>
+    ensures { IfOk result (λ line. IsListOf name_of names.items line.bytes) }
+{
+    let header = AccessControlAllowHeaders::from_iter(alloc, names.into_iter())?;
+    let line = line_of(alloc, &header)?;
+    Ok(line)
+}
+
+pub(crate) fn line_of_age(
+    alloc: Global,
+    max_age: Option<u64>,
+) -> Result<Option<HeaderValue>, AllocError>
+    ensures { IfOk result (λ line. option_map (λ value. value.bytes) line ≡ option_map decimal max_age) }
+{
+    match max_age {
+        Some(seconds) => {
+            let line = line_of(alloc, &AccessControlMaxAge::from_secs(seconds))?;
+            Ok(Some(line))
+        }
+        None => Ok(None),
+    }
+}
