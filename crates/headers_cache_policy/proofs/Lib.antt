@@ -1,0 +1,9 @@
+pub mod DecisionLemmas
+pub mod DirectiveLemmas
+pub mod FieldLemmas
+pub mod FresheningLemmas
+pub mod FreshnessLemmas
+pub mod NumberLemmas
+pub mod StoringLemmas
+pub mod ValidatingLemmas
+pub mod VaryLemmas

@@ -1,0 +1,16 @@
+use Rattle.headers.specs.LineMap.{lines_at}
+use Rattle.headers_cache_policy.specs.Directives.{directed}
+use Rattle.headers_cache_policy.proofs.DecisionLemmas.{Answers-at}
+use Rattle.headers_cache_policy.proofs.decision.decide_matched.Goals as goal
+
+pub returns : goal.returns
+returns c =
+    record {
+      stated = c.lifetime_by-stated.result;
+      lifetime = c.lifetime_by-stated.ensures;
+      answers =
+          rw (← c.unwrap_or.ensures, ← c.current_age.ensures)
+          (Answers-at c.args.kind c.in_ok-asks.asks (directed (lines_at c.args.request.now)) c.in_ok-tells.tells
+          (directed (lines_at c.args.response.now)) _ c.answer.result c.in_ok-asks.ensures c.in_ok-tells.ensures
+          c.answer.ensures);
+    }

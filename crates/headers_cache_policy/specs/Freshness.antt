@@ -1,0 +1,65 @@
+-- How long a response is fresh (RFC 9111, section 4.2).
+use Rattle.std.specs.Prelude.{◌≡◌, ◌⊎◌, ℕ, ◌-◌, ◌/◌, Bool, true, IsTrue, nat_eq, List, [], ◌∷◌, Option, Some, None, MatchOption, codes}
+use Rattle.std.specs.List.{list_any}
+use Rattle.headers.specs.LineMap.{LineMap}
+use Rattle.headers_cache_policy.specs.Directives.{directed}
+use Rattle.headers_cache_policy.specs.Fields.{IsPresent, date_in, dated}
+use Rattle.headers_cache_policy.specs.declared.directives.Directives.{Directives}
+use Rattle.headers_cache_policy.specs.declared.kind.Kind.{Kind}
+use Rattle.headers_cache_policy.specs.declared.kind.Kind.TheVariants.{Shared, Private}
+
+-- `s-maxage` counts in a shared cache alone (section 5.2.2.10)
+abbrev pub shared_age : Kind → Directives → Option ℕ
+shared_age Shared directives = directives.s_max_age
+shared_age Private directives = None
+
+-- Cache-Control says that the response becomes stale at this age: by `s-maxage`, or by `max-age` if `s-maxage` doesn't
+-- count
+abbrev pub StatesAge : Kind → Directives → ℕ → Type 0
+StatesAge kind directives seconds = (shared_age kind directives ≡ Some seconds)
+    ⊎ ((shared_age kind directives ≡ None) × (directives.max_age ≡ Some seconds))
+
+-- it says nothing of that
+abbrev pub StatesNoAge : Kind → Directives → Type 0
+StatesNoAge kind directives = (shared_age kind directives ≡ None) × (directives.max_age ≡ None)
+
+-- Expires lies so many seconds after Date: 0 if it isn't later, or if it is no valid date (section 5.3)
+abbrev pub ExpiresAfter : ℕ → LineMap → ℕ → Type 0
+ExpiresAfter received response seconds =
+    MatchOption (date_in (codes "expires") response) (seconds ≡ 0) (λ expires. seconds ≡ expires - dated received response)
+
+-- Which facts give each lifetime (section 4.2.1), for a response that came at a moment: so many seconds by
+-- Cache-Control, or by Expires if Cache-Control says nothing; or none is stated.
+abbrev pub HasLifetime : Kind → ℕ → LineMap → Option ℕ → Type 0
+HasLifetime kind received response (Some seconds) =
+    StatesAge kind (directed response) seconds
+    ⊎ (StatesNoAge kind (directed response) × IsPresent (codes "expires") response
+    × ExpiresAfter received response seconds)
+HasLifetime kind received response None =
+    StatesNoAge kind (directed response) × ¬ (IsPresent (codes "expires") response)
+
+-- the statuses that are heuristically cacheable (RFC 9110, section 15.1)
+abbrev pub heuristic_codes : List ℕ
+heuristic_codes = 200 ∷ 203 ∷ 204 ∷ 206 ∷ 300 ∷ 301 ∷ 308 ∷ 404 ∷ 405 ∷ 410 ∷ 414 ∷ 501 ∷ []
+
+unfoldable pub is_heuristic : ℕ → Bool
+is_heuristic status = list_any (λ code. nat_eq code status) heuristic_codes
+
+abbrev pub IsHeuristic : ℕ → Type 0
+IsHeuristic status = IsTrue (is_heuristic status)
+
+-- a cache may guess (section 4.2.2): no lifetime is stated, and the status is heuristically cacheable or the response
+-- is `public`
+abbrev pub MayGuess : Kind → ℕ → ℕ → LineMap → Type 0
+MayGuess kind status received response = HasLifetime kind received response None
+    × (IsHeuristic status ⊎ ((directed response).public ≡ true))
+
+-- Which facts give each guess: a tenth of the time from Last-Modified to Date; or a cache may not guess, or knows no
+-- last modification.
+abbrev pub HasHeuristic : Kind → ℕ → ℕ → LineMap → Option ℕ → Type 0
+HasHeuristic kind status received response (Some seconds) =
+    MayGuess kind status received response
+    × ((modified : ℕ) × (date_in (codes "last-modified") response ≡ Some modified)
+    × (seconds ≡ (dated received response - modified) / 10))
+HasHeuristic kind status received response None =
+    MayGuess kind status received response → date_in (codes "last-modified") response ≡ None

@@ -1,0 +1,9 @@
+pub mod Age
+pub mod Decisions
+pub mod Directives
+pub mod Fields
+pub mod Freshening
+pub mod Freshness
+pub mod Storing
+pub mod Validating
+pub mod Varying

@@ -1,0 +1,61 @@
+-- What a cache may store (RFC 9111, section 3).
+use Rattle.std.specs.Prelude.{◌≡◌, ◌≢◌, ◌⊎◌, ⊤, ℕ, ◌≤◌, true, false, List, IsSome, codes}
+use Rattle.headers.specs.LineMap.{LineMap}
+use Rattle.headers_cache_policy.specs.Directives.{directed}
+use Rattle.headers_cache_policy.specs.Fields.{IsPresent}
+use Rattle.headers_cache_policy.specs.Freshness.{IsHeuristic}
+use Rattle.headers_cache_policy.specs.declared.directives.Directives.{Directives}
+use Rattle.headers_cache_policy.specs.declared.kind.Kind.{Kind}
+use Rattle.headers_cache_policy.specs.declared.kind.Kind.TheVariants.{Shared, Private}
+
+-- the methods that the cache understands
+abbrev pub IsGetOrHead : List ℕ → Type 0
+IsGetOrHead method = (method ≡ codes "GET") ⊎ (method ≡ codes "HEAD")
+
+-- The status is final, the response is no part of another one, and the cache understands the status if
+-- `must-understand` is there. It understands those that are heuristically cacheable.
+abbrev pub IsStatusStored : ℕ → Directives → Type 0
+IsStatusStored status tells =
+    (200 ≤ status) × (status ≢ 206) × (status ≢ 304) × (tells.must_understand ≡ true → IsHeuristic status)
+
+-- `no-store` isn't there, or stands beside `must-understand`, for caches that don't understand the status
+-- (section 5.2.2.3)
+abbrev pub IsStorable : Directives → Type 0
+IsStorable tells = (tells.no_store ≡ false) ⊎ (tells.must_understand ≡ true)
+
+-- the response may answer a request without Authorization though it answered one with it (section 3.5)
+abbrev pub IsOpen : Directives → Type 0
+IsOpen tells = (tells.must_revalidate ≡ true) ⊎ (tells.public ≡ true) ⊎ IsSome tells.s_max_age
+
+-- a private cache may keep any response; a shared one none that is `private`, and none to a request with
+-- Authorization unless it is open
+abbrev pub IsShareable : Kind → LineMap → Directives → Type 0
+IsShareable Private request tells = ⊤
+IsShareable Shared request tells =
+    (tells.private ≡ false) × (IsPresent (codes "authorization") request → IsOpen tells)
+
+-- what counts in a cache of this kind alone: `private` in a private cache, and `s-maxage` in a shared one
+abbrev pub IsMarkedFor : Kind → Directives → Type 0
+IsMarkedFor Private tells = tells.private ≡ true
+IsMarkedFor Shared tells = IsSome tells.s_max_age
+
+-- something in the response marks it as one to store
+abbrev pub IsSuited : Kind → ℕ → LineMap → Directives → Type 0
+IsSuited kind status response tells =
+    (tells.public ≡ true) ⊎ IsMarkedFor kind tells ⊎ IsPresent (codes "expires") response ⊎ IsSome tells.max_age
+    ⊎ IsHeuristic status
+
+-- All of section 3 holds of a response to a request, by what they direct.
+pub record StoresBy (kind : Kind) (method : List ℕ) (request : LineMap) (status : ℕ) (response : LineMap)
+    (asks tells : Directives) : Type 0 where
+  pub understood : IsGetOrHead method
+  pub stored : IsStatusStored status tells
+  pub request_lets : asks.no_store ≡ false
+  pub response_lets : IsStorable tells
+  pub shareable : IsShareable kind request tells
+  pub suited : IsSuited kind status response tells
+
+-- the response may be stored
+abbrev pub MayStore : Kind → List ℕ → LineMap → ℕ → LineMap → Type 0
+MayStore kind method request status response =
+    StoresBy kind method request status response (directed request) (directed response)

@@ -1,0 +1,264 @@
+//! What a cache does with a request that a stored response could answer.
+ghost use Rattle.std.specs.Prelude.{◌≡◌, ◌≤◌, IfOk, IfSome};
+ghost use Rattle.std.specs.Bool.{MatchBool};
+ghost use Rattle.headers.specs.LineMap.{lines_at};
+ghost use Rattle.headers_cache_policy.specs.Directives.{directed};
+ghost use Rattle.headers_cache_policy.specs.Decisions.{Answers, AnswersUnstored, Decides, DecidesStored};
+ghost use Rattle.headers_cache_policy.specs.Decisions.{IsNotRefused, IsServable};
+ghost use Rattle.headers_cache_policy.specs.Decisions.{IsGoodEnough, IsUsable, IsWanted, staleness};
+ghost use Rattle.headers_cache_policy.specs.Decisions.{MayServeMeanwhile, MayServeOnError, MayServeStale, MustBeFresh};
+
+use crate::age::{Times, current_age};
+use crate::directives::{Directives, read_directives};
+use crate::freshness::lifetime_by;
+use crate::kind::Kind;
+use crate::vary::matches;
+use headers::HeaderMap;
+use std::alloc::{AllocError, Global};
+
+/// What a cache does with a request that a stored response could answer.
+#[derive(Clone, Copy, Debug, PartialEq, Eq)]
+pub enum Decision {
+    /// The stored response is the answer. It is fresh.
+    Serve,
+    /// The stored response is the answer. It is stale, and is to be revalidated after that
+    /// (`stale-while-revalidate`).
+    ServeAndRevalidate,
+    /// The stored response is the answer. It is stale, and the request takes that (`max-stale`).
+    ServeStale,
+    /// The origin has to say that the stored response is still good.
+    Revalidate,
+    /// The same, but if the origin can't be reached or answers 500, 502, 503 or 504, the stored
+    /// response may be the answer (`stale-if-error`).
+    RevalidateOrServe,
+    /// The answer is 504: the stored response isn't good enough, and the request forbids to ask on
+    /// (`only-if-cached`).
+    Unavailable,
+    /// The origin has to answer: no stored response suits the request.
+    Fetch,
+}
+
+/// How long a stored response is fresh, and how old it is, in seconds.
+#[derive(Clone, Copy, Debug, PartialEq, Eq)]
+pub struct Freshness {
+    /// Until which age it is fresh.
+    pub lifetime: u64,
+    /// Its current age.
+    pub age: u64,
+}
+
+/// What a cache does with a request, by a response that it has stored under the same URI, with a
+/// method that allows it (RFC 9111, section 4). `stored` is the request that the response answered:
+/// if Vary says that it doesn't suit the new one, the answer is that of `decide_unstored`.
+pub fn decide(
+    alloc: Global,
+    stored: &HeaderMap,
+    request: &HeaderMap,
+    response: &HeaderMap,
+    times: Times,
+    kind: Kind,
+) -> Result<Decision, AllocError>
+    ensures { IfOk result (DecidesStored kind (lines_at stored.now) (lines_at request.now)
+        (lines_at response.now) times) }
+{
+    if matches(alloc, stored, request, response)? {
+        let decision = decide_matched(alloc, request, response, times, kind)?;
+        Ok(decision)
+    } else {
+        let decision = decide_unstored(alloc, request)?;
+        Ok(decision)
+    }
+}
+
+/// What a cache does with a request that no stored response suits: `Fetch`, or `Unavailable` if the
+/// request says `only-if-cached` (RFC 9111, section 5.2.1.7).
+pub fn decide_unstored(alloc: Global, request: &HeaderMap) -> Result<Decision, AllocError>
+    ensures { IfOk result (AnswersUnstored (directed (lines_at request.now))) }
+{
+    let asks = read_directives(alloc, request)?;
+    if asks.only_if_cached {
+        Ok(Decision::Unavailable)
+    } else {
+        Ok(Decision::Fetch)
+    }
+}
+
+/// What a cache does with a request that a stored response suits, by the lifetime that its origin
+/// states. Without one the response isn't fresh: to guess one, see `heuristic_lifetime` and
+/// `decide_by`. It is never `Fetch`.
+pub fn decide_matched(
+    alloc: Global,
+    request: &HeaderMap,
+    response: &HeaderMap,
+    times: Times,
+    kind: Kind,
+) -> Result<Decision, AllocError>
+    ensures { IfOk result (Decides kind (lines_at request.now) (lines_at response.now) times) }
+{
+    let asks = read_directives(alloc, request)?;
+    let tells = read_directives(alloc, response)?;
+    let stated = lifetime_by(alloc, &tells, response, times.response, kind);
+    let freshness = Freshness {
+        lifetime: stated.unwrap_or(0),
+        age: current_age(alloc, response, times),
+    };
+    Ok(answer(&asks, &tells, freshness, kind))
+}
+
+/// The same as `decide_matched`, by a lifetime and an age of the caller's.
+pub fn decide_by(
+    alloc: Global,
+    request: &HeaderMap,
+    response: &HeaderMap,
+    freshness: Freshness,
+    kind: Kind,
+) -> Result<Decision, AllocError>
+    ensures { IfOk result
+        (Answers kind (directed (lines_at request.now)) (directed (lines_at response.now)) freshness) }
+{
+    let asks = read_directives(alloc, request)?;
+    let tells = read_directives(alloc, response)?;
+    Ok(answer(&asks, &tells, freshness, kind))
+}
+
+fn answer(asks: &Directives, tells: &Directives, freshness: Freshness, kind: Kind) -> Decision
+    ensures { Answers kind asks.now tells.now freshness result }
+{
+    if is_servable(asks, tells, freshness) {
+        if freshness.age < freshness.lifetime {
+            return Decision::Serve;
+        }
+        if may_serve_meanwhile(asks, tells, freshness, kind) {
+            return Decision::ServeAndRevalidate;
+        }
+        if may_serve_stale(asks, tells, freshness, kind) {
+            return Decision::ServeStale;
+        }
+    }
+    unserved(asks, tells, freshness, kind)
+}
+
+// The answer if the stored response isn't good enough.
+fn unserved(asks: &Directives, tells: &Directives, freshness: Freshness, kind: Kind) -> Decision
+    requires { ¬ (IsGoodEnough kind asks.now tells.now freshness) }
+    ensures { Answers kind asks.now tells.now freshness result }
+{
+    if asks.only_if_cached {
+        Decision::Unavailable
+    } else if may_serve_on_error(asks, tells, freshness, kind) {
+        Decision::RevalidateOrServe
+    } else {
+        Decision::Revalidate
+    }
+}
+
+// Whether neither request nor response wants the origin to be asked in any case.
+fn is_usable(asks: &Directives, tells: &Directives) -> bool
+    ensures { MatchBool result (IsUsable asks.now tells.now) (¬ (IsUsable asks.now tells.now)) }
+{
+    !asks.no_cache && !tells.no_cache
+}
+
+// Whether the response may be used without asking, as far as it is not stale.
+fn is_servable(asks: &Directives, tells: &Directives, freshness: Freshness) -> bool
+    ensures { MatchBool result (IsServable asks.now tells.now freshness)
+        (¬ (IsServable asks.now tells.now freshness)) }
+{
+    is_usable(asks, tells) && is_wanted(asks, freshness)
+}
+
+// Whether the request takes a response of this age that stays fresh for so long.
+fn is_wanted(asks: &Directives, freshness: Freshness) -> bool
+    ensures { MatchBool result (IsWanted asks.now freshness) (¬ (IsWanted asks.now freshness)) }
+{
+    let Freshness { lifetime, age } = freshness;
+    let is_young = match asks.max_age {
+        Some(limit) => age <= limit,
+        None => true,
+    };
+    let stays_fresh = match asks.min_fresh {
+        Some(least) => age <= lifetime && least <= lifetime - age,
+        None => true,
+    };
+    is_young && stays_fresh
+}
+
+// For how long the response has been stale.
+fn staleness(freshness: Freshness) -> u64
+    ensures { result ≡ staleness freshness }
+{
+    freshness.age.saturating_sub(freshness.lifetime)
+}
+
+// Whether the response may be served while it is revalidated.
+fn may_serve_meanwhile(
+    asks: &Directives,
+    tells: &Directives,
+    freshness: Freshness,
+    kind: Kind,
+) -> bool
+    ensures { MatchBool result (MayServeMeanwhile kind asks.now tells.now freshness)
+        (¬ (MayServeMeanwhile kind asks.now tells.now freshness)) }
+{
+    let Some(limit) = tells.stale_while_revalidate else {
+        return false;
+    };
+    staleness(freshness) <= limit && is_not_refused(asks, freshness) && !must_be_fresh(tells, kind)
+}
+
+// Whether the request says nothing against a response that is stale for so long.
+fn is_not_refused(asks: &Directives, freshness: Freshness) -> bool
+    ensures { MatchBool result (IsNotRefused asks.now freshness) (¬ (IsNotRefused asks.now freshness)) }
+{
+    match asks.max_stale {
+        Some(limit) => staleness(freshness) <= limit,
+        None => asks.max_age.is_none(),
+    }
+}
+
+// Whether the response may be served though it is stale.
+fn may_serve_stale(asks: &Directives, tells: &Directives, freshness: Freshness, kind: Kind) -> bool
+    ensures { MatchBool result (MayServeStale kind asks.now tells.now freshness)
+        (¬ (MayServeStale kind asks.now tells.now freshness)) }
+{
+    let Some(limit) = asks.max_stale else {
+        return false;
+    };
+    staleness(freshness) <= limit && !must_be_fresh(tells, kind)
+}
+
+// Whether the response may be served if the origin fails.
+fn may_serve_on_error(
+    asks: &Directives,
+    tells: &Directives,
+    freshness: Freshness,
+    kind: Kind,
+) -> bool
+    ensures { MatchBool result (MayServeOnError kind asks.now tells.now freshness)
+        (¬ (MayServeOnError kind asks.now tells.now freshness)) }
+{
+    is_usable(asks, tells)
+        && !must_be_fresh(tells, kind)
+        && (asks.stale_if_error.is_some() || tells.stale_if_error.is_some())
+        && is_within(asks.stale_if_error, freshness)
+        && is_within(tells.stale_if_error, freshness)
+}
+
+// Whether the response isn't stale for longer than a limit, if there is one.
+fn is_within(limit: Option<u64>, freshness: Freshness) -> bool
+    ensures { MatchBool result (IfSome limit (λ most. staleness freshness ≤ most))
+        (¬ (IfSome limit (λ most. staleness freshness ≤ most))) }
+{
+    match limit {
+        Some(most) => staleness(freshness) <= most,
+        None => true,
+    }
+}
+
+// Whether the response forbids that it is served stale.
+fn must_be_fresh(tells: &Directives, kind: Kind) -> bool
+    ensures { MatchBool result (MustBeFresh kind tells.now) (¬ (MustBeFresh kind tells.now)) }
+{
+    tells.must_revalidate
+        || (kind == Kind::Shared && (tells.s_max_age.is_some() || tells.proxy_revalidate))
+}

@@ -1,0 +1,109 @@
+//! What a cache may store.
+ghost use Rattle.std.specs.Prelude.{◌≡◌, IfOk};
+ghost use Rattle.std.specs.Bool.{MatchBool};
+ghost use Rattle.headers.specs.LineMap.{lines_at};
+ghost use Rattle.headers_cache_policy.specs.Storing.{IsGetOrHead, IsShareable, IsStatusStored, IsStorable, IsSuited};
+ghost use Rattle.headers_cache_policy.specs.Storing.{MayStore, StoresBy};
+
+use crate::directives::{Directives, read_directives};
+use crate::fields::{has_authorization, has_expires};
+use crate::freshness::is_heuristic;
+use crate::kind::Kind;
+use headers::HeaderMap;
+use http::{Method, StatusCode};
+use std::alloc::{AllocError, Global};
+
+/// Whether a cache may store the response to a request (RFC 9111, sections 3 and 3.5).
+///
+/// Only responses to GET and HEAD are stored, and no 206 or 304, which are parts of others. Under
+/// `must-understand` the statuses that are heuristically cacheable are stored.
+pub fn may_store(
+    alloc: Global,
+    method: &Method,
+    request: &HeaderMap,
+    status: StatusCode,
+    response: &HeaderMap,
+    kind: Kind,
+) -> Result<bool, AllocError>
+    ensures { IfOk result (λ stores.
+        MatchBool stores (MayStore kind method.now (lines_at request.now) status (lines_at response.now))
+        (¬ (MayStore kind method.now (lines_at request.now) status (lines_at response.now)))) }
+{
+    let asks = read_directives(alloc, request)?;
+    let tells = read_directives(alloc, response)?;
+    Ok(stores_by(method, request, status, response, &asks, &tells, kind))
+}
+
+// The same by what request and response direct.
+fn stores_by(
+    method: &Method,
+    request: &HeaderMap,
+    status: StatusCode,
+    response: &HeaderMap,
+    asks: &Directives,
+    tells: &Directives,
+    kind: Kind,
+) -> bool
+    ensures { MatchBool result
+        (StoresBy kind method.now (lines_at request.now) status (lines_at response.now) asks.now tells.now)
+        (¬ (StoresBy kind method.now (lines_at request.now) status (lines_at response.now) asks.now tells.now)) }
+{
+    is_get_or_head(method)
+        && is_status_stored(status, tells)
+        && !asks.no_store
+        && is_storable(tells)
+        && is_shareable(request, tells, kind)
+        && is_suited(status, response, tells, kind)
+}
+
+fn is_get_or_head(method: &Method) -> bool
+    ensures { MatchBool result (IsGetOrHead method.now) (¬ (IsGetOrHead method.now)) }
+{
+    *method == Method::GET || *method == Method::HEAD
+}
+
+// Whether responses of this status are stored: it is final and whole, and the cache understands it
+// if it must.
+fn is_status_stored(status: StatusCode, tells: &Directives) -> bool
+    ensures { MatchBool result (IsStatusStored status tells.now) (¬ (IsStatusStored status tells.now)) }
+{
+    let code = status.as_u16();
+    200 <= code && code != 206 && code != 304 && (!tells.must_understand || is_heuristic(status))
+}
+
+// Whether the response lets caches that understand its status store it.
+fn is_storable(tells: &Directives) -> bool
+    ensures { MatchBool result (IsStorable tells.now) (¬ (IsStorable tells.now)) }
+{
+    !tells.no_store || tells.must_understand
+}
+
+// Whether a cache of this kind may keep the response, whoever asked for it.
+fn is_shareable(request: &HeaderMap, tells: &Directives, kind: Kind) -> bool
+    ensures { MatchBool result (IsShareable kind (lines_at request.now) tells.now)
+        (¬ (IsShareable kind (lines_at request.now) tells.now)) }
+{
+    match kind {
+        Kind::Shared => {
+            !tells.private
+                && (!has_authorization(request)
+                    || tells.must_revalidate
+                    || tells.public
+                    || tells.s_max_age.is_some())
+        }
+        Kind::Private => true,
+    }
+}
+
+// Whether something in the response marks it as one to store.
+fn is_suited(status: StatusCode, response: &HeaderMap, tells: &Directives, kind: Kind) -> bool
+    ensures { MatchBool result (IsSuited kind status (lines_at response.now) tells.now)
+        (¬ (IsSuited kind status (lines_at response.now) tells.now)) }
+{
+    tells.public
+        || (tells.private && kind == Kind::Private)
+        || has_expires(response)
+        || tells.max_age.is_some()
+        || (tells.s_max_age.is_some() && kind == Kind::Shared)
+        || is_heuristic(status)
+}

@@ -1,0 +1,157 @@
+//! The calls of the cache policy.
+use headers::apply;
+use headers_cache_policy::{
+    Freshness, Kind, Times, current_age, decide, decide_by, decide_matched, decide_unstored,
+    freshening_steps, heuristic_lifetime, lifetime, matches, may_store, validation_steps,
+};
+use headers_rows::{Answer, Arguments, Calls, Failure};
+use http::{Method, StatusCode};
+
+// The next word, as a kind of cache.
+fn kind(arguments: &mut Arguments<'_>) -> Result<Kind, Failure> {
+    match arguments.word()? {
+        "shared" => Ok(Kind::Shared),
+        "private" => Ok(Kind::Private),
+        _ => Err(Failure::NoCall),
+    }
+}
+
+// The next word, as a status.
+fn status(arguments: &mut Arguments<'_>) -> Result<StatusCode, Failure> {
+    let code = u16::try_from(arguments.number()?).map_err(|_| Failure::NoCall)?;
+    StatusCode::from_u16(code).map_err(|_| Failure::NoCall)
+}
+
+// The next three words, as the times of a request and of its response, and the present.
+fn times(arguments: &mut Arguments<'_>) -> Result<Times, Failure> {
+    Ok(Times {
+        request: arguments.number()?,
+        response: arguments.number()?,
+        now: arguments.number()?,
+    })
+}
+
+// KIND METHOD STATUS REQUEST RESPONSE: whether it may be stored.
+fn call_may_store(arguments: &mut Arguments<'_>, answer: &mut Answer) -> Result<(), Failure> {
+    let alloc = arguments.alloc();
+    let kind = kind(arguments)?;
+    let method = Method::from_bytes(alloc, &arguments.bytes()?)?;
+    let status = status(arguments)?;
+    let (request, response) = (arguments.map()?, arguments.map()?);
+    Ok(answer.word(may_store(alloc, &method, &request, status, &response, kind)?)?)
+}
+
+// KIND RECEIVED RESPONSE: for how long it is fresh.
+fn call_lifetime(arguments: &mut Arguments<'_>, answer: &mut Answer) -> Result<(), Failure> {
+    let alloc = arguments.alloc();
+    let kind = kind(arguments)?;
+    let received = arguments.number()?;
+    let response = arguments.map()?;
+    Ok(answer.option(lifetime(alloc, &response, received, kind)?)?)
+}
+
+// KIND STATUS RECEIVED RESPONSE: for how long it may be taken as fresh.
+fn call_heuristic(arguments: &mut Arguments<'_>, answer: &mut Answer) -> Result<(), Failure> {
+    let alloc = arguments.alloc();
+    let kind = kind(arguments)?;
+    let status = status(arguments)?;
+    let received = arguments.number()?;
+    let response = arguments.map()?;
+    Ok(answer.option(heuristic_lifetime(alloc, status, &response, received, kind)?)?)
+}
+
+// REQUESTED RECEIVED NOW RESPONSE: how old it is.
+fn call_age(arguments: &mut Arguments<'_>, answer: &mut Answer) -> Result<(), Failure> {
+    let times = times(arguments)?;
+    let response = arguments.map()?;
+    Ok(answer.word(current_age(arguments.alloc(), &response, times))?)
+}
+
+// STORED REQUEST RESPONSE: whether the response to the stored request may answer the other one.
+fn call_matches(arguments: &mut Arguments<'_>, answer: &mut Answer) -> Result<(), Failure> {
+    let alloc = arguments.alloc();
+    let (stored, request) = (arguments.map()?, arguments.map()?);
+    let response = arguments.map()?;
+    Ok(answer.word(matches(alloc, &stored, &request, &response)?)?)
+}
+
+// KIND REQUESTED RECEIVED NOW REQUEST RESPONSE: what is done.
+fn call_decide_matched(arguments: &mut Arguments<'_>, answer: &mut Answer) -> Result<(), Failure> {
+    let alloc = arguments.alloc();
+    let kind = kind(arguments)?;
+    let times = times(arguments)?;
+    let (request, response) = (arguments.map()?, arguments.map()?);
+    let decision = decide_matched(alloc, &request, &response, times, kind)?;
+    Ok(answer.word(format_args!("{decision:?}"))?)
+}
+
+// KIND REQUESTED RECEIVED NOW STORED REQUEST RESPONSE: what is done.
+fn call_decide(arguments: &mut Arguments<'_>, answer: &mut Answer) -> Result<(), Failure> {
+    let alloc = arguments.alloc();
+    let kind = kind(arguments)?;
+    let times = times(arguments)?;
+    let (stored, request) = (arguments.map()?, arguments.map()?);
+    let response = arguments.map()?;
+    let decision = decide(alloc, &stored, &request, &response, times, kind)?;
+    Ok(answer.word(format_args!("{decision:?}"))?)
+}
+
+// REQUEST: what is done if nothing is stored.
+fn call_unstored(arguments: &mut Arguments<'_>, answer: &mut Answer) -> Result<(), Failure> {
+    let request = arguments.map()?;
+    let decision = decide_unstored(arguments.alloc(), &request)?;
+    Ok(answer.word(format_args!("{decision:?}"))?)
+}
+
+// REQUEST RESPONSE: the request that validates the response.
+fn call_validation(arguments: &mut Arguments<'_>, answer: &mut Answer) -> Result<(), Failure> {
+    let (mut request, response) = (arguments.map()?, arguments.map()?);
+    apply(
+        &mut request,
+        validation_steps(arguments.alloc(), &response)?,
+    )
+    .map_err(|_| Failure::Memory)?;
+    answer.map(&request)
+}
+
+// STORED UPDATE: the stored fields after the update.
+fn call_freshening(arguments: &mut Arguments<'_>, answer: &mut Answer) -> Result<(), Failure> {
+    let (mut stored, update) = (arguments.map()?, arguments.map()?);
+    apply(&mut stored, freshening_steps(arguments.alloc(), &update)?).map_err(|_| Failure::Memory)?;
+    answer.map(&stored)
+}
+
+// KIND LIFETIME AGE REQUEST RESPONSE: what is done.
+fn call_decide_by(arguments: &mut Arguments<'_>, answer: &mut Answer) -> Result<(), Failure> {
+    let alloc = arguments.alloc();
+    let kind = kind(arguments)?;
+    let freshness = Freshness {
+        lifetime: arguments.number()?,
+        age: arguments.number()?,
+    };
+    let (request, response) = (arguments.map()?, arguments.map()?);
+    let decision = decide_by(alloc, &request, &response, freshness, kind)?;
+    Ok(answer.word(format_args!("{decision:?}"))?)
+}
+
+/// Makes the calls of the cache policy.
+pub struct CachePolicy;
+
+impl Calls for CachePolicy {
+    fn make(name: &str, arguments: &mut Arguments<'_>, answer: &mut Answer) -> Result<(), Failure> {
+        match name {
+            "may_store" => call_may_store(arguments, answer),
+            "lifetime" => call_lifetime(arguments, answer),
+            "heuristic_lifetime" => call_heuristic(arguments, answer),
+            "current_age" => call_age(arguments, answer),
+            "matches" => call_matches(arguments, answer),
+            "decide" => call_decide(arguments, answer),
+            "decide_matched" => call_decide_matched(arguments, answer),
+            "decide_unstored" => call_unstored(arguments, answer),
+            "validation_steps" => call_validation(arguments, answer),
+            "freshening_steps" => call_freshening(arguments, answer),
+            "decide_by" => call_decide_by(arguments, answer),
+            _ => Err(Failure::NoCall),
+        }
+    }
+}
