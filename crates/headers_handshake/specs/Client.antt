@@ -1,0 +1,61 @@
+-- What a client finds in the response to its opening handshake (RFC 6455, section 4.1, the last list).
+use Rattle.std.specs.Prelude.{◌≡◌, ℕ, Some, IsSomeAnd, codes}
+use Rattle.http_header.specs.Token.{lowercase}
+use Rattle.websocket.specs.Handshake.{accept_key_of}
+use Rattle.headers.specs.LineMap.{LineMap}
+use Rattle.headers.specs.Lines.{Line, only_line}
+use Rattle.headers_handshake.specs.Fields.{ListsUpgrade}
+use Rattle.headers_handshake.specs.Offers.{UsesAskedExtensions, UsesAskedProtocol}
+use Rattle.headers_handshake.specs.Rules.{IsFirstBroken, KeepsAll}
+use Rattle.headers_handshake.specs.declared.client.Checked.{Checked}
+use Rattle.headers_handshake.specs.declared.client.Checked.TheVariants.{Open, Fail}
+use Rattle.headers_handshake.specs.declared.client.Flaw.{Flaw}
+use Rattle.headers_handshake.specs.declared.client.Flaw.TheVariants.{NotSwitched, NoUpgrade, NoConnection, WrongAccept}
+use Rattle.headers_handshake.specs.declared.client.Flaw.TheVariants.{UnaskedExtension, UnaskedProtocol}
+
+-- 1: the status is 101
+abbrev pub IsSwitched : ℕ → Type 0
+IsSwitched status = status ≡ 101
+
+-- 2: the only line of Upgrade is `websocket`, but for the case of ASCII letters
+abbrev pub NamesWebsocket : LineMap → Type 0
+NamesWebsocket response =
+    IsSomeAnd (only_line (response (codes "upgrade"))) (λ line. lowercase line ≡ codes "websocket")
+
+-- the only line of Sec-WebSocket-Key that was sent is this one
+abbrev pub SendsKey : LineMap → Line → Type 0
+SendsKey sent key = only_line (sent (codes "sec-websocket-key")) ≡ Some key
+
+-- 4: the only line of Sec-WebSocket-Accept is what the key that was sent calls for
+pub record AcceptsKey (sent response : LineMap) : Type 0 where
+  pub key : Line
+  pub sends : SendsKey sent key
+  pub accepts : only_line (response (codes "sec-websocket-accept")) ≡ Some (accept_key_of key)
+
+-- the place of each rule in their order
+abbrev pub flaw_number : Flaw → ℕ
+flaw_number NotSwitched = 0
+flaw_number NoUpgrade = 1
+flaw_number NoConnection = 2
+flaw_number WrongAccept = 3
+flaw_number UnaskedExtension = 4
+flaw_number UnaskedProtocol = 5
+
+module _ (sent : LineMap) (status : ℕ) (response : LineMap) where
+  -- the rule that each flaw breaks
+  abbrev pub Rule : Flaw → Type 0
+  Rule NotSwitched = IsSwitched status
+  Rule NoUpgrade = NamesWebsocket response
+  Rule NoConnection = ListsUpgrade response
+  Rule WrongAccept = AcceptsKey sent response
+  Rule UnaskedExtension = UsesAskedExtensions sent response
+  Rule UnaskedProtocol = UsesAskedProtocol sent response
+
+  -- the response opens the connection: it keeps all rules
+  abbrev pub IsOpened : Type 0
+  IsOpened = KeepsAll flaw_number Rule
+
+  -- which facts give each result
+  abbrev pub Checks : Checked → Type 0
+  Checks Open = IsOpened
+  Checks (Fail flaw) = IsFirstBroken flaw_number Rule flaw

@@ -1,0 +1,12 @@
+//! The opening handshake of a WebSocket, both ends: what a server answers to a request, and whether
+//! a client takes the response (RFC 6455, sections 4.1 and 4.2).
+#![tactic(auto)]
+
+mod client;
+mod fields;
+pub mod laws;
+mod offers;
+mod server;
+
+pub use crate::client::{Checked, Flaw, check, request};
+pub use crate::server::{Answer, Fault, accept};
