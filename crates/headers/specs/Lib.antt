@@ -25,6 +25,7 @@ pub use Rattle.headers_cors.specs.AccessControlAllowOrigin
 pub use Rattle.headers_cors.specs.AccessControlRequestMethod
 pub use Rattle.headers_hosts.specs.Host
 pub use Rattle.headers_hosts.specs.Origin
+pub use Rattle.headers_items.specs.ItemsState
 pub use Rattle.headers_items.specs.Merge
 pub use Rattle.headers_items.specs.Places
 pub use Rattle.headers_map.specs.Canonical
