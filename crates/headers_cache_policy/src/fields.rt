@@ -1,12 +1,13 @@
 //! The fields that a cache reads.
-ghost use Rattle.std.specs.Prelude.{◌≡◌, ◌∷◌, [], codes};
+ghost use Rattle.std.specs.Prelude.{◌≡◌, ◌∷◌, [], IfOk, codes};
 ghost use Rattle.std.specs.Bool.{MatchBool};
+ghost use Rattle.http_header.specs.HeaderMap.{get_all};
 ghost use Rattle.headers.specs.LineMap.{lines_at};
 ghost use Rattle.headers_cache_policy.specs.Fields.{IsPresent, age_of, age_value, date_in, dated, delta_seconds};
 
 use headers::{Date, HeaderMap, HeaderMapExt, HeaderValue, LastModified, trim};
-use http_header::{AGE, AUTHORIZATION, EXPIRES};
-use std::alloc::Global;
+use http_header::{AGE, AUTHORIZATION, AsHeaderName, EXPIRES};
+use std::alloc::{AllocError, Global};
 
 // The number of seconds that a text writes. One past the greatest counts as that.
 pub(crate) fn delta_seconds(text: &[u8]) -> Option<u64>
@@ -90,4 +91,20 @@ pub(crate) fn has_expires(response: &HeaderMap) -> bool
         (¬ (IsPresent (codes "expires") (lines_at response.now))) }
 {
     response.get_all(EXPIRES).iter().next().is_some()
+}
+
+// Copies of the values under a name.
+pub(crate) fn values_at<K: AsHeaderName>(
+    alloc: Global,
+    map: &HeaderMap,
+    name: K,
+) -> Result<Vec<HeaderValue>, AllocError>
+    ensures { IfOk result (λ values. values.items ≡ get_all map.now (K.name name)) }
+{
+    let mut values = Vec::new(alloc);
+    for value in map.get_all(name).iter() {
+        let copy = value.clone()?;
+        values.push(copy)?;
+    }
+    Ok(values)
 }

@@ -1,13 +1,11 @@
 //! What a 304 changes of a stored response.
 ghost use Rattle.std.specs.Prelude.{◌≡◌, IfOk, OnOk, codes};
-ghost use Rattle.http_header.specs.HeaderMap.{get_all};
 ghost use Rattle.headers.specs.LineMap.{lines_at};
 ghost use Rattle.headers_cache_policy.specs.Freshening.{AddsField, Freshens, PutsLines, is_kept_by, is_kept_name};
 ghost use Rattle.headers_cache_policy.specs.Freshening.{is_member, list_in};
 
-use headers::{
-    Connection, Encoded, HeaderMap, HeaderMapExt, HeaderName, HeaderValue, Refused, Step,
-};
+use crate::fields::values_at;
+use headers::{Connection, Encoded, HeaderMap, HeaderMapExt, HeaderName, Refused, Step};
 use std::alloc::{AllocError, Global};
 
 /// The steps over a stored response's map by which a 304 freshens it (RFC 9111, sections 3.2 and
@@ -92,23 +90,7 @@ fn is_kept_name(name: &HeaderName) -> bool
 fn field_step(alloc: Global, update: &HeaderMap, name: &HeaderName) -> Result<Step, AllocError>
     ensures { IfOk result (PutsLines name.now (lines_at update.now name.now)) }
 {
-    let lines = field_lines(alloc, update, name)?;
+    let lines = values_at(alloc, update, name)?;
     let name = name.clone()?;
     Ok(Step::Put(Encoded { name, lines }))
-}
-
-// Copies of the values of a field.
-fn field_lines(
-    alloc: Global,
-    update: &HeaderMap,
-    name: &HeaderName,
-) -> Result<Vec<HeaderValue>, AllocError>
-    ensures { IfOk result (λ lines. lines.items ≡ get_all update.now name.now) }
-{
-    let mut lines = Vec::new(alloc);
-    for line in update.get_all(name).iter() {
-        let copy = line.clone()?;
-        lines.push(copy)?;
-    }
-    Ok(lines)
 }
