@@ -4,11 +4,14 @@ ghost use Rattle.std.specs.Cmp.Lexicographic.{slice_cmp};
 ghost use Rattle.std.specs.Hash as fed;
 ghost use Rattle.std.specs.Hash.DefaultHasher as sip;
 ghost use Rattle.std.specs.Ordering.{nat_cmp};
+ghost use Rattle.headers.specs.Host.{host_bytes};
+ghost use Rattle.http_header.specs.Token.{lowercase};
 
 use crate::rows::decoded;
 use headers::{
-    AccessControlMaxAge, Age, CacheControl, ContentLength, ContentRange, ContentType, Date,
-    Location, ReferrerPolicy, RetryAfter, Server, StrictTransportSecurity,
+    AccessControlAllowOrigin, AccessControlMaxAge, AccessControlRequestMethod, Age, CacheControl,
+    ContentLength, ContentRange, ContentType, Date, Header, Host, Location, Origin, ReferrerPolicy,
+    RetryAfter, SecWebsocketAccept, SecWebsocketKey, Server, StrictTransportSecurity,
 };
 use std::alloc::AllocError;
 use std::cmp::Ordering;
@@ -237,4 +240,61 @@ fn lengths(rt: HostRuntime) -> Result<(), Fail> {
     let length: ContentLength = decoded(&rt, &["5"]);
     assert!(rt; same_length(&length, &ContentLength(5)));
     Ok(())
+}
+
+// Equality and hash of a host ignore the case of ASCII letters.
+fn same_host(one: &Host, other: &Host) -> bool
+    ensures { IsTrue result ↔ (lowercase (host_bytes one.now) ≡ lowercase (host_bytes other.now)) }
+{
+    one == other
+}
+
+fn hash_of_host(host: &Host) -> u64
+    ensures { result ≡ sip.finish (fold sip.write sip.initial (fed.slice fed.u8 (lowercase (host_bytes host.now)))) }
+{
+    let mut state = DefaultHasher::new();
+    host.hash(&mut state);
+    state.finish()
+}
+
+#[test]
+fn hosts(rt: HostRuntime) {
+    let host: Host = decoded(&rt, &["Example.com:80"]);
+    let same: Host = decoded(&rt, &["example.COM:80"]);
+    assert!(rt; same_host(&host, &same));
+    assert_eq!(rt; hash_of_host(&host), hash_of_host(&same));
+}
+
+fn hash_of<T: Hash>(value: &T) -> u64 {
+    let mut state = DefaultHasher::new();
+    value.hash(&mut state);
+    state.finish()
+}
+
+// What one line reads as is equal to what another does, and both have one hash; a third reads as
+// another value, with another hash.
+fn tells_apart<H: Header + Eq + Hash>(rt: &(impl Abort + AllocGlobal), lines: [&str; 3]) -> bool {
+    let [one, same, other] = lines;
+    let one: H = decoded(rt, &[one]);
+    let same: H = decoded(rt, &[same]);
+    let other: H = decoded(rt, &[other]);
+    one == same
+        && hash_of(&one) == hash_of(&same)
+        && one != other
+        && hash_of(&one) != hash_of(&other)
+}
+
+#[test]
+fn hashes_of_names(rt: HostRuntime) {
+    assert!(rt; tells_apart::<Host>(&rt, ["A.b:80", "a.B:80", "a.b"]));
+    assert!(rt; tells_apart::<Origin>(&rt, ["http://A.b", "HTTP://a.b", "https://a.b"]));
+    assert!(rt; tells_apart::<AccessControlAllowOrigin>(&rt, ["http://A.b", "http://a.b", "*"]));
+}
+
+#[test]
+fn hashes_of_words(rt: HostRuntime) {
+    assert!(rt; tells_apart::<AccessControlRequestMethod>(&rt, ["PUT", "PUT", "put"]));
+    assert!(rt; tells_apart::<SecWebsocketKey>(&rt, ["a", "a", "A"]));
+    assert!(rt; tells_apart::<SecWebsocketAccept>(&rt, ["a", "a", "A"]));
+    assert!(rt; tells_apart::<ReferrerPolicy>(&rt, ["origin", "ORIGIN", "no-referrer"]));
 }
