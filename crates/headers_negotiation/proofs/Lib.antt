@@ -1,0 +1,5 @@
+pub mod ChoiceLemmas
+pub mod LawLemmas
+pub mod PartLemmas
+pub mod PreferenceLemmas
+pub mod QualityLemmas

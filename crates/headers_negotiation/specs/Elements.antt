@@ -1,0 +1,30 @@
+-- An element of a field: a range, and parameters, of which one may be its weight (RFC 9110, section 12.4.2).
+use Rattle.std.specs.Prelude.{ℕ, List, Option, Some, None}
+use Rattle.std.specs.Option.{option_map}
+use Rattle.headers.specs.Lines.{Line}
+use Rattle.headers.specs.Merge.{merge}
+use Rattle.headers.specs.Places.{comma, items}
+use Rattle.headers_negotiation.specs.Parts.{behind_cut, first_part, parts_left}
+use Rattle.headers_negotiation.specs.Weights.{weight_in}
+use Rattle.headers_negotiation.specs.declared.preference.Preference.{Preference}
+
+-- the elements in the lines of a field, which are one list
+abbrev pub elements_of : List Line → List (List ℕ)
+elements_of lines = items comma (merge comma lines)
+
+-- the range of an element, and the type and subtype of a media type: the first part
+abbrev pub range_of : List ℕ → List ℕ
+range_of element = first_part element
+
+-- the parameters: the other parts
+unfoldable pub parameters : List ℕ → List (List ℕ)
+parameters element = parts_left (behind_cut element)
+
+-- the weight of an element, in thousandths, if it can be read
+unfoldable pub weight_of : List ℕ → Option ℕ
+weight_of element = weight_in (parameters element)
+
+-- what an element with this range says of an offer; an element whose weight can't be read says nothing
+abbrev pub weighted : List ℕ → ℕ → ℕ → Option Preference
+weighted element names extent =
+    option_map (λ (quality : ℕ). record { names = names; extent = extent; quality = quality }) (weight_of element)

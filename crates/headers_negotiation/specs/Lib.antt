@@ -1,0 +1,12 @@
+pub mod Choice
+pub mod Codings
+pub mod Elements
+pub mod Identity
+pub mod Languages
+pub mod MediaRanges
+pub mod Names
+pub mod Parts
+pub mod Preferences
+pub mod PreferencesLaws
+pub mod Quality
+pub mod Weights
