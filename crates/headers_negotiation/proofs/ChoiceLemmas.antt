@@ -1,7 +1,7 @@
 -- The first of the offers of the greatest quality.
 use Rattle.std.proofs.Common.{◌≡◌, ℕ, zero, suc, ◌+◌, ◌<◌, ◌≤◌, Bool, true, false, List, [], ◌∷◌, length, get_or, Option}
 use Rattle.std.proofs.Common.{Some, None, inl, inr, refl, sym, ◌∙◌, ap, subst, arith}
-use Rattle.std.specs.Prelude.{MatchOption, All, nat_lt, filter_map, if◌then◌else◌}
+use Rattle.std.specs.Prelude.{MatchOption, nat_lt, filter_map, if◌then◌else◌}
 use Rattle.std.proofs.lemmas.Bool.{cases_order, ltb-false, ltb-true}
 use Rattle.http_header.specs.FieldValue.{FieldValue}
 use Rattle.headers.specs.HeaderLaws.{ReadsBy}
@@ -109,7 +109,9 @@ module _ (quality : List ℕ → ℕ) (offers : List FieldValue) where
             within = l.within;
             quality = leader.quality;
             acceptable = l.positive;
-            has = λ other. subst (Quality (get_or offers place other).bytes) (l.has other) (is (get_or offers place other).bytes);
+            has = λ other.
+                let bytes : List ℕ = (get_or offers place other).bytes in
+                subst (Quality bytes) (l.has other) (is bytes);
             greatest = λ k other low q has.
                 omega (arith, only (get_or offers k other).bytes q has, h.bound k other low);
             first = λ k q other low has.

@@ -1,6 +1,6 @@
 -- One quality, one choice, and what excludes `identity`.
-use Rattle.std.proofs.Common.{◌≡◌, ◌⊎◌, ℕ, zero, suc, ◌<◌, ◌≤◌, Bool, true, false, List, [], ◌∷◌, length, get_or, Option}
-use Rattle.std.proofs.Common.{Some, None, inl, inr, refl, sym, ◌∙◌, ap, subst, arith, codes}
+use Rattle.std.proofs.Common.{◌≡◌, ℕ, zero, suc, ◌<◌, ◌≤◌, Bool, true, false, List, [], ◌∷◌, length, Option}
+use Rattle.std.proofs.Common.{Some, None, inl, inr, refl, sym, ◌∙◌, ap, arith, codes}
 use Rattle.std.specs.Prelude.{Any, Contains, filter_map, bytes_eq, if◌then◌else◌}
 use Rattle.std.specs.List.{cons_option}
 use Rattle.std.specs.Option.{option_map}
@@ -23,9 +23,10 @@ use Rattle.headers_negotiation.proofs.QualityLemmas.{has_quality_by, one_quality
 module _ (says : List ℕ → List ℕ → Option Preference) (unlisted : List ℕ → ℕ) where
   pub some_quality_in : (lines : List Line) (offer : List ℕ) → (q : ℕ) × QualityIn says unlisted lines offer q
   some_quality_in [] offer = (1000, refl)
-  some_quality_in (line ∷ lines) offer =
-      (quality_by (says offer) (unlisted offer) (elements_of (line ∷ lines)),
-      has_quality_by (says offer) (unlisted offer) (elements_of (line ∷ lines)))
+  some_quality_in (line ∷ lines) offer = (
+    quality_by (says offer) (unlisted offer) (elements_of (line ∷ lines)),
+    has_quality_by (says offer) (unlisted offer) (elements_of (line ∷ lines)),
+  )
 
   pub one_quality_in : (lines : List Line) (offer : List ℕ) (q r : ℕ) → QualityIn says unlisted lines offer q
       → QualityIn says unlisted lines offer r → q ≡ r

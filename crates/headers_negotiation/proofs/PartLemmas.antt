@@ -87,8 +87,12 @@ parts_behind_fit text = by (nat_lt (piece_len false text) (length text)) refl
         → length (parts_left (if more then Some (drop (piece_len false text + 1) text) else None)) ≤ length text
     by true e =
         let low : piece_len false text < length text = ltb-true (piece_len false text) (length text) e in
-        omega (arith, length-map (pieces false (drop (piece_len false text + 1) text)) trim,
-        length-pieces false (drop (piece_len false text + 1) text), length-drop (piece_len false text + 1) text)
+        omega (
+          arith,
+          length-map (pieces false (drop (piece_len false text + 1) text)) trim,
+          length-pieces false (drop (piece_len false text + 1) text),
+          length-drop (piece_len false text + 1) text,
+        )
     by false e = omega arith
 
 -- what a walk over parts has left

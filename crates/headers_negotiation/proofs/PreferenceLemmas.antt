@@ -1,7 +1,7 @@
 -- The order of what elements say, and the strongest of a list.
 use Rattle.std.proofs.Common.{◌≡◌, ◌⊎◌, ℕ, zero, suc, ◌<◌, ◌≤◌, Bool, true, false, List, [], ◌∷◌, length, Option, Some}
-use Rattle.std.proofs.Common.{None, inl, inr, refl, sym, ◌∙◌, ap, subst, arith}
-use Rattle.std.specs.Prelude.{MatchOption, All, Contains, nat_lt, ◌==◌, ◌&&◌, ◌||◌, if◌then◌else◌}
+use Rattle.std.proofs.Common.{None, inl, inr, refl, sym, ◌∙◌, ap, arith}
+use Rattle.std.specs.Prelude.{MatchOption, Contains, nat_lt, ◌==◌, ◌&&◌, if◌then◌else◌}
 use Rattle.std.specs.List.{fold}
 use Rattle.std.proofs.lemmas.Bool.{and_cases, and_parts, cases_order, eqb-false, eqb-true, ltb-false, ltb-true}
 use Rattle.std.proofs.lemmas.Bool.{or_cases, or_parts}

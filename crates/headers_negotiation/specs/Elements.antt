@@ -1,5 +1,5 @@
 -- An element of a field: a range, and parameters, of which one may be its weight (RFC 9110, section 12.4.2).
-use Rattle.std.specs.Prelude.{ℕ, List, Option, Some, None}
+use Rattle.std.specs.Prelude.{ℕ, List, Option}
 use Rattle.std.specs.Option.{option_map}
 use Rattle.headers.specs.Lines.{Line}
 use Rattle.headers.specs.Merge.{merge}

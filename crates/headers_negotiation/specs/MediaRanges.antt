@@ -1,5 +1,5 @@
 -- What an element of Accept says of a media type (RFC 9110, section 12.5.1).
-use Rattle.std.specs.Prelude.{ℕ, ◌+◌, ◌-◌, Bool, ◌&&◌, ◌||◌, not, ◌==◌, List, [], ◌∷◌, length, take, drop, filter}
+use Rattle.std.specs.Prelude.{ℕ, ◌+◌, ◌-◌, Bool, ◌&&◌, ◌||◌, not, ◌==◌, List, length, take, drop, filter}
 use Rattle.std.specs.Prelude.{Option, Some, None, bytes_eq, codes, is_some, nat_le, slice_index, if◌then◌else◌}
 use Rattle.std.specs.List.{list_all, list_any, position_or_len}
 use Rattle.std.specs.Option.{option_and_then}
@@ -15,7 +15,7 @@ use Rattle.headers_negotiation.specs.declared.preference.Preference.{Preference}
 unfoldable pub before_star : List ℕ → Option (List ℕ)
 before_star range =
     if nat_le 2 (length range) && (slice_index range (length range - 1) == 42
-        && slice_index range (length range - 2) == 47)
+    && slice_index range (length range - 2) == 47)
     then Some (take (length range - 1) range) else None
 
 -- how many names of a type and a subtype a range gives, where it gives the type alone, or both

@@ -1,5 +1,5 @@
 -- The parts of a text: what stands between its semicolons, but for those in quotes (RFC 9110, section 5.6.6).
-use Rattle.std.specs.Prelude.{ℕ, zero, suc, ◌+◌, Bool, false, ◌&&◌, not, ◌==◌, List, [], ◌∷◌, map, length, take, drop}
+use Rattle.std.specs.Prelude.{ℕ, suc, ◌+◌, Bool, false, ◌&&◌, not, ◌==◌, List, [], ◌∷◌, map, length, take, drop}
 use Rattle.std.specs.Prelude.{Option, Some, None, nat_lt, if◌then◌else◌}
 use Rattle.std.specs.List.{onto_first}
 use Rattle.headers.specs.Places.{semicolon}

@@ -1,7 +1,9 @@
 //! Media types.
 ghost use Rattle.std.specs.Prelude.{◌≡◌, ◌≤◌, length};
 ghost use Rattle.std.specs.Option.{option_copied};
-ghost use Rattle.headers_negotiation.specs.MediaRanges.{before_star, has_parameter, has_parameters_of, is_of_range, is_same_parameter, name_len, names_given, parameter_count, unquoted, value_of};
+ghost use Rattle.headers_negotiation.specs.MediaRanges.{before_star, has_parameter, has_parameters_of, is_of_range};
+ghost use Rattle.headers_negotiation.specs.MediaRanges.{is_same_parameter, name_len, names_given, parameter_count};
+ghost use Rattle.headers_negotiation.specs.MediaRanges.{unquoted, value_of};
 
 use crate::element::{parameters, range_of, weighted};
 use crate::names::{begins_with, is_same};

@@ -2,7 +2,8 @@
 ghost use Rattle.std.specs.Prelude.{◌≡◌, ◌≤◌, ◌<◌, ◌^◌, Some, false, length};
 ghost use Rattle.std.specs.Iterator.{YieldsFirstRef, item_count};
 ghost use Rattle.std.specs.Option.{option_copied};
-ghost use Rattle.headers_negotiation.specs.Parts.{behind_cut, first_part, is_cut, is_open_behind, parts_left, piece_len};
+ghost use Rattle.headers_negotiation.specs.Parts.{behind_cut, first_part, is_cut, is_open_behind, parts_left};
+ghost use Rattle.headers_negotiation.specs.Parts.{piece_len};
 
 use headers::trim;
 

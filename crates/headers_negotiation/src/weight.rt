@@ -2,7 +2,8 @@
 ghost use Rattle.std.specs.Prelude.{◌≡◌, ◌≤◌, IfSome};
 ghost use Rattle.std.specs.Option.{option_copied};
 ghost use Rattle.headers_negotiation.specs.Parts.{parts_left};
-ghost use Rattle.headers_negotiation.specs.Weights.{after_letter, decimals, digit_at, fraction, qvalue, weight_in, weight_text};
+ghost use Rattle.headers_negotiation.specs.Weights.{after_letter, decimals, digit_at, fraction, qvalue, weight_in};
+ghost use Rattle.headers_negotiation.specs.Weights.{weight_text};
 
 use crate::parts::Parts;
 

@@ -1,4 +1,4 @@
-use Rattle.std.proofs.Common.{◌≡◌, ℕ, ◌+◌, List, length, sym, ◌∙◌, ap, subst, arith}
+use Rattle.std.proofs.Common.{◌≡◌, ℕ, ◌+◌, List, length, sym, subst, arith}
 use Rattle.headers.specs.Places.{comma, items}
 use Rattle.headers_negotiation.specs.Preferences.{led, quality_by}
 use Rattle.headers_negotiation.specs.declared.choice.Leader.{Leader}
@@ -16,10 +16,9 @@ loop-place-preserved g c =
     let quality = λ (offer : List ℕ). quality_by (g.D.Dimension.says offer) (g.D.Dimension.unlisted offer)
     (items comma c.args.self.now) in
     let offer = c.index-offers-place.result in
+    let same : c.quality_by.result ≡ quality offer.bytes = rw (← c.as_bytes.ensures.value) c.quality_by.ensures in
     let is : c.led-leader.result ≡ led c.loop-place.leader c.loop-place.place (quality offer.bytes) =
-    c.led-leader.ensures
-    ∙ ap (λ (q : ℕ). led c.loop-place.leader c.loop-place.place q)
-    (c.quality_by.ensures ∙ ap quality c.as_bytes.ensures.value) in
+    rw (← same) c.led-leader.ensures in
     subst (λ (leader : Leader). IsLeading quality c.args.offers.now (c.loop-place.place + 1) leader) (sym is)
     (leading_on quality c.args.offers.now c.loop-place.place offer c.loop-place-test.true c.index-offers-place.is
     c.loop-place.leader c.loop-place.invariant)
