@@ -1,4 +1,5 @@
 pub mod ChoiceLemmas
+pub mod CountingLemmas
 pub mod LawLemmas
 pub mod PartLemmas
 pub mod PreferenceLemmas

@@ -7,14 +7,20 @@ use Rattle.std.specs.Option.{option_copied}
 use Rattle.std.proofs.lemmas.Bool.{cases_lt, le-ltb, lt-ltb, ltb-true}
 use Rattle.std.proofs.lemmas.List.{length-map}
 use Rattle.headers.specs.Text.{trim}
-use Rattle.headers_negotiation.specs.Parts.{behind_cut, first_part, is_cut, is_open_behind, parts, parts_left}
-use Rattle.headers_negotiation.specs.Parts.{piece_len, pieces}
+use Rattle.headers_negotiation.specs.Elements.{first_of, others_of, parameters, parts, range_of}
+use Rattle.headers_negotiation.specs.Parts.{behind_cut, first_part, is_cut, is_open_behind, parts_left, piece_len}
 use Rattle.headers_negotiation.specs.declared.parts.Parts.{Parts}
+use Rattle.headers_negotiation.proofs.CountingLemmas.{cuts, pieces_by_pass}
+
+-- the parts are those of one pass
+parts_by_pass : (text : List ℕ) → parts text ≡ map trim (cuts false text)
+unfolding parts
+parts_by_pass text = ap (λ (ps : List (List ℕ)). map trim ps) (pieces_by_pass text)
 
 -- the pieces behind a cut, if there is one
-abbrev pieces_behind : Bool → List ℕ → List (List ℕ)
-pieces_behind true s = pieces false s
-pieces_behind false s = []
+abbrev cuts_behind : Bool → List ℕ → List (List ℕ)
+cuts_behind true s = cuts false s
+cuts_behind false s = []
 
 lt-suc : (m n : ℕ) → nat_lt (suc m) (suc n) ≡ nat_lt m n
 lt-suc m n =
@@ -24,63 +30,73 @@ lt-suc m n =
     ]
 
 -- the first piece and the others
-cut_pieces : (is_open : Bool) (s : List ℕ)
-    → pieces is_open s
+cuts_from_front : (is_open : Bool) (s : List ℕ)
+    → cuts is_open s
     ≡ take (piece_len is_open s) s
-    ∷ pieces_behind (nat_lt (piece_len is_open s) (length s)) (drop (piece_len is_open s + 1) s)
-cut_pieces is_open [] = refl
-cut_pieces is_open (b ∷ s) = by (is_cut is_open b) (is_open_behind is_open b) (cut_pieces (is_open_behind is_open b) s)
+    ∷ cuts_behind (nat_lt (piece_len is_open s) (length s)) (drop (piece_len is_open s + 1) s)
+cuts_from_front is_open [] = refl
+cuts_from_front is_open (b ∷ s) = by (is_cut is_open b) (is_open_behind is_open b) (cuts_from_front (is_open_behind is_open b) s)
   where
     by : (cut later : Bool)
-        → pieces later s
+        → cuts later s
         ≡ take (piece_len later s) s
-        ∷ pieces_behind (nat_lt (piece_len later s) (length s)) (drop (piece_len later s + 1) s)
-        → (if cut then [] ∷ pieces false s else onto_first b (pieces later s))
+        ∷ cuts_behind (nat_lt (piece_len later s) (length s)) (drop (piece_len later s + 1) s)
+        → (if cut then [] ∷ cuts false s else onto_first b (cuts later s))
         ≡ take (if cut then 0 else suc (piece_len later s)) (b ∷ s)
-        ∷ pieces_behind (nat_lt (if cut then 0 else suc (piece_len later s)) (suc (length s)))
+        ∷ cuts_behind (nat_lt (if cut then 0 else suc (piece_len later s)) (suc (length s)))
         (drop ((if cut then 0 else suc (piece_len later s)) + 1) (b ∷ s))
     by true later ih =
         let shorter : nat_lt 0 (suc (length s)) ≡ true = lt-ltb 0 (suc (length s)) (omega arith) in
-        ap (λ (t : Bool). [] ∷ pieces_behind t s) (sym shorter)
+        ap (λ (t : Bool). [] ∷ cuts_behind t s) (sym shorter)
     by false later ih =
         let n : ℕ = piece_len later s in
         let next : suc (n + 1) ≡ suc n + 1 = omega arith in
         ap (onto_first b) ih
-        ∙ (ap (λ (t : Bool). (b ∷ take n s) ∷ pieces_behind t (drop (n + 1) s)) (sym (lt-suc n (length s)))
-        ∙ ap (λ (k : ℕ). (b ∷ take n s) ∷ pieces_behind (nat_lt (suc n) (suc (length s))) (drop k (b ∷ s))) next)
+        ∙ (ap (λ (t : Bool). (b ∷ take n s) ∷ cuts_behind t (drop (n + 1) s)) (sym (lt-suc n (length s)))
+        ∙ ap (λ (k : ℕ). (b ∷ take n s) ∷ cuts_behind (nat_lt (suc n) (suc (length s))) (drop k (b ∷ s))) next)
 
 -- so a text is its first part and what stands behind the first cut
 pub first_of_parts : (text : List ℕ) → parts text ≡ first_part text ∷ parts_left (behind_cut text)
-unfolding parts behind_cut
+unfolding behind_cut
 first_of_parts text =
-    ap (λ (ps : List (List ℕ)). map trim ps) (cut_pieces false text)
+    parts_by_pass text
+    ∙ (ap (λ (ps : List (List ℕ)). map trim ps) (cuts_from_front false text)
     ∙ ap (λ (ps : List (List ℕ)). first_part text ∷ ps)
-    (behind (nat_lt (piece_len false text) (length text)) (drop (piece_len false text + 1) text))
+    (behind (nat_lt (piece_len false text) (length text)) (drop (piece_len false text + 1) text)))
   where
     behind : (more : Bool) (s : List ℕ)
-        → map trim (pieces_behind more s) ≡ parts_left (if more then Some s else None)
-    behind true s = refl
+        → map trim (cuts_behind more s) ≡ parts_left (if more then Some s else None)
+    behind true s = sym (parts_by_pass s)
     behind false s = refl
+
+-- the range is the first part, and the parameters stand behind it
+pub range_is_first_part : (element : List ℕ) → range_of element ≡ first_part element
+unfolding range_of
+range_is_first_part element = ap first_of (first_of_parts element)
+
+pub parameters_stand_behind : (element : List ℕ) → parameters element ≡ parts_left (behind_cut element)
+unfolding parameters
+parameters_stand_behind element = ap others_of (first_of_parts element)
 
 length-onto_first : (b : ℕ) (ps : List (List ℕ)) → length (onto_first b ps) ≤ suc (length ps)
 length-onto_first b [] = omega arith
 length-onto_first b (p ∷ ps) = omega arith
 
 -- no text has more pieces than bytes and one
-length-pieces : (is_open : Bool) (s : List ℕ) → length (pieces is_open s) ≤ suc (length s)
-length-pieces is_open [] = omega arith
-length-pieces is_open (b ∷ s) =
-    by (is_cut is_open b) (is_open_behind is_open b) (length-pieces false s)
-    (length-pieces (is_open_behind is_open b) s)
+length-cuts : (is_open : Bool) (s : List ℕ) → length (cuts is_open s) ≤ suc (length s)
+length-cuts is_open [] = omega arith
+length-cuts is_open (b ∷ s) =
+    by (is_cut is_open b) (is_open_behind is_open b) (length-cuts false s)
+    (length-cuts (is_open_behind is_open b) s)
   where
-    by : (cut later : Bool) → length (pieces false s) ≤ suc (length s) → length (pieces later s) ≤ suc (length s)
-        → length (if cut then [] ∷ pieces false s else onto_first b (pieces later s)) ≤ suc (suc (length s))
+    by : (cut later : Bool) → length (cuts false s) ≤ suc (length s) → length (cuts later s) ≤ suc (length s)
+        → length (if cut then [] ∷ cuts false s else onto_first b (cuts later s)) ≤ suc (suc (length s))
     by true later h k = omega (arith, h)
-    by false later h k = omega (arith, k, length-onto_first b (pieces later s))
+    by false later h k = omega (arith, k, length-onto_first b (cuts later s))
 
 -- and no more parts stand behind its first cut than it has bytes
 pub parts_behind_fit : (text : List ℕ) → length (parts_left (behind_cut text)) ≤ length text
-unfolding parts behind_cut
+unfolding behind_cut
 parts_behind_fit text = by (nat_lt (piece_len false text) (length text)) refl
   where
     by : (more : Bool) → nat_lt (piece_len false text) (length text) ≡ more
@@ -89,8 +105,9 @@ parts_behind_fit text = by (nat_lt (piece_len false text) (length text)) refl
         let low : piece_len false text < length text = ltb-true (piece_len false text) (length text) e in
         omega (
           arith,
-          length-map (pieces false (drop (piece_len false text + 1) text)) trim,
-          length-pieces false (drop (piece_len false text + 1) text),
+          ap length (parts_by_pass (drop (piece_len false text + 1) text)),
+          length-map (cuts false (drop (piece_len false text + 1) text)) trim,
+          length-cuts false (drop (piece_len false text + 1) text),
           length-drop (piece_len false text + 1) text,
         )
     by false e = omega arith

@@ -1,10 +1,9 @@
 -- An element of a field: a range, and parameters, of which one may be its weight (RFC 9110, section 12.4.2).
-use Rattle.std.specs.Prelude.{ℕ, List, Option}
+use Rattle.std.specs.Prelude.{ℕ, List, [], ◌∷◌, Option}
 use Rattle.std.specs.Option.{option_map}
 use Rattle.headers.specs.Lines.{Line}
 use Rattle.headers.specs.Merge.{merge}
-use Rattle.headers.specs.Places.{comma, items}
-use Rattle.headers_negotiation.specs.Parts.{behind_cut, first_part, parts_left}
+use Rattle.headers.specs.Places.{comma, items, items_from, semicolon}
 use Rattle.headers_negotiation.specs.Weights.{weight_in}
 use Rattle.headers_negotiation.specs.declared.preference.Preference.{Preference}
 
@@ -12,13 +11,25 @@ use Rattle.headers_negotiation.specs.declared.preference.Preference.{Preference}
 abbrev pub elements_of : List Line → List (List ℕ)
 elements_of lines = items comma (merge comma lines)
 
+-- the parts of an element: what stands between its semicolons, but for those in quotes, without the blanks round it
+unfoldable pub parts : List ℕ → List (List ℕ)
+parts element = items_from semicolon element 0
+
+abbrev pub first_of : List (List ℕ) → List ℕ
+first_of [] = []
+first_of (part ∷ others) = part
+
+abbrev pub others_of : List (List ℕ) → List (List ℕ)
+others_of [] = []
+others_of (part ∷ others) = others
+
 -- the range of an element, and the type and subtype of a media type: the first part
-abbrev pub range_of : List ℕ → List ℕ
-range_of element = first_part element
+unfoldable pub range_of : List ℕ → List ℕ
+range_of element = first_of (parts element)
 
 -- the parameters: the other parts
 unfoldable pub parameters : List ℕ → List (List ℕ)
-parameters element = parts_left (behind_cut element)
+parameters element = others_of (parts element)
 
 -- the weight of an element, in thousandths, if it can be read
 unfoldable pub weight_of : List ℕ → Option ℕ

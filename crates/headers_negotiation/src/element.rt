@@ -9,6 +9,7 @@ use crate::preference::Preference;
 use crate::weight::weight_in;
 
 /// The range of an element, and the type and subtype of a media type.
+#[tactic(auto, using(crate::proofs::PartLemmas::range_is_first_part))]
 pub(crate) fn range_of(element: &[u8]) -> &[u8]
     ensures { result.now ≡ range_of element.now }
 {
@@ -16,7 +17,7 @@ pub(crate) fn range_of(element: &[u8]) -> &[u8]
 }
 
 /// The parameters behind it.
-#[tactic(auto, unfolding(crate::specs::Elements::parameters))]
+#[tactic(auto, using(crate::proofs::PartLemmas::parameters_stand_behind))]
 pub(crate) fn parameters(element: &[u8]) -> Parts<'_>
     ensures value { parts_left (option_copied result.rest) ≡ parameters element.now }
     ensures count { length (parts_left (option_copied result.rest)) < 2 ^ 64 }

@@ -1,5 +1,6 @@
 //! What a client prefers in one dimension, and which offer it is served.
 ghost use Rattle.std.specs.Prelude.{◌≡◌, ℕ, List, Option, IfOk};
+ghost use Rattle.http_header.specs.FieldValue.{plain_value};
 ghost use Rattle.headers.specs.LineMap.{lines_at};
 ghost use Rattle.headers.specs.Places.{comma, items};
 ghost use Rattle.headers_negotiation.specs.Choice.{Chooses};
@@ -126,12 +127,12 @@ impl<D: Dimension> Preferences<D> {
         }
     }
 
-    /// What the answer of a negotiation varies by: the name of the field (RFC 9110, section 12.5.5).
-    pub fn vary(alloc: Global) -> Result<Vary, AllocError>
-        ensures { IfOk result (λ vary. vary ≡ D.NAME) }
+    /// What the answer of a negotiation varies by: the name of the field, as a line of Vary that is
+    /// added to those that the response has (RFC 9110, section 12.5.5).
+    pub fn varies_by() -> HeaderValue
+        ensures { result ≡ plain_value D.NAME }
     {
-        let vary = Vary::from_name(alloc, D::NAME)?;
-        Ok(vary)
+        HeaderValue::from_name(D::NAME)
     }
 
     /// A copy of the value.

@@ -45,7 +45,7 @@ fn show_written<D: Dimension>(
     let preferences = decode_values::<Preferences<D>>(alloc, lines.as_slice())?;
     let mut map = HeaderMap::new(alloc);
     map.typed_insert(alloc, preferences)?;
-    map.typed_insert(alloc, Preferences::<D>::vary(alloc)?)?;
+    map.append("vary", Preferences::<D>::varies_by())?;
     answer.map(&map)
 }
 
