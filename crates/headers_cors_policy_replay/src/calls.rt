@@ -27,7 +27,11 @@ fn make_new(arguments: &mut Arguments<'_>, answer: &mut Answer) -> Result<(), Fa
 
 fn read_policy(arguments: &mut Arguments<'_>) -> Result<CorsPolicy, Failure> {
     let rules = read_rules(arguments)?;
-    CorsPolicy::new(arguments.alloc(), rules).map_err(|_| Failure::Refused)
+    match CorsPolicy::new(arguments.alloc(), rules) {
+        Ok(policy) => Ok(policy),
+        Err(RulesError::Memory) => Err(Failure::Memory),
+        Err(_) => Err(Failure::Refused),
+    }
 }
 
 fn read_method(arguments: &mut Arguments<'_>) -> Result<Method, Failure> {
