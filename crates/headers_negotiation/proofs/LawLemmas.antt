@@ -1,8 +1,7 @@
 -- One quality, one choice, and what excludes `identity`.
-use Rattle.std.proofs.Common.{◌≡◌, ℕ, zero, suc, ◌<◌, ◌≤◌, Bool, true, false, List, [], ◌∷◌, length, Option}
+use Rattle.std.proofs.Common.{◌≡◌, ℕ, ◌<◌, ◌≤◌, Bool, true, false, List, [], ◌∷◌, length, Option}
 use Rattle.std.proofs.Common.{Some, None, inl, inr, refl, sym, ◌∙◌, ap, arith, codes}
-use Rattle.std.specs.Prelude.{Any, Contains, filter_map, bytes_eq, if◌then◌else◌}
-use Rattle.std.specs.List.{cons_option}
+use Rattle.std.specs.Prelude.{Any, filter_map, bytes_eq, if◌then◌else◌}
 use Rattle.std.specs.Option.{option_map}
 use Rattle.std.proofs.lemmas.Bool.{cases_order}
 use Rattle.std.proofs.lemmas.Slice.Eq.{bytes_eq-Decides}
@@ -18,7 +17,7 @@ use Rattle.headers_negotiation.specs.Preferences.{first_place, quality_by}
 use Rattle.headers_negotiation.specs.Quality.{QualityBy, QualityIn}
 use Rattle.headers_negotiation.specs.declared.preference.Preference.{Preference}
 use Rattle.headers_negotiation.proofs.ChoiceLemmas.{first_is_chosen}
-use Rattle.headers_negotiation.proofs.QualityLemmas.{has_quality_by, one_quality}
+use Rattle.headers_negotiation.proofs.QualityLemmas.{has_quality_by, one_quality, said_by}
 
 module _ (says : List ℕ → List ℕ → Option Preference) (unlisted : List ℕ → ℕ) where
   pub some_quality_in : (lines : List Line) (offer : List ℕ) → (q : ℕ) × QualityIn says unlisted lines offer q
@@ -74,25 +73,6 @@ takes_first says unlisted offers choice h =
     (first_is_chosen says unlisted [] offers refl)
 
 -- ---- what excludes `identity`
-
-Any-later : {A : Type 0} (P : A → Type 0) (x : A) (xs : List A) → Any P xs → Any P (x ∷ xs)
-Any-later P x xs h = (suc h.0, h.1, omega (arith, h.2), h.3, h.4)
-
--- what is said of an offer, some element says
-said_by : (f : List ℕ → Option Preference) (elements : List (List ℕ)) (p : Preference)
-    → Contains (filter_map f elements) p → Any (λ (element : List ℕ). f element ≡ Some p) elements
-said_by f [] p h = absurd (omega (arith, h.1))
-said_by f (element ∷ elements) p h = by (f element) refl (said_by f elements p) h
-  where
-    by : (said : Option Preference) → f element ≡ said
-        → (Contains (filter_map f elements) p → Any (λ (other : List ℕ). f other ≡ Some p) elements)
-        → Contains (cons_option said (filter_map f elements)) p
-        → Any (λ (other : List ℕ). f other ≡ Some p) (element ∷ elements)
-    by None e later h = Any-later (λ (other : List ℕ). f other ≡ Some p) element elements (later h)
-    by (Some first) e later (zero, low, is) =
-        (0, element, omega arith, refl, e ∙ ap (λ (q : Preference). Some q) is)
-    by (Some first) e later (suc k, low, is) =
-        Any-later (λ (other : List ℕ). f other ≡ Some p) element elements (later (k, omega (arith, low), is))
 
 -- the quality that is said is the weight
 weighs : (element : List ℕ) (names extent : ℕ) (p : Preference) → weighted element names extent ≡ Some p

@@ -1,12 +1,12 @@
 -- The quality of an offer: that it is what is computed, and that there is one.
-use Rattle.std.proofs.Common.{◌≡◌, ℕ, ◌<◌, List, [], length, Option, Some, None, inl, inr, refl, sym, ◌∙◌, ap}
+use Rattle.std.proofs.Common.{◌≡◌, ℕ, zero, suc, ◌<◌, ◌≤◌, List, [], ◌∷◌, length, Option, Some, None, inl, inr, refl, sym, ◌∙◌, ap}
 use Rattle.std.proofs.Common.{arith}
-use Rattle.std.specs.Prelude.{filter_map}
-use Rattle.std.specs.List.{fold}
+use Rattle.std.specs.Prelude.{Any, Contains, filter_map}
+use Rattle.std.specs.List.{cons_option, fold}
 use Rattle.std.specs.Option.{option_map_or}
 use Rattle.std.proofs.lemmas.List.Elements.{All-contains}
 use Rattle.headers_negotiation.specs.Preferences.{quality_by, strongest, stronger}
-use Rattle.headers_negotiation.specs.Quality.{AtMost, HasQuality, IsStrongest}
+use Rattle.headers_negotiation.specs.Quality.{AtMost, HasQuality, IsStrongest, QualityBy, StaysInRange}
 use Rattle.headers_negotiation.specs.declared.preference.Preference.{Preference}
 use Rattle.headers_negotiation.proofs.PreferenceLemmas.{IsBest, best_of_fold, same_quality}
 
@@ -43,3 +43,36 @@ unfolding quality_by strongest
 has_quality_by says unlisted elements =
     has_best (filter_map says elements) unlisted (fold stronger None (filter_map says elements))
     (best_of_fold (filter_map says elements))
+
+Any-later : {A : Type 0} (P : A → Type 0) (x : A) (xs : List A) → Any P xs → Any P (x ∷ xs)
+Any-later P x xs h = (suc h.0, h.1, omega (arith, h.2), h.3, h.4)
+
+-- what is said of an offer, some element says
+pub said_by : (f : List ℕ → Option Preference) (elements : List (List ℕ)) (p : Preference)
+    → Contains (filter_map f elements) p → Any (λ (element : List ℕ). f element ≡ Some p) elements
+said_by f [] p h = absurd (omega (arith, h.1))
+said_by f (element ∷ elements) p h = by (f element) refl (said_by f elements p) h
+  where
+    by : (said : Option Preference) → f element ≡ said
+        → (Contains (filter_map f elements) p → Any (λ (other : List ℕ). f other ≡ Some p) elements)
+        → Contains (cons_option said (filter_map f elements)) p
+        → Any (λ (other : List ℕ). f other ≡ Some p) (element ∷ elements)
+    by None e later h = Any-later (λ (other : List ℕ). f other ≡ Some p) element elements (later h)
+    by (Some first) e later (zero, low, is) =
+        (0, element, omega arith, refl, e ∙ ap (λ (q : Preference). Some q) is)
+    by (Some first) e later (suc k, low, is) =
+        Any-later (λ (other : List ℕ). f other ≡ Some p) element elements (later (k, omega (arith, low), is))
+
+-- so it is in range if what elements say is
+pub quality_in_range : (says : List ℕ → List ℕ → Option Preference) (unlisted : List ℕ → ℕ)
+    → StaysInRange says unlisted → (elements : List (List ℕ)) (offer : List ℕ)
+    → quality_by (says offer) (unlisted offer) elements ≤ 1000
+quality_in_range says unlisted range elements offer =
+    by (quality_by (says offer) (unlisted offer) elements) (has_quality_by (says offer) (unlisted offer) elements)
+  where
+    by : (q : ℕ) → QualityBy says unlisted elements offer q → q ≤ 1000
+    by q (inl h) =
+        let any : Any (λ (element : List ℕ). says offer element ≡ Some h.0) elements =
+        said_by (says offer) elements h.0 h.1.among in
+        let low : h.0.quality ≤ 1000 = rw any.4 at (range.said offer any.1) in omega (arith, low, h.2)
+    by q (inr h) = omega (arith, range.silent offer, h.1)

@@ -1,5 +1,6 @@
 pub mod Choice
 pub mod Codings
+pub mod DimensionLaws
 pub mod Elements
 pub mod Identity
 pub mod Languages

@@ -1,5 +1,5 @@
 -- The quality of an offer: that of the most specific elements that match it (RFC 9110, section 12.5.1).
-use Rattle.std.specs.Prelude.{◌≡◌, ◌⊎◌, ℕ, ◌<◌, ◌≤◌, List, [], ◌∷◌, filter_map, All, Contains, Option}
+use Rattle.std.specs.Prelude.{◌≡◌, ◌⊎◌, ℕ, ◌<◌, ◌≤◌, List, [], ◌∷◌, filter_map, All, Contains, IfSome, Option}
 use Rattle.headers.specs.Lines.{Line}
 use Rattle.headers_negotiation.specs.Elements.{elements_of}
 use Rattle.headers_negotiation.specs.declared.preference.Preference.{Preference}
@@ -23,6 +23,11 @@ HasQuality said unlisted quality =
 
 -- what an element says of an offer, and the quality of an offer that no element matches
 module _ (says : List ℕ → List ℕ → Option Preference) (unlisted : List ℕ → ℕ) where
+  -- no quality is above 1
+  pub record StaysInRange : Type 0 where
+    pub said : (offer element : List ℕ) → IfSome (says offer element) (λ (p : Preference). p.quality ≤ 1000)
+    pub silent : (offer : List ℕ) → unlisted offer ≤ 1000
+
   -- the quality that these elements give to the offer
   abbrev pub QualityBy : List (List ℕ) → List ℕ → ℕ → Type 0
   QualityBy elements offer quality = HasQuality (filter_map (says offer) elements) (unlisted offer) quality

@@ -19,12 +19,15 @@ pub struct Codings;
 impl Dimension for Codings {
     ghost use Rattle.std.specs.Prelude.{codes};
     ghost use Rattle.headers_negotiation.specs.Codings.{coding_preference, unlisted_coding};
+    ghost use Rattle.headers_negotiation.specs.DimensionLaws.{codings_in_range};
 
     ghost NAME = { codes "accept-encoding" };
 
     ghost says = { coding_preference };
 
     ghost unlisted = { unlisted_coding };
+
+    ghost in_range = { codings_in_range };
 
     const NAME: HeaderName = ACCEPT_ENCODING;
 

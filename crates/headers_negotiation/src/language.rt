@@ -28,12 +28,15 @@ fn covers_tag(range: &[u8], tag: &[u8]) -> bool
 impl Dimension for Languages {
     ghost use Rattle.std.specs.Prelude.{codes};
     ghost use Rattle.headers_negotiation.specs.Languages.{language_preference};
+    ghost use Rattle.headers_negotiation.specs.DimensionLaws.{languages_in_range};
 
     ghost NAME = { codes "accept-language" };
 
     ghost says = { language_preference };
 
     ghost unlisted = { λ tag. 0 };
+
+    ghost in_range = { languages_in_range };
 
     const NAME: HeaderName = ACCEPT_LANGUAGE;
 

@@ -134,12 +134,15 @@ fn parameter_count(element: &[u8]) -> usize
 impl Dimension for MediaTypes {
     ghost use Rattle.std.specs.Prelude.{codes};
     ghost use Rattle.headers_negotiation.specs.MediaRanges.{media_preference};
+    ghost use Rattle.headers_negotiation.specs.DimensionLaws.{media_types_in_range};
 
     ghost NAME = { codes "accept" };
 
     ghost says = { media_preference };
 
     ghost unlisted = { λ media. 0 };
+
+    ghost in_range = { media_types_in_range };
 
     const NAME: HeaderName = ACCEPT;
 

@@ -1,11 +1,11 @@
 //! What a client prefers in one dimension, and which offer it is served.
-ghost use Rattle.std.specs.Prelude.{◌≡◌, ℕ, List, Option, IfOk};
+ghost use Rattle.std.specs.Prelude.{◌≡◌, ◌≤◌, ℕ, List, Option, IfOk};
 ghost use Rattle.http_header.specs.FieldValue.{plain_value};
 ghost use Rattle.headers.specs.LineMap.{lines_at};
 ghost use Rattle.headers.specs.Places.{comma, items};
 ghost use Rattle.headers_negotiation.specs.Choice.{Chooses};
 ghost use Rattle.headers_negotiation.specs.Preferences.{quality_by, strongest};
-ghost use Rattle.headers_negotiation.specs.Quality.{QualityBy, QualityIn};
+ghost use Rattle.headers_negotiation.specs.Quality.{QualityBy, QualityIn, StaysInRange};
 ghost use Rattle.headers_negotiation.specs.declared.preference.Preference.{Preference};
 
 use crate::choice::{Leader, first_place, led};
@@ -39,6 +39,9 @@ pub trait Dimension {
     /// The quality of an offer that no element matches, in thousandths.
     fn unlisted_quality(offer: &[u8]) -> u16
         ensures { result ≡ unlisted offer.now };
+
+    // No quality is above 1000.
+    ghost in_range: { StaysInRange says unlisted };
 }
 
 /// What a client prefers in one dimension. All lines are read, joined by a comma and a space, and
@@ -87,7 +90,8 @@ impl<D: Dimension> Preferences<D> {
     /// If several are, it is the greatest of theirs. An offer of quality 0 isn't acceptable (RFC
     /// 9110, section 12.4.2).
     pub fn quality(&self, offer: &[u8]) -> u16
-        ensures { QualityBy D.says D.unlisted (items comma self.now) offer.now result }
+        ensures quality { QualityBy D.says D.unlisted (items comma self.now) offer.now result }
+        ensures range { result ≤ 1000 }
     {
         self.quality_by(offer)
     }
