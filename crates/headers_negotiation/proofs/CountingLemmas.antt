@@ -1,6 +1,6 @@
 -- The pieces of a text at its counting places, by one pass over its bytes.
-use Rattle.std.proofs.Common.{◌≡◌, ℕ, zero, suc, ◌+◌, ◌-◌, ◌<◌, ◌≤◌, Bool, true, false, not, cond, List, [], ◌∷◌, length}
-use Rattle.std.proofs.Common.{take, drop, get_or, inl, inr, refl, sym, ◌∙◌, ap, arith}
+use Rattle.std.proofs.Common.{◌≡◌, ℕ, zero, suc, ◌+◌, ◌-◌, ◌<◌, ◌≤◌, Bool, true, false, not, cond, List, [], ◌∷◌}
+use Rattle.std.proofs.Common.{length, take, drop, get_or, inl, inr, refl, sym, ◌∙◌, ap, arith}
 use Rattle.std.specs.Prelude.{◌==◌, ◌&&◌, if◌then◌else◌}
 use Rattle.std.specs.List.{filter, onto_first}
 use Rattle.std.proofs.lemmas.Bool.{and_parts, cases_Bool, eqb-true, ne_eqb, not-true}
@@ -30,7 +30,8 @@ not_not false = refl
 is_even-more : (n : ℕ) → is_even (n + 1) ≡ not (is_even n)
 is_even-more n = grind (arith, nat_tests)
 
-open_behind : (s : List ℕ) (i : ℕ) → i < length s → is_open_at s (i + 1) ≡ is_open_behind (is_open_at s i) (get_or s i 0)
+open_behind : (s : List ℕ) (i : ℕ) → i < length s
+    → is_open_at s (i + 1) ≡ is_open_behind (is_open_at s i) (get_or s i 0)
 open_behind s i low =
     elim (cases_Bool (is_quote (get_or s i 0))) [
       | inl is_one ↦
@@ -45,7 +46,8 @@ open_behind s i low =
 
 counting_is_cut : (s : List ℕ) (i : ℕ) → is_counting_place semicolon s i ≡ is_cut (is_open_at s i) (get_or s i 0)
 unfolding is_counting_place
-counting_is_cut s i = ap (λ (even : Bool). get_or s i 0 == semicolon && even) (sym (not_not (is_even (quotes_before s i))))
+counting_is_cut s i =
+    ap (λ (even : Bool). get_or s i 0 == semicolon && even) (sym (not_not (is_even (quotes_before s i))))
 
 -- behind a cut no quote is open
 closed_behind : (is_open : Bool) (b : ℕ) → is_cut is_open b ≡ true → is_open_behind is_open b ≡ false

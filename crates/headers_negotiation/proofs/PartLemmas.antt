@@ -35,7 +35,8 @@ cuts_from_front : (is_open : Bool) (s : List ℕ)
     ≡ take (piece_len is_open s) s
     ∷ cuts_behind (nat_lt (piece_len is_open s) (length s)) (drop (piece_len is_open s + 1) s)
 cuts_from_front is_open [] = refl
-cuts_from_front is_open (b ∷ s) = by (is_cut is_open b) (is_open_behind is_open b) (cuts_from_front (is_open_behind is_open b) s)
+cuts_from_front is_open (b ∷ s) =
+    by (is_cut is_open b) (is_open_behind is_open b) (cuts_from_front (is_open_behind is_open b) s)
   where
     by : (cut later : Bool)
         → cuts later s
