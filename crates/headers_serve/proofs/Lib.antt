@@ -1,0 +1,7 @@
+pub mod AnswerLemmas
+pub mod ChainLemmas
+pub mod FieldLemmas
+pub mod OneResponseLemmas
+pub mod PartLemmas
+pub mod PathLemmas
+pub mod PlanLemmas

@@ -1,0 +1,228 @@
+-- A request has one response at most.
+use Rattle.std.proofs.Common.{◌≡◌, ℕ, Bool, true, false, List, [], ◌∷◌, ◌++◌, length, Option, Some, refl}
+use Rattle.std.proofs.Common.{sym, ap, subst, ◌∙◌, inl, inr}
+use Rattle.std.specs.Prelude.{codes, decimal}
+use Rattle.http.specs.declared.request.Request.{Request}
+use Rattle.http.specs.Request.{head_of}
+use Rattle.http_header.specs.FieldValue.{FieldValue, plain_value}
+use Rattle.http_uri.specs.Uri.{uri_path}
+use Rattle.http_server.specs.declared.response.Response.{Response}
+use Rattle.http1.specs.Fields.{Header}
+use Rattle.headers.specs.ContentBytes.{content_text}
+use Rattle.headers.specs.Date.{fixdate}
+use Rattle.headers.specs.LineMap.{LineMap, lines_at, run}
+use Rattle.headers.specs.Lines.{Line}
+use Rattle.headers_preconditions.specs.Fields.{etag_sent, is_known_by, length_sent, lines_sent, modified_sent}
+use Rattle.headers_preconditions.specs.Fields.{range_sent, type_sent, units_sent, unless_known}
+use Rattle.headers_preconditions.specs.Plans.{IsSamePlan}
+use Rattle.headers_preconditions.specs.declared.part.Part.{Part}
+use Rattle.headers_preconditions.specs.declared.plan.Plan.{Plan}
+use Rattle.headers_preconditions.specs.declared.plan.Plan.TheVariants.{NotModified, Failed, Full, Single, Multiple}
+use Rattle.headers_preconditions.specs.declared.plan.Plan.TheVariants.{Unsatisfiable}
+use Rattle.headers_preconditions.specs.declared.response.Response.{Response as Answer}
+use Rattle.headers_preconditions.proofs.OnePlanLemmas.{one_plan}
+use Rattle.headers_serve.specs.Answer.{AnswersBehind, AnswersEntry, AnswersFile, AnswersOther, Carries}
+use Rattle.headers_serve.specs.Answer.{IsAnswerOf, IsSendable, LeadsTo, body_sent, cache_sent}
+use Rattle.headers_serve.specs.File.{content_digest, resource_of, strong_tag}
+use Rattle.headers_serve.specs.Multipart.{multipart}
+use Rattle.headers_serve.specs.Redirect.{AnswersFolder}
+use Rattle.headers_serve.specs.Response.{IsSameResponse, IsWith, fields_sent, no_lines}
+use Rattle.headers_serve.specs.declared.file.Entry.{Entry}
+use Rattle.headers_serve.specs.declared.file.Entry.TheVariants.{Missing, Forbidden, Folder, Readable}
+use Rattle.headers_serve.specs.declared.file.File.{File}
+use Rattle.headers_serve.proofs.FieldLemmas.{SendSame, fields_from_same}
+use Rattle.headers_serve.proofs.PlanLemmas.{same_by_plan}
+
+with_same : (before : List Header) (code : ℕ) (sent : List Header) (content : List ℕ) (r s : Response)
+    → IsWith before code sent content r → IsWith before code sent content s → IsSameResponse r s
+with_same before code sent content r s h k =
+    (h.status ∙ sym k.status, h.headers ∙ sym k.headers, h.body ∙ sym k.body)
+
+-- ---- a read of a file
+
+abbrev is_several : Plan → Bool
+is_several Full = false
+is_several (Single part) = false
+is_several (Multiple parts) = true
+is_several NotModified = false
+is_several Failed = false
+is_several Unsatisfiable = false
+
+sendable_as : (file : File) (p q : Plan) → is_several p ≡ is_several q → IsSendable file p → IsSendable file q
+sendable_as file p Full e h = tt
+sendable_as file p (Single part) e h = tt
+sendable_as file Full (Multiple parts) e h = absurd (cc e)
+sendable_as file (Single part) (Multiple parts) e h = absurd (cc e)
+sendable_as file (Multiple others) (Multiple parts) e h = h
+sendable_as file NotModified (Multiple parts) e h = absurd (cc e)
+sendable_as file Failed (Multiple parts) e h = absurd (cc e)
+sendable_as file Unsatisfiable (Multiple parts) e h = absurd (cc e)
+sendable_as file p NotModified e h = tt
+sendable_as file p Failed e h = tt
+sendable_as file p Unsatisfiable e h = tt
+
+-- the type of several parts is written alike
+type_same : (plan : Plan) (is_known : Bool) (media_type : Option FieldValue) (x y : FieldValue) → x.bytes ≡ y.bytes
+    → lines_sent (λ (line : FieldValue). line.bytes) (type_sent plan is_known media_type x)
+    ≡ lines_sent (λ (line : FieldValue). line.bytes) (type_sent plan is_known media_type y)
+type_same Full is_known media_type x y e = refl
+type_same (Single part) is_known media_type x y e = refl
+type_same (Multiple parts) is_known media_type x y e = ap (λ (line : List ℕ). line ∷ []) e
+type_same NotModified is_known media_type x y e = refl
+type_same Failed is_known media_type x y e = refl
+type_same Unsatisfiable is_known media_type x y e = refl
+
+module _ (method : List ℕ) (request : LineMap) (file : File) (a b : Answer)
+    (h : IsAnswerOf method request file a) (k : IsAnswerOf method request file b) where
+  same_plan : IsSamePlan (Some a.plan) (Some b.plan)
+  same_plan =
+      one_plan method request (resource_of file) (length file.content) (Some a.plan) (Some b.plan) h.2.plan k.2.plan
+
+  by_plan : {X : Type 0} (of_plan : Plan → X) (several : List Part → X)
+      → ((parts : _) → of_plan (Multiple parts) ≡ several parts.items) → of_plan a.plan ≡ of_plan b.plan
+  by_plan of_plan several same_parts =
+      same_by_plan method request (resource_of file) (length file.content) of_plan several same_parts a.plan b.plan
+      h.2.plan k.2.plan same_plan
+
+  several_same : is_several a.plan ≡ is_several b.plan
+  several_same = by_plan is_several (λ _. true) (λ _. refl)
+
+  sent_same : SendSame (run no_lines a.steps.items) (run no_lines b.steps.items)
+  sent_same =
+      let s = h.2.fields no_lines in
+      let t = k.2.fields no_lines in
+      let is_known = is_known_by request in
+      let etag : Option FieldValue = Some (plain_value (strong_tag (content_digest file.content))) in
+      let media_type : Option FieldValue = Some file.media_type in
+      record {
+        etag =
+            s.etag
+            ∙ by_plan (λ plan. lines_sent (λ (tag : FieldValue). tag.bytes) (etag_sent plan etag))
+            (λ _. lines_sent (λ (tag : FieldValue). tag.bytes) etag) (λ _. refl)
+            ∙ sym t.etag;
+        last_modified =
+            s.last_modified
+            ∙ by_plan (λ plan. lines_sent fixdate (modified_sent plan is_known etag file.modified))
+            (λ _. lines_sent fixdate (unless_known is_known file.modified)) (λ _. refl)
+            ∙ sym t.last_modified;
+        accept_ranges =
+            s.accept_ranges
+            ∙ by_plan (λ plan. lines_sent (λ (units : Line). units) (units_sent plan))
+            (λ _. codes "bytes" ∷ []) (λ _. refl)
+            ∙ sym t.accept_ranges;
+        content_range =
+            s.content_range
+            ∙ by_plan (λ plan. lines_sent content_text (range_sent plan (length file.content))) (λ _. []) (λ _. refl)
+            ∙ sym t.content_range;
+        content_length =
+            s.content_length
+            ∙ by_plan (λ plan. lines_sent decimal (length_sent plan (length file.content))) (λ _. []) (λ _. refl)
+            ∙ sym t.content_length;
+        content_type =
+            s.content_type
+            ∙ type_same a.plan is_known media_type h.0 k.0 (h.1 ∙ sym k.1)
+            ∙ by_plan
+            (λ plan. lines_sent (λ (line : FieldValue). line.bytes) (type_sent plan is_known media_type k.0))
+            (λ _. k.0.bytes ∷ []) (λ _. refl)
+            ∙ sym t.content_type;
+      }
+
+  module _ (before : List Header) (cache_control : Option FieldValue) (r s : Response)
+      (x : Carries before cache_control file a r) (y : Carries before cache_control file b s) where
+    fields_same : before ++ cache_sent a.plan cache_control ++ fields_sent (run no_lines a.steps.items)
+        ≡ before ++ cache_sent b.plan cache_control ++ fields_sent (run no_lines b.steps.items)
+    fields_same =
+        ap (λ (l : List Header). before ++ l ++ fields_sent (run no_lines a.steps.items))
+        (by_plan (λ plan. cache_sent plan cache_control) (λ _. cache_sent Full cache_control) (λ _. refl))
+        ∙ ap (λ (l : List Header). before ++ cache_sent b.plan cache_control ++ l)
+        (fields_from_same (run no_lines a.steps.items) (run no_lines b.steps.items) sent_same)
+
+    carried_same : IsSameResponse r s
+    carried_same = (
+      x.status ∙ h.2.status ∙ same_plan.0 ∙ sym k.2.status ∙ sym y.status,
+      x.headers ∙ fields_same ∙ sym y.headers,
+      x.body
+          ∙ by_plan (body_sent file) (multipart (content_digest file.content) file) (λ _. refl)
+          ∙ sym y.body,
+    )
+
+file_once : (before : List Header) (cache_control : Option FieldValue) (method : List ℕ) (request : LineMap)
+    (file : File)
+    (r s : Response) → AnswersFile before cache_control method request file r
+    → AnswersFile before cache_control method request file s → IsSameResponse r s
+file_once before cache_control method request file r s x y =
+    elim x.1 [
+      | inl h ↦
+          elim y.1 [
+            | inl k ↦ carried_same method request file x.0 y.0 h.1 k.1 before cache_control r s x.2 y.2
+            | inr k ↦
+                absurd (k.1 (sendable_as file x.0.plan k.0.plan (several_same method request file x.0 k.0 h.1 k.2) h.0))
+          ]
+      | inr h ↦
+          elim y.1 [
+            | inl k ↦
+                absurd (h.1 (sendable_as file y.0.plan h.0.plan (several_same method request file y.0 h.0 k.1 h.2) k.0))
+            | inr k ↦ carried_same (codes "HEAD") request file x.0 y.0 h.3 k.3 before cache_control r s x.2 y.2
+          ]
+    ]
+
+-- ---- a request
+
+folder_once : (before : List Header) (path : List ℕ) (r s : Response) → AnswersFolder before path r
+    → AnswersFolder before path s → IsSameResponse r s
+folder_once before path r s x y =
+    elim x [
+      | inl h ↦ elim y [ inl k ↦ with_same _ _ _ _ r s h.1 k.1 | inr k ↦ absurd (k.0 h.0) ]
+      | inr h ↦ elim y [ inl k ↦ absurd (h.0 k.0) | inr k ↦ with_same _ _ _ _ r s h.1 k.1 ]
+    ]
+
+other_once : (before : List Header) (method : List ℕ) (r s : Response) → AnswersOther before method r
+    → AnswersOther before method s → IsSameResponse r s
+other_once before method r s x y =
+    elim x [
+      | inl h ↦ elim y [ inl k ↦ with_same _ _ _ _ r s h.1 k.1 | inr k ↦ absurd (k.0 h.0) ]
+      | inr h ↦ elim y [ inl k ↦ absurd (h.0 k.0) | inr k ↦ with_same _ _ _ _ r s h.1 k.1 ]
+    ]
+
+module _ (before : List Header) (cache_control : Option FieldValue) (request : Request (List ℕ)) (r s : Response) where
+  entry_once : (entry : Entry) → AnswersEntry before cache_control request entry r
+      → AnswersEntry before cache_control request entry s → IsSameResponse r s
+  entry_once Missing x y = with_same _ _ _ _ r s x y
+  entry_once Forbidden x y = with_same _ _ _ _ r s x y
+  entry_once Folder x y = folder_once before (uri_path (head_of request).uri) r s x y
+  entry_once (Readable file) x y =
+      file_once before cache_control (head_of request).method (lines_at (head_of request).headers) file r s x y
+
+-- a path leads to one entry, where the store has one at each path
+leads_once : (look : List ℕ → Entry) (path : List ℕ) (e f : Entry) → LeadsTo (λ named entry. entry ≡ look named) path e
+    → LeadsTo (λ named entry. entry ≡ look named) path f → e ≡ f
+leads_once look path e f x y =
+    elim x [
+      | inl h ↦
+          elim y [
+            | inl k ↦ h.2 ∙ ap look (h.1.is_named ∙ sym k.1.is_named) ∙ sym k.2
+            | inr k ↦ absurd (k.0 h.0 h.1)
+          ]
+      | inr h ↦ elim y [ inl k ↦ absurd (h.0 k.0 k.1) | inr k ↦ h.1 ∙ sym k.1 ]
+    ]
+
+pub one_response : (before : List Header) (cache_control : Option FieldValue) (look : List ℕ → Entry)
+    (request : Request (List ℕ)) (r s : Response)
+    → AnswersBehind before cache_control (λ named entry. entry ≡ look named) request r
+    → AnswersBehind before cache_control (λ named entry. entry ≡ look named) request s → IsSameResponse r s
+one_response before cache_control look request r s x y =
+    elim x [
+      | inl h ↦
+          elim y [
+            | inl k ↦
+                let same = leads_once look (uri_path (head_of request).uri) h.1.0 k.1.0 h.1.1 k.1.1 in
+                entry_once before cache_control request r s k.1.0
+                (subst (λ (e : Entry). AnswersEntry before cache_control request e r) same h.1.2) k.1.2
+            | inr k ↦ absurd (k.0 h.0)
+          ]
+      | inr h ↦
+          elim y [
+            | inl k ↦ absurd (h.0 k.0)
+            | inr k ↦ other_once before (head_of request).method r s h.1 k.1
+          ]
+    ]

@@ -1,0 +1,145 @@
+-- What a request is answered with.
+use Rattle.std.specs.Prelude.{◌≡◌, ◌≢◌, ◌⊎◌, ⊤, ℕ, Bool, true, false, List, [], ◌∷◌, ◌++◌, codes}
+use Rattle.std.specs.Prelude.{Option, Some, None, if◌then◌else◌}
+use Rattle.http.specs.declared.request.Request.{Request}
+use Rattle.http.specs.Request.{head_of}
+use Rattle.http_header.specs.FieldValue.{FieldValue}
+use Rattle.http_uri.specs.Uri.{uri_path}
+use Rattle.http_server.specs.declared.response.Response.{Response}
+use Rattle.http_server.specs.Response.{fields_of}
+use Rattle.http1.specs.Fields.{Header}
+use Rattle.headers.specs.Date.{fixdate}
+use Rattle.headers.specs.LineMap.{LineMap, lines_at, run}
+use Rattle.headers_preconditions.specs.Boundaries.{multipart_type}
+use Rattle.headers_preconditions.specs.Preconditions.{IsGetOrHead}
+use Rattle.headers_preconditions.specs.Responses.{IsResponse}
+use Rattle.headers_preconditions.specs.declared.plan.Plan.{Plan}
+use Rattle.headers_preconditions.specs.declared.plan.Plan.TheVariants.{NotModified, Failed, Full, Single, Multiple}
+use Rattle.headers_preconditions.specs.declared.plan.Plan.TheVariants.{Unsatisfiable}
+use Rattle.headers_preconditions.specs.declared.response.Response.{Response as Answer}
+use Rattle.headers_serve.specs.File.{content_digest, content_of, resource_of}
+use Rattle.headers_serve.specs.Multipart.{multipart}
+use Rattle.headers_serve.specs.Parts.{Occurs, part_bytes}
+use Rattle.headers_serve.specs.Path.{Names}
+use Rattle.headers_serve.specs.Redirect.{AnswersFolder}
+use Rattle.headers_serve.specs.Response.{IsWith, fields_sent, no_lines}
+use Rattle.headers_serve.specs.declared.file.Entry.{Entry}
+use Rattle.headers_serve.specs.declared.file.Entry.TheVariants.{Missing, Forbidden, Folder, Readable}
+use Rattle.headers_serve.specs.declared.file.File.{File}
+
+-- ---- a read of a file
+
+-- The answer of `headers_preconditions` to a request for the file: by its method, its conditions and its ranges, with
+-- the digest of the content for a boundary.
+abbrev pub IsAnswerOf : List ℕ → LineMap → File → Answer → Type 0
+IsAnswerOf method request file answer =
+    (kind : FieldValue) × (kind.bytes ≡ multipart_type (content_digest file.content))
+    × IsResponse method request (resource_of file) (content_of file) kind answer
+
+-- no part holds what stands between the parts (RFC 2046, section 5.1.1), since the content doesn't
+abbrev pub IsSendable : File → Plan → Type 0
+IsSendable file Full = ⊤
+IsSendable file (Single part) = ⊤
+IsSendable file (Multiple parts) = ¬ (Occurs (content_digest file.content) file.content)
+IsSendable file NotModified = ⊤
+IsSendable file Failed = ⊤
+IsSendable file Unsatisfiable = ⊤
+
+-- The answer to a read of the file. If its parts can't be sent, Range is ignored, as RFC 9110, section 14.2, lets a
+-- server do: the plan is that of a HEAD, which is that of a GET without Range.
+abbrev pub AnswersRead : List ℕ → LineMap → File → Answer → Type 0
+AnswersRead method request file answer =
+    (IsSendable file answer.plan × IsAnswerOf method request file answer)
+    ⊎ ((asked : Answer) × (¬ (IsSendable file asked.plan)) × IsAnswerOf method request file asked
+    × IsAnswerOf (codes "HEAD") request file answer)
+
+-- a cache may use the answer again
+abbrev pub is_reusable : Plan → Bool
+is_reusable Full = true
+is_reusable (Single part) = true
+is_reusable (Multiple parts) = true
+is_reusable NotModified = true
+is_reusable Failed = false
+is_reusable Unsatisfiable = false
+
+-- one field of a value, or none
+abbrev pub cache_fields : Option FieldValue → List Header
+cache_fields None = []
+cache_fields (Some value) = (codes "cache-control", value.bytes) ∷ []
+
+-- Cache-Control, if it is asked for: of 200, 206 and 304
+abbrev pub cache_sent : Plan → Option FieldValue → List Header
+cache_sent plan cache_control = if is_reusable plan then cache_fields cache_control else []
+
+-- the bytes that a plan sends of the file; to a HEAD the connection sends none
+abbrev pub body_sent : File → Plan → List ℕ
+body_sent file Full = file.content
+body_sent file (Single part) = part_bytes file.content part
+body_sent file (Multiple parts) = multipart (content_digest file.content) file parts.items
+body_sent file NotModified = []
+body_sent file Failed = []
+body_sent file Unsatisfiable = []
+
+-- the response has the answer's status, its fields behind those from before, and the bytes of its plan
+pub record Carries (before : List Header) (cache_control : Option FieldValue) (file : File) (answer : Answer)
+    (response : Response) : Type 0 where
+  pub status : response.status ≡ answer.status
+  pub headers : fields_of response
+      ≡ before ++ cache_sent answer.plan cache_control ++ fields_sent (run no_lines answer.steps.items)
+  pub body : response.body.items ≡ body_sent file answer.plan
+
+-- the response to a read of the file
+abbrev pub AnswersFile : List Header → Option FieldValue → List ℕ → LineMap → File → Response → Type 0
+AnswersFile before cache_control method request file response =
+    (answer : Answer) × AnswersRead method request file answer × Carries before cache_control file answer response
+
+-- ---- a request
+
+module _ (before : List Header) (cache_control : Option FieldValue) (request : Request (List ℕ)) where
+  abbrev pub method_of : List ℕ
+  method_of = (head_of request).method
+
+  abbrev pub path_of : List ℕ
+  path_of = uri_path (head_of request).uri
+
+  -- the response to a GET or a HEAD where this was found
+  abbrev pub AnswersEntry : Entry → Response → Type 0
+  AnswersEntry Missing response = IsWith before 404 [] [] response
+  AnswersEntry Forbidden response = IsWith before 403 [] [] response
+  AnswersEntry Folder response = AnswersFolder before path_of response
+  AnswersEntry (Readable file) response =
+      AnswersFile before cache_control method_of (lines_at (head_of request).headers) file response
+
+-- the methods that are answered
+abbrev pub allow_field : Header
+allow_field = (codes "allow", codes "GET, HEAD, OPTIONS")
+
+-- the response to a method that is no read: 204 to OPTIONS (RFC 9110, section 9.3.7), else 405 (section 15.5.6)
+abbrev pub AnswersOther : List Header → List ℕ → Response → Type 0
+AnswersOther before method response =
+    ((method ≡ codes "OPTIONS") × IsWith before 204 (allow_field ∷ []) [] response)
+    ⊎ ((method ≢ codes "OPTIONS") × IsWith before 405 (allow_field ∷ []) [] response)
+
+-- what the path of a URI leads to in a store: what the store has at the path that is named, or nothing if none is named
+abbrev pub LeadsTo : (List ℕ → Entry → Type 0) → List ℕ → Entry → Type 0
+LeadsTo has path entry =
+    ((named : List ℕ) × Names path (Some named) × has named entry) ⊎ (Names path None × (entry ≡ Missing))
+
+-- the response to a request, where the store has this at its paths
+abbrev pub AnswersBehind : List Header → Option FieldValue → (List ℕ → Entry → Type 0) → Request (List ℕ) → Response
+    → Type 0
+AnswersBehind before cache_control has request response =
+    (IsGetOrHead (head_of request).method
+    × ((entry : Entry) × LeadsTo has (uri_path (head_of request).uri) entry
+    × AnswersEntry before cache_control request entry response))
+    ⊎ ((¬ (IsGetOrHead (head_of request).method)) × AnswersOther before (head_of request).method response)
+
+-- the fields of a date
+abbrev pub date_fields : Option ℕ → List Header
+date_fields None = []
+date_fields (Some seconds) = (codes "date", fixdate seconds) ∷ []
+
+-- The response to a request, where the store has this at its paths: behind a date, if there is a clock.
+abbrev pub IsAnswer : Option FieldValue → (List ℕ → Entry → Type 0) → Request (List ℕ) → Response → Type 0
+IsAnswer cache_control has request response =
+    (now : Option ℕ) × AnswersBehind (date_fields now) cache_control has request response

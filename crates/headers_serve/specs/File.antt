@@ -1,0 +1,31 @@
+-- What a file's content gives its validators.
+use Rattle.std.specs.Prelude.{ℕ, List, length, Some, false}
+use Rattle.http_header.specs.FieldValue.{plain_value}
+use Rattle.sha1.specs.Sha1.{sha1}
+use Rattle.hex.specs.Hex.{encode_lower}
+use Rattle.headers.specs.EntityTag.{tag_text}
+use Rattle.headers_preconditions.specs.declared.content.Content.{Content}
+use Rattle.headers_preconditions.specs.declared.resource.Resource.{Resource}
+use Rattle.headers_preconditions.specs.declared.resource.Resource.TheVariants.{Current}
+use Rattle.headers_serve.specs.declared.file.File.{File}
+
+-- the digits of a content's SHA-1
+unfoldable pub content_digest : List ℕ → List ℕ
+content_digest content = encode_lower (sha1 content)
+
+-- an entity tag as it is written: strong, with these digits
+abbrev pub strong_tag : List ℕ → List ℕ
+strong_tag digits = tag_text (record { is_weak = false; opaque = digits })
+
+-- a file as a resource: its tag is the digest of its content, and its date is no strong validator, since a file may
+-- change twice in a second
+abbrev pub resource_of : File → Resource
+resource_of file = Current (record {
+  etag = Some (plain_value (strong_tag (content_digest file.content)));
+  last_modified = file.modified;
+  is_date_strong = false;
+})
+
+-- its length and its media type
+abbrev pub content_of : File → Content
+content_of file = record { len = length file.content; media_type = Some file.media_type }

@@ -1,0 +1,9 @@
+pub mod Answer
+pub mod Connection
+pub mod File
+pub mod Memory
+pub mod Multipart
+pub mod Parts
+pub mod Path
+pub mod Redirect
+pub mod Response

@@ -1,0 +1,12 @@
+-- What a store of one file has.
+use Rattle.std.specs.Prelude.{◌≡◌, ◌≢◌, ℕ, List, string_bytes}
+use Rattle.headers_serve.specs.declared.file.Entry.{Entry}
+use Rattle.headers_serve.specs.declared.file.Entry.TheVariants.{Missing, Forbidden, Folder, Readable}
+use Rattle.headers_serve.specs.declared.memory.Memory.{Memory}
+
+-- the file at its path, and nothing at others
+abbrev pub HasOne : Memory → List ℕ → Entry → Type 0
+HasOne store path Missing = path ≢ string_bytes store.path
+HasOne store path Forbidden = ⊥
+HasOne store path Folder = ⊥
+HasOne store path (Readable file) = (path ≡ string_bytes store.path) × (file ≡ store.file)

@@ -1,0 +1,145 @@
+//! The answer to a read of a file.
+ghost use Rattle.std.specs.Prelude.{◌≡◌, IfOk, length, string_bytes};
+ghost use Rattle.std.specs.Bool.{MatchBool};
+ghost use Rattle.http_header.specs.FieldValue.{plain_value};
+ghost use Rattle.headers.specs.LineMap.{lines_at};
+ghost use Rattle.headers_preconditions.specs.Boundaries.{multipart_type};
+ghost use Rattle.headers_preconditions.specs.Preconditions.{IsGetOrHead};
+ghost use Rattle.headers_serve.specs.Answer.{AnswersRead, IsAnswerOf, IsSendable};
+ghost use Rattle.headers_serve.specs.File.{content_digest, content_of, resource_of, strong_tag};
+ghost use Rattle.headers_serve.specs.Parts.{Fits, Occurs};
+
+use crate::file::File;
+use headers::{ETag, HeaderMap, Refused};
+use headers_preconditions::{Boundary, Content, Plan, Resource, Response, Validators, respond};
+use http::Method;
+use memchr::memmem;
+use sha1::Sha1;
+use std::alloc::{AllocError, Global};
+
+// The digits of a content's SHA-1.
+#[tactic(auto, unfolding(crate::specs::File::content_digest))]
+pub(crate) fn content_digest(alloc: Global, content: &[u8]) -> Result<String, AllocError>
+    ensures { IfOk result (λ digits. string_bytes digits ≡ content_digest content.now) }
+{
+    let digits = hex::encode(alloc, Sha1::digest(content))?;
+    Ok(digits)
+}
+
+// A strong entity tag as it is written.
+fn tag_text(alloc: Global, digits: &str) -> Result<String, AllocError>
+    ensures { IfOk result (λ text. string_bytes text ≡ strong_tag digits.now) }
+{
+    let mut text = String::new(alloc);
+    text.push_str("\"")?;
+    text.push_str(digits)?;
+    text.push_str("\"")?;
+    Ok(text)
+}
+
+fn strong_tag(alloc: Global, digits: &str) -> Result<ETag, AllocError>
+    ensures { IfOk result (λ tag. tag ≡ plain_value (strong_tag digits.now)) }
+{
+    let text = tag_text(alloc, digits)?;
+    match ETag::from_str(alloc, text.as_str()) {
+        Ok(tag) => Ok(tag),
+        Err(_) => Err(AllocError),
+    }
+}
+
+fn resource_of(alloc: Global, file: &File, digest: &str) -> Result<Resource, AllocError>
+    requires { digest.now ≡ content_digest file.now.content }
+    ensures { IfOk result (λ resource. resource ≡ resource_of file.now) }
+{
+    let etag = strong_tag(alloc, digest)?;
+    Ok(Resource::Current(Validators {
+        etag: Some(etag),
+        last_modified: file.modified,
+        is_date_strong: false,
+    }))
+}
+
+fn content_of(file: &File) -> Result<Content, AllocError>
+    ensures { IfOk result (λ content. content ≡ content_of file.now) }
+{
+    let media_type = file.media_type.clone()?;
+    Ok(Content {
+        len: file.content.len() as u64,
+        media_type: Some(media_type),
+    })
+}
+
+fn boundary_of(alloc: Global, digits: &str) -> Result<Boundary, AllocError>
+    ensures { IfOk result (λ boundary. boundary.bytes ≡ multipart_type digits.now) }
+{
+    match Boundary::new(alloc, digits) {
+        Ok(boundary) => Ok(boundary),
+        Err(Refused::Memory(refused)) => Err(refused),
+        Err(Refused::Invalid(_)) => Err(AllocError),
+    }
+}
+
+// The answer to a request for the file by this method.
+fn answer_by(
+    alloc: Global,
+    method: &Method,
+    request: &HeaderMap,
+    file: &File,
+    digest: &str,
+) -> Result<Response, AllocError>
+    requires read { IsGetOrHead method.now }
+    requires digest { digest.now ≡ content_digest file.now.content }
+    ensures { IfOk result (IsAnswerOf method.now (lines_at request.now) file.now) }
+{
+    let resource = resource_of(alloc, file, digest)?;
+    let content = content_of(file)?;
+    let boundary = boundary_of(alloc, digest)?;
+    match respond(alloc, method, request, &resource, &content, &boundary)? {
+        Some(answer) => Ok(answer),
+        None => unreachable!(),
+    }
+}
+
+fn occurs(bytes: &[u8], content: &[u8]) -> bool
+    ensures { MatchBool result (Occurs bytes.now content.now) (¬ (Occurs bytes.now content.now)) }
+{
+    match memmem::find(content, bytes) {
+        Some(_) => true,
+        None => false,
+    }
+}
+
+// Whether no part holds what stands between the parts.
+fn is_sendable(plan: &Plan, file: &File, digest: &str) -> bool
+    requires { digest.now ≡ content_digest file.now.content }
+    ensures { MatchBool result (IsSendable file.now plan.now) (¬ (IsSendable file.now plan.now)) }
+{
+    match plan {
+        Plan::Multiple(_) => !occurs(digest.as_bytes(), file.content.as_slice()),
+        Plan::Full | Plan::Single(_) | Plan::NotModified | Plan::Failed | Plan::Unsatisfiable => {
+            true
+        }
+    }
+}
+
+// The answer to a read of a file. Range is ignored if parts can't be sent.
+pub(crate) fn answer_read(
+    alloc: Global,
+    method: &Method,
+    request: &HeaderMap,
+    file: &File,
+    digest: &str,
+) -> Result<Response, AllocError>
+    requires read { IsGetOrHead method.now }
+    requires digest { digest.now ≡ content_digest file.now.content }
+    ensures answers { IfOk result (AnswersRead method.now (lines_at request.now) file.now) }
+    ensures fits { IfOk result (λ answer. Fits (length file.now.content) answer.plan) }
+{
+    let asked = answer_by(alloc, method, request, file, digest)?;
+    if is_sendable(&asked.plan, file, digest) {
+        return Ok(asked);
+    }
+    let head = Method::HEAD;
+    let whole = answer_by(alloc, &head, request, file, digest)?;
+    Ok(whole)
+}

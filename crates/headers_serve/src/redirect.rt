@@ -1,0 +1,58 @@
+//! The answer to a request for a folder.
+ghost use Rattle.std.specs.Prelude.{◌≡◌, [], ◌++◌, codes, IfOk, OnOk, option_map, string_bytes};
+ghost use Rattle.http_server.specs.Response.{fields_of};
+ghost use Rattle.headers_serve.specs.Redirect.{AnswersFolder, IsLocation};
+
+use crate::path::ends_in_slash;
+use headers::HeaderValue;
+use http::StatusCode;
+use http_header::{HeaderValueError, LOCATION};
+use http_server::Response;
+use std::alloc::{AllocError, Global};
+
+/// Answers a request for a folder: 301, to the path with a slash behind it (RFC 9110, section
+/// 15.4.2), or 404 if it has one already.
+pub(crate) fn answer_folder(
+    alloc: Global,
+    path: &str,
+    response: &mut Response,
+) -> Result<(), AllocError>
+    requires { response.old.body.items ≡ [] }
+    ensures { OnOk result (AnswersFolder (fields_of response.old) path.now response.new) }
+{
+    match location(alloc, path)? {
+        Some(value) => {
+            response.add_header(LOCATION, value)?;
+            response.status = StatusCode::MOVED_PERMANENTLY;
+            Ok(())
+        }
+        None => {
+            response.status = StatusCode::NOT_FOUND;
+            Ok(())
+        }
+    }
+}
+
+// Where a folder's index is found, if its path has no slash at its end and is a value of a field.
+fn location(alloc: Global, path: &str) -> Result<Option<HeaderValue>, AllocError>
+    ensures { IfOk result (λ value. IsLocation path.now (option_map (λ found. found.bytes) value)) }
+{
+    if ends_in_slash(path.as_bytes()) {
+        return Ok(None);
+    }
+    let text = with_slash(alloc, path)?;
+    match HeaderValue::from_string(text) {
+        Ok(value) => Ok(Some(value)),
+        Err(HeaderValueError::Invalid) => Ok(None),
+        Err(HeaderValueError::OutOfMemory) => Err(AllocError),
+    }
+}
+
+fn with_slash(alloc: Global, path: &str) -> Result<String, AllocError>
+    ensures { IfOk result (λ text. string_bytes text ≡ path.now ++ codes "/") }
+{
+    let mut text = String::new(alloc);
+    text.push_str(path)?;
+    text.push_str("/")?;
+    Ok(text)
+}

@@ -1,0 +1,244 @@
+//! The service: a request is answered from a store.
+ghost use Rattle.std.specs.Prelude.{◌≡◌, ◌≢◌, [], OnOk, IfOk, codes, length};
+ghost use Rattle.std.specs.Bool.{MatchBool};
+ghost use Rattle.http.specs.Request.{head_of};
+ghost use Rattle.http_uri.specs.Uri.{uri_path};
+ghost use Rattle.headers.specs.LineMap.{lines_at};
+ghost use Rattle.headers_preconditions.specs.Preconditions.{IsGetOrHead};
+ghost use Rattle.http_server.specs.Response.{fields_of};
+ghost use Rattle.headers_serve.specs.Answer.{AnswersBehind, AnswersEntry, AnswersFile, AnswersOther, Carries};
+ghost use Rattle.headers_serve.specs.Answer.{LeadsTo, body_sent};
+ghost use Rattle.headers_serve.specs.File.{content_digest};
+ghost use Rattle.headers_serve.specs.Parts.{Fits};
+
+use crate::answer::{answer_read, content_digest};
+use crate::cache::put_cache_control;
+use crate::fields::{put_date, put_fields};
+use crate::file::{Entry, File};
+use crate::multipart::{push_parts, slice_of};
+use crate::path::store_path;
+use crate::redirect::answer_folder;
+use crate::store::Store;
+use bytes::Bytes;
+use headers::{HeaderMap, HeaderValue};
+use headers_preconditions::Plan;
+use http::{Method, Request, StatusCode};
+use http_header::ALLOW;
+use http_server::{Response, Rope, Service};
+use std::alloc::{AllocError, Global};
+
+/// Answers GET, HEAD and OPTIONS from a store, and 405 to other methods.
+#[derive(Debug, Drop)]
+pub struct FileService<S: Store> {
+    /// For responses.
+    pub alloc: Global,
+    /// Where files come from.
+    pub store: S,
+    /// What Cache-Control says of the answers that a cache may use again: 200, 206 and 304.
+    pub cache_control: Option<HeaderValue>,
+}
+
+fn is_read(method: &Method) -> bool
+    ensures { MatchBool result (IsGetOrHead method.now) (¬ (IsGetOrHead method.now)) }
+{
+    *method == Method::GET || *method == Method::HEAD
+}
+
+fn is_options(method: &Method) -> bool
+    ensures { MatchBool result (method.now ≡ codes "OPTIONS") (method.now ≢ codes "OPTIONS") }
+{
+    *method == Method::OPTIONS
+}
+
+// Puts the bytes that a plan sends into a body.
+fn put_body(
+    alloc: Global,
+    digest: &str,
+    plan: &Plan,
+    file: &File,
+    body: &mut Rope,
+) -> Result<(), AllocError>
+    requires blank { body.old.items ≡ [] }
+    requires digest { digest.now ≡ content_digest file.now.content }
+    requires fits { Fits (length file.now.content) plan.now }
+    ensures { OnOk result (body.new.items ≡ body_sent file.now plan.now) }
+{
+    match plan {
+        Plan::Full => {
+            let content = file.content.clone()?;
+            body.push(content)?;
+            Ok(())
+        }
+        Plan::Single(part) => {
+            let bytes = slice_of(file, *part)?;
+            body.push(bytes)?;
+            Ok(())
+        }
+        Plan::Multiple(parts) => {
+            push_parts(alloc, digest, parts.as_slice(), file, body)?;
+            Ok(())
+        }
+        Plan::NotModified | Plan::Failed | Plan::Unsatisfiable => Ok(()),
+    }
+}
+
+// Fills a response with an answer to a read of a file.
+fn carry(
+    alloc: Global,
+    cache_control: &Option<HeaderValue>,
+    file: &File,
+    digest: &str,
+    answer: headers_preconditions::Response,
+    response: &mut Response,
+) -> Result<(), AllocError>
+    requires blank { response.old.body.items ≡ [] }
+    requires digest { digest.now ≡ content_digest file.now.content }
+    requires fits { Fits (length file.now.content) answer.plan }
+    ensures { OnOk result (Carries (fields_of response.old) cache_control.now file.now answer response.new) }
+{
+    put_cache_control(cache_control, &answer.plan, response)?;
+    put_body(alloc, digest, &answer.plan, file, &mut response.body)?;
+    response.status = answer.status;
+    put_fields(alloc, answer.steps, response)?;
+    Ok(())
+}
+
+// Answers a GET or a HEAD of a file.
+fn answer_file(
+    alloc: Global,
+    cache_control: &Option<HeaderValue>,
+    method: &Method,
+    request: &HeaderMap,
+    file: &File,
+    response: &mut Response,
+) -> Result<(), AllocError>
+    requires read { IsGetOrHead method.now }
+    requires blank { response.old.body.items ≡ [] }
+    ensures { OnOk result (AnswersFile (fields_of response.old) cache_control.now method.now
+        (lines_at request.now) file.now response.new) }
+{
+    let digits = content_digest(alloc, file.content.as_slice())?;
+    let digest = digits.as_str();
+    let answer = answer_read(alloc, method, request, file, digest)?;
+    carry(alloc, cache_control, file, digest, answer, response)?;
+    Ok(())
+}
+
+// Answers a GET or a HEAD where this was found.
+fn answer_entry(
+    alloc: Global,
+    cache_control: &Option<HeaderValue>,
+    request: &Request<Bytes>,
+    entry: &Entry,
+    response: &mut Response,
+) -> Result<(), AllocError>
+    requires read { IsGetOrHead (head_of request.now).method }
+    requires blank { response.old.body.items ≡ [] }
+    ensures { OnOk result (AnswersEntry (fields_of response.old) cache_control.now request.now
+        entry.now response.new) }
+{
+    match entry {
+        Entry::Missing => {
+            response.status = StatusCode::NOT_FOUND;
+            Ok(())
+        }
+        Entry::Forbidden => {
+            response.status = StatusCode::FORBIDDEN;
+            Ok(())
+        }
+        Entry::Folder => {
+            answer_folder(alloc, path_of(request), response)?;
+            Ok(())
+        }
+        Entry::Readable(file) => {
+            let method = request.method();
+            answer_file(
+                alloc,
+                cache_control,
+                method,
+                request.headers(),
+                file,
+                response,
+            )?;
+            Ok(())
+        }
+    }
+}
+
+fn path_of(request: &Request<Bytes>) -> &str
+    ensures { result.now ≡ uri_path (head_of request.now).uri }
+{
+    request.uri().path()
+}
+
+// What the path of a URI leads to.
+fn look_up<S: Store>(alloc: Global, store: &S, path: &str) -> Result<Entry, AllocError>
+    ensures { IfOk result (LeadsTo (S.has store.now) path.now) }
+{
+    match store_path(alloc, path)? {
+        Some(named) => {
+            let entry = store.find(alloc, named.as_str())?;
+            Ok(entry)
+        }
+        None => Ok(Entry::Missing),
+    }
+}
+
+// Answers a request that is no GET or HEAD.
+fn answer_other(method: &Method, response: &mut Response) -> Result<(), AllocError>
+    requires { response.old.body.items ≡ [] }
+    ensures { OnOk result (AnswersOther (fields_of response.old) method.now response.new) }
+{
+    response.add_header(ALLOW, HeaderValue::from_static("GET, HEAD, OPTIONS"))?;
+    if is_options(method) {
+        response.status = StatusCode::NO_CONTENT;
+        return Ok(());
+    }
+    response.status = StatusCode::METHOD_NOT_ALLOWED;
+    Ok(())
+}
+
+// Answers a request from a store.
+fn answer<S: Store>(
+    alloc: Global,
+    store: &S,
+    cache_control: &Option<HeaderValue>,
+    request: &Request<Bytes>,
+    response: &mut Response,
+) -> Result<(), AllocError>
+    requires { response.old.body.items ≡ [] }
+    ensures { OnOk result (AnswersBehind (fields_of response.old) cache_control.now (S.has store.now)
+        request.now response.new) }
+{
+    if !is_read(request.method()) {
+        answer_other(request.method(), response)?;
+        return Ok(());
+    }
+    let entry = look_up(alloc, store, path_of(request))?;
+    answer_entry(alloc, cache_control, request, &entry, response)?;
+    Ok(())
+}
+
+impl<S: Store> Service for FileService<S> {
+    ghost use Rattle.std.specs.Prelude.{◌≡◌};
+    ghost use Rattle.headers_serve.specs.Answer.{IsAnswer};
+
+    ghost answers = { λ before request response after.
+        IsAnswer before.cache_control (S.has before.store) request response × (after ≡ before) };
+
+    fn call(
+        &mut self,
+        request: &Request<Bytes>,
+        response: &mut Response,
+    ) -> Result<(), AllocError> {
+        put_date(self.alloc, response, self.store.now())?;
+        answer(
+            self.alloc,
+            &self.store,
+            &self.cache_control,
+            request,
+            response,
+        )?;
+        Ok(())
+    }
+}

@@ -1,0 +1,22 @@
+//! Where files come from.
+ghost use Rattle.std.specs.Prelude.{◌≡◌, ℕ, true, List, IfOk};
+ghost use Rattle.headers_serve.specs.Path.{is_plain};
+ghost use Rattle.headers_serve.specs.declared.file.Entry.{Entry};
+
+use crate::file::Entry;
+use std::alloc::{AllocError, Global};
+
+/// Files by paths: names with a slash between them.
+pub trait Store {
+    // What the store may have at a path.
+    ghost has: { Self → List ℕ → Entry → Type 0 };
+
+    /// What stands at a path. The path is plain: no name in it is empty or begins with a dot, and none
+    /// holds a NUL or a backslash. So it stays below the root of the store.
+    fn find(&self, alloc: Global, path: &str) -> Result<Entry, AllocError>
+        requires { is_plain path.now ≡ true }
+        ensures { IfOk result (has self.now path.now) };
+
+    /// The seconds since the start of 1970, if there is a clock.
+    fn now(&self) -> Option<u64>;
+}

@@ -1,0 +1,31 @@
+//! The words of the command line.
+
+use clap::{Arg, ArgAction, Command, value_parser};
+use std::alloc::{AllocError, Global};
+
+/// What the program takes: a folder, and options.
+pub fn command<'a>(alloc: Global) -> Result<Command<'a>, AllocError> {
+    let folder = Arg::new(alloc, "FOLDER")
+        .required(true)
+        .action(ArgAction::Set)
+        .help("The folder whose files are served");
+    let cache_control = Arg::new(alloc, "cache-control")
+        .long("cache-control")
+        .value_name("VALUE")
+        .help("Cache-Control of the answers 200, 206 and 304");
+    let max_file = Arg::new(alloc, "max-file")
+        .long("max-file")
+        .value_name("BYTES")
+        .value_parser(value_parser!(u64))
+        .default_value("268435456")
+        .help("A longer file is answered by 403");
+    let no_dates = Arg::new(alloc, "no-dates")
+        .long("no-dates")
+        .action(ArgAction::SetTrue)
+        .help("Leave out Date and Last-Modified");
+    Command::new(alloc, "serve_folder")
+        .arg(folder)?
+        .arg(cache_control)?
+        .arg(max_file)?
+        .arg(no_dates)
+}
