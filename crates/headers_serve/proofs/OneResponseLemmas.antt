@@ -1,11 +1,11 @@
 -- A request has one response at most.
-use Rattle.std.proofs.Common.{◌≡◌, ℕ, Bool, true, false, List, [], ◌∷◌, ◌++◌, length, Option, Some, refl}
+use Rattle.std.proofs.Common.{◌≡◌, ℕ, Bool, true, List, [], ◌∷◌, ◌++◌, length, Option, Some, refl}
 use Rattle.std.proofs.Common.{sym, ap, subst, ◌∙◌, inl, inr}
 use Rattle.std.specs.Prelude.{codes, decimal}
 use Rattle.http.specs.declared.request.Request.{Request}
 use Rattle.http.specs.Request.{head_of}
 use Rattle.http_header.specs.FieldValue.{FieldValue, plain_value}
-use Rattle.http_uri.specs.Uri.{uri_path}
+use Rattle.http_uri.specs.Uri.{uri_path, uri_query}
 use Rattle.http_server.specs.declared.response.Response.{Response}
 use Rattle.http1.specs.Fields.{Header}
 use Rattle.headers.specs.ContentBytes.{content_text}
@@ -22,7 +22,7 @@ use Rattle.headers_preconditions.specs.declared.plan.Plan.TheVariants.{Unsatisfi
 use Rattle.headers_preconditions.specs.declared.response.Response.{Response as Answer}
 use Rattle.headers_preconditions.proofs.OnePlanLemmas.{one_plan}
 use Rattle.headers_serve.specs.Answer.{AnswersBehind, AnswersEntry, AnswersFile, AnswersOther, Carries}
-use Rattle.headers_serve.specs.Answer.{IsAnswerOf, IsSendable, LeadsTo, body_sent, cache_sent}
+use Rattle.headers_serve.specs.Answer.{IsAnswerOf, IsSendable, LeadsTo, body_sent, cache_sent, is_several}
 use Rattle.headers_serve.specs.File.{content_digest, resource_of, strong_tag}
 use Rattle.headers_serve.specs.Multipart.{multipart}
 use Rattle.headers_serve.specs.Redirect.{AnswersFolder}
@@ -40,26 +40,8 @@ with_same before code sent content r s h k =
 
 -- ---- a read of a file
 
-abbrev is_several : Plan → Bool
-is_several Full = false
-is_several (Single part) = false
-is_several (Multiple parts) = true
-is_several NotModified = false
-is_several Failed = false
-is_several Unsatisfiable = false
-
 sendable_as : (file : File) (p q : Plan) → is_several p ≡ is_several q → IsSendable file p → IsSendable file q
-sendable_as file p Full e h = tt
-sendable_as file p (Single part) e h = tt
-sendable_as file Full (Multiple parts) e h = absurd (cc e)
-sendable_as file (Single part) (Multiple parts) e h = absurd (cc e)
-sendable_as file (Multiple others) (Multiple parts) e h = h
-sendable_as file NotModified (Multiple parts) e h = absurd (cc e)
-sendable_as file Failed (Multiple parts) e h = absurd (cc e)
-sendable_as file Unsatisfiable (Multiple parts) e h = absurd (cc e)
-sendable_as file p NotModified e h = tt
-sendable_as file p Failed e h = tt
-sendable_as file p Unsatisfiable e h = tt
+sendable_as file p q e h = λ several. h (e ∙ several)
 
 -- the type of several parts is written alike
 type_same : (plan : Plan) (is_known : Bool) (media_type : Option FieldValue) (x y : FieldValue) → x.bytes ≡ y.bytes
@@ -168,9 +150,9 @@ file_once before cache_control method request file r s x y =
 
 -- ---- a request
 
-folder_once : (before : List Header) (path : List ℕ) (r s : Response) → AnswersFolder before path r
-    → AnswersFolder before path s → IsSameResponse r s
-folder_once before path r s x y =
+folder_once : (before : List Header) (path : List ℕ) (query : Option (List ℕ)) (r s : Response)
+    → AnswersFolder before path query r → AnswersFolder before path query s → IsSameResponse r s
+folder_once before path query r s x y =
     elim x [
       | inl h ↦ elim y [ inl k ↦ with_same _ _ _ _ r s h.1 k.1 | inr k ↦ absurd (k.0 h.0) ]
       | inr h ↦ elim y [ inl k ↦ absurd (h.0 k.0) | inr k ↦ with_same _ _ _ _ r s h.1 k.1 ]
@@ -189,7 +171,8 @@ module _ (before : List Header) (cache_control : Option FieldValue) (request : R
       → AnswersEntry before cache_control request entry s → IsSameResponse r s
   entry_once Missing x y = with_same _ _ _ _ r s x y
   entry_once Forbidden x y = with_same _ _ _ _ r s x y
-  entry_once Folder x y = folder_once before (uri_path (head_of request).uri) r s x y
+  entry_once Folder x y =
+      folder_once before (uri_path (head_of request).uri) (uri_query (head_of request).uri) r s x y
   entry_once (Readable file) x y =
       file_once before cache_control (head_of request).method (lines_at (head_of request).headers) file r s x y
 

@@ -1,12 +1,22 @@
 -- A part holds no bytes that the content doesn't.
 use Rattle.std.proofs.Common.{◌≡◌, ℕ, ◌+◌, ◌-◌, ◌<◌, List, [], ◌∷◌, length, drop, get_or, arith, ap, sym}
 use Rattle.std.proofs.Common.{◌∙◌}
-use Rattle.std.proofs.Common.{length-drop}
+use Rattle.std.proofs.Common.{length-drop, true, false, refl, inl, inr}
 use Rattle.std.proofs.lemmas.List.{get_or-drop, get_or-take, length-take}
-use Rattle.std.specs.Prelude.{slice_range}
+use Rattle.std.specs.Prelude.{codes, slice_range}
 use Rattle.memchr.specs.Find.{OccursAt}
+use Rattle.headers.specs.LineMap.{LineMap}
+use Rattle.headers_preconditions.specs.Plans.{IsPlan}
 use Rattle.headers_preconditions.specs.declared.part.Part.{Part}
+use Rattle.headers_preconditions.specs.declared.plan.Plan.{Plan}
+use Rattle.headers_preconditions.specs.declared.plan.Plan.TheVariants.{NotModified, Failed, Full, Single, Multiple}
+use Rattle.headers_preconditions.specs.declared.plan.Plan.TheVariants.{Unsatisfiable}
+use Rattle.headers_preconditions.specs.declared.resource.Resource.{Resource}
+use Rattle.headers_preconditions.specs.declared.response.Response.{Response as Answer}
+use Rattle.headers_serve.specs.Answer.{AnswersRead, is_several}
+use Rattle.headers_serve.specs.File.{content_digest, resource_of}
 use Rattle.headers_serve.specs.Parts.{Occurs, part_bytes}
+use Rattle.headers_serve.specs.declared.file.File.{File}
 
 OccursAt-from_slice : (content bytes : List ℕ) (a b k : ℕ) → 0 < length bytes
     → OccursAt (slice_range content a b) bytes k → OccursAt content bytes (a + k)
@@ -25,7 +35,7 @@ OccursAt-from_slice content bytes a b k some h =
           ∙ h.reads j within;
     }
 
-pub no_part_holds : (content bytes : List ℕ) (part : Part) → ¬ (Occurs bytes content)
+no_part_holds : (content bytes : List ℕ) (part : Part) → ¬ (Occurs bytes content)
     → ¬ (Occurs bytes (part_bytes content part))
 no_part_holds content [] part none o =
     none (0, record { fits = omega arith; reads = λ j within. absurd (omega arith) })
@@ -34,3 +44,25 @@ no_part_holds content (byte ∷ bytes) part none o =
       part.first + o.0,
       OccursAt-from_slice content (byte ∷ bytes) part.first (part.last + 1) o.0 (omega arith) o.1,
     )
+
+-- a HEAD has no parts
+head_has_none : (request : LineMap) (resource : Resource) (len : ℕ) (plan : Plan)
+    → IsPlan (codes "HEAD") request resource len plan → is_several plan ≡ false
+head_has_none request resource len Full h = refl
+head_has_none request resource len (Single part) h = refl
+head_has_none request resource len (Multiple parts) h = let get = h.2.1.is_get in absurd (cc get)
+head_has_none request resource len NotModified h = refl
+head_has_none request resource len Failed h = refl
+head_has_none request resource len Unsatisfiable h = refl
+
+pub no_part_holds_boundary : (method : List ℕ) (request : LineMap) (file : File) (answer : Answer)
+    → AnswersRead method request file answer → is_several answer.plan ≡ true
+    → (part : Part) → ¬ (Occurs (content_digest file.content) (part_bytes file.content part))
+no_part_holds_boundary method request file answer h several part =
+    elim h [
+      | inl sent ↦ no_part_holds file.content (content_digest file.content) part (sent.0 several)
+      | inr whole ↦
+          let none =
+          head_has_none request (resource_of file) (length file.content) answer.plan whole.3.2.plan in
+          absurd (cc (none, several))
+    ]

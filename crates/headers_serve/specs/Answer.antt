@@ -1,10 +1,11 @@
 -- What a request is answered with.
-use Rattle.std.specs.Prelude.{◌≡◌, ◌≢◌, ◌⊎◌, ⊤, ℕ, Bool, true, false, List, [], ◌∷◌, ◌++◌, codes}
+use Rattle.std.specs.Prelude.{◌≡◌, ◌≢◌, ◌⊎◌, ℕ, Bool, true, false, List, [], ◌∷◌, ◌++◌, codes}
 use Rattle.std.specs.Prelude.{Option, Some, None, if◌then◌else◌}
 use Rattle.http.specs.declared.request.Request.{Request}
 use Rattle.http.specs.Request.{head_of}
 use Rattle.http_header.specs.FieldValue.{FieldValue}
-use Rattle.http_uri.specs.Uri.{uri_path}
+use Rattle.http_uri.specs.declared.uri.Uri.{Uri}
+use Rattle.http_uri.specs.Uri.{uri_path, uri_query}
 use Rattle.http_server.specs.declared.response.Response.{Response}
 use Rattle.http_server.specs.Response.{fields_of}
 use Rattle.http1.specs.Fields.{Header}
@@ -36,14 +37,18 @@ IsAnswerOf method request file answer =
     (kind : FieldValue) × (kind.bytes ≡ multipart_type (content_digest file.content))
     × IsResponse method request (resource_of file) (content_of file) kind answer
 
+-- the plan sends several parts
+abbrev pub is_several : Plan → Bool
+is_several Full = false
+is_several (Single part) = false
+is_several (Multiple parts) = true
+is_several NotModified = false
+is_several Failed = false
+is_several Unsatisfiable = false
+
 -- no part holds what stands between the parts (RFC 2046, section 5.1.1), since the content doesn't
 abbrev pub IsSendable : File → Plan → Type 0
-IsSendable file Full = ⊤
-IsSendable file (Single part) = ⊤
-IsSendable file (Multiple parts) = ¬ (Occurs (content_digest file.content) file.content)
-IsSendable file NotModified = ⊤
-IsSendable file Failed = ⊤
-IsSendable file Unsatisfiable = ⊤
+IsSendable file plan = is_several plan ≡ true → ¬ (Occurs (content_digest file.content) file.content)
 
 -- The answer to a read of the file. If its parts can't be sent, Range is ignored, as RFC 9110, section 14.2, lets a
 -- server do: the plan is that of a HEAD, which is that of a GET without Range.
@@ -99,14 +104,14 @@ module _ (before : List Header) (cache_control : Option FieldValue) (request : R
   abbrev pub method_of : List ℕ
   method_of = (head_of request).method
 
-  abbrev pub path_of : List ℕ
-  path_of = uri_path (head_of request).uri
+  abbrev pub uri_of : Uri
+  uri_of = (head_of request).uri
 
   -- the response to a GET or a HEAD where this was found
   abbrev pub AnswersEntry : Entry → Response → Type 0
   AnswersEntry Missing response = IsWith before 404 [] [] response
   AnswersEntry Forbidden response = IsWith before 403 [] [] response
-  AnswersEntry Folder response = AnswersFolder before path_of response
+  AnswersEntry Folder response = AnswersFolder before (uri_path uri_of) (uri_query uri_of) response
   AnswersEntry (Readable file) response =
       AnswersFile before cache_control method_of (lines_at (head_of request).headers) file response
 

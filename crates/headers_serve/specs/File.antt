@@ -1,7 +1,7 @@
 -- What a file's content gives its validators.
 use Rattle.std.specs.Prelude.{ℕ, List, length, Some, false}
 use Rattle.http_header.specs.FieldValue.{plain_value}
-use Rattle.sha1.specs.Sha1.{sha1}
+use Rattle.sha2.specs.Sha256.{sha256}
 use Rattle.hex.specs.Hex.{encode_lower}
 use Rattle.headers.specs.EntityTag.{tag_text}
 use Rattle.headers_preconditions.specs.declared.content.Content.{Content}
@@ -9,9 +9,9 @@ use Rattle.headers_preconditions.specs.declared.resource.Resource.{Resource}
 use Rattle.headers_preconditions.specs.declared.resource.Resource.TheVariants.{Current}
 use Rattle.headers_serve.specs.declared.file.File.{File}
 
--- the digits of a content's SHA-1
+-- the digits of a content's SHA-256
 unfoldable pub content_digest : List ℕ → List ℕ
-content_digest content = encode_lower (sha1 content)
+content_digest content = encode_lower (sha256 content)
 
 -- an entity tag as it is written: strong, with these digits
 abbrev pub strong_tag : List ℕ → List ℕ

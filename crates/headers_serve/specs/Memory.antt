@@ -9,4 +9,6 @@ abbrev pub HasOne : Memory → List ℕ → Entry → Type 0
 HasOne store path Missing = path ≢ string_bytes store.path
 HasOne store path Forbidden = ⊥
 HasOne store path Folder = ⊥
-HasOne store path (Readable file) = (path ≡ string_bytes store.path) × (file ≡ store.file)
+HasOne store path (Readable file) =
+    (path ≡ string_bytes store.path) × (file.content ≡ store.file.content)
+    × (file.media_type ≡ store.file.media_type) × (file.modified ≡ store.file.modified)

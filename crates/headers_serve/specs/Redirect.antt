@@ -6,21 +6,26 @@ use Rattle.http_server.specs.declared.response.Response.{Response}
 use Rattle.headers_serve.specs.Path.{ends_in_slash}
 use Rattle.headers_serve.specs.Response.{IsWith}
 
--- where the index of a folder is found
-abbrev pub index_path : List ℕ → List ℕ
-index_path path = path ++ codes "/"
+-- a query behind its question mark
+abbrev pub query_text : Option (List ℕ) → List ℕ
+query_text None = []
+query_text (Some query) = codes "?" ++ query
+
+-- where the index of a folder is found, with the query
+abbrev pub index_target : List ℕ → Option (List ℕ) → List ℕ
+index_target path query = path ++ codes "/" ++ query_text query
 
 -- there is no such place: the path ends in a slash already, or no field can hold it
-abbrev pub HasNoIndexPath : List ℕ → Type 0
-HasNoIndexPath path = (ends_in_slash path ≡ true) ⊎ ¬ (IsFieldValue (index_path path))
+abbrev pub HasNoIndex : List ℕ → Option (List ℕ) → Type 0
+HasNoIndex path query = (ends_in_slash path ≡ true) ⊎ ¬ (IsFieldValue (index_target path query))
 
 -- the line of Location, if there is one
-abbrev pub IsLocation : List ℕ → Option (List ℕ) → Type 0
-IsLocation path None = HasNoIndexPath path
-IsLocation path (Some line) = (¬ (HasNoIndexPath path)) × (line ≡ index_path path)
+abbrev pub IsLocation : List ℕ → Option (List ℕ) → Option (List ℕ) → Type 0
+IsLocation path query None = HasNoIndex path query
+IsLocation path query (Some line) = (¬ (HasNoIndex path query)) × (line ≡ index_target path query)
 
 -- 301 to the index of the folder, or 404 if there is no such place
-abbrev pub AnswersFolder : List Header → List ℕ → Response → Type 0
-AnswersFolder before path response =
-    (HasNoIndexPath path × IsWith before 404 [] [] response)
-    ⊎ ((¬ (HasNoIndexPath path)) × IsWith before 301 ((codes "location", index_path path) ∷ []) [] response)
+abbrev pub AnswersFolder : List Header → List ℕ → Option (List ℕ) → Response → Type 0
+AnswersFolder before path query response =
+    (HasNoIndex path query × IsWith before 404 [] [] response)
+    ⊎ ((¬ (HasNoIndex path query)) × IsWith before 301 ((codes "location", index_target path query) ∷ []) [] response)

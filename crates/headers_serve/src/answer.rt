@@ -1,9 +1,9 @@
 //! The answer to a read of a file.
-ghost use Rattle.std.specs.Prelude.{◌≡◌, IfOk, length, string_bytes};
+ghost use Rattle.std.specs.Prelude.{◌≡◌, true, IfOk, length, string_bytes};
 ghost use Rattle.std.specs.Bool.{MatchBool};
 ghost use Rattle.http_header.specs.FieldValue.{plain_value};
 ghost use Rattle.headers.specs.LineMap.{lines_at};
-ghost use Rattle.headers_preconditions.specs.Boundaries.{multipart_type};
+ghost use Rattle.headers_preconditions.specs.Boundaries.{is_boundary, multipart_type};
 ghost use Rattle.headers_preconditions.specs.Preconditions.{IsGetOrHead};
 ghost use Rattle.headers_serve.specs.Answer.{AnswersRead, IsAnswerOf, IsSendable};
 ghost use Rattle.headers_serve.specs.File.{content_digest, content_of, resource_of, strong_tag};
@@ -14,15 +14,14 @@ use headers::{ETag, HeaderMap, Refused};
 use headers_preconditions::{Boundary, Content, Plan, Resource, Response, Validators, respond};
 use http::Method;
 use memchr::memmem;
-use sha1::Sha1;
 use std::alloc::{AllocError, Global};
 
-// The digits of a content's SHA-1.
+// The digits of a file's digest.
 #[tactic(auto, unfolding(crate::specs::File::content_digest))]
-pub(crate) fn content_digest(alloc: Global, content: &[u8]) -> Result<String, AllocError>
-    ensures { IfOk result (λ digits. string_bytes digits ≡ content_digest content.now) }
+pub(crate) fn content_digest(alloc: Global, file: &File) -> Result<String, AllocError>
+    ensures { IfOk result (λ digits. string_bytes digits ≡ content_digest file.now.content) }
 {
-    let digits = hex::encode(alloc, Sha1::digest(content))?;
+    let digits = hex::encode(alloc, file.digest())?;
     Ok(digits)
 }
 
@@ -37,16 +36,20 @@ fn tag_text(alloc: Global, digits: &str) -> Result<String, AllocError>
     Ok(text)
 }
 
+// The tag with these digits.
 fn strong_tag(alloc: Global, digits: &str) -> Result<ETag, AllocError>
+    requires { is_boundary digits.now ≡ true }
     ensures { IfOk result (λ tag. tag ≡ plain_value (strong_tag digits.now)) }
 {
     let text = tag_text(alloc, digits)?;
     match ETag::from_str(alloc, text.as_str()) {
         Ok(tag) => Ok(tag),
-        Err(_) => Err(AllocError),
+        Err(Refused::Memory(refused)) => Err(refused),
+        Err(Refused::Invalid(_)) => unreachable!(),
     }
 }
 
+#[tactic(auto, using(crate::proofs::DigestLemmas::digest_is_boundary))]
 fn resource_of(alloc: Global, file: &File, digest: &str) -> Result<Resource, AllocError>
     requires { digest.now ≡ content_digest file.now.content }
     ensures { IfOk result (λ resource. resource ≡ resource_of file.now) }
@@ -70,16 +73,18 @@ fn content_of(file: &File) -> Result<Content, AllocError>
 }
 
 fn boundary_of(alloc: Global, digits: &str) -> Result<Boundary, AllocError>
+    requires { is_boundary digits.now ≡ true }
     ensures { IfOk result (λ boundary. boundary.bytes ≡ multipart_type digits.now) }
 {
     match Boundary::new(alloc, digits) {
         Ok(boundary) => Ok(boundary),
         Err(Refused::Memory(refused)) => Err(refused),
-        Err(Refused::Invalid(_)) => Err(AllocError),
+        Err(Refused::Invalid(_)) => unreachable!(),
     }
 }
 
 // The answer to a request for the file by this method.
+#[tactic(auto, using(crate::proofs::DigestLemmas::digest_is_boundary))]
 fn answer_by(
     alloc: Global,
     method: &Method,

@@ -1,7 +1,11 @@
 //! What a store has at a path.
+ghost use Rattle.std.specs.Prelude.{◌≡◌, IfOk};
+ghost use Rattle.sha2.specs.Sha256.{sha256};
 
 use bytes::Bytes;
 use headers::{HeaderValue, LastModified};
+use sha2::{Digest, Sha256};
+use std::alloc::AllocError;
 
 /// A file's current content.
 #[derive(Debug, Drop)]
@@ -12,6 +16,55 @@ pub struct File {
     pub media_type: HeaderValue,
     /// When it was last modified, if that is known and before the year 10000.
     pub modified: Option<LastModified>,
+    digest: [u8; 32],
+    ghost is_digest: { digest ≡ sha256 content },
+}
+
+fn digest_of(content: &[u8]) -> [u8; 32]
+    ensures { result ≡ sha256 content.now }
+{
+    Sha256::digest(content)
+}
+
+impl File {
+    /// A file with this content. Its digest is made here and kept, so a store that keeps a file
+    /// doesn't make it again.
+    pub fn new(content: Bytes, media_type: HeaderValue, modified: Option<LastModified>) -> File
+        ensures content { result.content ≡ content }
+        ensures media_type { result.media_type ≡ media_type }
+        ensures modified { result.modified ≡ modified }
+    {
+        let digest = digest_of(content.as_slice());
+        File {
+            content,
+            media_type,
+            modified,
+            digest,
+        }
+    }
+
+    /// The SHA-256 of its content.
+    pub fn digest(&self) -> [u8; 32]
+        ensures { result ≡ sha256 self.now.content }
+    {
+        self.digest
+    }
+
+    /// A copy, which shares the content.
+    pub fn clone(&self) -> Result<File, AllocError>
+        ensures content { IfOk result (λ copy. copy.content ≡ self.now.content) }
+        ensures media_type { IfOk result (λ copy. copy.media_type ≡ self.now.media_type) }
+        ensures modified { IfOk result (λ copy. copy.modified ≡ self.now.modified) }
+    {
+        let content = self.content.clone()?;
+        let media_type = self.media_type.clone()?;
+        Ok(File {
+            content,
+            media_type,
+            modified: self.modified,
+            digest: self.digest,
+        })
+    }
 }
 
 /// What a store has at a path.
@@ -25,33 +78,4 @@ pub enum Entry {
     Folder,
     /// A file.
     Readable(File),
-}
-
-/// The media type that the extension of a file's name stands for, without its dot and in lower case.
-/// `application/octet-stream` if it isn't known.
-pub fn media_type_of(extension: &str) -> HeaderValue {
-    match extension {
-        "html" | "htm" => HeaderValue::from_static("text/html"),
-        "txt" => HeaderValue::from_static("text/plain; charset=utf-8"),
-        "md" => HeaderValue::from_static("text/markdown; charset=utf-8"),
-        "css" => HeaderValue::from_static("text/css"),
-        "csv" => HeaderValue::from_static("text/csv"),
-        "js" | "mjs" => HeaderValue::from_static("text/javascript"),
-        "json" => HeaderValue::from_static("application/json"),
-        "xml" => HeaderValue::from_static("application/xml"),
-        "pdf" => HeaderValue::from_static("application/pdf"),
-        "wasm" => HeaderValue::from_static("application/wasm"),
-        "zip" => HeaderValue::from_static("application/zip"),
-        "gif" => HeaderValue::from_static("image/gif"),
-        "ico" => HeaderValue::from_static("image/vnd.microsoft.icon"),
-        "jpg" | "jpeg" => HeaderValue::from_static("image/jpeg"),
-        "png" => HeaderValue::from_static("image/png"),
-        "svg" => HeaderValue::from_static("image/svg+xml"),
-        "webp" => HeaderValue::from_static("image/webp"),
-        "mp3" => HeaderValue::from_static("audio/mpeg"),
-        "mp4" => HeaderValue::from_static("video/mp4"),
-        "webm" => HeaderValue::from_static("video/webm"),
-        "woff2" => HeaderValue::from_static("font/woff2"),
-        _ => HeaderValue::from_static("application/octet-stream"),
-    }
 }

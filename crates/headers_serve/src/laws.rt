@@ -1,13 +1,17 @@
 //! What follows from the definitions alone. A proof cites a law by calling it.
-ghost use Rattle.std.specs.Prelude.{◌≡◌, ℕ, List, Option};
+ghost use Rattle.std.specs.Prelude.{◌≡◌, ℕ, true, List, Option};
 ghost use Rattle.http.specs.declared.request.Request.{Request};
 ghost use Rattle.http_header.specs.FieldValue.{FieldValue};
 ghost use Rattle.http_server.specs.declared.response.Response.{Response};
+ghost use Rattle.headers.specs.LineMap.{LineMap};
 ghost use Rattle.headers_preconditions.specs.declared.part.Part.{Part};
-ghost use Rattle.headers_serve.specs.Answer.{AnswersBehind, date_fields};
+ghost use Rattle.headers_preconditions.specs.declared.response.Response.{Response as Answer};
+ghost use Rattle.headers_serve.specs.Answer.{AnswersBehind, AnswersRead, date_fields, is_several};
+ghost use Rattle.headers_serve.specs.File.{content_digest};
 ghost use Rattle.headers_serve.specs.Parts.{Occurs, part_bytes};
 ghost use Rattle.headers_serve.specs.Response.{IsSameResponse};
 ghost use Rattle.headers_serve.specs.declared.file.Entry.{Entry};
+ghost use Rattle.headers_serve.specs.declared.file.File.{File};
 
 /// A request has one response at most, where the store has one entry at each path: two responses
 /// with the same date have the same status, the same fields in the same order, and the same body.
@@ -19,8 +23,10 @@ pub fn request_has_one_response()
         → IsSameResponse r s }
 {}
 
-/// What doesn't occur in a content occurs in no part of it.
-pub fn parts_hold_what_the_content_holds()
-    ensures { (content bytes : List ℕ) (part : Part) → ¬ (Occurs bytes content)
-        → ¬ (Occurs bytes (part_bytes content part)) }
+/// If an answer sends several parts, none holds the boundary between them (RFC 2046, section 5.1.1),
+/// whichever part of the file it is.
+pub fn no_part_holds_the_boundary()
+    ensures { (method : List ℕ) (request : LineMap) (file : File) (answer : Answer)
+        → AnswersRead method request file answer → is_several answer.plan ≡ true
+        → (part : Part) → ¬ (Occurs (content_digest file.content) (part_bytes file.content part)) }
 {}

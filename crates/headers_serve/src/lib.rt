@@ -8,6 +8,7 @@ mod connection;
 mod fields;
 mod file;
 pub mod laws;
+mod media_type;
 mod memory;
 mod multipart;
 mod path;
@@ -16,7 +17,8 @@ mod service;
 mod store;
 
 pub use crate::connection::serve_store;
-pub use crate::file::{Entry, File, media_type_of};
+pub use crate::file::{Entry, File};
+pub use crate::media_type::media_type_of;
 pub use crate::memory::Memory;
 pub use crate::path::{is_plain, store_path};
 pub use crate::service::FileService;

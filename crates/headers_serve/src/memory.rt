@@ -22,11 +22,8 @@ impl Store for Memory {
         if path != self.path.as_str() {
             return Ok(Entry::Missing);
         }
-        Ok(Entry::Readable(File {
-            content: self.file.content.clone()?,
-            media_type: self.file.media_type.clone()?,
-            modified: self.file.modified,
-        }))
+        let file = self.file.clone()?;
+        Ok(Entry::Readable(file))
     }
 
     fn now(&self) -> Option<u64> {

@@ -1,8 +1,8 @@
 //! The service: a request is answered from a store.
-ghost use Rattle.std.specs.Prelude.{◌≡◌, ◌≢◌, [], OnOk, IfOk, codes, length};
+ghost use Rattle.std.specs.Prelude.{◌≡◌, ◌≢◌, [], OnOk, IfOk, codes, length, option_copied};
 ghost use Rattle.std.specs.Bool.{MatchBool};
 ghost use Rattle.http.specs.Request.{head_of};
-ghost use Rattle.http_uri.specs.Uri.{uri_path};
+ghost use Rattle.http_uri.specs.Uri.{uri_path, uri_query};
 ghost use Rattle.headers.specs.LineMap.{lines_at};
 ghost use Rattle.headers_preconditions.specs.Preconditions.{IsGetOrHead};
 ghost use Rattle.http_server.specs.Response.{fields_of};
@@ -117,7 +117,7 @@ fn answer_file(
     ensures { OnOk result (AnswersFile (fields_of response.old) cache_control.now method.now
         (lines_at request.now) file.now response.new) }
 {
-    let digits = content_digest(alloc, file.content.as_slice())?;
+    let digits = content_digest(alloc, file)?;
     let digest = digits.as_str();
     let answer = answer_read(alloc, method, request, file, digest)?;
     carry(alloc, cache_control, file, digest, answer, response)?;
@@ -147,7 +147,7 @@ fn answer_entry(
             Ok(())
         }
         Entry::Folder => {
-            answer_folder(alloc, path_of(request), response)?;
+            answer_folder(alloc, path_of(request), query_of(request), response)?;
             Ok(())
         }
         Entry::Readable(file) => {
@@ -169,6 +169,12 @@ fn path_of(request: &Request<Bytes>) -> &str
     ensures { result.now ≡ uri_path (head_of request.now).uri }
 {
     request.uri().path()
+}
+
+fn query_of(request: &Request<Bytes>) -> Option<&str>
+    ensures { option_copied result ≡ uri_query (head_of request.now).uri }
+{
+    request.uri().query()
 }
 
 // What the path of a URI leads to.

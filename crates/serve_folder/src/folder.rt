@@ -85,11 +85,10 @@ impl Store for Folder<'_> {
             Ok(content) => content,
             Err(error) => return Ok(entry_at(&error)),
         };
-        Ok(Entry::Readable(File {
-            content: Bytes::from_vec(content)?,
-            media_type: media_type_at(path),
-            modified: self.modified(&metadata),
-        }))
+        let content = Bytes::from_vec(content)?;
+        let modified = self.modified(&metadata);
+        let file = File::new(content, media_type_at(path), modified);
+        Ok(Entry::Readable(file))
     }
 
     fn now(&self) -> Option<u64> {
