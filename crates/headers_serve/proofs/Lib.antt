@@ -6,3 +6,4 @@ pub mod OneResponseLemmas
 pub mod PartLemmas
 pub mod PathLemmas
 pub mod PlanLemmas
+pub mod WholeLemmas

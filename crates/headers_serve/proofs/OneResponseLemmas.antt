@@ -177,7 +177,8 @@ module _ (before : List Header) (cache_control : Option FieldValue) (request : R
       file_once before cache_control (head_of request).method (lines_at (head_of request).headers) file r s x y
 
 -- a path leads to one entry, where the store has one at each path
-leads_once : (look : List ℕ → Entry) (path : List ℕ) (e f : Entry) → LeadsTo (λ named entry. entry ≡ look named) path e
+pub leads_once : (look : List ℕ → Entry) (path : List ℕ) (e f : Entry)
+    → LeadsTo (λ named entry. entry ≡ look named) path e
     → LeadsTo (λ named entry. entry ≡ look named) path f → e ≡ f
 leads_once look path e f x y =
     elim x [

@@ -139,6 +139,14 @@ AnswersBehind before cache_control has request response =
     × AnswersEntry before cache_control request entry response))
     ⊎ ((¬ (IsGetOrHead (head_of request).method)) × AnswersOther before (head_of request).method response)
 
+-- the request makes no condition, and asks for no range
+pub record AsksForAll (request : LineMap) : Type 0 where
+  pub if_match : request (codes "if-match") ≡ []
+  pub if_none_match : request (codes "if-none-match") ≡ []
+  pub if_modified_since : request (codes "if-modified-since") ≡ []
+  pub if_unmodified_since : request (codes "if-unmodified-since") ≡ []
+  pub range : request (codes "range") ≡ []
+
 -- the fields of a date
 abbrev pub date_fields : Option ℕ → List Header
 date_fields None = []

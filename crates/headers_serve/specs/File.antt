@@ -7,6 +7,7 @@ use Rattle.headers.specs.EntityTag.{tag_text}
 use Rattle.headers_preconditions.specs.declared.content.Content.{Content}
 use Rattle.headers_preconditions.specs.declared.resource.Resource.{Resource}
 use Rattle.headers_preconditions.specs.declared.resource.Resource.TheVariants.{Current}
+use Rattle.headers_preconditions.specs.declared.resource.Validators.{Validators}
 use Rattle.headers_serve.specs.declared.file.File.{File}
 
 -- the digits of a content's SHA-256
@@ -17,14 +18,17 @@ content_digest content = encode_lower (sha256 content)
 abbrev pub strong_tag : List ℕ → List ℕ
 strong_tag digits = tag_text (record { is_weak = false; opaque = digits })
 
--- a file as a resource: its tag is the digest of its content, and its date is no strong validator, since a file may
--- change twice in a second
-abbrev pub resource_of : File → Resource
-resource_of file = Current (record {
+-- what is known of a file's representation: its tag is the digest of its content, and its date is no strong validator,
+-- since a file may change twice in a second
+abbrev pub validators_of : File → Validators
+validators_of file = record {
   etag = Some (plain_value (strong_tag (content_digest file.content)));
   last_modified = file.modified;
   is_date_strong = false;
-})
+}
+
+abbrev pub resource_of : File → Resource
+resource_of file = Current (validators_of file)
 
 -- its length and its media type
 abbrev pub content_of : File → Content

@@ -1,15 +1,19 @@
 //! What follows from the definitions alone. A proof cites a law by calling it.
-ghost use Rattle.std.specs.Prelude.{◌≡◌, ℕ, true, List, Option};
+ghost use Rattle.std.specs.Prelude.{◌≡◌, ℕ, true, List, Option, Some, codes};
+ghost use Rattle.http.specs.Request.{head_of};
 ghost use Rattle.http.specs.declared.request.Request.{Request};
 ghost use Rattle.http_header.specs.FieldValue.{FieldValue};
+ghost use Rattle.http_uri.specs.Uri.{uri_path};
 ghost use Rattle.http_server.specs.declared.response.Response.{Response};
-ghost use Rattle.headers.specs.LineMap.{LineMap};
+ghost use Rattle.headers.specs.LineMap.{LineMap, lines_at};
 ghost use Rattle.headers_preconditions.specs.declared.part.Part.{Part};
 ghost use Rattle.headers_preconditions.specs.declared.response.Response.{Response as Answer};
-ghost use Rattle.headers_serve.specs.Answer.{AnswersBehind, AnswersRead, date_fields, is_several};
+ghost use Rattle.headers_serve.specs.Answer.{AnswersBehind, AnswersRead, AsksForAll, date_fields, is_several};
 ghost use Rattle.headers_serve.specs.File.{content_digest};
 ghost use Rattle.headers_serve.specs.Parts.{Occurs, part_bytes};
+ghost use Rattle.headers_serve.specs.Path.{Names};
 ghost use Rattle.headers_serve.specs.Response.{IsSameResponse};
+ghost use Rattle.headers_serve.specs.declared.file.Entry.TheVariants.{Readable};
 ghost use Rattle.headers_serve.specs.declared.file.Entry.{Entry};
 ghost use Rattle.headers_serve.specs.declared.file.File.{File};
 
@@ -21,6 +25,17 @@ pub fn request_has_one_response()
         → AnswersBehind (date_fields date) cache_control (λ path entry. entry ≡ look path) request r
         → AnswersBehind (date_fields date) cache_control (λ path entry. entry ≡ look path) request s
         → IsSameResponse r s }
+{}
+
+/// A GET of a file that makes no condition and asks for no range is answered by 200 with its content.
+pub fn get_gets_the_content()
+    ensures { (cache_control : Option FieldValue) (look : List ℕ → Entry) (date : Option ℕ)
+        (request : Request (List ℕ)) (named : List ℕ) (file : File) (response : Response)
+        → (head_of request).method ≡ codes "GET"
+        → Names (uri_path (head_of request).uri) (Some named) → look named ≡ Readable file
+        → AsksForAll (lines_at (head_of request).headers)
+        → AnswersBehind (date_fields date) cache_control (λ path entry. entry ≡ look path) request response
+        → (response.status ≡ 200) × (response.body.items ≡ file.content) }
 {}
 
 /// If an answer sends several parts, none holds the boundary between them (RFC 2046, section 5.1.1),
