@@ -1,0 +1,2 @@
+pub mod DecodeLemmas
+pub mod LineLemmas

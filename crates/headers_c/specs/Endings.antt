@@ -1,0 +1,56 @@
+-- How calls end: their status, and what is behind the caller's pointers.
+use Rattle.std.specs.Prelude.{◌≡◌, ℕ, ◌<◌, ◌≤◌, List, length, take, drop, Result, Ok, Err}
+use Rattle.headers_c.specs.declared.status.Failure.{Failure}
+use Rattle.headers_c.specs.declared.status.Failure.TheVariants.{Refused, Memory, Absent, TooLarge}
+
+-- the status of a call that gave what it was asked for
+abbrev pub done : ℕ
+done = 0
+
+-- the status of a call that wrote a text in which a refusal is marked
+abbrev pub marked : ℕ
+marked = 6
+
+-- the status of a call whose bytes are more than the caller has room for
+abbrev pub no_room : ℕ
+no_room = 3
+
+abbrev pub status_of : Failure → ℕ
+status_of Refused = 1
+status_of Memory = 2
+status_of Absent = 4
+status_of TooLarge = 5
+
+-- the value is in its place; if there is none, the place is as it was
+abbrev pub IsGiven : {V : Type 0} → Result V Failure → V → V → ℕ → Type 0
+IsGiven (Ok value) old new status = (status ≡ done) × (new ≡ value)
+IsGiven (Err failure) old new status = (status ≡ status_of failure) × (new ≡ old)
+
+-- a call that gives one value has an answer of which P holds
+abbrev pub Gives : {V : Type 0} → (Result V Failure → Type 0) → V → V → ℕ → Type 0
+Gives {V} P old new status = (answer : Result V Failure) × P answer × IsGiven answer old new status
+
+-- the bytes are at the front of the room, and what is behind them is as it was
+abbrev pub IsAtFront : List ℕ → List ℕ → List ℕ → Type 0
+IsAtFront bytes old new = (take (length bytes) new ≡ bytes) × (drop (length bytes) new ≡ drop (length bytes) old)
+
+-- `written` is how many bytes there are. If they fit they are at the front of the room, and the status is `success`;
+-- else the room is as it was.
+pub record IsWritten (bytes : List ℕ) (success : ℕ) (old new : List ℕ) (written status : ℕ) : Type 0 where
+  pub count : written ≡ length bytes
+  pub fit : length bytes ≤ length old → (status ≡ success) × IsAtFront bytes old new
+  pub short : length old < length bytes → (status ≡ no_room) × (new ≡ old)
+
+-- the bytes are written; if there are none, nothing is
+abbrev pub IsHandedOut : {V : Type 0} → (V → List ℕ) → (V → ℕ) → Result V Failure → (old new : List ℕ)
+    → (before written status : ℕ) → Type 0
+IsHandedOut bytes success (Ok value) old new before written status =
+    IsWritten (bytes value) (success value) old new written status
+IsHandedOut bytes success (Err failure) old new before written status =
+    (status ≡ status_of failure) × (new ≡ old) × (written ≡ before)
+
+-- a call that writes the bytes of a value has an answer of which P holds
+abbrev pub Writes : {V : Type 0} → (V → List ℕ) → (V → ℕ) → (Result V Failure → Type 0) → (old new : List ℕ)
+    → (before written status : ℕ) → Type 0
+Writes {V} bytes success P old new before written status =
+    (answer : Result V Failure) × P answer × IsHandedOut bytes success answer old new before written status

@@ -1,0 +1,5 @@
+pub mod Canonical
+pub mod Endings
+pub mod FieldText
+pub mod Fields
+pub mod Tags

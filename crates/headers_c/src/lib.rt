@@ -1,0 +1,11 @@
+//! Calls for C over the proved headers: bytes in, numbers and bytes out. `include/typed_headers.h`
+//! documents them for their callers, and `build_c` makes the library.
+#![tactic(auto)]
+
+mod canonical;
+mod fields;
+mod keys;
+mod lines;
+mod media_type;
+mod status;
+mod tags;

@@ -1,0 +1,40 @@
+//! The media type of `content-type`.
+ghost use Rattle.headers.specs.ContentType.{ReadsType};
+ghost use Rattle.headers_c.specs.Endings.{Writes, done};
+ghost use Rattle.headers_c.specs.FieldText.{FieldDecodes};
+ghost use Rattle.headers_c.specs.Fields.{reads_media};
+
+use crate::lines::read_field;
+use crate::status::{DONE, Failure, copy_into};
+use headers::{ContentType, HeaderValue, encoding};
+use std::alloc::Global;
+
+/// The canonical text of the media type that the lines of `content-type` read (RFC 9110, section
+/// 8.3).
+#[unsafe(no_mangle)]
+pub extern "C" fn typed_headers_media_type(
+    alloc: Global,
+    lines: &[u8],
+    room: &mut [u8],
+    written: &mut usize,
+) -> u8
+    ensures { Writes (λ value. value.bytes) (λ _. done) (FieldDecodes reads_media lines.now)
+        room.old room.new written.old written.new result }
+{
+    match read_media_type(alloc, lines) {
+        Ok(text) => copy_into(text.as_bytes(), DONE, room, written),
+        Err(failure) => failure.status(),
+    }
+}
+
+// The line that is written of the media type.
+fn read_media_type(alloc: Global, lines: &[u8]) -> Result<HeaderValue, Failure>
+    ensures { FieldDecodes reads_media lines.now result }
+{
+    let media_type = read_field::<ContentType>(alloc, lines)?;
+    let mut written = encoding(alloc, &media_type)?.lines;
+    match written.pop() {
+        Some(text) => Ok(text),
+        None => unreachable!(),
+    }
+}

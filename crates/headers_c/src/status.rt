@@ -1,0 +1,76 @@
+//! How calls end.
+ghost use Rattle.std.specs.Prelude.{◌≡◌};
+ghost use Rattle.headers_c.specs.Endings.{IsWritten, status_of};
+
+use std::alloc::{AllocError, AllocFailed};
+
+/// The status of a call that gave what it was asked for.
+pub const DONE: u8 = 0;
+
+/// The status of a call that wrote a text in which a refusal is marked.
+pub const MARKED: u8 = 6;
+
+/// The status of a call whose bytes are more than the caller has room for.
+pub const NO_ROOM: u8 = 3;
+
+/// Why a call has nothing to give.
+#[derive(Clone, Copy, Debug, PartialEq, Eq)]
+pub enum Failure {
+    /// What was handed in isn't what the call reads.
+    Refused,
+    /// The allocator had no memory.
+    Memory,
+    /// What is asked for isn't there.
+    Absent,
+    /// What was handed in is longer, or has more names, than the call takes.
+    TooLarge,
+}
+
+impl Failure {
+    /// The status: 1 for `Refused`, 2 for `Memory`, 4 for `Absent`, 5 for `TooLarge`.
+    pub fn status(self) -> u8
+        ensures { result ≡ status_of self }
+    {
+        match self {
+            Failure::Refused => 1,
+            Failure::Memory => 2,
+            Failure::Absent => 4,
+            Failure::TooLarge => 5,
+        }
+    }
+}
+
+impl From<AllocError> for Failure {
+    ghost use Rattle.std.specs.Prelude.{◌≡◌};
+    ghost use Rattle.headers_c.specs.declared.status.Failure.TheVariants.{Memory};
+
+    ghost from_gives = { λ _ failure. failure ≡ Memory };
+
+    fn from(_error: AllocError) -> Failure {
+        Failure::Memory
+    }
+}
+
+impl<T: Drop> From<AllocFailed<T>> for Failure {
+    ghost use Rattle.std.specs.Prelude.{◌≡◌};
+    ghost use Rattle.headers_c.specs.declared.status.Failure.TheVariants.{Memory};
+
+    ghost from_gives = { λ _ failure. failure ≡ Memory };
+
+    fn from(_failed: AllocFailed<T>) -> Failure {
+        Failure::Memory
+    }
+}
+
+/// Copies the bytes to the front of the room if they fit, and says how many they are. The status is
+/// `done` if they fit, else `NO_ROOM`.
+pub fn copy_into(bytes: &[u8], done: u8, room: &mut [u8], written: &mut usize) -> u8
+    ensures { IsWritten bytes.now done room.old room.new written.new result }
+{
+    *written = bytes.len();
+    if bytes.len() > room.len() {
+        return NO_ROOM;
+    }
+    room[..bytes.len()].copy_from_slice(bytes);
+    done
+}
