@@ -1,5 +1,6 @@
 -- Two entity tags, compared.
 use Rattle.std.specs.Prelude.{◌≡◌, ◌⊎◌, ℕ, List, Result, Ok, Err}
+use Rattle.http_header.specs.FieldValue.{FieldValue}
 use Rattle.headers.specs.EntityTag.{TagParts, AreTags}
 use Rattle.headers.specs.HeaderLaws.{ReadsBy}
 use Rattle.headers.specs.Lines.{Line}
@@ -10,6 +11,10 @@ use Rattle.headers_c.specs.FieldText.{FieldDecodes, FieldReads}
 -- the only line is this entity tag
 abbrev pub reads_tag : List Line → Line → Type 0
 reads_tag = ReadsBy (only_tag {V = Line} (λ line. line))
+
+-- the same of a value whose bytes it is
+abbrev pub reads_etag : List Line → FieldValue → Type 0
+reads_etag = ReadsBy (only_tag (λ (value : FieldValue). value.bytes))
 
 -- the number is 1 if P holds, and 0 if it doesn't
 abbrev pub Tells : Type 0 → ℕ → Type 0

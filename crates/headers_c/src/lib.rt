@@ -7,5 +7,7 @@ mod fields;
 mod keys;
 mod lines;
 mod media_type;
+mod preconditions;
+mod section;
 mod status;
 mod tags;

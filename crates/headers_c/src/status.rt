@@ -2,6 +2,7 @@
 ghost use Rattle.std.specs.Prelude.{◌≡◌};
 ghost use Rattle.headers_c.specs.Endings.{IsWritten, status_of};
 
+use http_header::HeaderMapError;
 use std::alloc::{AllocError, AllocFailed};
 
 /// The status of a call that gave what it was asked for.
@@ -59,6 +60,20 @@ impl<T: Drop> From<AllocFailed<T>> for Failure {
 
     fn from(_failed: AllocFailed<T>) -> Failure {
         Failure::Memory
+    }
+}
+
+impl From<HeaderMapError> for Failure {
+    ghost use Rattle.std.specs.Prelude.{◌≡◌};
+    ghost use Rattle.headers_c.specs.SectionMap.{failure_of};
+
+    ghost from_gives = { λ error failure. failure ≡ failure_of error };
+
+    fn from(error: HeaderMapError) -> Failure {
+        match error {
+            HeaderMapError::MaxSizeReached => Failure::TooLarge,
+            HeaderMapError::OutOfMemory => Failure::Memory,
+        }
     }
 }
 

@@ -1,0 +1,410 @@
+/*
+ * Makes the calls of rows, and compares the answers with those that are wanted.
+ *
+ *     test FILE..
+ *
+ * A row is `CALL WORD.. = ANSWER`, as crates/headers_replay/README.md tells; rows of other calls are passed over. Each
+ * call is made over bytes that end where memory that nothing may touch begins. One that writes bytes is made with each
+ * room from none to one byte more than is wanted. Each request for memory of a call is refused in turn. After a call
+ * no block may be left.
+ */
+#include "typed_headers.h"
+#include <stdbool.h>
+#include <stdio.h>
+#include <stdlib.h>
+#include <string.h>
+#include <sys/mman.h>
+
+enum { MOST_WORDS = 2048, AREA = 1 << 24, SHORT = 300, FILL = 0xA5 };
+
+/* Memory as the library asks for it. */
+static bool is_counting;
+static size_t blocks, requests, refused_request;
+
+void *__real_malloc(size_t size);
+void *__real_realloc(void *block, size_t size);
+void __real_free(void *block);
+
+static bool is_refused(void) { return is_counting && ++requests == refused_request; }
+
+void *__wrap_malloc(size_t size) {
+    void *block = is_refused() ? NULL : __real_malloc(size);
+    blocks += is_counting && block;
+    return block;
+}
+
+void *__wrap_realloc(void *block, size_t size) {
+    if (is_refused()) {
+        return NULL;
+    }
+    blocks += is_counting && !block;
+    return __real_realloc(block, size);
+}
+
+void __wrap_free(void *block) {
+    blocks -= is_counting && block;
+    __real_free(block);
+}
+
+/* An area of memory with a page behind it that nothing may touch. */
+struct area {
+    uint8_t *end;
+};
+
+static struct area new_area(void) {
+    uint8_t *start = mmap(NULL, AREA + 4096, PROT_READ | PROT_WRITE, MAP_PRIVATE | MAP_ANONYMOUS, -1, 0);
+    if (start == MAP_FAILED || mprotect(start + AREA, 4096, PROT_NONE)) {
+        perror("test: no memory");
+        exit(2);
+    }
+    return (struct area){start + AREA};
+}
+
+/* The bytes, up to the end of the area. */
+struct text {
+    const uint8_t *bytes;
+    size_t length;
+};
+
+static struct text put(struct area area, const char *bytes, size_t length) {
+    memcpy(area.end - length, bytes, length);
+    return (struct text){area.end - length, length};
+}
+
+/* A row, its words as bytes. */
+struct word {
+    char *bytes;
+    size_t length;
+};
+
+struct row {
+    const char *file;
+    int number;
+    char *call;
+    struct word words[MOST_WORDS];
+    size_t count;
+    char *answer;
+};
+
+static size_t rows, wrong, refusals;
+static struct area first_area, second_area, room_area;
+
+static void complain(const struct row *row, const char *what) {
+    wrong++;
+    printf("%s:%d: %s: %s, wanted %s\n", row->file, row->number, row->call, what, row->answer);
+}
+
+static int digit(char c) { return c <= '9' ? c - '0' : c - 'A' + 10; }
+
+/* Decodes a word in place. */
+static size_t decode(char *word) {
+    size_t length = 0;
+    if (strcmp(word, "()") == 0) {
+        return 0;
+    }
+    for (const char *at = word; *at; at++) {
+        if (*at == '%') {
+            word[length++] = (char)(digit(at[1]) * 16 + digit(at[2]));
+            at += 2;
+        } else {
+            word[length++] = *at;
+        }
+    }
+    return length;
+}
+
+/* The words from one on, each with a byte 10 behind it. */
+static struct text lines(const struct row *row, size_t from) {
+    static char joined[AREA];
+    size_t length = 0;
+    for (size_t i = from; i < row->count; i++) {
+        memcpy(joined + length, row->words[i].bytes, row->words[i].length);
+        length += row->words[i].length;
+        joined[length++] = '\n';
+    }
+    return put(first_area, joined, length);
+}
+
+/* A word of an answer, counted from 0, as bytes. */
+static struct word answer_word(const struct row *row, size_t place) {
+    static char copy[AREA];
+    snprintf(copy, sizeof copy, "%s", row->answer);
+    char *word = strtok(copy, " ");
+    while (word && place--) {
+        word = strtok(NULL, " ");
+    }
+    return word ? (struct word){word, decode(word)} : (struct word){"", 0};
+}
+
+static bool is_answer(const struct row *row, const char *answer) { return strcmp(row->answer, answer) == 0; }
+
+/* A call over the areas: its status, and what it gave. */
+typedef uint8_t call_fn(const void *arguments, uint64_t *number, uint8_t *room, size_t room_length, size_t *written);
+
+struct gift {
+    uint8_t status;
+    uint64_t number;
+    size_t written;
+};
+
+static const uint64_t NO_NUMBER = 0x5A5A5A5A5A5A5A5A;
+static const size_t NOT_WRITTEN = 0x5B5B5B5B;
+
+static struct gift make(call_fn *call, const void *arguments, size_t room, size_t refused) {
+    struct gift gift = {0, NO_NUMBER, NOT_WRITTEN};
+    memset(room_area.end - room, FILL, room);
+    requests = 0;
+    refused_request = refused;
+    blocks = 0;
+    is_counting = true;
+    gift.status = call(arguments, &gift.number, room_area.end - room, room, &gift.written);
+    is_counting = false;
+    return gift;
+}
+
+static bool is_filled(const uint8_t *from, const uint8_t *to) {
+    for (; from < to; from++) {
+        if (*from != FILL) {
+            return false;
+        }
+    }
+    return true;
+}
+
+/* Makes a call with each room and each refusal, and compares it with what is wanted. */
+static void check(const struct row *row, call_fn *call, const void *arguments, uint8_t status, uint64_t number,
+                  struct word text) {
+    const bool gives = status == TYPED_HEADERS_DONE || status == TYPED_HEADERS_MARKED;
+    const size_t wanted = gives ? text.length : 0;
+    rows++;
+    for (size_t room = 0; room <= wanted + 1; room++) {
+        if (wanted > SHORT && room > 0 && room + 1 < wanted) {
+            continue;
+        }
+        struct gift gift = make(call, arguments, room, 0);
+        const uint8_t *at = room_area.end - room;
+        const bool fits = wanted <= room;
+        if (gift.status != (gives && !fits ? TYPED_HEADERS_NO_ROOM : status)) {
+            complain(row, "another status");
+            printf("    status %d, room %zu\n", gift.status, room);
+            return;
+        }
+        if (gift.number != (gives && number != NO_NUMBER ? number : NO_NUMBER)) {
+            complain(row, "another number");
+            return;
+        }
+        if (gift.written != (gives && text.bytes ? wanted : NOT_WRITTEN)) {
+            complain(row, "another count of bytes");
+            return;
+        }
+        const bool has_text = gives && fits && text.bytes;
+        if ((has_text && memcmp(at, text.bytes, wanted) != 0) || !is_filled(has_text ? at + wanted : at, at + room)) {
+            complain(row, "other bytes");
+            return;
+        }
+        if (blocks) {
+            complain(row, "a block is left");
+            return;
+        }
+    }
+    for (size_t refused = 1;; refused++) {
+        struct gift gift = make(call, arguments, wanted, refused);
+        if (requests < refused) {
+            return;
+        }
+        refusals++;
+        if (gift.status == TYPED_HEADERS_NO_MEMORY
+                ? gift.number != NO_NUMBER || gift.written != NOT_WRITTEN ||
+                      !is_filled(room_area.end - wanted, room_area.end)
+                : gift.status != status) {
+            complain(row, "another answer without memory");
+            return;
+        }
+        if (blocks) {
+            complain(row, "a block is left without memory");
+            return;
+        }
+    }
+}
+
+static const struct word NO_TEXT = {NULL, 0};
+
+/* What a call refuses, by the lines that it is given. */
+static uint8_t refusal(struct text text) { return text.length ? TYPED_HEADERS_REFUSED : TYPED_HEADERS_ABSENT; }
+
+/* Calls that give a number. */
+struct number_call {
+    uint8_t (*function)(const uint8_t *lines, size_t lines_length, uint64_t *number);
+    struct text lines;
+};
+
+static uint8_t call_number(const void *arguments, uint64_t *number, uint8_t *room, size_t room_length,
+                           size_t *written) {
+    const struct number_call *call = arguments;
+    (void)room, (void)room_length, (void)written;
+    return call->function(call->lines.bytes, call->lines.length, number);
+}
+
+static void check_number(const struct row *row, const char *type) {
+    struct number_call call = {NULL, lines(row, 0)};
+    const bool is_date = strcmp(type, "Date") == 0 || strcmp(type, "Expires") == 0 || strcmp(type, "LastModified") == 0;
+    call.function = strcmp(type, "Age") == 0             ? typed_headers_age
+                    : strcmp(type, "ContentLength") == 0 ? typed_headers_content_length
+                    : strcmp(type, "Date") == 0          ? typed_headers_date
+                    : strcmp(type, "Expires") == 0       ? typed_headers_expires
+                                                         : typed_headers_last_modified;
+    if (is_answer(row, "(refused)")) {
+        check(row, call_number, &call, refusal(call.lines), NO_NUMBER, NO_TEXT);
+        return;
+    }
+    (void)is_date;
+    struct word number = answer_word(row, 2);
+    number.bytes[number.length] = 0;
+    check(row, call_number, &call, TYPED_HEADERS_DONE, strtoull(number.bytes, NULL, 10), NO_TEXT);
+}
+
+/* Calls that give bytes of lines. */
+struct bytes_call {
+    uint8_t (*function)(const uint8_t *lines, size_t lines_length, uint8_t *room, size_t room_length, size_t *written);
+    struct text lines;
+};
+
+static uint8_t call_bytes(const void *arguments, uint64_t *number, uint8_t *room, size_t room_length,
+                          size_t *written) {
+    const struct bytes_call *call = arguments;
+    (void)number;
+    return call->function(call->lines.bytes, call->lines.length, room, room_length, written);
+}
+
+static void check_media_type(const struct row *row) {
+    struct bytes_call call = {typed_headers_media_type, lines(row, 0)};
+    if (is_answer(row, "(refused)")) {
+        check(row, call_bytes, &call, refusal(call.lines), NO_NUMBER, NO_TEXT);
+        return;
+    }
+    check(row, call_bytes, &call, TYPED_HEADERS_DONE, NO_NUMBER, answer_word(row, 1));
+}
+
+/* The canonical text of a section. */
+static uint8_t call_canonical(const void *arguments, uint64_t *number, uint8_t *room, size_t room_length,
+                              size_t *written) {
+    static const struct typed_headers_keys keys = {1, 2};
+    const struct text *section = arguments;
+    (void)number;
+    return typed_headers_canonical(section->bytes, section->length, &keys, room, room_length, written);
+}
+
+static void check_canonical(const struct row *row) {
+    struct text section = put(first_area, row->words[0].bytes, row->words[0].length);
+    const char *outcomes[] = {"clean ", "some-refused ", "not-a-field "};
+    const uint8_t statuses[] = {TYPED_HEADERS_DONE, TYPED_HEADERS_MARKED, TYPED_HEADERS_REFUSED};
+    for (int i = 0; i < 3; i++) {
+        if (strncmp(row->answer, outcomes[i], strlen(outcomes[i])) == 0) {
+            check(row, call_canonical, &section, statuses[i], NO_NUMBER, answer_word(row, 1));
+            return;
+        }
+    }
+    complain(row, "an outcome that no call has");
+}
+
+/* Entity tags, compared. */
+struct tags_call {
+    uint8_t (*function)(const uint8_t *one, size_t one_length, const uint8_t *other, size_t other_length,
+                        uint8_t *equal);
+    struct text one, other;
+};
+
+static uint8_t call_tags(const void *arguments, uint64_t *number, uint8_t *room, size_t room_length,
+                         size_t *written) {
+    const struct tags_call *call = arguments;
+    uint8_t equal = FILL;
+    (void)room, (void)room_length, (void)written;
+    uint8_t status = call->function(call->one.bytes, call->one.length, call->other.bytes, call->other.length, &equal);
+    if (equal != FILL) {
+        *number = equal;
+    }
+    return status;
+}
+
+static void check_tags(const struct row *row) {
+    struct tags_call call = {typed_headers_strong_eq, put(first_area, row->words[0].bytes, row->words[0].length),
+                             put(second_area, row->words[1].bytes, row->words[1].length)};
+    check(row, call_tags, &call, TYPED_HEADERS_DONE, strncmp(row->answer, "true", 4) == 0, NO_TEXT);
+}
+
+static void make_row(struct row *row) {
+    static const char *numbers[] = {"Age", "ContentLength", "Date", "Expires", "LastModified"};
+    for (int i = 0; i < 5; i++) {
+        char call[32];
+        snprintf(call, sizeof call, "%s.decode", numbers[i]);
+        if (strcmp(row->call, call) == 0) {
+            check_number(row, numbers[i]);
+            return;
+        }
+    }
+    if (strcmp(row->call, "ContentType.decode") == 0) {
+        check_media_type(row);
+    } else if (strcmp(row->call, "canon.run") == 0) {
+        check_canonical(row);
+    } else if (strcmp(row->call, "EntityTag.compare") == 0) {
+        check_tags(row);
+    }
+}
+
+static void read_row(struct row *row, char *line) {
+    row->answer = strstr(line, " = ");
+    if (!row->answer) {
+        complain(row, "no row");
+        return;
+    }
+    *row->answer = 0;
+    row->answer += 3;
+    /* Behind `!` and the kind of a difference stands the answer that is wanted here. */
+    char *other = strstr(row->answer, " ! ");
+    if (other) {
+        row->answer = strchr(other + 3, ' ') + 1;
+    }
+    row->call = strtok(line, " ");
+    row->count = 0;
+    for (char *word; (word = strtok(NULL, " "));) {
+        if (row->count == MOST_WORDS) {
+            return;
+        }
+        row->words[row->count++] = (struct word){word, 0};
+    }
+    for (size_t i = 0; i < row->count; i++) {
+        row->words[i].length = decode(row->words[i].bytes);
+    }
+    make_row(row);
+}
+
+static void read_file(const char *name) {
+    static struct row row;
+    static char line[AREA];
+    FILE *file = fopen(name, "r");
+    if (!file) {
+        perror(name);
+        exit(2);
+    }
+    row.file = name;
+    for (row.number = 1; fgets(line, sizeof line, file); row.number++) {
+        line[strcspn(line, "\n")] = 0;
+        if (line[0] && line[0] != '#') {
+            row.call = line;
+            row.answer = "";
+            read_row(&row, line);
+        }
+    }
+    fclose(file);
+}
+
+int main(int count, char **names) {
+    first_area = new_area();
+    second_area = new_area();
+    room_area = new_area();
+    for (int i = 1; i < count; i++) {
+        read_file(names[i]);
+    }
+    printf("%zu rows, %zu refusals of memory, %zu answered otherwise\n", rows, refusals, wrong);
+    return wrong || !rows;
+}
