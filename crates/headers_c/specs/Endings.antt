@@ -30,27 +30,28 @@ IsGiven (Err failure) old new status = (status ≡ status_of failure) × (new �
 abbrev pub Gives : {V : Type 0} → (Result V Failure → Type 0) → V → V → ℕ → Type 0
 Gives {V} P old new status = (answer : Result V Failure) × P answer × IsGiven answer old new status
 
--- the bytes are at the front of the room, and what is behind them is as it was
-abbrev pub IsAtFront : List ℕ → List ℕ → List ℕ → Type 0
-IsAtFront bytes old new = (take (length bytes) new ≡ bytes) × (drop (length bytes) new ≡ drop (length bytes) old)
+-- the items are at the front of the room, and what is behind them is as it was
+abbrev pub IsAtFront : {X : Type 0} → List X → List X → List X → Type 0
+IsAtFront items old new = (take (length items) new ≡ items) × (drop (length items) new ≡ drop (length items) old)
 
--- `written` is how many bytes there are. If they fit they are at the front of the room, and the status is `success`;
+-- `written` is how many items there are. If they fit they are at the front of the room, and the status is `success`;
 -- else the room is as it was.
-pub record IsWritten (bytes : List ℕ) (success : ℕ) (old new : List ℕ) (written status : ℕ) : Type 0 where
-  pub count : written ≡ length bytes
-  pub fit : length bytes ≤ length old → (status ≡ success) × IsAtFront bytes old new
-  pub short : length old < length bytes → (status ≡ no_room) × (new ≡ old)
+pub record IsWritten {X : Type 0} (items : List X) (success : ℕ) (old new : List X) (written status : ℕ)
+    : Type 0 where
+  pub count : written ≡ length items
+  pub fit : length items ≤ length old → (status ≡ success) × IsAtFront items old new
+  pub short : length old < length items → (status ≡ no_room) × (new ≡ old)
 
--- the bytes are written; if there are none, nothing is
-abbrev pub IsHandedOut : {V : Type 0} → (V → List ℕ) → (V → ℕ) → Result V Failure → (old new : List ℕ)
+-- the items of the value are written; if there is no value, nothing is
+abbrev pub IsHandedOut : {V X : Type 0} → (V → List X) → (V → ℕ) → Result V Failure → (old new : List X)
     → (before written status : ℕ) → Type 0
-IsHandedOut bytes success (Ok value) old new before written status =
-    IsWritten (bytes value) (success value) old new written status
-IsHandedOut bytes success (Err failure) old new before written status =
+IsHandedOut items success (Ok value) old new before written status =
+    IsWritten (items value) (success value) old new written status
+IsHandedOut items success (Err failure) old new before written status =
     (status ≡ status_of failure) × (new ≡ old) × (written ≡ before)
 
--- a call that writes the bytes of a value has an answer of which P holds
-abbrev pub Writes : {V : Type 0} → (V → List ℕ) → (V → ℕ) → (Result V Failure → Type 0) → (old new : List ℕ)
+-- a call that writes the items of a value has an answer of which P holds
+abbrev pub Writes : {V X : Type 0} → (V → List X) → (V → ℕ) → (Result V Failure → Type 0) → (old new : List X)
     → (before written status : ℕ) → Type 0
-Writes {V} bytes success P old new before written status =
-    (answer : Result V Failure) × P answer × IsHandedOut bytes success answer old new before written status
+Writes {V} items success P old new before written status =
+    (answer : Result V Failure) × P answer × IsHandedOut items success answer old new before written status

@@ -2,12 +2,15 @@
 //! documents them for their callers, and `build_c` makes the library.
 #![tactic(auto)]
 
+mod cache_control;
 mod canonical;
 mod fields;
 mod keys;
 mod lines;
 mod media_type;
 mod preconditions;
+mod ranges;
 mod section;
 mod status;
 mod tags;
+mod websocket;

@@ -77,15 +77,15 @@ impl From<HeaderMapError> for Failure {
     }
 }
 
-/// Copies the bytes to the front of the room if they fit, and says how many they are. The status is
+/// Copies the items to the front of the room if they fit, and says how many they are. The status is
 /// `done` if they fit, else `NO_ROOM`.
-pub fn copy_into(bytes: &[u8], done: u8, room: &mut [u8], written: &mut usize) -> u8
-    ensures { IsWritten bytes.now done room.old room.new written.new result }
+pub fn copy_into<T: Copy>(items: &[T], done: u8, room: &mut [T], written: &mut usize) -> u8
+    ensures { IsWritten items.now done room.old room.new written.new result }
 {
-    *written = bytes.len();
-    if bytes.len() > room.len() {
+    *written = items.len();
+    if items.len() > room.len() {
         return NO_ROOM;
     }
-    room[..bytes.len()].copy_from_slice(bytes);
+    room[..items.len()].copy_from_slice(items);
     done
 }

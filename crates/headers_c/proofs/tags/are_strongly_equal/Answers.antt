@@ -2,8 +2,8 @@ use Rattle.std.proofs.Common.{◌≡◌, Err, inl, inr, subst, sym}
 use Rattle.std.proofs.lemmas.Result.{err_from_is_err_and}
 use Rattle.http_header.specs.FieldValue.{plain_value}
 use Rattle.headers.specs.EntityTag.{StronglyEqual}
-use Rattle.headers_c.specs.Tags.{Compares, reads_etag}
-use Rattle.headers_c.proofs.DecodeLemmas.{FieldDecodes-along}
+use Rattle.headers_c.specs.Tags.{Compares, reads_etag, reads_tag}
+use Rattle.headers_c.proofs.DecodeLemmas.{FieldDecodes-fails}
 use Rattle.headers_c.proofs.tags.are_strongly_equal.Goals as goal
 
 pub returns-in_err-one : goal.returns-in_err-one
@@ -12,8 +12,8 @@ returns-in_err-one c =
     let error = err_from_is_err_and answer.result answer.ensures.1 in
     let is : answer.result ≡ Err c.in_err-one.field-0.0 = cc (error.1, error.2) in
     subst (Compares StronglyEqual c.args.one.now c.args.other.now) (sym is)
-    (inl (FieldDecodes-along reads_etag plain_value c.args.one.now
-    c.in_err-one.field-0.0 c.in_err-one.ensures))
+    (inl (FieldDecodes-fails reads_etag reads_tag c.args.one.now c.in_err-one.field-0.0
+    (λ tag read. (plain_value tag, read)) c.in_err-one.ensures))
 
 pub returns-in_err-other : goal.returns-in_err-other
 returns-in_err-other c =
@@ -21,5 +21,5 @@ returns-in_err-other c =
     let error = err_from_is_err_and answer.result answer.ensures.1 in
     let is : answer.result ≡ Err c.in_err-other.field-0.0 = cc (error.1, error.2) in
     subst (Compares StronglyEqual c.args.one.now c.args.other.now) (sym is)
-    (inr (FieldDecodes-along reads_etag plain_value c.args.other.now
-    c.in_err-other.field-0.0 c.in_err-other.ensures))
+    (inr (FieldDecodes-fails reads_etag reads_tag c.args.other.now c.in_err-other.field-0.0
+    (λ tag read. (plain_value tag, read)) c.in_err-other.ensures))

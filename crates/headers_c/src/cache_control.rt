@@ -1,0 +1,101 @@
+//! The directives of `cache-control`.
+ghost use Rattle.std.specs.Prelude.{◌≡◌, ℕ, Option};
+ghost use Rattle.headers.specs.CacheControl.{GivesSeconds};
+ghost use Rattle.headers_c.specs.CacheDirectives.{flag_of, reads_directives, seconds_of, shown};
+ghost use Rattle.headers_c.specs.Endings.{Gives};
+ghost use Rattle.headers_c.specs.FieldText.{FieldDecodes};
+
+use crate::lines::read_field;
+use crate::status::DONE;
+use headers::CacheControl;
+use std::alloc::Global;
+use std::time::Duration;
+
+/// The seconds of a directive.
+#[repr(C)]
+#[derive(Clone, Copy)]
+pub struct DirectiveSeconds {
+    /// The seconds, or 0 if the directive isn't set.
+    pub seconds: u64,
+    /// 1 if the directive is set, else 0.
+    pub is_set: u8,
+}
+
+/// The directives that are set (RFC 9111, section 5.2, and RFC 8246). A flag is 1 if it is set, else
+/// 0.
+#[repr(C)]
+#[derive(Clone, Copy)]
+pub struct CacheDirectives {
+    pub max_age: DirectiveSeconds,
+    pub max_stale: DirectiveSeconds,
+    pub min_fresh: DirectiveSeconds,
+    pub s_maxage: DirectiveSeconds,
+    pub no_cache: u8,
+    pub no_store: u8,
+    pub no_transform: u8,
+    pub only_if_cached: u8,
+    pub must_revalidate: u8,
+    pub must_understand: u8,
+    pub is_public: u8,
+    pub is_private: u8,
+    pub immutable: u8,
+}
+
+/// The directives that the lines of `cache-control` set.
+#[unsafe(no_mangle)]
+pub extern "C" fn typed_headers_cache_control(
+    alloc: Global,
+    lines: &[u8],
+    directives: &mut CacheDirectives,
+) -> u8
+    ensures { Gives (FieldDecodes reads_directives lines.now) directives.old directives.new result }
+{
+    match read_field::<CacheControl>(alloc, lines) {
+        Ok(cache) => {
+            *directives = shown(&cache);
+            DONE
+        }
+        Err(failure) => failure.status(),
+    }
+}
+
+fn flag_of(is_set: bool) -> u8
+    ensures { result ≡ flag_of is_set }
+{
+    if is_set { 1 } else { 0 }
+}
+
+fn seconds_of(duration: Option<Duration>) -> DirectiveSeconds
+    ensures { (number : Option ℕ) → GivesSeconds duration number → result ≡ seconds_of number }
+{
+    match duration {
+        Some(duration) => DirectiveSeconds {
+            seconds: duration.as_secs(),
+            is_set: 1,
+        },
+        None => DirectiveSeconds {
+            seconds: 0,
+            is_set: 0,
+        },
+    }
+}
+
+fn shown(cache: &CacheControl) -> CacheDirectives
+    ensures { result ≡ shown cache.now }
+{
+    CacheDirectives {
+        max_age: seconds_of(cache.max_age()),
+        max_stale: seconds_of(cache.max_stale()),
+        min_fresh: seconds_of(cache.min_fresh()),
+        s_maxage: seconds_of(cache.s_max_age()),
+        no_cache: flag_of(cache.no_cache()),
+        no_store: flag_of(cache.no_store()),
+        no_transform: flag_of(cache.no_transform()),
+        only_if_cached: flag_of(cache.only_if_cached()),
+        must_revalidate: flag_of(cache.must_revalidate()),
+        must_understand: flag_of(cache.must_understand()),
+        is_public: flag_of(cache.public()),
+        is_private: flag_of(cache.private()),
+        immutable: flag_of(cache.immutable()),
+    }
+}

@@ -1,0 +1,57 @@
+//! The ranges of `range`.
+ghost use Rattle.std.specs.Prelude.{◌≡◌, List, IfOk};
+ghost use Rattle.std.specs.List.{filter_map};
+ghost use Rattle.headers_c.specs.Endings.{Writes, done};
+ghost use Rattle.headers_c.specs.FieldText.{FieldDecodes};
+ghost use Rattle.headers_c.specs.Ranges.{bytes_range, reads_ranges};
+
+use crate::lines::read_field;
+use crate::status::{DONE, Failure, copy_into};
+use headers::{Range, Satisfiable};
+use std::alloc::{AllocError, Global};
+use std::ops::Bound;
+
+/// A range of bytes: its first and its last position, both included.
+#[repr(C)]
+#[derive(Clone, Copy)]
+pub struct BytesRange {
+    pub first: u64,
+    pub last: u64,
+}
+
+/// The ranges that a representation of `length` bytes can satisfy of those that the lines of `range`
+/// ask for, in their order (RFC 9110, section 14.1.2).
+#[unsafe(no_mangle)]
+pub extern "C" fn typed_headers_ranges(
+    alloc: Global,
+    lines: &[u8],
+    length: u64,
+    room: &mut [BytesRange],
+    written: &mut usize,
+) -> u8
+    ensures { Writes (λ ranges. ranges) (λ _. done) (FieldDecodes (reads_ranges length) lines.now)
+        room.old room.new written.old written.new result }
+{
+    match read_field::<Range>(alloc, lines) {
+        Ok(range) => match bytes_ranges(alloc, range.satisfiable_ranges(length)) {
+            Ok(ranges) => copy_into(ranges.as_slice(), DONE, room, written),
+            Err(_) => Failure::Memory.status(),
+        },
+        Err(failure) => failure.status(),
+    }
+}
+
+fn bytes_ranges(alloc: Global, ranges: Satisfiable<'_>) -> Result<Vec<BytesRange>, AllocError>
+    ensures { IfOk result (λ list. list.items ≡ filter_map bytes_range ranges.entry) }
+{
+    ranges.filter_map(bytes_range).collect(alloc)
+}
+
+fn bytes_range(bounds: (Bound<u64>, Bound<u64>)) -> Option<BytesRange>
+    ensures { result ≡ bytes_range bounds }
+{
+    match bounds {
+        (Bound::Included(first), Bound::Included(last)) => Some(BytesRange { first, last }),
+        _ => None,
+    }
+}
