@@ -6,7 +6,7 @@
  *
  * - A text is a pointer and a count of bytes; no NUL ends it. It is read, and never kept after the call.
  * - No pointer may be null or stale, also if its count is 0. What a pointer that isn't `const` points to may overlap
- *   nothing else that is handed in. It need not be set before the call.
+ *   nothing else that is handed in. It need not be set before the call. A `bool` that is handed in is true or false.
  * - The result is a status. Unless a call says otherwise, what it would have written is as it was if the status
  *   isn't TYPED_HEADERS_DONE.
  * - Several lines of a field are one text: each line ends in LF, which the last one needn't have. A CR before a LF, or
@@ -22,6 +22,7 @@
 #ifndef TYPED_HEADERS_H
 #define TYPED_HEADERS_H
 
+#include <stdbool.h>
 #include <stddef.h>
 #include <stdint.h>
 
@@ -54,6 +55,49 @@ enum typed_headers_status {
 struct typed_headers_keys {
     uint64_t first;
     uint64_t second;
+};
+
+/* What a server knows of the target of a request, beside its entity tag. */
+struct typed_headers_target {
+    /* When its current representation was last modified, in seconds since the start of 1970. */
+    uint64_t last_modified;
+    /* Whether it has a current representation. If not, nothing else of the target counts. */
+    bool exists;
+    /* Whether `last_modified` is known. It must lie before the year 10000 then. */
+    bool has_last_modified;
+    /* Whether that date is a strong validator (RFC 9110, section 8.8.2.2). `typed_headers_evaluate` doesn't ask. */
+    bool is_date_strong;
+};
+
+/* The seconds of a directive of `cache-control`. */
+struct typed_headers_directive_seconds {
+    /* The seconds, or 0 if the directive isn't set. */
+    uint64_t seconds;
+    /* 1 if the directive is set, else 0. */
+    uint8_t is_set;
+};
+
+/* The directives of `cache-control` that are set. A flag is 1 if it is set, else 0. */
+struct typed_headers_cache_directives {
+    struct typed_headers_directive_seconds max_age;
+    struct typed_headers_directive_seconds max_stale;
+    struct typed_headers_directive_seconds min_fresh;
+    struct typed_headers_directive_seconds s_maxage;
+    uint8_t no_cache;
+    uint8_t no_store;
+    uint8_t no_transform;
+    uint8_t only_if_cached;
+    uint8_t must_revalidate;
+    uint8_t must_understand;
+    uint8_t is_public;
+    uint8_t is_private;
+    uint8_t immutable;
+};
+
+/* A range of bytes: its first and its last position, counted from 0, both included. */
+struct typed_headers_bytes_range {
+    uint64_t first;
+    uint64_t last;
 };
 
 /*
@@ -99,11 +143,51 @@ uint8_t typed_headers_media_type(const uint8_t *lines, size_t lines_length, uint
                                  size_t *written);
 
 /*
- * Whether two entity tags are strongly equal (RFC 9110, section 8.8.3.2): `*equal` is 1 if they are, 0 if not. Each
- * text is one line. Refused or absent: one of the texts is no entity tag, or has no line.
+ * Whether two entity tags are equal (RFC 9110, section 8.8.3.2): `*equal` is 1 if they are, 0 if not. Tags are strongly
+ * equal if neither is weak and their opaque parts are the same, and weakly equal if their opaque parts are the same.
+ * Each text is one line. Refused or absent: one of the texts is no entity tag, or has no line.
  */
 uint8_t typed_headers_strong_eq(const uint8_t *one, size_t one_length, const uint8_t *other, size_t other_length,
                                 uint8_t *equal);
+uint8_t typed_headers_weak_eq(const uint8_t *one, size_t one_length, const uint8_t *other, size_t other_length,
+                              uint8_t *equal);
+
+/*
+ * The directives of `cache-control`: the entries of all lines (RFC 9111, section 5.2, and RFC 8246). Names go by ASCII
+ * case; the last entry that carries a number gives it. Refused: an entry carries one of the four numbers, and it is
+ * none below 2^64.
+ */
+uint8_t typed_headers_cache_control(const uint8_t *lines, size_t lines_length,
+                                    struct typed_headers_cache_directives *directives);
+
+/*
+ * The ranges that a representation of `length` bytes can satisfy of those that `range` asks for: its first line, in
+ * order (RFC 9110, section 14.1.2). Each has its last position below the length. A part of the line that is no range,
+ * or covers no position, is skipped. The room and `*written` count ranges. None is written if no range can be
+ * satisfied. Refused: the line isn't text that begins with `bytes=`.
+ */
+uint8_t typed_headers_ranges(const uint8_t *lines, size_t lines_length, uint64_t length,
+                             struct typed_headers_bytes_range *room, size_t room_length, size_t *written);
+
+/*
+ * What the preconditions of a request come to (RFC 9110, section 13.2.2): `*answer` is 0 if the method is to be
+ * performed, 304 or 412. Of the section the fields If-Match, If-None-Match, If-Modified-Since and If-Unmodified-Since
+ * count. `etag` is the entity tag of the target, or empty if it has none. A server asks this once it would otherwise
+ * answer with success, and before it performs the method.
+ *
+ * Refused: the method is no token, a line of the section before the first empty one is no field, `etag` is no entity
+ * tag, or the date lies past the year 9999. Too large: the section has more names than a map has room for (24,576).
+ */
+uint8_t typed_headers_evaluate(const uint8_t *method, size_t method_length, const uint8_t *section,
+                               size_t section_length, const struct typed_headers_keys *keys, const uint8_t *etag,
+                               size_t etag_length, const struct typed_headers_target *target, uint16_t *answer);
+
+/*
+ * What `sec-websocket-accept` answers to `sec-websocket-key`, 28 bytes: the only line (RFC 6455, section 4.2.2).
+ * Refused: there are several lines, or the line isn't the base64 of sixteen bytes.
+ */
+uint8_t typed_headers_websocket_accept(const uint8_t *lines, size_t lines_length, uint8_t *room, size_t room_length,
+                                       size_t *written);
 
 #ifdef __cplusplus
 }

@@ -87,7 +87,7 @@ struct row {
 };
 
 static size_t rows, wrong, refusals;
-static struct area first_area, second_area, room_area;
+static struct area first_area, second_area, third_area, room_area;
 
 static void complain(const struct row *row, const char *what) {
     wrong++;
@@ -134,6 +134,11 @@ static struct word answer_word(const struct row *row, size_t place) {
         word = strtok(NULL, " ");
     }
     return word ? (struct word){word, decode(word)} : (struct word){"", 0};
+}
+
+static bool answer_is(const struct row *row, size_t place, const char *answer) {
+    struct word word = answer_word(row, place);
+    return word.length == strlen(answer) && memcmp(word.bytes, answer, word.length) == 0;
 }
 
 static bool is_answer(const struct row *row, const char *answer) { return strcmp(row->answer, answer) == 0; }
@@ -247,7 +252,6 @@ static uint8_t call_number(const void *arguments, uint64_t *number, uint8_t *roo
 
 static void check_number(const struct row *row, const char *type) {
     struct number_call call = {NULL, lines(row, 0)};
-    const bool is_date = strcmp(type, "Date") == 0 || strcmp(type, "Expires") == 0 || strcmp(type, "LastModified") == 0;
     call.function = strcmp(type, "Age") == 0             ? typed_headers_age
                     : strcmp(type, "ContentLength") == 0 ? typed_headers_content_length
                     : strcmp(type, "Date") == 0          ? typed_headers_date
@@ -257,7 +261,6 @@ static void check_number(const struct row *row, const char *type) {
         check(row, call_number, &call, refusal(call.lines), NO_NUMBER, NO_TEXT);
         return;
     }
-    (void)is_date;
     struct word number = answer_word(row, 2);
     number.bytes[number.length] = 0;
     check(row, call_number, &call, TYPED_HEADERS_DONE, strtoull(number.bytes, NULL, 10), NO_TEXT);
@@ -329,7 +332,180 @@ static uint8_t call_tags(const void *arguments, uint64_t *number, uint8_t *room,
 static void check_tags(const struct row *row) {
     struct tags_call call = {typed_headers_strong_eq, put(first_area, row->words[0].bytes, row->words[0].length),
                              put(second_area, row->words[1].bytes, row->words[1].length)};
-    check(row, call_tags, &call, TYPED_HEADERS_DONE, strncmp(row->answer, "true", 4) == 0, NO_TEXT);
+    check(row, call_tags, &call, TYPED_HEADERS_DONE, answer_is(row, 0, "true"), NO_TEXT);
+    call.function = typed_headers_weak_eq;
+    check(row, call_tags, &call, TYPED_HEADERS_DONE, answer_is(row, 1, "true"), NO_TEXT);
+}
+
+/* Whether a text is an entity tag, which any is weakly equal to itself. */
+static void check_tag(const struct row *row) {
+    struct tags_call call = {typed_headers_weak_eq, lines(row, 0), {NULL, 0}};
+    call.other = put(second_area, (const char *)call.one.bytes, call.one.length);
+    if (is_answer(row, "(refused)")) {
+        check(row, call_tags, &call, refusal(call.one), NO_NUMBER, NO_TEXT);
+    } else {
+        check(row, call_tags, &call, TYPED_HEADERS_DONE, 1, NO_TEXT);
+    }
+}
+
+/* The directives of `cache-control`, as the answers of its getters are written. */
+static uint8_t call_cache_control(const void *arguments, uint64_t *number, uint8_t *room, size_t room_length,
+                                  size_t *written) {
+    const struct text *text = arguments;
+    struct typed_headers_cache_directives given;
+    memset(&given, FILL, sizeof given);
+    (void)number;
+    uint8_t status = typed_headers_cache_control(text->bytes, text->length, &given);
+    if (status != TYPED_HEADERS_DONE) {
+        return is_filled((const uint8_t *)&given, (const uint8_t *)(&given + 1)) ? status : FILL;
+    }
+    const uint8_t flags[] = {given.no_cache,   given.no_store,  given.no_transform,    given.only_if_cached,
+                             given.is_public,  given.is_private, given.immutable,      given.must_revalidate,
+                             given.must_understand};
+    const struct typed_headers_directive_seconds numbers[] = {given.max_age, given.max_stale, given.min_fresh,
+                                                              given.s_maxage};
+    char shown[512];
+    size_t length = 0;
+    for (size_t i = 0; i < sizeof flags; i++) {
+        length += sprintf(shown + length, " %s", flags[i] == 1 ? "true" : flags[i] == 0 ? "false" : "neither");
+    }
+    for (size_t i = 0; i < 4; i++) {
+        length += numbers[i].is_set ? sprintf(shown + length, " %llu", (unsigned long long)numbers[i].seconds)
+                                    : sprintf(shown + length, numbers[i].seconds ? " unset" : " (none)");
+    }
+    *written = length;
+    if (length > room_length) {
+        return TYPED_HEADERS_NO_ROOM;
+    }
+    memcpy(room, shown, length);
+    return status;
+}
+
+static void check_cache_control(const struct row *row) {
+    struct text text = lines(row, 0);
+    if (!text.length || is_answer(row, "(refused)")) {
+        check(row, call_cache_control, &text, refusal(text), NO_NUMBER, NO_TEXT);
+        return;
+    }
+    /* Before the getters stands the line that is written. */
+    const char *getters = strchr(row->answer + 2, ' ');
+    check(row, call_cache_control, &text, TYPED_HEADERS_DONE, NO_NUMBER,
+          (struct word){(char *)getters, strlen(getters)});
+}
+
+/* The ranges for a length, whose bytes are those of the room. */
+struct ranges_call {
+    struct text lines;
+    uint64_t length;
+};
+
+static uint8_t call_ranges(const void *arguments, uint64_t *number, uint8_t *room, size_t room_length,
+                           size_t *written) {
+    const struct ranges_call *call = arguments;
+    const size_t size = sizeof(struct typed_headers_bytes_range);
+    uint8_t *bytes = room + room_length % size;
+    (void)number;
+    uint8_t status = typed_headers_ranges(call->lines.bytes, call->lines.length, call->length,
+                                          (struct typed_headers_bytes_range *)bytes, room_length / size, written);
+    if (status == TYPED_HEADERS_DONE || status == TYPED_HEADERS_NO_ROOM) {
+        *written *= size;
+    }
+    if (status == TYPED_HEADERS_DONE && bytes != room) {
+        memmove(room, bytes, *written);
+        memset(room + *written, FILL, room_length - *written);
+    }
+    return status;
+}
+
+static void check_ranges(const struct row *row) {
+    static uint64_t bounds[AREA / sizeof(uint64_t)];
+    size_t count = 0;
+    struct ranges_call call = {lines(row, 1), strtoull(row->words[0].bytes, NULL, 10)};
+    if (is_answer(row, "(refused)")) {
+        check(row, call_ranges, &call, refusal(call.lines), NO_NUMBER, NO_TEXT);
+        return;
+    }
+    for (const char *at = row->answer; (at = strstr(at, " i"));) {
+        at += 2;
+        bounds[count++] = strtoull(at, NULL, 10);
+    }
+    check(row, call_ranges, &call, TYPED_HEADERS_DONE, NO_NUMBER,
+          (struct word){(char *)bounds, count * sizeof(uint64_t)});
+}
+
+/* The answer to a key. */
+static bool is_key(const struct row *row) {
+    const struct word *key = row->words;
+    static const char symbols[] = "ABCDEFGHIJKLMNOPQRSTUVWXYZabcdefghijklmnopqrstuvwxyz0123456789+/";
+    return row->count == 1 && key->length == 24 && strspn(key->bytes, symbols) >= 22 &&
+           memcmp(key->bytes + 22, "==", 2) == 0 && strchr("AQgw", key->bytes[21]);
+}
+
+static void check_accept(const struct row *row) {
+    struct bytes_call call = {typed_headers_websocket_accept, lines(row, 0)};
+    if (is_key(row)) {
+        check(row, call_bytes, &call, TYPED_HEADERS_DONE, NO_NUMBER, answer_word(row, 1));
+    } else {
+        check(row, call_bytes, &call, refusal(call.lines), NO_NUMBER, NO_TEXT);
+    }
+}
+
+/* The preconditions of a request. */
+struct evaluate_call {
+    struct text method, section, etag;
+    struct typed_headers_target target;
+};
+
+static uint8_t call_evaluate(const void *arguments, uint64_t *number, uint8_t *room, size_t room_length,
+                             size_t *written) {
+    static const struct typed_headers_keys keys = {1, 2};
+    const struct evaluate_call *call = arguments;
+    uint16_t answer = FILL;
+    (void)room, (void)room_length, (void)written;
+    uint8_t status = typed_headers_evaluate(call->method.bytes, call->method.length, call->section.bytes,
+                                            call->section.length, &keys, call->etag.bytes, call->etag.length,
+                                            &call->target, &answer);
+    if (answer != FILL) {
+        *number = answer;
+    }
+    return status;
+}
+
+static bool is_word(const struct word *word, const char *text) {
+    return word->length == strlen(text) && memcmp(word->bytes, text, word->length) == 0;
+}
+
+/* `evaluate METHOD (NAME) LINE.. (/) RESOURCE` */
+static void check_evaluate(const struct row *row) {
+    static char section[AREA];
+    size_t length = 0, i = 1;
+    struct word name = {"", 0};
+    for (; i < row->count && !is_word(&row->words[i], "(/)"); i++) {
+        const struct word *word = &row->words[i];
+        if (word->length > 2 && word->bytes[0] == '(') {
+            name = (struct word){word->bytes + 1, word->length - 2};
+            continue;
+        }
+        length += sprintf(section + length, "%.*s: %.*s\r\n", (int)name.length, name.bytes, (int)word->length,
+                          word->bytes);
+    }
+    struct evaluate_call call = {put(third_area, row->words[0].bytes, row->words[0].length),
+                                 put(first_area, section, length), put(second_area, "", 0), {0}};
+    const struct word *resource = &row->words[i + 1];
+    if (!is_word(resource, "missing")) {
+        call.target.exists = true;
+        if (!is_word(resource, "(none)")) {
+            call.etag = put(second_area, resource->bytes, resource->length);
+        }
+        call.target.has_last_modified = !is_word(resource + 1, "(none)");
+        if (call.target.has_last_modified) {
+            resource[1].bytes[resource[1].length] = 0;
+            call.target.last_modified = strtoull(resource[1].bytes, NULL, 10);
+        }
+        call.target.is_date_strong = is_word(resource + 2, "strong");
+    }
+    check(row, call_evaluate, &call, TYPED_HEADERS_DONE,
+          is_answer(row, "perform") ? 0 : is_answer(row, "not_modified") ? 304 : 412, NO_TEXT);
 }
 
 static void make_row(struct row *row) {
@@ -348,17 +524,27 @@ static void make_row(struct row *row) {
         check_canonical(row);
     } else if (strcmp(row->call, "EntityTag.compare") == 0) {
         check_tags(row);
+    } else if (strcmp(row->call, "ETag.decode") == 0) {
+        check_tag(row);
+    } else if (strcmp(row->call, "CacheControl.decode") == 0) {
+        check_cache_control(row);
+    } else if (strcmp(row->call, "Range.satisfiable_ranges") == 0) {
+        check_ranges(row);
+    } else if (strcmp(row->call, "SecWebsocketAccept.from_key") == 0) {
+        check_accept(row);
+    } else if (strcmp(row->call, "evaluate") == 0) {
+        check_evaluate(row);
     }
 }
 
 static void read_row(struct row *row, char *line) {
-    row->answer = strstr(line, " = ");
-    if (!row->answer) {
+    char *end = strstr(line, " = ");
+    if (!end) {
         complain(row, "no row");
         return;
     }
-    *row->answer = 0;
-    row->answer += 3;
+    *end = 0;
+    row->answer = end + 3;
     /* Behind `!` and the kind of a difference stands the answer that is wanted here. */
     char *other = strstr(row->answer, " ! ");
     if (other) {
@@ -366,6 +552,9 @@ static void read_row(struct row *row, char *line) {
     }
     row->call = strtok(line, " ");
     row->count = 0;
+    if (!row->call) {
+        return;
+    }
     for (char *word; (word = strtok(NULL, " "));) {
         if (row->count == MOST_WORDS) {
             return;
@@ -401,6 +590,7 @@ static void read_file(const char *name) {
 int main(int count, char **names) {
     first_area = new_area();
     second_area = new_area();
+    third_area = new_area();
     room_area = new_area();
     for (int i = 1; i < count; i++) {
         read_file(names[i]);

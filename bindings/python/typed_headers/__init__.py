@@ -9,21 +9,29 @@ The library is libtyped_headers.so beside this file, or what the environment var
 import ctypes
 import os
 from pathlib import Path
-from typing import Callable, Iterable, NamedTuple, Optional
+from enum import IntEnum
+from typing import Callable, Iterable, List, NamedTuple, Optional, Tuple
 
 __all__ = [
+    "CacheControl",
     "Canonical",
+    "Precondition",
     "Refused",
     "TooLarge",
     "age",
+    "cache_control",
     "canonical",
     "content_length",
     "date",
+    "evaluate",
     "expires",
     "last_modified",
     "lines",
     "media_type",
+    "ranges",
     "strong_eq",
+    "weak_eq",
+    "websocket_accept",
 ]
 
 
@@ -42,8 +50,57 @@ class Canonical(NamedTuple):
     is_marked: bool
 
 
+class CacheControl(NamedTuple):
+    """The directives of `cache-control` that are set; a number of seconds is `None` if it isn't."""
+
+    max_age: Optional[int]
+    max_stale: Optional[int]
+    min_fresh: Optional[int]
+    s_maxage: Optional[int]
+    no_cache: bool
+    no_store: bool
+    no_transform: bool
+    only_if_cached: bool
+    must_revalidate: bool
+    must_understand: bool
+    is_public: bool
+    is_private: bool
+    immutable: bool
+
+
+class Precondition(IntEnum):
+    """What the preconditions of a request come to: the method is performed, or the status of the answer."""
+
+    PERFORM = 0
+    NOT_MODIFIED = 304
+    FAILED = 412
+
+
 class _Keys(ctypes.Structure):
     _fields_ = [("first", ctypes.c_uint64), ("second", ctypes.c_uint64)]
+
+
+class _Seconds(ctypes.Structure):
+    _fields_ = [("seconds", ctypes.c_uint64), ("is_set", ctypes.c_uint8)]
+
+
+class _Directives(ctypes.Structure):
+    _fields_ = [(name, _Seconds) for name in CacheControl._fields[:4]] + [
+        (name, ctypes.c_uint8) for name in CacheControl._fields[4:]
+    ]
+
+
+class _Range(ctypes.Structure):
+    _fields_ = [("first", ctypes.c_uint64), ("last", ctypes.c_uint64)]
+
+
+class _Target(ctypes.Structure):
+    _fields_ = [
+        ("last_modified", ctypes.c_uint64),
+        ("exists", ctypes.c_bool),
+        ("has_last_modified", ctypes.c_bool),
+        ("is_date_strong", ctypes.c_bool),
+    ]
 
 
 _DONE, _REFUSED, _NO_MEMORY, _NO_ROOM, _ABSENT, _TOO_LARGE, _MARKED = range(7)
@@ -70,7 +127,20 @@ _date = _call("date", *_TEXT, ctypes.POINTER(ctypes.c_uint64))
 _expires = _call("expires", *_TEXT, ctypes.POINTER(ctypes.c_uint64))
 _last_modified = _call("last_modified", *_TEXT, ctypes.POINTER(ctypes.c_uint64))
 _media_type = _call("media_type", *_TEXT, *_ROOM)
+_websocket_accept = _call("websocket_accept", *_TEXT, *_ROOM)
+_ranges = _call("ranges", *_TEXT, ctypes.c_uint64, *_ROOM)
 _strong_eq = _call("strong_eq", *_TEXT, *_TEXT, ctypes.POINTER(ctypes.c_uint8))
+_weak_eq = _call("weak_eq", *_TEXT, *_TEXT, ctypes.POINTER(ctypes.c_uint8))
+_cache_control = _call("cache_control", *_TEXT, ctypes.POINTER(_Directives))
+_evaluate = _call(
+    "evaluate",
+    *_TEXT,
+    *_TEXT,
+    ctypes.POINTER(_Keys),
+    *_TEXT,
+    ctypes.POINTER(_Target),
+    ctypes.POINTER(ctypes.c_uint16),
+)
 _canonical = _call("canonical", *_TEXT, ctypes.POINTER(_Keys), *_ROOM)
 
 
@@ -90,7 +160,7 @@ def _number(call: Callable[..., int], text: bytes) -> Optional[int]:
     return number.value if status == _DONE else None
 
 
-def _bytes(call: Callable[..., int], room: int) -> "tuple[int, bytes]":
+def _bytes(call: Callable[..., int], room: int) -> Tuple[int, bytes]:
     while True:
         buffer, written = ctypes.create_string_buffer(room), ctypes.c_size_t()
         status = call(buffer, room, ctypes.byref(written))
@@ -101,11 +171,11 @@ def _bytes(call: Callable[..., int], room: int) -> "tuple[int, bytes]":
 
 
 def lines(values: Iterable[bytes]) -> bytes:
-    """The values as the lines of a field. `ValueError` if one has a line end."""
+    """The values as the lines of a field. `Refused` if one has a LF or a CR."""
     text = b""
     for value in values:
-        if b"\n" in value:
-            raise ValueError("a value has a line end")
+        if b"\n" in value or b"\r" in value:
+            raise Refused
         text += value + b"\n"
     return text
 
@@ -141,14 +211,83 @@ def media_type(text: bytes) -> Optional[bytes]:
     return written if status == _DONE else None
 
 
-def strong_eq(one: bytes, other: bytes) -> bool:
-    """Whether two entity tags are strongly equal (RFC 9110, section 8.8.3.2). `Refused` if one of them is none."""
+def _compare(call: Callable[..., int], one: bytes, other: bytes) -> bool:
     equal = ctypes.c_uint8()
-    status = _strong_eq(one, len(one), other, len(other), ctypes.byref(equal))
+    status = call(one, len(one), other, len(other), ctypes.byref(equal))
     _check(status)
     if status != _DONE:
         raise Refused
     return equal.value == 1
+
+
+def strong_eq(one: bytes, other: bytes) -> bool:
+    """Whether two entity tags are strongly equal (RFC 9110, section 8.8.3.2). `Refused` if one of them is none."""
+    return _compare(_strong_eq, one, other)
+
+
+def weak_eq(one: bytes, other: bytes) -> bool:
+    """Whether two entity tags are weakly equal (RFC 9110, section 8.8.3.2). `Refused` if one of them is none."""
+    return _compare(_weak_eq, one, other)
+
+
+def cache_control(text: bytes) -> Optional[CacheControl]:
+    """The directives of `cache-control` (RFC 9111, section 5.2)."""
+    given = _Directives()
+    status = _cache_control(text, len(text), ctypes.byref(given))
+    _check(status)
+    if status != _DONE:
+        return None
+    numbers = [getattr(given, name) for name in CacheControl._fields[:4]]
+    flags = [getattr(given, name) for name in CacheControl._fields[4:]]
+    return CacheControl(
+        *(number.seconds if number.is_set else None for number in numbers), *(flag == 1 for flag in flags)
+    )
+
+
+def ranges(text: bytes, length: int) -> Optional[List[Tuple[int, int]]]:
+    """The first and the last position of each range of `range` that so many bytes can satisfy (RFC 9110, section
+    14.1.2). `Refused` if the line doesn't begin with `bytes=`."""
+    room = text.count(b",") + 1
+    while True:
+        buffer, written = (_Range * room)(), ctypes.c_size_t()
+        status = _ranges(text, len(text), length, buffer, room, ctypes.byref(written))
+        if status != _NO_ROOM:
+            _check(status)
+            return [(it.first, it.last) for it in buffer[: written.value]] if status == _DONE else None
+        room = written.value
+
+
+def evaluate(
+    method: bytes,
+    section: bytes,
+    etag: bytes = b"",
+    last_modified: Optional[int] = None,
+    exists: bool = True,
+) -> Precondition:
+    """What the preconditions of a request come to (RFC 9110, section 13.2.2): its method and its header section, the
+    entity tag and the second of the last modification of its target, and whether that has a representation."""
+    target = _Target(last_modified or 0, exists, last_modified is not None, False)
+    answer = ctypes.c_uint16()
+    _check(
+        _evaluate(
+            method,
+            len(method),
+            section,
+            len(section),
+            ctypes.byref(_keys),
+            etag,
+            len(etag),
+            ctypes.byref(target),
+            ctypes.byref(answer),
+        )
+    )
+    return Precondition(answer.value)
+
+
+def websocket_accept(text: bytes) -> Optional[bytes]:
+    """What `sec-websocket-accept` answers to `sec-websocket-key` (RFC 6455, section 4.2.2)."""
+    status, written = _bytes(lambda *room: _websocket_accept(text, len(text), *room), 28)
+    return written if status == _DONE else None
 
 
 def canonical(section: bytes) -> Canonical:

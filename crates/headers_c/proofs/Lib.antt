@@ -1,3 +1,4 @@
 pub mod DecodeLemmas
 pub mod LineLemmas
 pub mod SectionLemmas
+pub mod TagLemmas

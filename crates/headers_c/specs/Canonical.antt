@@ -1,5 +1,5 @@
 -- The canonical text of a header section, as it is written into the caller's room.
-use Rattle.std.specs.Prelude.{◌⊎◌, ℕ, ◌<◌, ◌≤◌, ⊤, Bool, List, length, Result, Ok, Err, if◌then◌else◌}
+use Rattle.std.specs.Prelude.{◌⊎◌, ℕ, ◌<◌, ◌≤◌, ⊤, List, length, Result, Ok, Err, if◌then◌else◌}
 use Rattle.headers_section.specs.CanonicalText.{IsCanonicalText}
 use Rattle.headers_section.specs.Section.{input_limit, section, HasNoField, HasTooManyFields}
 use Rattle.headers_c.specs.declared.canonical.Canonical.{Canonical}

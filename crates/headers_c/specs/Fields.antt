@@ -1,5 +1,5 @@
 -- Which numbers the lines of a field read.
-use Rattle.std.specs.Prelude.{◌≡◌, ℕ, List}
+use Rattle.std.specs.Prelude.{ℕ, List}
 use Rattle.http_header.specs.FieldValue.{FieldValue}
 use Rattle.headers.specs.ContentLength.{content_length_reads}
 use Rattle.headers.specs.ContentType.{ReadsType}

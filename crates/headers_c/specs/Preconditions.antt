@@ -1,18 +1,16 @@
 -- What the preconditions of a request come to, by what a caller hands in.
-use Rattle.std.specs.Prelude.{◌≡◌, ◌⊎◌, ℕ, ⊤, true, false, Bool, List, [], Option, Some, None, Result, Ok, Err}
+use Rattle.std.specs.Prelude.{◌≡◌, ◌⊎◌, ℕ, ⊤, true, false, List, [], Option, Some, None, Result, Ok, Err}
 use Rattle.std.specs.Prelude.{if◌then◌else◌}
 use Rattle.http_header.specs.FieldValue.{FieldValue}
 use Rattle.http_header.specs.HeaderMap.{Entries}
 use Rattle.http_header.specs.Token.{IsToken}
 use Rattle.headers.specs.Date.{IsDated}
 use Rattle.headers.specs.LineMap.{lines_at}
-use Rattle.headers.specs.Lines.{Line}
 use Rattle.headers_preconditions.specs.Preconditions.{Answers}
 use Rattle.headers_preconditions.specs.declared.precondition.Precondition.{Precondition}
 use Rattle.headers_preconditions.specs.declared.precondition.Precondition.TheVariants.{Perform, NotModified, Failed}
 use Rattle.headers_preconditions.specs.declared.resource.Resource.{Resource}
 use Rattle.headers_preconditions.specs.declared.resource.Resource.TheVariants.{Missing, Current}
-use Rattle.headers_preconditions.specs.declared.resource.Validators.{Validators}
 use Rattle.headers_c.specs.FieldText.{FieldDecodes, field_lines}
 use Rattle.headers_c.specs.SectionMap.{Holds, IsMapOf}
 use Rattle.headers_c.specs.Tags.{reads_etag}

@@ -1,5 +1,5 @@
 -- Two entity tags, compared.
-use Rattle.std.specs.Prelude.{◌≡◌, ◌⊎◌, ℕ, List, Result, Ok, Err}
+use Rattle.std.specs.Prelude.{◌≡◌, ◌⊎◌, ℕ, ◌&&◌, ◌==◌, List, drop, slice_index, Result, Ok, Err, if◌then◌else◌}
 use Rattle.http_header.specs.FieldValue.{FieldValue}
 use Rattle.headers.specs.EntityTag.{TagParts, AreTags}
 use Rattle.headers.specs.HeaderLaws.{ReadsBy}
@@ -15,6 +15,10 @@ reads_tag = ReadsBy (only_tag {V = Line} (λ line. line))
 -- the same of a value whose bytes it is
 abbrev pub reads_etag : List Line → FieldValue → Type 0
 reads_etag = ReadsBy (only_tag (λ (value : FieldValue). value.bytes))
+
+-- what stands behind `W/`, if the bytes begin so
+abbrev pub quoted_part : List ℕ → List ℕ
+quoted_part tag = if slice_index tag 0 == 87 && slice_index tag 1 == 47 then drop 2 tag else tag
 
 -- the number is 1 if P holds, and 0 if it doesn't
 abbrev pub Tells : Type 0 → ℕ → Type 0

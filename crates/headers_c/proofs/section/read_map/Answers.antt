@@ -1,8 +1,8 @@
-use Rattle.std.proofs.Common.{◌≡◌, ◌<◌, ◌∷◌, [], Err, ap, length, refl, subst, sym, arith}
+use Rattle.std.proofs.Common.{◌≡◌, ◌<◌, [], Err, ap, length, refl, subst, sym, arith}
 use Rattle.std.proofs.lemmas.Bool.Decides.{nat_tests}
 use Rattle.std.proofs.lemmas.Result.{err_from_is_err_and}
 use Rattle.http_header.specs.declared.map.HeaderMapError.{HeaderMapError}
-use Rattle.headers_section.specs.Section.{IsField, input_lines}
+use Rattle.headers_section.specs.Section.{input_lines}
 use Rattle.headers_c.specs.SectionMap.{IsMapOf, failure_of}
 use Rattle.headers_c.proofs.LineLemmas.{first_line}
 use Rattle.headers_c.proofs.SectionLemmas.{HasNoField-from_read, HasNoRoom-from_read, Holds-last, IsMapOf-refused}
