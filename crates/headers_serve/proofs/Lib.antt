@@ -6,4 +6,5 @@ pub mod OneResponseLemmas
 pub mod PartLemmas
 pub mod PathLemmas
 pub mod PlanLemmas
+pub mod RedirectLemmas
 pub mod WholeLemmas

@@ -1,5 +1,5 @@
 -- The answer to a request for a folder.
-use Rattle.std.specs.Prelude.{◌≡◌, ◌⊎◌, ℕ, true, List, [], ◌∷◌, ◌++◌, Option, Some, None, codes}
+use Rattle.std.specs.Prelude.{◌≡◌, ◌≢◌, ◌⊎◌, ℕ, true, List, [], ◌∷◌, ◌++◌, Option, Some, None, codes, slice_index}
 use Rattle.http_header.specs.FieldValue.{IsFieldValue}
 use Rattle.http1.specs.Fields.{Header}
 use Rattle.http_server.specs.declared.response.Response.{Response}
@@ -23,6 +23,13 @@ HasNoIndex path query = (ends_in_slash path ≡ true) ⊎ ¬ (IsFieldValue (inde
 abbrev pub IsLocation : List ℕ → Option (List ℕ) → Option (List ℕ) → Type 0
 IsLocation path query None = HasNoIndex path query
 IsLocation path query (Some line) = (¬ (HasNoIndex path query)) × (line ≡ index_target path query)
+
+-- The target names no other host: it begins with a slash, and neither a slash nor a backslash follows. `//` begins a
+-- host (RFC 3986, section 4.2), and browsers read a backslash as a slash.
+pub record IsOnHost (target : List ℕ) : Type 0 where
+  pub rooted : slice_index target 0 ≡ 47
+  pub no_slash : slice_index target 1 ≢ 47
+  pub no_backslash : slice_index target 1 ≢ 92
 
 -- 301 to the index of the folder, or 404 if there is no such place
 abbrev pub AnswersFolder : List Header → List ℕ → Option (List ℕ) → Response → Type 0

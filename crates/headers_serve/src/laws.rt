@@ -1,10 +1,12 @@
 //! What follows from the definitions alone. A proof cites a law by calling it.
-ghost use Rattle.std.specs.Prelude.{◌≡◌, ℕ, true, List, Option, Some, codes};
+ghost use Rattle.std.specs.Prelude.{◌≡◌, ℕ, true, List, [], ◌∷◌, ◌++◌, Option, Some, codes};
 ghost use Rattle.http.specs.Request.{head_of};
 ghost use Rattle.http.specs.declared.request.Request.{Request};
 ghost use Rattle.http_header.specs.FieldValue.{FieldValue};
 ghost use Rattle.http_uri.specs.Uri.{uri_path};
 ghost use Rattle.http_server.specs.declared.response.Response.{Response};
+ghost use Rattle.http_server.specs.Response.{fields_of};
+ghost use Rattle.http1.specs.Fields.{Header};
 ghost use Rattle.headers.specs.LineMap.{LineMap, lines_at};
 ghost use Rattle.headers_preconditions.specs.declared.part.Part.{Part};
 ghost use Rattle.headers_preconditions.specs.declared.response.Response.{Response as Answer};
@@ -12,6 +14,7 @@ ghost use Rattle.headers_serve.specs.Answer.{AnswersBehind, AnswersRead, AsksFor
 ghost use Rattle.headers_serve.specs.File.{content_digest};
 ghost use Rattle.headers_serve.specs.Parts.{Occurs, part_bytes};
 ghost use Rattle.headers_serve.specs.Path.{Names};
+ghost use Rattle.headers_serve.specs.Redirect.{AnswersFolder, IsOnHost};
 ghost use Rattle.headers_serve.specs.Response.{IsSameResponse};
 ghost use Rattle.headers_serve.specs.declared.file.Entry.TheVariants.{Readable};
 ghost use Rattle.headers_serve.specs.declared.file.Entry.{Entry};
@@ -36,6 +39,13 @@ pub fn get_gets_the_content()
         → AsksForAll (lines_at (head_of request).headers)
         → AnswersBehind (date_fields date) cache_control (λ path entry. entry ≡ look path) request response
         → (response.status ≡ 200) × (response.body.items ≡ file.content) }
+{}
+
+/// A redirect of a path that names something leads to the host that was asked.
+pub fn redirects_stay_on_the_host()
+    ensures { (before : List Header) (path named : List ℕ) (query : Option (List ℕ)) (response : Response)
+        → Names path (Some named) → AnswersFolder before path query response → response.status ≡ 301
+        → (target : List ℕ) × (fields_of response ≡ before ++ (codes "location", target) ∷ []) × IsOnHost target }
 {}
 
 /// If an answer sends several parts, none holds the boundary between them (RFC 2046, section 5.1.1),
