@@ -1,10 +1,12 @@
 -- Which numbers the lines of a field read.
-use Rattle.std.specs.Prelude.{ℕ, List}
+use Rattle.std.specs.Prelude.{ℕ, List, ◌==◌}
+use Rattle.std.specs.List.{before_first}
 use Rattle.http_header.specs.FieldValue.{FieldValue}
 use Rattle.headers.specs.ContentLength.{content_length_reads}
 use Rattle.headers.specs.ContentType.{ReadsType}
 use Rattle.headers.specs.HeaderLaws.{ReadsBy}
 use Rattle.headers.specs.Lines.{Line}
+use Rattle.headers.specs.MediaType.{semicolon}
 use Rattle.headers.specs.Shapes.{only_date, only_number}
 
 -- the only line is a number
@@ -22,3 +24,7 @@ reads_length lines length = content_length_reads lines (record { 0 = length })
 -- the first line is a media type, whose canonical text is the value's
 abbrev pub reads_media : List Line → FieldValue → Type 0
 reads_media lines value = ReadsType lines value.bytes
+
+-- type and subtype of a canonical text: what stands before the first semicolon, as a token has none
+abbrev pub essence : List ℕ → List ℕ
+essence media_type = before_first (λ byte. byte == semicolon) media_type

@@ -7,4 +7,5 @@ pub mod Handshake
 pub mod Preconditions
 pub mod Ranges
 pub mod SectionMap
+pub mod Selection
 pub mod Tags

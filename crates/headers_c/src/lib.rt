@@ -5,12 +5,13 @@
 mod cache_control;
 mod canonical;
 mod fields;
+mod handshake;
 mod keys;
 mod lines;
 mod media_type;
 mod preconditions;
 mod ranges;
 mod section;
+mod selection;
 mod status;
 mod tags;
-mod websocket;

@@ -1,12 +1,13 @@
 //! The media type of `content-type`.
-ghost use Rattle.headers.specs.ContentType.{ReadsType};
+ghost use Rattle.std.specs.Prelude.{◌≡◌};
 ghost use Rattle.headers_c.specs.Endings.{Writes, done};
 ghost use Rattle.headers_c.specs.FieldText.{FieldDecodes};
-ghost use Rattle.headers_c.specs.Fields.{reads_media};
+ghost use Rattle.headers_c.specs.Fields.{essence, reads_media};
 
 use crate::lines::read_field;
 use crate::status::{DONE, Failure, copy_into};
 use headers::{ContentType, HeaderValue, encoding};
+use memchr::memchr;
 use std::alloc::Global;
 
 /// The canonical text of the media type that the lines of `content-type` read (RFC 9110, section
@@ -24,6 +25,33 @@ pub extern "C" fn typed_headers_media_type(
     match read_media_type(alloc, lines) {
         Ok(text) => copy_into(text.as_bytes(), DONE, room, written),
         Err(failure) => failure.status(),
+    }
+}
+
+/// Type and subtype of that media type, without its parameters.
+#[unsafe(no_mangle)]
+pub extern "C" fn typed_headers_essence(
+    alloc: Global,
+    lines: &[u8],
+    room: &mut [u8],
+    written: &mut usize,
+) -> u8
+    ensures { Writes (λ value. essence value.bytes) (λ _. done) (FieldDecodes reads_media lines.now)
+        room.old room.new written.old written.new result }
+{
+    match read_media_type(alloc, lines) {
+        Ok(text) => copy_into(essence(text.as_bytes()), DONE, room, written),
+        Err(failure) => failure.status(),
+    }
+}
+
+// What stands before the first semicolon.
+fn essence(media_type: &[u8]) -> &[u8]
+    ensures { result.now ≡ essence media_type.now }
+{
+    match memchr(b';', media_type) {
+        Some(end) => media_type.split_at(end).0,
+        None => media_type,
     }
 }
 

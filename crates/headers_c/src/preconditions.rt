@@ -83,7 +83,8 @@ fn code_of(answer: Precondition) -> u16
     }
 }
 
-fn read_method(alloc: Global, bytes: &[u8]) -> Result<Method, Failure>
+/// The method of these bytes.
+pub fn read_method(alloc: Global, bytes: &[u8]) -> Result<Method, Failure>
     ensures { IsMethodOf bytes.now result }
 {
     match Method::from_bytes(alloc, bytes) {
@@ -115,7 +116,8 @@ fn read_date(target: &Target) -> Result<Option<LastModified>, Failure>
     Ok(Some(LastModified::from_unix_secs(target.last_modified)))
 }
 
-fn read_resource(alloc: Global, etag: &[u8], target: &Target) -> Result<Resource, Failure>
+/// What is known of a target.
+pub fn read_resource(alloc: Global, etag: &[u8], target: &Target) -> Result<Resource, Failure>
     ensures { IsResourceOf etag.now target.now result }
 {
     if !target.exists {

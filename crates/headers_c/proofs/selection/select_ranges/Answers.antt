@@ -1,0 +1,25 @@
+use Rattle.std.proofs.Common.{◌≡◌, Ok, subst}
+use Rattle.http_header.specs.Token.{IsToken}
+use Rattle.headers.specs.LineMap.{lines_at}
+use Rattle.headers_preconditions.specs.Selection.{Selects}
+use Rattle.headers_preconditions.specs.declared.resource.Resource.{Resource}
+use Rattle.headers_c.specs.Preconditions.{IsResourceOf}
+use Rattle.headers_c.proofs.selection.select_ranges.Goals as goal
+
+pub returns : goal.returns
+returns c =
+    let method = c.in_ok-method.ensures in
+    let request = c.in_ok-request.request in
+    record {
+      is_method = method.0;
+      current = c.in-Current.current;
+      is_resource =
+          subst (λ (resource : Resource). IsResourceOf c.args.etag.now c.args.target.now (Ok resource)) c.in-Current.is
+          c.in_ok-current.ensures;
+      request = request;
+      holds = c.in_ok-request.ensures;
+      selection = c.in_ok-selection.selection;
+      selects =
+          rw method.1 at c.in_ok-selection.ensures;
+      shown = c.in_ok-selected.ensures;
+    }

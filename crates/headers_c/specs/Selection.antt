@@ -1,0 +1,62 @@
+-- Which part of a representation a request selects, by what a caller hands in.
+use Rattle.std.specs.Prelude.{◌≡◌, ◌⊎◌, ℕ, true, false, List, [], map, Result, Ok, Err}
+use Rattle.http_header.specs.FieldValue.{FieldValue}
+use Rattle.http_header.specs.HeaderMap.{Entries}
+use Rattle.http_header.specs.Token.{IsToken}
+use Rattle.headers.specs.LineMap.{lines_at}
+use Rattle.headers_preconditions.specs.Selection.{Selects as SelectsOf}
+use Rattle.headers_preconditions.specs.declared.part.Part.{Part}
+use Rattle.headers_preconditions.specs.declared.resource.Resource.TheVariants.{Current}
+use Rattle.headers_preconditions.specs.declared.resource.Validators.{Validators}
+use Rattle.headers_preconditions.specs.declared.selection.Selection.{Selection}
+use Rattle.headers_preconditions.specs.declared.selection.Selection.TheVariants.{Whole, Parts, Unsatisfiable}
+use Rattle.headers_c.specs.Endings.{IsHandedOut, done}
+use Rattle.headers_c.specs.Preconditions.{IsMethodOf, IsResourceOf}
+use Rattle.headers_c.specs.SectionMap.{Holds, IsMapOf}
+use Rattle.headers_c.specs.declared.preconditions.Target.{Target}
+use Rattle.headers_c.specs.declared.ranges.BytesRange.{BytesRange}
+use Rattle.headers_c.specs.declared.selection.Selected.{Selected}
+use Rattle.headers_c.specs.declared.status.Failure.{Failure}
+use Rattle.headers_c.specs.declared.status.Failure.TheVariants.{Absent}
+
+abbrev pub range_of : Part → BytesRange
+range_of part = record { first = part.first; last = part.last }
+
+-- the status of a selection, and its parts
+abbrev pub IsShown : Selection → ℕ → List BytesRange → Type 0
+IsShown Whole code ranges = (code ≡ 200) × (ranges ≡ [])
+IsShown Unsatisfiable code ranges = (code ≡ 416) × (ranges ≡ [])
+IsShown (Parts parts) code ranges = (code ≡ 206) × (ranges ≡ map range_of parts.items)
+
+-- the method, the target and the fields of the section are those that were handed in, and this is their selection
+pub record IsSelected (method input etag : List ℕ) (target : Target) (length : ℕ) (selected : Selected) : Type 0 where
+  pub is_method : IsToken method
+  pub current : Validators
+  pub is_resource : IsResourceOf etag target (Ok (Current current))
+  pub request : Entries FieldValue
+  pub holds : Holds input request
+  pub selection : Selection
+  pub selects : SelectsOf method (lines_at request) current length selection
+  pub shown : IsShown selection selected.code selected.ranges.items
+
+-- the answer is the selection, or the failure of reading what was handed in; `Absent` only if the target has no
+-- representation
+abbrev pub Selects : (method input etag : List ℕ) → Target → ℕ → Result Selected Failure → Type 0
+Selects method input etag target length (Ok selected) = IsSelected method input etag target length selected
+Selects method input etag target length (Err Absent) = target.exists ≡ false
+Selects method input etag target length (Err failure) =
+    IsMethodOf method (Err failure) ⊎ (IsResourceOf etag target (Err failure) ⊎ IsMapOf input (Err failure))
+
+-- the status is in its place if there is one
+abbrev pub IsCode : Result Selected Failure → ℕ → ℕ → Type 0
+IsCode (Ok selected) old new = new ≡ selected.code
+IsCode (Err failure) old new = new ≡ old
+
+-- a call that gives a selection has an answer of which P holds
+abbrev pub WritesSelection : (Result Selected Failure → Type 0) → (code new_code : ℕ) → (old new : List BytesRange)
+    → (before written status : ℕ) → Type 0
+WritesSelection P code new_code old new before written status =
+    (answer : Result Selected Failure)
+    × P answer
+    × IsCode answer code new_code
+    × IsHandedOut (λ (selected : Selected). selected.ranges.items) (λ _. done) answer old new before written status
