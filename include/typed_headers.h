@@ -40,7 +40,7 @@ enum typed_headers_status {
     TYPED_HEADERS_NO_MEMORY = 2,
     /* The bytes don't fit into the room. `*written` says how many there are. */
     TYPED_HEADERS_NO_ROOM = 3,
-    /* What is asked for isn't there: the field has no line. */
+    /* What is asked for isn't there: the field has no line, or the target no representation. */
     TYPED_HEADERS_ABSENT = 4,
     /* What was handed in is longer, or has more names, than the call takes. */
     TYPED_HEADERS_TOO_LARGE = 5,
@@ -142,6 +142,10 @@ uint8_t typed_headers_last_modified(const uint8_t *lines, size_t lines_length, u
 uint8_t typed_headers_media_type(const uint8_t *lines, size_t lines_length, uint8_t *room, size_t room_length,
                                  size_t *written);
 
+/* Type and subtype of that media type, as `text/html`: its canonical text up to the first semicolon. */
+uint8_t typed_headers_essence(const uint8_t *lines, size_t lines_length, uint8_t *room, size_t room_length,
+                              size_t *written);
+
 /*
  * Whether two entity tags are equal (RFC 9110, section 8.8.3.2): `*equal` is 1 if they are, 0 if not. Tags are strongly
  * equal if neither is weak and their opaque parts are the same, and weakly equal if their opaque parts are the same.
@@ -181,6 +185,20 @@ uint8_t typed_headers_ranges(const uint8_t *lines, size_t lines_length, uint64_t
 uint8_t typed_headers_evaluate(const uint8_t *method, size_t method_length, const uint8_t *section,
                                size_t section_length, const struct typed_headers_keys *keys, const uint8_t *etag,
                                size_t etag_length, const struct typed_headers_target *target, uint16_t *answer);
+
+/*
+ * Which part of the target's representation, of `length` bytes, a request selects (RFC 9110, sections 13.2.2 and 14.2):
+ * `*answer` is 200 if all of it, 206 if the ranges that are written, 416 if none. The ranges are in order, and at least
+ * one position lies between two of them. Of the section the fields Range and If-Range count. The room and `*written`
+ * count ranges; `*answer` is given also if they don't fit. A server asks this once `typed_headers_evaluate` gave 0.
+ *
+ * Absent: the target has no representation. Refused and too large: as for `typed_headers_evaluate`.
+ */
+uint8_t typed_headers_select(const uint8_t *method, size_t method_length, const uint8_t *section,
+                             size_t section_length, const struct typed_headers_keys *keys, const uint8_t *etag,
+                             size_t etag_length, const struct typed_headers_target *target, uint64_t length,
+                             uint16_t *answer, struct typed_headers_bytes_range *room, size_t room_length,
+                             size_t *written);
 
 /*
  * What `sec-websocket-accept` answers to `sec-websocket-key`, 28 bytes: the only line (RFC 6455, section 4.2.2).

@@ -194,7 +194,7 @@ static void check(const struct row *row, call_fn *call, const void *arguments, u
             printf("    status %d, room %zu\n", gift.status, room);
             return;
         }
-        if (gift.number != (gives && number != NO_NUMBER ? number : NO_NUMBER)) {
+        if (gift.number != (gives ? number : NO_NUMBER)) {
             complain(row, "another number");
             return;
         }
@@ -285,16 +285,21 @@ static void check_media_type(const struct row *row) {
         check(row, call_bytes, &call, refusal(call.lines), NO_NUMBER, NO_TEXT);
         return;
     }
-    check(row, call_bytes, &call, TYPED_HEADERS_DONE, NO_NUMBER, answer_word(row, 1));
+    struct word text = answer_word(row, 1);
+    check(row, call_bytes, &call, TYPED_HEADERS_DONE, NO_NUMBER, text);
+    call.function = typed_headers_essence;
+    text.length = strcspn(text.bytes, ";") < text.length ? strcspn(text.bytes, ";") : text.length;
+    check(row, call_bytes, &call, TYPED_HEADERS_DONE, NO_NUMBER, text);
 }
+
+static const struct typed_headers_keys KEYS = {1, 2};
 
 /* The canonical text of a section. */
 static uint8_t call_canonical(const void *arguments, uint64_t *number, uint8_t *room, size_t room_length,
                               size_t *written) {
-    static const struct typed_headers_keys keys = {1, 2};
     const struct text *section = arguments;
     (void)number;
-    return typed_headers_canonical(section->bytes, section->length, &keys, room, room_length, written);
+    return typed_headers_canonical(section->bytes, section->length, &KEYS, room, room_length, written);
 }
 
 static void check_canonical(const struct row *row) {
@@ -399,22 +404,38 @@ struct ranges_call {
     uint64_t length;
 };
 
-static uint8_t call_ranges(const void *arguments, uint64_t *number, uint8_t *room, size_t room_length,
-                           size_t *written) {
-    const struct ranges_call *call = arguments;
+/* The end of a room of bytes, as a room of ranges. */
+struct range_room {
+    struct typed_headers_bytes_range *start;
+    size_t count;
+};
+
+static struct range_room range_room(uint8_t *room, size_t room_length) {
     const size_t size = sizeof(struct typed_headers_bytes_range);
-    uint8_t *bytes = room + room_length % size;
-    (void)number;
-    uint8_t status = typed_headers_ranges(call->lines.bytes, call->lines.length, call->length,
-                                          (struct typed_headers_bytes_range *)bytes, room_length / size, written);
+    return (struct range_room){(void *)(room + room_length % size), room_length / size};
+}
+
+/* Tells of ranges that were written as of bytes, which begin where the room does. */
+static uint8_t ranges_written(uint8_t status, struct range_room ranges, uint8_t *room, size_t room_length,
+                              size_t *written) {
     if (status == TYPED_HEADERS_DONE || status == TYPED_HEADERS_NO_ROOM) {
-        *written *= size;
+        *written *= sizeof *ranges.start;
     }
-    if (status == TYPED_HEADERS_DONE && bytes != room) {
-        memmove(room, bytes, *written);
+    if (status == TYPED_HEADERS_DONE && (uint8_t *)ranges.start != room) {
+        memmove(room, ranges.start, *written);
         memset(room + *written, FILL, room_length - *written);
     }
     return status;
+}
+
+static uint8_t call_ranges(const void *arguments, uint64_t *number, uint8_t *room, size_t room_length,
+                           size_t *written) {
+    const struct ranges_call *call = arguments;
+    struct range_room ranges = range_room(room, room_length);
+    (void)number;
+    uint8_t status = typed_headers_ranges(call->lines.bytes, call->lines.length, call->length, ranges.start,
+                                          ranges.count, written);
+    return ranges_written(status, ranges, room, room_length, written);
 }
 
 static void check_ranges(const struct row *row) {
@@ -450,20 +471,20 @@ static void check_accept(const struct row *row) {
     }
 }
 
-/* The preconditions of a request. */
-struct evaluate_call {
+/* A request to a target. */
+struct request_call {
     struct text method, section, etag;
     struct typed_headers_target target;
+    uint64_t length;
 };
 
 static uint8_t call_evaluate(const void *arguments, uint64_t *number, uint8_t *room, size_t room_length,
                              size_t *written) {
-    static const struct typed_headers_keys keys = {1, 2};
-    const struct evaluate_call *call = arguments;
+    const struct request_call *call = arguments;
     uint16_t answer = FILL;
     (void)room, (void)room_length, (void)written;
     uint8_t status = typed_headers_evaluate(call->method.bytes, call->method.length, call->section.bytes,
-                                            call->section.length, &keys, call->etag.bytes, call->etag.length,
+                                            call->section.length, &KEYS, call->etag.bytes, call->etag.length,
                                             &call->target, &answer);
     if (answer != FILL) {
         *number = answer;
@@ -471,12 +492,26 @@ static uint8_t call_evaluate(const void *arguments, uint64_t *number, uint8_t *r
     return status;
 }
 
+static uint8_t call_select(const void *arguments, uint64_t *number, uint8_t *room, size_t room_length,
+                           size_t *written) {
+    const struct request_call *call = arguments;
+    struct range_room ranges = range_room(room, room_length);
+    uint16_t answer = FILL;
+    uint8_t status = typed_headers_select(call->method.bytes, call->method.length, call->section.bytes,
+                                          call->section.length, &KEYS, call->etag.bytes, call->etag.length,
+                                          &call->target, call->length, &answer, ranges.start, ranges.count, written);
+    if (answer != FILL) {
+        *number = answer;
+    }
+    return ranges_written(status, ranges, room, room_length, written);
+}
+
 static bool is_word(const struct word *word, const char *text) {
     return word->length == strlen(text) && memcmp(word->bytes, text, word->length) == 0;
 }
 
-/* `evaluate METHOD (NAME) LINE.. (/) RESOURCE` */
-static void check_evaluate(const struct row *row) {
+/* `METHOD (NAME) LINE.. (/)`: the place behind it. */
+static size_t read_request(const struct row *row, struct request_call *call) {
     static char section[AREA];
     size_t length = 0, i = 1;
     struct word name = {"", 0};
@@ -489,23 +524,54 @@ static void check_evaluate(const struct row *row) {
         length += sprintf(section + length, "%.*s: %.*s\r\n", (int)name.length, name.bytes, (int)word->length,
                           word->bytes);
     }
-    struct evaluate_call call = {put(third_area, row->words[0].bytes, row->words[0].length),
-                                 put(first_area, section, length), put(second_area, "", 0), {0}};
-    const struct word *resource = &row->words[i + 1];
+    call->method = put(third_area, row->words[0].bytes, row->words[0].length);
+    call->section = put(first_area, section, length);
+    call->etag = put(second_area, "", 0);
+    return i + 1;
+}
+
+/* `TAG SECOND KIND` of a representation. */
+static void read_target(const struct word *words, struct request_call *call) {
+    call->target.exists = true;
+    if (!is_word(words, "(none)")) {
+        call->etag = put(second_area, words->bytes, words->length);
+    }
+    call->target.has_last_modified = !is_word(words + 1, "(none)");
+    if (call->target.has_last_modified) {
+        words[1].bytes[words[1].length] = 0;
+        call->target.last_modified = strtoull(words[1].bytes, NULL, 10);
+    }
+    call->target.is_date_strong = is_word(words + 2, "strong");
+}
+
+/* `evaluate METHOD (NAME) LINE.. (/) RESOURCE` */
+static void check_evaluate(const struct row *row) {
+    struct request_call call = {0};
+    const struct word *resource = &row->words[read_request(row, &call)];
     if (!is_word(resource, "missing")) {
-        call.target.exists = true;
-        if (!is_word(resource, "(none)")) {
-            call.etag = put(second_area, resource->bytes, resource->length);
-        }
-        call.target.has_last_modified = !is_word(resource + 1, "(none)");
-        if (call.target.has_last_modified) {
-            resource[1].bytes[resource[1].length] = 0;
-            call.target.last_modified = strtoull(resource[1].bytes, NULL, 10);
-        }
-        call.target.is_date_strong = is_word(resource + 2, "strong");
+        read_target(resource, &call);
     }
     check(row, call_evaluate, &call, TYPED_HEADERS_DONE,
           is_answer(row, "perform") ? 0 : is_answer(row, "not_modified") ? 304 : 412, NO_TEXT);
+}
+
+/* `select METHOD (NAME) LINE.. (/) TAG SECOND KIND LENGTH` */
+static void check_select(const struct row *row) {
+    static uint64_t bounds[AREA / sizeof(uint64_t)];
+    size_t count = 0;
+    struct request_call call = {0};
+    const struct word *target = &row->words[read_request(row, &call)];
+    read_target(target, &call);
+    call.length = strtoull(target[3].bytes, NULL, 10);
+    const bool is_whole = is_answer(row, "whole"), is_none = is_answer(row, "unsatisfiable");
+    if (!is_whole && !is_none) {
+        for (char *at = row->answer; *at; at += *at == ' ') {
+            bounds[count++] = strtoull(at, &at, 10);
+            bounds[count++] = strtoull(at + 1, &at, 10);
+        }
+    }
+    check(row, call_select, &call, TYPED_HEADERS_DONE, is_whole ? 200 : is_none ? 416 : 206,
+          (struct word){(char *)bounds, count * sizeof(uint64_t)});
 }
 
 static void make_row(struct row *row) {
@@ -534,6 +600,8 @@ static void make_row(struct row *row) {
         check_accept(row);
     } else if (strcmp(row->call, "evaluate") == 0) {
         check_evaluate(row);
+    } else if (strcmp(row->call, "select") == 0) {
+        check_select(row);
     }
 }
 

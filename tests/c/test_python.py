@@ -67,7 +67,7 @@ def ranges(words, wanted):
     return given == list(zip(bounds[::2], bounds[1::2]))
 
 
-def evaluate(words, wanted):
+def request(words):
     end = words.index("(/)")
     section, name = b"", b""
     for word in words[1:end]:
@@ -75,12 +75,29 @@ def evaluate(words, wanted):
             name = word[1:-1].encode()
         else:
             section += name + b": " + decode(word) + b"\n"
-    resource = words[end + 1 :]
-    known = {"exists": False}
-    if resource[0] != "missing":
-        known = {"etag": b"" if resource[0] == "(none)" else decode(resource[0])}
-        known["last_modified"] = None if resource[1] == "(none)" else int(resource[1])
-    return headers.evaluate(decode(words[0]), section, **known).name.lower() == wanted[0]
+    return decode(words[0]), section, words[end + 1 :]
+
+
+def known(resource):
+    return {
+        "etag": b"" if resource[0] == "(none)" else decode(resource[0]),
+        "last_modified": None if resource[1] == "(none)" else int(resource[1]),
+    }
+
+
+def evaluate(words, wanted):
+    method, section, resource = request(words)
+    target = {"exists": False} if resource[0] == "missing" else known(resource)
+    return headers.evaluate(method, section, **target).name.lower() == wanted[0]
+
+
+def select(words, wanted):
+    method, section, target = request(words)
+    is_strong = target[2] == "strong"
+    given = headers.select(method, section, int(target[3]), **known(target), is_date_strong=is_strong)
+    if wanted[0] in ("whole", "unsatisfiable"):
+        return given == (200 if wanted[0] == "whole" else 416, [])
+    return given == (206, [tuple(map(int, part.split("-"))) for part in wanted])
 
 
 CALLS = {
@@ -95,6 +112,7 @@ CALLS = {
     "CacheControl.decode": cache_control,
     "Range.satisfiable_ranges": ranges,
     "evaluate": evaluate,
+    "select": select,
 }
 
 

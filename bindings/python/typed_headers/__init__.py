@@ -23,12 +23,14 @@ __all__ = [
     "canonical",
     "content_length",
     "date",
+    "essence",
     "evaluate",
     "expires",
     "last_modified",
     "lines",
     "media_type",
     "ranges",
+    "select",
     "strong_eq",
     "weak_eq",
     "websocket_accept",
@@ -127,20 +129,15 @@ _date = _call("date", *_TEXT, ctypes.POINTER(ctypes.c_uint64))
 _expires = _call("expires", *_TEXT, ctypes.POINTER(ctypes.c_uint64))
 _last_modified = _call("last_modified", *_TEXT, ctypes.POINTER(ctypes.c_uint64))
 _media_type = _call("media_type", *_TEXT, *_ROOM)
+_essence = _call("essence", *_TEXT, *_ROOM)
 _websocket_accept = _call("websocket_accept", *_TEXT, *_ROOM)
 _ranges = _call("ranges", *_TEXT, ctypes.c_uint64, *_ROOM)
 _strong_eq = _call("strong_eq", *_TEXT, *_TEXT, ctypes.POINTER(ctypes.c_uint8))
 _weak_eq = _call("weak_eq", *_TEXT, *_TEXT, ctypes.POINTER(ctypes.c_uint8))
 _cache_control = _call("cache_control", *_TEXT, ctypes.POINTER(_Directives))
-_evaluate = _call(
-    "evaluate",
-    *_TEXT,
-    *_TEXT,
-    ctypes.POINTER(_Keys),
-    *_TEXT,
-    ctypes.POINTER(_Target),
-    ctypes.POINTER(ctypes.c_uint16),
-)
+_REQUEST = [*_TEXT, *_TEXT, ctypes.POINTER(_Keys), *_TEXT, ctypes.POINTER(_Target)]
+_evaluate = _call("evaluate", *_REQUEST, ctypes.POINTER(ctypes.c_uint16))
+_select = _call("select", *_REQUEST, ctypes.c_uint64, ctypes.POINTER(ctypes.c_uint16), *_ROOM)
 _canonical = _call("canonical", *_TEXT, ctypes.POINTER(_Keys), *_ROOM)
 
 
@@ -220,6 +217,12 @@ def _compare(call: Callable[..., int], one: bytes, other: bytes) -> bool:
     return equal.value == 1
 
 
+def essence(text: bytes) -> Optional[bytes]:
+    """Type and subtype of the media type of `content-type`."""
+    status, written = _bytes(lambda *room: _essence(text, len(text), *room), len(text))
+    return written if status == _DONE else None
+
+
 def strong_eq(one: bytes, other: bytes) -> bool:
     """Whether two entity tags are strongly equal (RFC 9110, section 8.8.3.2). `Refused` if one of them is none."""
     return _compare(_strong_eq, one, other)
@@ -244,17 +247,26 @@ def cache_control(text: bytes) -> Optional[CacheControl]:
     )
 
 
+def _range_list(call: Callable[..., int], room: int) -> Tuple[int, List[Tuple[int, int]]]:
+    while True:
+        buffer, written = (_Range * room)(), ctypes.c_size_t()
+        status = call(buffer, room, ctypes.byref(written))
+        if status != _NO_ROOM:
+            _check(status)
+            return status, [(it.first, it.last) for it in buffer[: written.value]]
+        room = written.value
+
+
 def ranges(text: bytes, length: int) -> Optional[List[Tuple[int, int]]]:
     """The first and the last position of each range of `range` that so many bytes can satisfy (RFC 9110, section
     14.1.2). `Refused` if the line doesn't begin with `bytes=`."""
-    room = text.count(b",") + 1
-    while True:
-        buffer, written = (_Range * room)(), ctypes.c_size_t()
-        status = _ranges(text, len(text), length, buffer, room, ctypes.byref(written))
-        if status != _NO_ROOM:
-            _check(status)
-            return [(it.first, it.last) for it in buffer[: written.value]] if status == _DONE else None
-        room = written.value
+    status, found = _range_list(lambda *room: _ranges(text, len(text), length, *room), text.count(b",") + 1)
+    return found if status == _DONE else None
+
+
+def _request(method: bytes, section: bytes, etag: bytes, target: _Target) -> tuple:
+    texts = (method, len(method), section, len(section), ctypes.byref(_keys), etag, len(etag))
+    return (*texts, ctypes.byref(target))
 
 
 def evaluate(
@@ -268,20 +280,25 @@ def evaluate(
     entity tag and the second of the last modification of its target, and whether that has a representation."""
     target = _Target(last_modified or 0, exists, last_modified is not None, False)
     answer = ctypes.c_uint16()
-    _check(
-        _evaluate(
-            method,
-            len(method),
-            section,
-            len(section),
-            ctypes.byref(_keys),
-            etag,
-            len(etag),
-            ctypes.byref(target),
-            ctypes.byref(answer),
-        )
-    )
+    _check(_evaluate(*_request(method, section, etag, target), ctypes.byref(answer)))
     return Precondition(answer.value)
+
+
+def select(
+    method: bytes,
+    section: bytes,
+    length: int,
+    etag: bytes = b"",
+    last_modified: Optional[int] = None,
+    is_date_strong: bool = False,
+) -> Tuple[int, List[Tuple[int, int]]]:
+    """The status of the answer to a request for a representation of so many bytes, 200, 206 or 416, and the ranges
+    that a 206 sends (RFC 9110, section 14.2)."""
+    target = _Target(last_modified or 0, True, last_modified is not None, is_date_strong)
+    answer = ctypes.c_uint16()
+    arguments = (*_request(method, section, etag, target), length, ctypes.byref(answer))
+    _, found = _range_list(lambda *room: _select(*arguments, *room), section.count(b",") + 1)
+    return answer.value, found
 
 
 def websocket_accept(text: bytes) -> Optional[bytes]:
