@@ -1,0 +1,41 @@
+"""Makes the folder that both servers serve."""
+import os
+import sys
+
+WRITTEN = 1_700_000_000  # Tue, 14 Nov 2023 22:13:20 GMT
+
+
+def make(top):
+    files = {
+        "hello.txt": b"Hello, world\n",
+        "index.html": b"<title>top</title>\n",
+        "page.html": b"<p>page</p>\n",
+        "style.css": b"a { color: red }\n",
+        "script.js": b"let a = 1;\n",
+        "data.json": b"{}\n",
+        "picture.png": b"\x89PNG\r\n\x1a\n" + bytes(range(256)),
+        "picture.jpg": b"\xff\xd8\xff" + bytes(range(200)),
+        "picture.svg": b"<svg xmlns='http://www.w3.org/2000/svg'/>\n",
+        "paper.pdf": b"%PDF-1.4\n",
+        "empty.txt": b"",
+        "big.bin": bytes(i * i % 251 for i in range(200_000)),
+        "plain": b"no suffix\n",
+        "with space.txt": b"space\n",
+        "gr\u00fcn.txt": b"umlaut\n",
+        "a+b.txt": b"plus\n",
+        ".hidden": b"hidden\n",
+        "sub/index.html": b"<title>sub</title>\n",
+        "sub/a.txt": b"a\n",
+        "sub/.secret": b"secret\n",
+        "none/b.txt": b"b\n",
+    }
+    for name, content in files.items():
+        path = os.path.join(top, name)
+        os.makedirs(os.path.dirname(path), exist_ok=True)
+        with open(path, "wb") as file:
+            file.write(content)
+        os.utime(path, (WRITTEN, WRITTEN))
+
+
+if __name__ == "__main__":
+    make(sys.argv[1])
