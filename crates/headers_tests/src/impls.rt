@@ -296,5 +296,5 @@ fn hashes_of_words(rt: HostRuntime) {
     assert!(rt; tells_apart::<AccessControlRequestMethod>(&rt, ["PUT", "PUT", "put"]));
     assert!(rt; tells_apart::<SecWebsocketKey>(&rt, ["a", "a", "A"]));
     assert!(rt; tells_apart::<SecWebsocketAccept>(&rt, ["a", "a", "A"]));
-    assert!(rt; tells_apart::<ReferrerPolicy>(&rt, ["origin", "ORIGIN", "no-referrer"]));
+    assert!(rt; tells_apart::<ReferrerPolicy>(&rt, ["origin", "origin", "no-referrer"]));
 }
