@@ -2,29 +2,15 @@
 //! otherwise than is wanted.
 #![tactic(auto)]
 
-use anyhow::Context;
 use headers_replay_http::Http;
 use headers_replay_parts::Parts;
 use headers_replay_web::Web;
-use headers_rows::{Tally, replay_rows};
-use std::env;
-use std::fs::File;
-use std::io::{BufWriter, Write};
+use headers_rows::replay_files;
 use std::process::ExitCode;
 
 /// The calls of the port.
 type Port = (Http, (Web, Parts));
 
 fn main(rt: HostRuntime) -> anyhow::Result<ExitCode> {
-    let alloc = rt.alloc();
-    let mut writer = BufWriter::new(alloc, rt.stdout())?;
-    let mut tally = Tally::new(alloc);
-    for argument in env::args(&rt)?.skip(1) {
-        let name = argument.as_str();
-        let file = File::open(&rt, name).context(name)?;
-        replay_rows::<Port, _, _>(alloc, name, file, &mut tally, &mut writer).context(name)?;
-    }
-    tally.print(&mut writer)?;
-    writer.flush()?;
-    Ok(ExitCode::from(tally.exit_status()))
+    replay_files::<Port, _>(&rt)
 }
