@@ -1,10 +1,11 @@
 //! The header `vary`.
 ghost use Rattle.std.specs.Prelude.{◌≡◌, ◌<◌, ◌^◌, ◌↔◌, length, Contains, IsTrue, IfOk, IsOkAnd, codes, List, ℕ};
 ghost use Rattle.std.specs.Iterator.{IsFinite};
+ghost use Rattle.std.specs.Iterator.Runs.{YieldsRefsInOrder};
 ghost use Rattle.headers_items.specs.Answers.{GoesByItems, SurvivesCuts};
 ghost use Rattle.headers_items.specs.Merge.{merge};
 ghost use Rattle.headers_items.specs.Places.{comma, items};
-ghost use Rattle.headers_items.specs.ItemsState.{ItemsState, items_left, walk_over};
+ghost use Rattle.headers_items.specs.ItemsState.{ItemsState, items_left, walk_over, WalksItems};
 ghost use Rattle.headers_items.specs.CutLaw.{MergesLines};
 
 use headers_core::{Comma, FlatCsv, FormHeader, Items};
@@ -69,6 +70,7 @@ impl Vary {
         ensures items { items_left result ≡ items comma self.now }
         ensures fresh { result ≡ walk_over comma self.now }
         ensures count { length (items_left result) < 2 ^ 64 }
+        ensures runs { YieldsRefsInOrder WalksItems items_left }
         ensures cuts { SurvivesCuts comma
             (λ lines (walk : ItemsState). items_left walk ≡ items comma (merge comma lines)) }
         ensures by_items { GoesByItems comma (λ value (walk : ItemsState). items_left walk ≡ items comma value) }

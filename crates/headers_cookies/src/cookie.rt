@@ -4,7 +4,7 @@ ghost use Rattle.headers_items.specs.Answers.{GoesByItems, SurvivesCuts};
 ghost use Rattle.headers_items.specs.Merge.{merge};
 ghost use Rattle.headers_items.specs.Places.{semicolon, items};
 ghost use Rattle.headers_items.specs.ItemsState.{ItemsState, walk_over};
-ghost use Rattle.headers_items.specs.Pairs.{pairs, pairs_left, first_value};
+ghost use Rattle.headers_items.specs.Pairs.{pairs, pairs_left, first_value, YieldsPairsInOrder};
 
 use headers_core::{FlatCsv, FormHeader, Pairs, SemiColon};
 use http_header::{COOKIE, HeaderName};
@@ -33,6 +33,7 @@ impl Cookie {
         ensures pairs { pairs_left result ≡ pairs (items semicolon self.now) }
         ensures fresh { result ≡ walk_over semicolon self.now }
         ensures count { length (pairs_left result) < 2 ^ 64 }
+        ensures runs { YieldsPairsInOrder }
         ensures cuts { SurvivesCuts semicolon
             (λ lines (walk : ItemsState). pairs_left walk ≡ pairs (items semicolon (merge semicolon lines))) }
         ensures by_items { GoesByItems semicolon

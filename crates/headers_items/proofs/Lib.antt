@@ -10,3 +10,4 @@ pub mod PairLemmas
 pub mod PassingLemmas
 pub mod PlacesLemmas
 pub mod WalkLemmas
+pub mod WalkRuns

@@ -1,6 +1,7 @@
 -- What a contract sees of a walk over the items of a value.
 use Rattle.std.specs.Prelude.{◌≡◌, ◌⊎◌, ℕ, ◌+◌, ◌<◌, ◌≤◌, Bool, true, false, List, [], ◌++◌, length, drop, not, ◌==◌}
 use Rattle.std.specs.Prelude.{filter, Option, None, Some, MatchOption, ⊤, if◌then◌else◌}
+use Rattle.std.specs.Iterator.{YieldsFirstBy}
 use Rattle.std.specs.List.{slice_range}
 use denote.Ref.{Bor}
 use Rattle.headers_syntax.specs.Text.{is_text, trim}
@@ -122,3 +123,19 @@ pub record ScansWanted {A : Type 0} (wanted : List ℕ → Bool) (Shows : A → 
 -- such a call of a walk over entries
 abbrev pub ScansEntry : ItemsState → Option (Bor (List ℕ)) → ItemsState → Type 0
 ScansEntry = ScansWanted is_entry (λ entry item. item ≡ entry.now)
+
+-- a call of a walk from s to t gave r: it is the first of what is left of s, as `view` reads it, and `Scans` says how
+-- far the scan went
+pub record Walks {A B : Type 0} (view : A → B) (rest : ItemsState → List B)
+    (Scans : ItemsState → Option A → ItemsState → Type 0) (s : ItemsState) (r : Option A) (t : ItemsState)
+    : Type 0 where
+  pub gives : YieldsFirstBy view rest s r t
+  pub scans : Scans s r t
+
+-- such a call of a walk over items
+abbrev pub WalksItems : ItemsState → Option (Bor (List ℕ)) → ItemsState → Type 0
+WalksItems = Walks (λ item. item.now) items_left ScansPiece
+
+-- such a call of a walk over entries
+abbrev pub WalksEntries : ItemsState → Option (Bor (List ℕ)) → ItemsState → Type 0
+WalksEntries = Walks (λ entry. entry.now) entries_left ScansEntry

@@ -1,10 +1,11 @@
 -- The pairs of a list, as the cookies of a request are (RFC 6265, section 4.2.1).
 use Rattle.std.specs.Prelude.{◌≡◌, ℕ, ◌+◌, Bool, List, take, drop, find, position, ◌==◌, Option, Some, is_some}
 use Rattle.std.specs.Prelude.{option_map, bytes_eq}
+use Rattle.std.specs.Iterator.Runs.{EveryRun, ItemsMapTo}
 use Rattle.std.specs.List.{filter_map}
 use denote.Ref.{Bor}
 use Rattle.headers_syntax.specs.Text.{trim}
-use Rattle.headers_items.specs.ItemsState.{ItemsState, items_left, ScansWanted}
+use Rattle.headers_items.specs.ItemsState.{ItemsState, items_left, ScansWanted, Walks}
 
 -- a name and its value
 abbrev pub Pair : Type 0
@@ -45,3 +46,11 @@ pair_shown pair = (pair.0.now, pair.1.now)
 -- a call of a walk over pairs
 abbrev pub ScansPair : ItemsState → Option (Bor (List ℕ) × Bor (List ℕ)) → ItemsState → Type 0
 ScansPair = ScansWanted has_pair (λ pair item. pair_of item ≡ Some (pair_shown pair))
+
+-- a call of a walk over pairs: what it gave, and how far the scan went
+abbrev pub WalksPairs : ItemsState → Option (Bor (List ℕ) × Bor (List ℕ)) → ItemsState → Type 0
+WalksPairs = Walks pair_shown pairs_left ScansPair
+
+-- each run of a walk gives the pairs that it had left, in order
+abbrev pub YieldsPairsInOrder : Type 0
+YieldsPairsInOrder = EveryRun WalksPairs (λ run. ItemsMapTo run pair_shown (pairs_left run.from))

@@ -3,7 +3,7 @@ ghost use Rattle.std.specs.Prelude.{◌≡◌, ◌+◌, ◌≤◌};
 ghost use Rattle.std.specs.Iterator.{YieldsFirstBy, item_count};
 ghost use Rattle.headers_items.specs.Places.{comma, marks};
 ghost use Rattle.headers_items.specs.Entries.{line_entries};
-ghost use Rattle.headers_items.specs.ItemsState.{entries_left, walk_over, ScansEntry};
+ghost use Rattle.headers_items.specs.ItemsState.{entries_left, walk_over, ScansEntry, WalksEntries};
 
 use crate::flat_csv::text_items;
 use crate::items::Items;
@@ -65,7 +65,7 @@ impl<'a> Entries<'a> {
 impl<'a> Iterator for Entries<'a> {
     type Item = &'a str;
 
-    ghost next_gives = { YieldsFirstBy (λ item. item.now) entries_left };
+    ghost next_gives = { WalksEntries };
 
     ghost remaining = { item_count entries_left };
 

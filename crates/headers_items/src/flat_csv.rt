@@ -2,10 +2,11 @@
 ghost use Rattle.std.specs.Prelude.{◌≡◌, ◌≤◌, ◌<◌, ◌^◌, length, ◌∷◌, ◌++◌, true, false, IfOk, OnOk, IsTrue};
 ghost use Rattle.std.specs.Prelude.{MatchOption};
 ghost use Rattle.std.specs.Iterator.{IsFinite};
+ghost use Rattle.std.specs.Iterator.Runs.{YieldsRefsInOrder};
 ghost use Rattle.headers_syntax.specs.OfLines.{OfLines};
 ghost use Rattle.headers_syntax.specs.Text.{is_text};
 ghost use Rattle.headers_items.specs.Places.{items, pieces};
-ghost use Rattle.headers_items.specs.ItemsState.{items_left, walk_over};
+ghost use Rattle.headers_items.specs.ItemsState.{items_left, walk_over, WalksItems};
 ghost use Rattle.std.specs.List.{slice_range};
 ghost use Rattle.http_header.specs.FieldValue.{IsFieldValue};
 ghost use Rattle.headers_items.specs.CutLaw.{IsMerged, MergesItems, MergesLines, AreCuts};
@@ -174,6 +175,7 @@ impl<S: Separator> FlatCsv<S> {
         ensures items { items_left result ≡ items S.BYTE self.now }
         ensures fresh { result ≡ walk_over S.BYTE self.now }
         ensures count { length (items_left result) < 2 ^ 64 }
+        ensures runs { YieldsRefsInOrder WalksItems items_left }
     {
         text_items(&self.value)
     }

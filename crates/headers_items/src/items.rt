@@ -5,6 +5,7 @@ ghost use Rattle.headers_syntax.specs.Text.{is_text, quote};
 ghost use Rattle.headers_items.specs.Places.{hits, items, marks};
 ghost use Rattle.headers_items.specs.ScanState.{end_search};
 ghost use Rattle.headers_items.specs.ItemsState.{ItemsState, items_left, walk_over, FindsCut, ScansPiece, after_cut};
+ghost use Rattle.headers_items.specs.ItemsState.{WalksItems};
 
 use crate::scan::Scan;
 use crate::separator::Separator;
@@ -129,7 +130,7 @@ impl<'a, S: Separator> Items<'a, S> {
 impl<'a, S: Separator> Iterator for Items<'a, S> {
     type Item = &'a str;
 
-    ghost next_gives = { YieldsFirstBy (λ item. item.now) items_left };
+    ghost next_gives = { WalksItems };
 
     ghost remaining = { item_count items_left };
 

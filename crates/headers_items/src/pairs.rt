@@ -4,7 +4,8 @@ ghost use Rattle.std.specs.Iterator.{YieldsFirstBy, item_count};
 ghost use Rattle.headers_syntax.specs.Text.{is_text};
 ghost use Rattle.headers_items.specs.Places.{semicolon, items, marks};
 ghost use Rattle.headers_items.specs.ItemsState.{walk_over};
-ghost use Rattle.headers_items.specs.Pairs.{pair_of, pairs, pairs_left, pair_shown, ScansPair};
+ghost use Rattle.headers_items.specs.Pairs.{pair_of, pairs, pairs_left, pair_shown, ScansPair, WalksPairs};
+ghost use Rattle.headers_items.specs.Pairs.{YieldsPairsInOrder};
 
 use crate::flat_csv::FlatCsv;
 use crate::items::Items;
@@ -64,6 +65,7 @@ impl<'a> Pairs<'a> {
         ensures pairs { pairs_left result ≡ pairs (items semicolon value.now) }
         ensures fresh { result ≡ walk_over semicolon value.now }
         ensures count { length (pairs_left result) < 2 ^ 64 }
+        ensures runs { YieldsPairsInOrder }
     {
         Pairs {
             items: value.iter(),
@@ -84,7 +86,7 @@ impl<'a> Pairs<'a> {
 impl<'a> Iterator for Pairs<'a> {
     type Item = (&'a str, &'a str);
 
-    ghost next_gives = { YieldsFirstBy pair_shown pairs_left };
+    ghost next_gives = { WalksPairs };
 
     ghost remaining = { item_count pairs_left };
 

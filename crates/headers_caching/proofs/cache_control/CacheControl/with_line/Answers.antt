@@ -14,4 +14,4 @@ pub loop-entry-preserved : goal.loop-entry-preserved
 loop-entry-preserved c =
     ReadSoFar-more c.args.self c.loop-entry.after c.add_entry.new.self (line_entries c.args.line.now.bytes)
     (entries_left c.loop-entry.entry-iterator) (entries_left c.next.new.self) c.in-Some.entry.now
-    c.loop-entry.invariant c.in-Some.ensures.steps c.in_ok-add_entry.ensures.ok
+    c.loop-entry.invariant c.in-Some.ensures.steps.gives c.in_ok-add_entry.ensures.ok

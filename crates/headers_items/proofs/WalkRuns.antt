@@ -1,0 +1,20 @@
+-- What the calls of a walk give, all together.
+use Rattle.std.proofs.Common.{◌≡◌, List, Option, length, ap, subst}
+use Rattle.std.specs.Iterator.Runs.{EveryRun, ItemsMapTo}
+use Rattle.std.proofs.iter.runs.Sources.{from_front}
+use Rattle.std.proofs.lemmas.Iterator.{YieldsList}
+use Rattle.std.proofs.lemmas.Iterator.Consumers.{YieldsList-from_shown}
+use Rattle.headers_items.specs.ItemsState.{ItemsState, Walks}
+
+module _ {A B : Type 0} {view : A → B} {rest : ItemsState → List B}
+    {Scans : ItemsState → Option A → ItemsState → Type 0} where
+  -- the items of a run show what was left, in order
+  pub walk_runs : EveryRun (Walks view rest Scans) (λ p. ItemsMapTo p view (rest p.from))
+  walk_runs = from_front (Walks view rest Scans) view rest (λ s t h. ap length h.gives.0) (λ s x t h. h.gives)
+
+  -- a walk gives what is left
+  pub YieldsList-from_walk : {s : ItemsState} {all : List B} → rest s ≡ all
+      → YieldsList (Walks view rest Scans) view s all
+  YieldsList-from_walk {s} e =
+      subst (YieldsList (Walks view rest Scans) view s) e
+      (YieldsList-from_shown (Walks view rest Scans) view rest (λ t u h. ap length h.gives.0) (λ t x u h. h.gives) s)
