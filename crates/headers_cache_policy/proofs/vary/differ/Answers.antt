@@ -12,5 +12,5 @@ loop-name-preserved c =
     let isnt : ¬ (Differs c.in-Some.name.now) = rw c.if-branch.false at c.in_ok-is_other.ensures in
     let later = any_but_first Differs c.in-Some.name.now (items_left c.next.new.self) isnt in
     let so_far = subst (λ (left : List (List ℕ)). Any Differs (items comma c.args.vary.now) ↔ Any Differs left)
-    c.in-Some.ensures.steps c.loop-name.invariant in
+    c.in-Some.ensures.steps.gives c.loop-name.invariant in
     ((λ a. later.0 (so_far.0 a)), (λ a. so_far.1 (later.1 a)))
