@@ -1,5 +1,6 @@
 -- What the steps of an update leave, field by field.
-use Rattle.std.proofs.Common.{◌≡◌, ◌∙◌, ℕ, Bool, true, false, List, [], ◌∷◌, ◌++◌, length, refl, sym, ap, subst, arith, inl, inr}
+use Rattle.std.proofs.Common.{◌≡◌, ◌∙◌, ℕ, Bool, true, false, List, [], ◌∷◌, ◌++◌, length, refl, sym, ap, subst}
+use Rattle.std.proofs.Common.{arith, inl, inr}
 use Rattle.std.specs.Prelude.{IsTrue, ◌↔◌, ◌⊎◌, ◌&&◌, not, nat_lt, bytes_eq, codes, Option, if◌then◌else◌}
 use Rattle.std.specs.List.{list_any}
 use Rattle.std.proofs.lemmas.Bool.{cases_Bool, lt-ltb}
@@ -56,7 +57,8 @@ pub record UpdatesSoFar (update : LineMap) (steps : List Step) (left : List (Lis
       ⊎ ((run stored steps name ≡ stored name) × (is_left left name ≡ true))
 
 -- a field that the update doesn't have, or doesn't change
-freshened-none : (stored update : LineMap) (name : List ℕ) → update name ≡ [] → freshened stored update name ≡ stored name
+freshened-none : (stored update : LineMap) (name : List ℕ) → update name ≡ []
+    → freshened stored update name ≡ stored name
 freshened-none stored update name e =
     ap (λ (ls : List Line). if nat_lt 0 (length ls) && not (is_kept update name) then ls else stored name) e
 
@@ -90,8 +92,8 @@ begun m =
           ];
     }
 
-pub finished : (update : LineMap) (steps : List Step) → UpdatesSoFar update steps [] → (stored : LineMap) (name : List ℕ)
-    → run stored steps name ≡ freshened stored update name
+pub finished : (update : LineMap) (steps : List Step) → UpdatesSoFar update steps []
+    → (stored : LineMap) (name : List ℕ) → run stored steps name ≡ freshened stored update name
 finished update steps h stored name =
     elim (h.fields stored name) [ inl done ↦ done | inr left ↦ absurd (cc left.1) ]
 
@@ -127,7 +129,8 @@ module _ (update : LineMap) (steps : List Step) (k : List ℕ) (left : List (Lis
   put_same stored map [] name e u f (inl done) = done
   put_same stored map [] name e u f (inr todo) = todo ∙ sym (freshened-none stored update name (sym u))
   put_same stored map (line ∷ lines) name e u f o =
-      let some : nat_lt 0 (length (update name)) ≡ true = lt-ltb 0 (length (update name)) (omega (arith, ap length u)) in
+      let some : nat_lt 0 (length (update name)) ≡ true =
+      lt-ltb 0 (length (update name)) (omega (arith, ap length u)) in
       rw e u ∙ sym (freshened-put stored update name some f)
 
   pub put_more : (step : Step) → is_kept update k ≡ false → PutsLines k (update k) step
@@ -144,7 +147,8 @@ module _ (update : LineMap) (steps : List Step) (k : List ℕ) (left : List (Lis
               | inl same ↦
                   let eq : k ≡ name = (bytes_eq-Decides k name).0 same in
                   let changes : is_kept update name ≡ false = subst (λ (n : List ℕ). is_kept update n ≡ false) eq f in
-                  let before : (run stored steps name ≡ freshened stored update name) ⊎ (run stored steps name ≡ stored name) =
+                  let before :
+                  (run stored steps name ≡ freshened stored update name) ⊎ (run stored steps name ≡ stored name) =
                   elim (h.fields stored name) [ inl done ↦ inl done | inr todo ↦ inr todo.0 ] in
                   inl (ran ∙ put_same stored (run stored steps) (update k) name same (ap update eq) changes before)
               | inr other ↦
