@@ -1,5 +1,6 @@
 -- Digits are read one at a time.
-use Rattle.std.proofs.Common.{◌≡◌, ℕ, ◌<◌, ◌≤◌, ◌^◌, ◌*◌, ◌+◌, ◌-◌, true, false, [], ◌∷◌, List, length, ◌⊎◌, inl, inr, suc, refl, sym, ◌∙◌, ap, subst, arith, rules}
+use Rattle.std.proofs.Common.{◌≡◌, ℕ, ◌<◌, ◌≤◌, ◌^◌, ◌*◌, ◌+◌, ◌-◌, true, false, [], ◌∷◌, List, length, ◌⊎◌, inl, inr}
+use Rattle.std.proofs.Common.{suc, refl, sym, ◌∙◌, ap, subst, arith, rules}
 use Rattle.std.proofs.Math.Nat.{pow-suc, pow-le-pow_right}
 use Rattle.std.proofs.Math.ListN.{drop_of_length-le}
 use Rattle.std.proofs.lemmas.List.{drop_more, length-drop}
@@ -78,9 +79,11 @@ module _ (ds : List ℕ) (at n : ℕ) (read : IsRead ds at n) (within : at < len
           small = grown at n d read.small (omega arith);
         }
 
-pub finished : (ds : List ℕ) (at n : ℕ) → IsRead ds at n → length ds ≤ at → (all_ascii_digits ds ≡ true) × (n ≡ decimal_value ds)
+pub finished : (ds : List ℕ) (at n : ℕ) → IsRead ds at n → length ds ≤ at
+    → (all_ascii_digits ds ≡ true) × (n ≡ decimal_value ds)
 finished ds at n read end =
     let none : drop at ds ≡ [] = drop_of_length-le ds end in
     let e : length ds - at ≡ 0 = omega arith in
-    let value : decimal_value ds ≡ n * 10 ^ 0 + 0 = read.value ∙ ap (λ l. n * 10 ^ (length ds - at) + decimal_value l) none ∙ ap (λ k. n * 10 ^ k + 0) e in
+    let value : decimal_value ds ≡ n * 10 ^ 0 + 0 = read.value
+    ∙ ap (λ l. n * 10 ^ (length ds - at) + decimal_value l) none ∙ ap (λ k. n * 10 ^ k + 0) e in
     (read.plain ∙ ap (λ l. all_ascii_digits l) none, omega (arith, value))
