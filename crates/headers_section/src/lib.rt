@@ -11,3 +11,4 @@ mod text;
 
 pub use crate::runs::{run, run_with_keys, run_with_system_keys};
 pub use crate::status::{Outcome, RunError, exit_status};
+pub use crate::text::{print_line, print_lines};

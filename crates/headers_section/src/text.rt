@@ -49,8 +49,23 @@ fn collect_fields(
     Ok(map)
 }
 
-// Prints each line after the name.
-fn print_lines(
+/// Prints the line after the name, a colon and a space.
+pub fn print_line(
+    text: &mut Vec<u8>,
+    name: &HeaderName,
+    line: &HeaderValue,
+) -> Result<(), AllocError>
+    ensures { OnOk result (text.new.items ≡ text.old.items ++ line_text name.now line.now.bytes) }
+{
+    text.extend_from_slice(name.as_bytes())?;
+    text.extend_from_slice(b": ")?;
+    text.extend_from_slice(line.as_bytes())?;
+    text.push(b'\n')?;
+    Ok(())
+}
+
+/// Prints each line after the name.
+pub fn print_lines(
     text: &mut Vec<u8>,
     name: &HeaderName,
     lines: &[HeaderValue],
@@ -58,10 +73,7 @@ fn print_lines(
     ensures { OnOk result (text.new.items ≡ text.old.items ++ flat_map (line_text name.now) (lines_of lines.now)) }
 {
     for line in lines {
-        text.extend_from_slice(name.as_bytes())?;
-        text.extend_from_slice(b": ")?;
-        text.extend_from_slice(line.as_bytes())?;
-        text.push(b'\n')?;
+        print_line(text, name, line)?;
     }
     Ok(())
 }
