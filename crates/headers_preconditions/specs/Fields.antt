@@ -1,5 +1,6 @@
 -- The status and the header lines of an answer (RFC 9110).
-use Rattle.std.specs.Prelude.{◌≡◌, ◌≢◌, ℕ, ◌+◌, ◌^◌, ◌<◌, ◌≤◌, ⊤, Bool, nat_lt, List, [], ◌∷◌, length, All, Option, Some, None, codes, decimal, bytes_eq}
+use Rattle.std.specs.Prelude.{◌≡◌, ◌≢◌, ℕ, ◌+◌, ◌^◌, ◌<◌, ◌≤◌, ⊤, Bool, nat_lt, List, [], ◌∷◌, length, All, Option}
+use Rattle.std.specs.Prelude.{Some, None, codes, decimal, bytes_eq}
 use Rattle.std.specs.Prelude.{if◌then◌else◌}
 use Rattle.http_header.specs.FieldValue.{FieldValue}
 use Rattle.headers.specs.ContentBytes.{ContentBytes, content_text}
@@ -11,7 +12,8 @@ use Rattle.headers_preconditions.specs.Conditions.{modified_of}
 use Rattle.headers_preconditions.specs.Parts.{part_size}
 use Rattle.headers_preconditions.specs.declared.content.Content.{Content}
 use Rattle.headers_preconditions.specs.declared.plan.Plan.{Plan}
-use Rattle.headers_preconditions.specs.declared.plan.Plan.TheVariants.{NotModified, Failed, Full, Single, Multiple, Unsatisfiable}
+use Rattle.headers_preconditions.specs.declared.plan.Plan.TheVariants.{NotModified, Failed, Full, Single, Multiple}
+use Rattle.headers_preconditions.specs.declared.plan.Plan.TheVariants.{Unsatisfiable}
 use Rattle.headers_preconditions.specs.declared.resource.Resource.{Resource}
 use Rattle.headers_preconditions.specs.declared.resource.Resource.TheVariants.{Missing, Current}
 
@@ -82,8 +84,8 @@ range_sent NotModified len = None
 range_sent Failed len = None
 range_sent Unsatisfiable len = Some (record { range = None; length = Some len })
 
--- Content-Length (section 8.6): of 200 and of 206 with one part; 412 and 416 have no content here. The length of several
--- parts is that of their encoding, and 304 has none.
+-- Content-Length (section 8.6): of 200 and of 206 with one part; 412 and 416 have no content here. The length of
+-- several parts is that of their encoding, and 304 has none.
 abbrev pub length_sent : Plan → ℕ → Option ℕ
 length_sent Full len = Some len
 length_sent (Single part) len = Some (part_size part)

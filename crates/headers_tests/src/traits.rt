@@ -35,8 +35,14 @@ macro_rules! each {
 
 /// The types that are copied, or ordered.
 pub fn ordered() {
-    each!(is_copy: Age, ContentLength, Date, Expires, LastModified, IfModifiedSince, IfUnmodifiedSince, SecWebsocketVersion);
-    each!(is_ordered: Age, AccessControlMaxAge, Date, Expires, LastModified, IfModifiedSince, IfUnmodifiedSince, Server, UserAgent);
+    each!(
+        is_copy: Age, ContentLength, Date, Expires, LastModified, IfModifiedSince,
+        IfUnmodifiedSince, SecWebsocketVersion
+    );
+    each!(
+        is_ordered: Age, AccessControlMaxAge, Date, Expires, LastModified, IfModifiedSince,
+        IfUnmodifiedSince, Server, UserAgent
+    );
     each!(is_partly_ordered: Host);
 }
 
