@@ -15,7 +15,7 @@ use Rattle.headers_preconditions.specs.declared.resource.Resource.{Resource}
 use Rattle.headers_preconditions.specs.declared.response.Response.{Response as Answer}
 use Rattle.memchr.specs.Find.{FindsNeedle}
 use Rattle.headers_serve.specs.Answer.{IsAnswerOf}
-use Rattle.headers_serve.specs.File.{content_digest, content_of, resource_of}
+use Rattle.headers_serve.specs.File.{boundary_of, content_of, resource_of}
 use Rattle.headers_serve.specs.Parts.{Fits, Occurs}
 use Rattle.headers_serve.specs.declared.file.File.{File}
 
@@ -39,7 +39,7 @@ Fits-from_answer method request file answer h =
 pub IsAnswerOf-from_response : (method : List ℕ) (request : LineMap) (file : File) (resource : Resource)
     (content : Content) (kind : FieldValue) (digits : List ℕ) (answer : Answer)
     → resource ≡ resource_of file → content ≡ content_of file → kind.bytes ≡ multipart_type digits
-    → digits ≡ content_digest file.content
+    → digits ≡ boundary_of file
     → IsResponse method request resource content kind answer → IsAnswerOf method request file answer
 IsAnswerOf-from_response method request file resource content kind digits answer same_resource same_content bytes
     digest h = (

@@ -4,7 +4,7 @@ use Rattle.std.proofs.Common.{sym, ap, subst, ◌∙◌, inl, inr}
 use Rattle.std.specs.Prelude.{codes, decimal}
 use Rattle.http.specs.declared.request.Request.{Request}
 use Rattle.http.specs.Request.{head_of}
-use Rattle.http_header.specs.FieldValue.{FieldValue, plain_value}
+use Rattle.http_header.specs.FieldValue.{FieldValue}
 use Rattle.http_uri.specs.Uri.{uri_path, uri_query}
 use Rattle.http_server.specs.declared.response.Response.{Response}
 use Rattle.http1.specs.Fields.{Header}
@@ -23,7 +23,7 @@ use Rattle.headers_preconditions.specs.declared.response.Response.{Response as A
 use Rattle.headers_preconditions.proofs.OnePlanLemmas.{one_plan}
 use Rattle.headers_serve.specs.Answer.{AnswersBehind, AnswersEntry, AnswersFile, AnswersOther, Carries}
 use Rattle.headers_serve.specs.Answer.{IsAnswerOf, IsSendable, LeadsTo, body_sent, cache_sent, is_several}
-use Rattle.headers_serve.specs.File.{content_digest, resource_of, strong_tag}
+use Rattle.headers_serve.specs.File.{boundary_of, resource_of, tag_of}
 use Rattle.headers_serve.specs.Multipart.{multipart}
 use Rattle.headers_serve.specs.Redirect.{AnswersFolder}
 use Rattle.headers_serve.specs.Response.{IsSameResponse, IsWith, fields_sent, no_lines}
@@ -74,7 +74,7 @@ module _ (method : List ℕ) (request : LineMap) (file : File) (a b : Answer)
       let s = h.2.fields no_lines in
       let t = k.2.fields no_lines in
       let is_known = is_known_by request in
-      let etag : Option FieldValue = Some (plain_value (strong_tag (content_digest file.content))) in
+      let etag = tag_of file in
       let media_type : Option FieldValue = Some file.media_type in
       record {
         etag =
@@ -124,7 +124,7 @@ module _ (method : List ℕ) (request : LineMap) (file : File) (a b : Answer)
       x.status ∙ h.2.status ∙ same_plan.0 ∙ sym k.2.status ∙ sym y.status,
       x.headers ∙ fields_same ∙ sym y.headers,
       x.body
-          ∙ by_plan (body_sent file) (multipart (content_digest file.content) file) (λ _. refl)
+          ∙ by_plan (body_sent file) (multipart (boundary_of file) file) (λ _. refl)
           ∙ sym y.body,
     )
 

@@ -14,7 +14,7 @@ use Rattle.headers_preconditions.specs.declared.plan.Plan.TheVariants.{Unsatisfi
 use Rattle.headers_preconditions.specs.declared.resource.Resource.{Resource}
 use Rattle.headers_preconditions.specs.declared.response.Response.{Response as Answer}
 use Rattle.headers_serve.specs.Answer.{AnswersRead, is_several}
-use Rattle.headers_serve.specs.File.{content_digest, resource_of}
+use Rattle.headers_serve.specs.File.{boundary_of, resource_of}
 use Rattle.headers_serve.specs.Parts.{Occurs, part_bytes}
 use Rattle.headers_serve.specs.declared.file.File.{File}
 
@@ -57,10 +57,10 @@ head_has_none request resource len Unsatisfiable h = refl
 
 pub no_part_holds_boundary : (method : List ℕ) (request : LineMap) (file : File) (answer : Answer)
     → AnswersRead method request file answer → is_several answer.plan ≡ true
-    → (part : Part) → ¬ (Occurs (content_digest file.content) (part_bytes file.content part))
+    → (part : Part) → ¬ (Occurs (boundary_of file) (part_bytes file.content part))
 no_part_holds_boundary method request file answer h several part =
     elim h [
-      | inl sent ↦ no_part_holds file.content (content_digest file.content) part (sent.0 several)
+      | inl sent ↦ no_part_holds file.content (boundary_of file) part (sent.0 several)
       | inr whole ↦
           let none =
           head_has_none request (resource_of file) (length file.content) answer.plan whole.3.2.plan in

@@ -20,7 +20,7 @@ use Rattle.headers_preconditions.proofs.OnePlanLemmas.{one_plan}
 use Rattle.headers_preconditions.proofs.PreconditionLemmas.{unconditional}
 use Rattle.headers_serve.specs.Answer.{AnswersBehind, AnswersEntry, AnswersFile, AsksForAll, Carries, IsAnswerOf}
 use Rattle.headers_serve.specs.Answer.{body_sent, is_several}
-use Rattle.headers_serve.specs.File.{content_digest, resource_of, validators_of}
+use Rattle.headers_serve.specs.File.{boundary_of, resource_of, validators_of}
 use Rattle.headers_serve.specs.Multipart.{multipart}
 use Rattle.headers_serve.specs.Path.{Names}
 use Rattle.headers_serve.specs.declared.file.Entry.{Entry}
@@ -71,7 +71,7 @@ module _ (request : LineMap) (file : File) (all : AsksForAll request) where
         → Carries before cache_control file answer response → HasAll file response
     carried before cache_control response x = (
       x.status ∙ h.2.status ∙ same.0,
-      x.body ∙ by_plan (body_sent file) (multipart (content_digest file.content) file) (λ _. refl),
+      x.body ∙ by_plan (body_sent file) (multipart (boundary_of file) file) (λ _. refl),
     )
 
   pub file_whole : (before : List Header) (cache_control : Option FieldValue) (response : Response)

@@ -18,7 +18,7 @@ use Rattle.headers_preconditions.specs.declared.plan.Plan.{Plan}
 use Rattle.headers_preconditions.specs.declared.plan.Plan.TheVariants.{NotModified, Failed, Full, Single, Multiple}
 use Rattle.headers_preconditions.specs.declared.plan.Plan.TheVariants.{Unsatisfiable}
 use Rattle.headers_preconditions.specs.declared.response.Response.{Response as Answer}
-use Rattle.headers_serve.specs.File.{content_digest, content_of, resource_of}
+use Rattle.headers_serve.specs.File.{boundary_of, content_of, resource_of}
 use Rattle.headers_serve.specs.Multipart.{multipart}
 use Rattle.headers_serve.specs.Parts.{Occurs, part_bytes}
 use Rattle.headers_serve.specs.Path.{Names}
@@ -31,10 +31,10 @@ use Rattle.headers_serve.specs.declared.file.File.{File}
 -- ---- a read of a file
 
 -- The answer of `headers_preconditions` to a request for the file: by its method, its conditions and its ranges, with
--- the digest of the content for a boundary.
+-- the boundary of the file.
 abbrev pub IsAnswerOf : List ℕ → LineMap → File → Answer → Type 0
 IsAnswerOf method request file answer =
-    (kind : FieldValue) × (kind.bytes ≡ multipart_type (content_digest file.content))
+    (kind : FieldValue) × (kind.bytes ≡ multipart_type (boundary_of file))
     × IsResponse method request (resource_of file) (content_of file) kind answer
 
 -- the plan sends several parts
@@ -48,7 +48,7 @@ is_several Unsatisfiable = false
 
 -- no part holds what stands between the parts (RFC 2046, section 5.1.1), since the content doesn't
 abbrev pub IsSendable : File → Plan → Type 0
-IsSendable file plan = is_several plan ≡ true → ¬ (Occurs (content_digest file.content) file.content)
+IsSendable file plan = is_several plan ≡ true → ¬ (Occurs (boundary_of file) file.content)
 
 -- The answer to a read of the file. If its parts can't be sent, Range is ignored, as RFC 9110, section 14.2, lets a
 -- server do: the plan is that of a HEAD, which is that of a GET without Range.
@@ -80,7 +80,7 @@ cache_sent plan cache_control = if is_reusable plan then cache_fields cache_cont
 abbrev pub body_sent : File → Plan → List ℕ
 body_sent file Full = file.content
 body_sent file (Single part) = part_bytes file.content part
-body_sent file (Multiple parts) = multipart (content_digest file.content) file parts.items
+body_sent file (Multiple parts) = multipart (boundary_of file) file parts.items
 body_sent file NotModified = []
 body_sent file Failed = []
 body_sent file Unsatisfiable = []

@@ -1,6 +1,7 @@
 pub mod Answer
 pub mod Connection
 pub mod File
+pub mod MediaTypes
 pub mod Memory
 pub mod Multipart
 pub mod Parts

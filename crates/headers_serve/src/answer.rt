@@ -6,7 +6,7 @@ ghost use Rattle.headers.specs.LineMap.{lines_at};
 ghost use Rattle.headers_preconditions.specs.Boundaries.{is_boundary, multipart_type};
 ghost use Rattle.headers_preconditions.specs.Preconditions.{IsGetOrHead};
 ghost use Rattle.headers_serve.specs.Answer.{AnswersRead, IsAnswerOf, IsSendable};
-ghost use Rattle.headers_serve.specs.File.{content_digest, content_of, resource_of, strong_tag};
+ghost use Rattle.headers_serve.specs.File.{boundary_of, content_of, resource_of, strong_tag, tag_of};
 ghost use Rattle.headers_serve.specs.Parts.{Fits, Occurs};
 
 use crate::file::File;
@@ -16,13 +16,21 @@ use http::Method;
 use memchr::memmem;
 use std::alloc::{AllocError, Global};
 
-// The digits of a file's digest.
+// What stands between parts of a file: the digits of its digest, if it has one.
 #[tactic(auto, unfolding(crate::specs::File::content_digest))]
-pub(crate) fn content_digest(alloc: Global, file: &File) -> Result<String, AllocError>
-    ensures { IfOk result (λ digits. string_bytes digits ≡ content_digest file.now.content) }
+pub(crate) fn boundary_of(alloc: Global, file: &File) -> Result<String, AllocError>
+    ensures { IfOk result (λ text. string_bytes text ≡ boundary_of file.now) }
 {
-    let digits = hex::encode(alloc, file.digest())?;
-    Ok(digits)
+    match file.digest {
+        Some(digest) => {
+            let digits = hex::encode(alloc, digest)?;
+            Ok(digits)
+        }
+        None => {
+            let text = String::from_str(alloc, "part-of-a-file")?;
+            Ok(text)
+        }
+    }
 }
 
 // A strong entity tag as it is written.
@@ -49,14 +57,28 @@ fn strong_tag(alloc: Global, digits: &str) -> Result<ETag, AllocError>
     }
 }
 
-#[tactic(auto, using(crate::proofs::DigestLemmas::digest_is_boundary))]
-fn resource_of(alloc: Global, file: &File, digest: &str) -> Result<Resource, AllocError>
-    requires { digest.now ≡ content_digest file.now.content }
+// The tag of a file, which says its digest.
+#[tactic(auto, using(crate::proofs::DigestLemmas::stands_between))]
+fn tag_of(alloc: Global, file: &File, boundary: &str) -> Result<Option<ETag>, AllocError>
+    requires { boundary.now ≡ boundary_of file.now }
+    ensures { IfOk result (λ tag. tag ≡ tag_of file.now) }
+{
+    match file.digest {
+        Some(_) => {
+            let tag = strong_tag(alloc, boundary)?;
+            Ok(Some(tag))
+        }
+        None => Ok(None),
+    }
+}
+
+fn resource_of(alloc: Global, file: &File, boundary: &str) -> Result<Resource, AllocError>
+    requires { boundary.now ≡ boundary_of file.now }
     ensures { IfOk result (λ resource. resource ≡ resource_of file.now) }
 {
-    let etag = strong_tag(alloc, digest)?;
+    let etag = tag_of(alloc, file, boundary)?;
     Ok(Resource::Current(Validators {
-        etag: Some(etag),
+        etag,
         last_modified: file.modified,
         is_date_strong: false,
     }))
@@ -72,11 +94,11 @@ fn content_of(file: &File) -> Result<Content, AllocError>
     })
 }
 
-fn boundary_of(alloc: Global, digits: &str) -> Result<Boundary, AllocError>
-    requires { is_boundary digits.now ≡ true }
-    ensures { IfOk result (λ boundary. boundary.bytes ≡ multipart_type digits.now) }
+fn boundary_with(alloc: Global, text: &str) -> Result<Boundary, AllocError>
+    requires { is_boundary text.now ≡ true }
+    ensures { IfOk result (λ boundary. boundary.bytes ≡ multipart_type text.now) }
 {
-    match Boundary::new(alloc, digits) {
+    match Boundary::new(alloc, text) {
         Ok(boundary) => Ok(boundary),
         Err(Refused::Memory(refused)) => Err(refused),
         Err(Refused::Invalid(_)) => unreachable!(),
@@ -84,21 +106,21 @@ fn boundary_of(alloc: Global, digits: &str) -> Result<Boundary, AllocError>
 }
 
 // The answer to a request for the file by this method.
-#[tactic(auto, using(crate::proofs::DigestLemmas::digest_is_boundary))]
+#[tactic(auto, using(crate::proofs::DigestLemmas::stands_between))]
 fn answer_by(
     alloc: Global,
     method: &Method,
     request: &HeaderMap,
     file: &File,
-    digest: &str,
+    text: &str,
 ) -> Result<Response, AllocError>
     requires read { IsGetOrHead method.now }
-    requires digest { digest.now ≡ content_digest file.now.content }
+    requires text { text.now ≡ boundary_of file.now }
     ensures { IfOk result (IsAnswerOf method.now (lines_at request.now) file.now) }
 {
-    let resource = resource_of(alloc, file, digest)?;
+    let resource = resource_of(alloc, file, text)?;
     let content = content_of(file)?;
-    let boundary = boundary_of(alloc, digest)?;
+    let boundary = boundary_with(alloc, text)?;
     match respond(alloc, method, request, &resource, &content, &boundary)? {
         Some(answer) => Ok(answer),
         None => unreachable!(),
@@ -115,12 +137,12 @@ fn occurs(bytes: &[u8], content: &[u8]) -> bool
 }
 
 // Whether no part holds what stands between the parts.
-fn is_sendable(plan: &Plan, file: &File, digest: &str) -> bool
-    requires { digest.now ≡ content_digest file.now.content }
+fn is_sendable(plan: &Plan, file: &File, text: &str) -> bool
+    requires { text.now ≡ boundary_of file.now }
     ensures { MatchBool result (IsSendable file.now plan.now) (¬ (IsSendable file.now plan.now)) }
 {
     match plan {
-        Plan::Multiple(_) => !occurs(digest.as_bytes(), file.content.as_slice()),
+        Plan::Multiple(_) => !occurs(text.as_bytes(), file.content.as_slice()),
         Plan::Full | Plan::Single(_) | Plan::NotModified | Plan::Failed | Plan::Unsatisfiable => {
             true
         }
@@ -133,18 +155,18 @@ pub(crate) fn answer_read(
     method: &Method,
     request: &HeaderMap,
     file: &File,
-    digest: &str,
+    text: &str,
 ) -> Result<Response, AllocError>
     requires read { IsGetOrHead method.now }
-    requires digest { digest.now ≡ content_digest file.now.content }
+    requires text { text.now ≡ boundary_of file.now }
     ensures answers { IfOk result (AnswersRead method.now (lines_at request.now) file.now) }
     ensures fits { IfOk result (λ answer. Fits (length file.now.content) answer.plan) }
 {
-    let asked = answer_by(alloc, method, request, file, digest)?;
-    if is_sendable(&asked.plan, file, digest) {
+    let asked = answer_by(alloc, method, request, file, text)?;
+    if is_sendable(&asked.plan, file, text) {
         return Ok(asked);
     }
     let head = Method::HEAD;
-    let whole = answer_by(alloc, &head, request, file, digest)?;
+    let whole = answer_by(alloc, &head, request, file, text)?;
     Ok(whole)
 }

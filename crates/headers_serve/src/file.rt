@@ -1,5 +1,6 @@
 //! What a store has at a path.
-ghost use Rattle.std.specs.Prelude.{◌≡◌, IfOk};
+ghost use Rattle.std.specs.Prelude.{◌≡◌, IfOk, None, Some};
+ghost use Rattle.std.specs.Option.{ForSome};
 ghost use Rattle.sha2.specs.Sha256.{sha256};
 
 use bytes::Bytes;
@@ -16,8 +17,9 @@ pub struct File {
     pub media_type: HeaderValue,
     /// When it was last modified, if that is known and before the year 10000.
     pub modified: Option<LastModified>,
-    digest: [u8; 32],
-    ghost is_digest: { digest ≡ sha256 content },
+    /// The SHA-256 of its bytes, of which its entity tag is made. A file without one has no tag.
+    pub digest: Option<[u8; 32]>,
+    ghost is_digest: { ForSome digest (λ bytes. bytes ≡ sha256 content) },
 }
 
 fn digest_of(content: &[u8]) -> [u8; 32]
@@ -33,21 +35,34 @@ impl File {
         ensures content { result.content ≡ content }
         ensures media_type { result.media_type ≡ media_type }
         ensures modified { result.modified ≡ modified }
+        ensures digest { result.digest ≡ Some (sha256 content) }
     {
         let digest = digest_of(content.as_slice());
         File {
             content,
             media_type,
             modified,
-            digest,
+            digest: Some(digest),
         }
     }
 
-    /// The SHA-256 of its content.
-    pub fn digest(&self) -> [u8; 32]
-        ensures { result ≡ sha256 self.now.content }
+    /// A file with this content and no tag, which is made without reading the content.
+    pub fn without_tag(
+        content: Bytes,
+        media_type: HeaderValue,
+        modified: Option<LastModified>,
+    ) -> File
+        ensures content { result.content ≡ content }
+        ensures media_type { result.media_type ≡ media_type }
+        ensures modified { result.modified ≡ modified }
+        ensures digest { result.digest ≡ None }
     {
-        self.digest
+        File {
+            content,
+            media_type,
+            modified,
+            digest: None,
+        }
     }
 
     /// A copy, which shares the content.
@@ -55,6 +70,7 @@ impl File {
         ensures content { IfOk result (λ copy. copy.content ≡ self.now.content) }
         ensures media_type { IfOk result (λ copy. copy.media_type ≡ self.now.media_type) }
         ensures modified { IfOk result (λ copy. copy.modified ≡ self.now.modified) }
+        ensures digest { IfOk result (λ copy. copy.digest ≡ self.now.digest) }
     {
         let content = self.content.clone()?;
         let media_type = self.media_type.clone()?;

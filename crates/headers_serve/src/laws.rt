@@ -11,7 +11,7 @@ ghost use Rattle.headers.specs.LineMap.{LineMap, lines_at};
 ghost use Rattle.headers_preconditions.specs.declared.part.Part.{Part};
 ghost use Rattle.headers_preconditions.specs.declared.response.Response.{Response as Answer};
 ghost use Rattle.headers_serve.specs.Answer.{AnswersBehind, AnswersRead, AsksForAll, date_fields, is_several};
-ghost use Rattle.headers_serve.specs.File.{content_digest};
+ghost use Rattle.headers_serve.specs.File.{boundary_of};
 ghost use Rattle.headers_serve.specs.Parts.{Occurs, part_bytes};
 ghost use Rattle.headers_serve.specs.Path.{Names};
 ghost use Rattle.headers_serve.specs.Redirect.{AnswersFolder, IsOnHost};
@@ -53,5 +53,5 @@ pub fn redirects_stay_on_the_host()
 pub fn no_part_holds_the_boundary()
     ensures { (method : List ℕ) (request : LineMap) (file : File) (answer : Answer)
         → AnswersRead method request file answer → is_several answer.plan ≡ true
-        → (part : Part) → ¬ (Occurs (content_digest file.content) (part_bytes file.content part)) }
+        → (part : Part) → ¬ (Occurs (boundary_of file) (part_bytes file.content part)) }
 {}

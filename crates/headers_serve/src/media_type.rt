@@ -1,10 +1,15 @@
 //! Media types.
+ghost use Rattle.std.specs.Prelude.{◌≡◌};
+ghost use Rattle.http_header.specs.FieldValue.{plain_value};
+ghost use Rattle.headers_serve.specs.MediaTypes.{media_type_of};
 
 use headers::HeaderValue;
 
 /// The media type that the extension of a file's name stands for, without its dot and in lower case.
 /// `application/octet-stream` if it isn't known.
-pub fn media_type_of(extension: &str) -> HeaderValue {
+pub fn media_type_of(extension: &str) -> HeaderValue
+    ensures { result ≡ plain_value (media_type_of extension.now) }
+{
     match extension {
         "html" | "htm" => HeaderValue::from_static("text/html"),
         "txt" => HeaderValue::from_static("text/plain; charset=utf-8"),

@@ -8,10 +8,10 @@ ghost use Rattle.headers_preconditions.specs.Preconditions.{IsGetOrHead};
 ghost use Rattle.http_server.specs.Response.{fields_of};
 ghost use Rattle.headers_serve.specs.Answer.{AnswersBehind, AnswersEntry, AnswersFile, AnswersOther, Carries};
 ghost use Rattle.headers_serve.specs.Answer.{LeadsTo, body_sent};
-ghost use Rattle.headers_serve.specs.File.{content_digest};
+ghost use Rattle.headers_serve.specs.File.{boundary_of};
 ghost use Rattle.headers_serve.specs.Parts.{Fits};
 
-use crate::answer::{answer_read, content_digest};
+use crate::answer::{answer_read, boundary_of};
 use crate::cache::put_cache_control;
 use crate::fields::{put_date, put_fields};
 use crate::file::{Entry, File};
@@ -53,13 +53,13 @@ fn is_options(method: &Method) -> bool
 // Puts the bytes that a plan sends into a body.
 fn put_body(
     alloc: Global,
-    digest: &str,
+    boundary: &str,
     plan: &Plan,
     file: &File,
     body: &mut Rope,
 ) -> Result<(), AllocError>
     requires blank { body.old.items ≡ [] }
-    requires digest { digest.now ≡ content_digest file.now.content }
+    requires boundary { boundary.now ≡ boundary_of file.now }
     requires fits { Fits (length file.now.content) plan.now }
     ensures { OnOk result (body.new.items ≡ body_sent file.now plan.now) }
 {
@@ -75,7 +75,7 @@ fn put_body(
             Ok(())
         }
         Plan::Multiple(parts) => {
-            push_parts(alloc, digest, parts.as_slice(), file, body)?;
+            push_parts(alloc, boundary, parts.as_slice(), file, body)?;
             Ok(())
         }
         Plan::NotModified | Plan::Failed | Plan::Unsatisfiable => Ok(()),
@@ -87,17 +87,17 @@ fn carry(
     alloc: Global,
     cache_control: &Option<HeaderValue>,
     file: &File,
-    digest: &str,
+    boundary: &str,
     answer: headers_preconditions::Response,
     response: &mut Response,
 ) -> Result<(), AllocError>
     requires blank { response.old.body.items ≡ [] }
-    requires digest { digest.now ≡ content_digest file.now.content }
+    requires boundary { boundary.now ≡ boundary_of file.now }
     requires fits { Fits (length file.now.content) answer.plan }
     ensures { OnOk result (Carries (fields_of response.old) cache_control.now file.now answer response.new) }
 {
     put_cache_control(cache_control, &answer.plan, response)?;
-    put_body(alloc, digest, &answer.plan, file, &mut response.body)?;
+    put_body(alloc, boundary, &answer.plan, file, &mut response.body)?;
     response.status = answer.status;
     put_fields(alloc, answer.steps, response)?;
     Ok(())
@@ -117,10 +117,10 @@ fn answer_file(
     ensures { OnOk result (AnswersFile (fields_of response.old) cache_control.now method.now
         (lines_at request.now) file.now response.new) }
 {
-    let digits = content_digest(alloc, file)?;
-    let digest = digits.as_str();
-    let answer = answer_read(alloc, method, request, file, digest)?;
-    carry(alloc, cache_control, file, digest, answer, response)?;
+    let text = boundary_of(alloc, file)?;
+    let boundary = text.as_str();
+    let answer = answer_read(alloc, method, request, file, boundary)?;
+    carry(alloc, cache_control, file, boundary, answer, response)?;
     Ok(())
 }
 

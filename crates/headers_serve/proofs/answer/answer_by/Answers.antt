@@ -5,6 +5,6 @@ use Rattle.headers_serve.proofs.answer.answer_by.Goals as goal
 pub returns : goal.returns
 returns c =
     IsAnswerOf-from_response c.args.method.now (lines_at c.args.request.now) c.args.file.now
-    c.in_ok-resource.resource c.in_ok-content.content c.in_ok-boundary.boundary c.args.digest.now c.in-Some.answer
-    c.in_ok-resource.ensures c.in_ok-content.ensures c.in_ok-boundary.ensures c.requires.digest
+    c.in_ok-resource.resource c.in_ok-content.content c.in_ok-boundary.boundary c.args.text.now c.in-Some.answer
+    c.in_ok-resource.ensures c.in_ok-content.ensures c.in_ok-boundary.ensures c.requires.text
     (rw c.in-Some.is at c.in_ok-answer.ensures)

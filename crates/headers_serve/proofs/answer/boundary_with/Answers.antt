@@ -1,4 +1,4 @@
-use Rattle.headers_serve.proofs.answer.boundary_of.Goals as goal
+use Rattle.headers_serve.proofs.answer.boundary_with.Goals as goal
 
 pub unreachable-requires : goal.unreachable-requires
 unreachable-requires c =
