@@ -1,4 +1,4 @@
-"""Makes the folder that both servers serve."""
+"""Makes the folder that both servers serve, and beside it one that neither should."""
 import os
 import sys
 
@@ -28,6 +28,7 @@ def make(top):
         "sub/a.txt": b"a\n",
         "sub/.secret": b"secret\n",
         "none/b.txt": b"b\n",
+        "../outside/secret.txt": b"secret\n",
     }
     for name, content in files.items():
         path = os.path.join(top, name)
@@ -35,6 +36,17 @@ def make(top):
         with open(path, "wb") as file:
             file.write(content)
         os.utime(path, (WRITTEN, WRITTEN))
+    links = {
+        "link": os.path.join(os.path.abspath(top), "../outside/secret.txt"),
+        "away": "../outside",
+        "passwd": "/etc/passwd",
+        "alias.txt": "hello.txt",
+        "within": "sub",
+        "dangling": "nothing",
+        "round": "round",
+    }
+    for name, target in links.items():
+        os.symlink(target, os.path.join(top, name))
 
 
 if __name__ == "__main__":

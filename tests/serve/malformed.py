@@ -13,7 +13,7 @@ import sys
 OUTSIDE = [b"root:", b"secret\n", b"hidden\n"]
 GOOD = b"GET /hello.txt HTTP/1.1\r\nHost: a\r\nConnection: close\r\n\r\n"
 OUT = [b"/../../etc/passwd", b"/%2e%2e/%2e%2e/etc/passwd", b"//etc/passwd", b"/..%2f..%2fetc/passwd",
-       b"/sub/../../../etc/passwd", b"/.hidden", b"/sub/.secret", b"/link", b"/%00/etc/passwd", b"/..\\etc\\passwd",
+       b"/sub/../../../etc/passwd", b"/.hidden", b"/sub/.secret", b"/link", b"/passwd", b"/away/secret.txt", b"/%00/etc/passwd", b"/..\\etc\\passwd",
        b"/sub/%2e%2e%00/etc/passwd", b"file:///etc/passwd", b"/%2fetc%2fpasswd", b"/./../etc/passwd"]
 
 

@@ -2,36 +2,39 @@
 #![tactic(auto)]
 
 mod folder;
+mod kept;
 mod options;
+mod place;
 
 use crate::folder::Folder;
+use crate::kept::KeptFiles;
 use crate::options::command;
 use clap::ArgMatches;
 use headers::HeaderValue;
 use headers_serve::{FileService, serve_store};
 use http_server::Config;
 use std::hash::RandomState;
+use std::path::PathBuf;
 use std::process::ExitCode;
 use std::{env, fs};
 
 // The status of a mistake in the words of the command line.
 const MISTAKE: u8 = 2;
 
-fn is_folder(rt: &HostRuntime, path: &str) -> bool {
-    match fs::metadata(rt, path) {
-        Ok(metadata) => metadata.is_dir(),
-        Err(_) => false,
-    }
+// The path of a folder with every link resolved. `None` if it is no folder.
+fn folder_at(rt: &HostRuntime, path: &str) -> Option<PathBuf> {
+    let path = fs::canonicalize(rt, path).ok()?;
+    path.is_dir(rt).then_some(path)
 }
 
 // Serves one connection. The status is 1 if reading or writing fails.
 fn run(rt: &HostRuntime, matches: &ArgMatches<'_>) -> anyhow::Result<ExitCode> {
     let alloc = rt.alloc();
-    let root = matches.get_str("FOLDER").unwrap_or("");
-    if !is_folder(rt, root) {
-        eprintln!(rt; "error: '{root}' is no folder")?;
+    let name = matches.get_str("FOLDER").unwrap_or("");
+    let Some(root) = folder_at(rt, name) else {
+        eprintln!(rt; "error: '{name}' is no folder")?;
         return Ok(ExitCode::from(MISTAKE));
-    }
+    };
     let cache_control = match matches.get_str("cache-control") {
         Some(text) => match HeaderValue::from_str(alloc, text) {
             Ok(value) => Some(value),
@@ -44,9 +47,10 @@ fn run(rt: &HostRuntime, matches: &ArgMatches<'_>) -> anyhow::Result<ExitCode> {
     };
     let store = Folder {
         rt,
-        root,
+        root: root.as_str(),
         max_file: matches.get_one::<u64>("max-file").unwrap_or(0),
         has_dates: !matches.get_flag("no-dates"),
+        kept: KeptFiles::new(alloc)?,
     };
     let mut service = FileService {
         alloc,

@@ -1,0 +1,93 @@
+//! Files that were read before.
+
+use headers_serve::File;
+use lru::LruCache;
+use std::alloc::{AllocError, Global};
+use std::cell::RefCell;
+use std::num::NonZeroUsize;
+use std::time::SystemTime;
+
+/// So many files are kept at most.
+const MAX_FILES: usize = 256;
+
+/// A longer file isn't kept.
+const MAX_LEN: usize = 64 * 1024;
+
+/// A file that changed fewer seconds before it was read isn't kept: it may change again without
+/// another time.
+const SETTLED: u64 = 2;
+
+// A file, and when it was last modified.
+#[derive(Drop)]
+struct KeptFile {
+    file: File,
+    modified: SystemTime,
+}
+
+/// Files that were read before, with their digests, by their paths.
+#[derive(Drop)]
+pub struct KeptFiles {
+    files: RefCell<LruCache<String, KeptFile>>,
+}
+
+impl KeptFiles {
+    /// No file.
+    pub fn new(alloc: Global) -> Result<KeptFiles, AllocError> {
+        let most = NonZeroUsize::new(MAX_FILES).unwrap_or(NonZeroUsize::MIN);
+        let files = LruCache::sparse(alloc, most)?;
+        Ok(KeptFiles {
+            files: RefCell::new(files),
+        })
+    }
+
+    /// The file at a path, if it was kept and has this length and this time still.
+    pub fn get(
+        &self,
+        path: &str,
+        len: u64,
+        modified: Option<SystemTime>,
+    ) -> Result<Option<File>, AllocError> {
+        let Ok(mut files) = self.files.try_borrow_mut() else {
+            return Ok(None);
+        };
+        match files.get(path) {
+            Some(kept)
+                if Some(kept.modified) == modified && kept.file.content.len() as u64 == len => {
+                let file = kept.file.clone()?;
+                Ok(Some(file))
+            }
+            _ => Ok(None),
+        }
+    }
+
+    /// Keeps a file, if it is short and hasn't changed of late.
+    pub fn put(
+        &self,
+        alloc: Global,
+        path: &str,
+        file: &File,
+        modified: Option<SystemTime>,
+        now: SystemTime,
+    ) -> Result<(), AllocError> {
+        let Some(modified) = modified else {
+            return Ok(());
+        };
+        if file.content.len() > MAX_LEN || !is_settled(modified, now) {
+            return Ok(());
+        }
+        let Ok(mut files) = self.files.try_borrow_mut() else {
+            return Ok(());
+        };
+        let path = String::from_str(alloc, path)?;
+        let file = file.clone()?;
+        files.put(path, KeptFile { file, modified })?;
+        Ok(())
+    }
+}
+
+fn is_settled(modified: SystemTime, now: SystemTime) -> bool {
+    match now.duration_since(modified) {
+        Ok(age) => age.as_secs() >= SETTLED,
+        Err(_) => false,
+    }
+}
