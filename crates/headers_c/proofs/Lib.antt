@@ -1,4 +1,1 @@
-pub mod DecodeLemmas
-pub mod LineLemmas
-pub mod SectionLemmas
 pub mod TagLemmas

@@ -3,9 +3,9 @@ use Rattle.std.specs.Prelude.{◌⊎◌, ℕ, ◌<◌, ◌≤◌, ⊤, List, len
 use Rattle.headers_section.specs.CanonicalText.{IsCanonicalText}
 use Rattle.headers_section.specs.Section.{input_limit, section, HasNoField, HasTooManyFields}
 use Rattle.headers_c.specs.declared.canonical.Canonical.{Canonical}
-use Rattle.headers_c.specs.declared.status.Failure.{Failure}
-use Rattle.headers_c.specs.declared.status.Failure.TheVariants.{Refused, Memory, Absent, TooLarge}
-use Rattle.headers_c.specs.Endings.{done, marked, Writes}
+use Rattle.headers_c_parts.specs.declared.status.Failure.{Failure}
+use Rattle.headers_c_parts.specs.declared.status.Failure.TheVariants.{Refused, Memory, Absent, TooLarge}
+use Rattle.headers_c_parts.specs.Endings.{done, marked, Writes}
 
 -- What an answer says of an input: its canonical text, and whether some name's lines were refused; `Refused` only if a
 -- line before the first empty one is no field; `TooLarge` only if the input is too long, or has more fields than a map

@@ -1,11 +1,8 @@
 pub mod CacheDirectives
 pub mod Canonical
-pub mod Endings
-pub mod FieldText
 pub mod Fields
 pub mod Handshake
 pub mod Preconditions
 pub mod Ranges
-pub mod SectionMap
 pub mod Selection
 pub mod Tags

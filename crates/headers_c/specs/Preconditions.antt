@@ -11,12 +11,12 @@ use Rattle.headers_preconditions.specs.declared.precondition.Precondition.{Preco
 use Rattle.headers_preconditions.specs.declared.precondition.Precondition.TheVariants.{Perform, NotModified, Failed}
 use Rattle.headers_preconditions.specs.declared.resource.Resource.{Resource}
 use Rattle.headers_preconditions.specs.declared.resource.Resource.TheVariants.{Missing, Current}
-use Rattle.headers_c.specs.FieldText.{FieldDecodes, field_lines}
-use Rattle.headers_c.specs.SectionMap.{Holds, IsMapOf}
+use Rattle.headers_c_parts.specs.FieldText.{FieldDecodes, field_lines}
+use Rattle.headers_c_parts.specs.SectionMap.{Holds, IsMapOf}
 use Rattle.headers_c.specs.Tags.{reads_etag}
 use Rattle.headers_c.specs.declared.preconditions.Target.{Target}
-use Rattle.headers_c.specs.declared.status.Failure.{Failure}
-use Rattle.headers_c.specs.declared.status.Failure.TheVariants.{Refused, Memory, Absent, TooLarge}
+use Rattle.headers_c_parts.specs.declared.status.Failure.{Failure}
+use Rattle.headers_c_parts.specs.declared.status.Failure.TheVariants.{Refused, Memory, Absent, TooLarge}
 
 -- the method, if the bytes are one
 abbrev pub IsMethodOf : List ℕ → Result (List ℕ) Failure → Type 0

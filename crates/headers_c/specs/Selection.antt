@@ -1,5 +1,5 @@
 -- Which part of a representation a request selects, by what a caller hands in.
-use Rattle.std.specs.Prelude.{◌≡◌, ◌⊎◌, ℕ, true, false, List, [], map, Result, Ok, Err}
+use Rattle.std.specs.Prelude.{◌≡◌, ◌⊎◌, ℕ, false, List, [], map, Result, Ok, Err}
 use Rattle.http_header.specs.FieldValue.{FieldValue}
 use Rattle.http_header.specs.HeaderMap.{Entries}
 use Rattle.http_header.specs.Token.{IsToken}
@@ -10,14 +10,14 @@ use Rattle.headers_preconditions.specs.declared.resource.Resource.TheVariants.{C
 use Rattle.headers_preconditions.specs.declared.resource.Validators.{Validators}
 use Rattle.headers_preconditions.specs.declared.selection.Selection.{Selection}
 use Rattle.headers_preconditions.specs.declared.selection.Selection.TheVariants.{Whole, Parts, Unsatisfiable}
-use Rattle.headers_c.specs.Endings.{IsHandedOut, done}
+use Rattle.headers_c_parts.specs.Endings.{TellsAndWrites}
 use Rattle.headers_c.specs.Preconditions.{IsMethodOf, IsResourceOf}
-use Rattle.headers_c.specs.SectionMap.{Holds, IsMapOf}
+use Rattle.headers_c_parts.specs.SectionMap.{Holds, IsMapOf}
 use Rattle.headers_c.specs.declared.preconditions.Target.{Target}
 use Rattle.headers_c.specs.declared.ranges.BytesRange.{BytesRange}
 use Rattle.headers_c.specs.declared.selection.Selected.{Selected}
-use Rattle.headers_c.specs.declared.status.Failure.{Failure}
-use Rattle.headers_c.specs.declared.status.Failure.TheVariants.{Absent}
+use Rattle.headers_c_parts.specs.declared.status.Failure.{Failure}
+use Rattle.headers_c_parts.specs.declared.status.Failure.TheVariants.{Absent}
 
 abbrev pub range_of : Part → BytesRange
 range_of part = record { first = part.first; last = part.last }
@@ -47,16 +47,8 @@ Selects method input etag target length (Err Absent) = target.exists ≡ false
 Selects method input etag target length (Err failure) =
     IsMethodOf method (Err failure) ⊎ (IsResourceOf etag target (Err failure) ⊎ IsMapOf input (Err failure))
 
--- the status is in its place if there is one
-abbrev pub IsCode : Result Selected Failure → ℕ → ℕ → Type 0
-IsCode (Ok selected) old new = new ≡ selected.code
-IsCode (Err failure) old new = new ≡ old
-
 -- a call that gives a selection has an answer of which P holds
 abbrev pub WritesSelection : (Result Selected Failure → Type 0) → (code new_code : ℕ) → (old new : List BytesRange)
     → (before written status : ℕ) → Type 0
-WritesSelection P code new_code old new before written status =
-    (answer : Result Selected Failure)
-    × P answer
-    × IsCode answer code new_code
-    × IsHandedOut (λ (selected : Selected). selected.ranges.items) (λ _. done) answer old new before written status
+WritesSelection =
+    TellsAndWrites (λ (selected : Selected). selected.code) (λ (selected : Selected). selected.ranges.items)

@@ -5,8 +5,8 @@ use Rattle.headers.specs.EntityTag.{TagParts, AreTags}
 use Rattle.headers.specs.HeaderLaws.{ReadsBy}
 use Rattle.headers.specs.Lines.{Line}
 use Rattle.headers.specs.Shapes.{only_tag}
-use Rattle.headers_c.specs.declared.status.Failure.{Failure}
-use Rattle.headers_c.specs.FieldText.{FieldDecodes, FieldReads}
+use Rattle.headers_c_parts.specs.declared.status.Failure.{Failure}
+use Rattle.headers_c_parts.specs.FieldText.{FieldDecodes, FieldReads}
 
 -- the only line is this entity tag
 abbrev pub reads_tag : List Line → Line → Type 0

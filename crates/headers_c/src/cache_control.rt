@@ -2,12 +2,11 @@
 ghost use Rattle.std.specs.Prelude.{◌≡◌, ℕ, Option};
 ghost use Rattle.headers.specs.CacheControl.{GivesSeconds};
 ghost use Rattle.headers_c.specs.CacheDirectives.{flag_of, reads_directives, seconds_of, shown};
-ghost use Rattle.headers_c.specs.Endings.{Gives};
-ghost use Rattle.headers_c.specs.FieldText.{FieldDecodes};
+ghost use Rattle.headers_c_parts.specs.Endings.{Gives};
+ghost use Rattle.headers_c_parts.specs.FieldText.{FieldDecodes};
 
-use crate::lines::read_field;
-use crate::status::DONE;
 use headers::CacheControl;
+use headers_c_parts::{DONE, read_field};
 use std::alloc::Global;
 use std::time::Duration;
 

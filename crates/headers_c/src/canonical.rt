@@ -1,8 +1,7 @@
 //! The canonical text of a header section.
 ghost use Rattle.headers_c.specs.Canonical.{IsCanonicalAnswer, WritesCanonical};
 
-use crate::keys::HashKeys;
-use crate::status::{DONE, Failure, MARKED, copy_into};
+use headers_c_parts::{DONE, Failure, HashKeys, MARKED, copy_into};
 use headers_section::{Outcome, RunError, run_with_system_keys};
 use std::alloc::Global;
 use std::hash::RandomState;

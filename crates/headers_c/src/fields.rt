@@ -1,11 +1,10 @@
 //! Fields that are one number or one date.
-ghost use Rattle.headers_c.specs.Endings.{Gives};
-ghost use Rattle.headers_c.specs.FieldText.{FieldDecodes};
+ghost use Rattle.headers_c_parts.specs.Endings.{Gives};
+ghost use Rattle.headers_c_parts.specs.FieldText.{FieldDecodes};
 ghost use Rattle.headers_c.specs.Fields.{reads_date, reads_length, reads_number};
 
-use crate::lines::read_field;
-use crate::status::DONE;
 use headers::{Age, ContentLength, Date, Expires, LastModified};
+use headers_c_parts::{DONE, read_field};
 use std::alloc::Global;
 
 /// The seconds that the lines of `age` read (RFC 9111, section 5.1).

@@ -1,10 +1,9 @@
 //! The answer to the key of an opening handshake.
-ghost use Rattle.headers_c.specs.Endings.{Writes, done};
-ghost use Rattle.headers_c.specs.FieldText.{FieldDecodes};
+ghost use Rattle.headers_c_parts.specs.Endings.{Writes, done};
+ghost use Rattle.headers_c_parts.specs.FieldText.{FieldDecodes};
 ghost use Rattle.headers_c.specs.Handshake.{reads_accept};
 
-use crate::lines::read_values;
-use crate::status::{DONE, Failure, copy_into};
+use headers_c_parts::{DONE, Failure, copy_into, read_values};
 use std::alloc::Global;
 use websocket::handshake::server::accept_key;
 

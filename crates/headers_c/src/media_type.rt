@@ -1,12 +1,11 @@
 //! The media type of `content-type`.
 ghost use Rattle.std.specs.Prelude.{◌≡◌};
-ghost use Rattle.headers_c.specs.Endings.{Writes, done};
-ghost use Rattle.headers_c.specs.FieldText.{FieldDecodes};
+ghost use Rattle.headers_c_parts.specs.Endings.{Writes, done};
+ghost use Rattle.headers_c_parts.specs.FieldText.{FieldDecodes};
 ghost use Rattle.headers_c.specs.Fields.{essence, reads_media};
 
-use crate::lines::read_field;
-use crate::status::{DONE, Failure, copy_into};
 use headers::{ContentType, HeaderValue, encoding};
+use headers_c_parts::{DONE, Failure, copy_into, read_field};
 use memchr::memchr;
 use std::alloc::Global;
 

@@ -1,13 +1,10 @@
 //! What the preconditions of a request come to.
 ghost use Rattle.std.specs.Prelude.{◌≡◌};
-ghost use Rattle.headers_c.specs.Endings.{Gives};
+ghost use Rattle.headers_c_parts.specs.Endings.{Gives};
 ghost use Rattle.headers_c.specs.Preconditions.{Evaluates, IsDateOf, IsMethodOf, IsResourceOf, IsTagOf, code_of};
 
-use crate::keys::HashKeys;
-use crate::lines::read_field;
-use crate::section::read_map;
-use crate::status::{DONE, Failure};
 use headers::{ETag, LastModified};
+use headers_c_parts::{DONE, Failure, HashKeys, read_field, read_map};
 use headers_preconditions::{Precondition, Resource, Validators, evaluate};
 use http::Method;
 use http::method::MethodError;

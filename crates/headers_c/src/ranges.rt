@@ -1,13 +1,12 @@
 //! The ranges of `range`.
-ghost use Rattle.std.specs.Prelude.{◌≡◌, List, IfOk};
+ghost use Rattle.std.specs.Prelude.{◌≡◌, IfOk};
 ghost use Rattle.std.specs.List.{filter_map};
-ghost use Rattle.headers_c.specs.Endings.{Writes, done};
-ghost use Rattle.headers_c.specs.FieldText.{FieldDecodes};
+ghost use Rattle.headers_c_parts.specs.Endings.{Writes, done};
+ghost use Rattle.headers_c_parts.specs.FieldText.{FieldDecodes};
 ghost use Rattle.headers_c.specs.Ranges.{bytes_range, reads_ranges};
 
-use crate::lines::read_field;
-use crate::status::{DONE, Failure, copy_into};
 use headers::{Range, Satisfiable};
+use headers_c_parts::{DONE, Failure, copy_into, read_field};
 use std::alloc::{AllocError, Global};
 use std::ops::Bound;
 

@@ -2,11 +2,9 @@
 ghost use Rattle.std.specs.Prelude.{◌≡◌, IfOk, map};
 ghost use Rattle.headers_c.specs.Selection.{IsShown, Selects, WritesSelection, range_of};
 
-use crate::keys::HashKeys;
 use crate::preconditions::{Target, read_method, read_resource};
 use crate::ranges::BytesRange;
-use crate::section::read_map;
-use crate::status::{DONE, Failure, copy_into};
+use headers_c_parts::{DONE, Failure, HashKeys, copy_into, read_map};
 use headers_preconditions::{Part, Resource, Selection, select};
 use std::alloc::{AllocError, Global};
 

@@ -1,13 +1,12 @@
 //! Entity tags, compared.
 ghost use Rattle.std.specs.Prelude.{◌≡◌};
 ghost use Rattle.headers.specs.EntityTag.{StronglyEqual, WeaklyEqual};
-ghost use Rattle.headers_c.specs.Endings.{Gives};
-ghost use Rattle.headers_c.specs.FieldText.{FieldDecodes};
+ghost use Rattle.headers_c_parts.specs.Endings.{Gives};
+ghost use Rattle.headers_c_parts.specs.FieldText.{FieldDecodes};
 ghost use Rattle.headers_c.specs.Tags.{Compares, quoted_part, reads_etag};
 
-use crate::lines::read_field;
-use crate::status::{DONE, Failure};
 use headers::{ETag, HeaderValue, IfRange, encoding};
+use headers_c_parts::{DONE, Failure, read_field};
 use std::alloc::Global;
 
 /// Whether two entity tags are strongly equal: 1 if they are, 0 if not (RFC 9110, section 8.8.3.2).

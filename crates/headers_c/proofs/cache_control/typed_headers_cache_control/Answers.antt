@@ -2,7 +2,7 @@ use Rattle.std.proofs.Common.{Ok, Err, refl}
 use Rattle.headers.specs.CacheControlGrammar.{cache_grammar}
 use Rattle.headers.specs.HeaderLaws.{ReadsBy}
 use Rattle.headers_c.specs.CacheDirectives.{reads_directives}
-use Rattle.headers_c.proofs.DecodeLemmas.{FieldDecodes-fails}
+use Rattle.headers_c_parts.proofs.DecodeLemmas.{FieldDecodes-fails}
 use Rattle.headers_c.proofs.cache_control.typed_headers_cache_control.Goals as goal
 
 pub returns-in-Ok : goal.returns-in-Ok

@@ -1,7 +1,7 @@
 use Rattle.std.proofs.Common.{Ok, Err, refl}
 use Rattle.headers.specs.ContentLength.{content_length_reads}
 use Rattle.headers_c.specs.Fields.{reads_length}
-use Rattle.headers_c.proofs.DecodeLemmas.{FieldDecodes-fails}
+use Rattle.headers_c_parts.proofs.DecodeLemmas.{FieldDecodes-fails}
 use Rattle.headers_c.proofs.fields.typed_headers_content_length.Goals as goal
 
 pub returns-in-Ok : goal.returns-in-Ok

@@ -1,6 +1,6 @@
 use Rattle.std.proofs.Common.{◌≤◌, ap, arith, length}
-use Rattle.headers_c.specs.FieldText.{field_lines}
-use Rattle.headers_c.proofs.DecodeLemmas.{several_lines}
+use Rattle.headers_c_parts.specs.FieldText.{field_lines}
+use Rattle.headers_c_parts.proofs.DecodeLemmas.{several_lines}
 use Rattle.headers_c.proofs.handshake.read_accept.Goals as goal
 
 pub returns : goal.returns

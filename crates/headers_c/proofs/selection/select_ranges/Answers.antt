@@ -1,7 +1,4 @@
-use Rattle.std.proofs.Common.{◌≡◌, Ok, subst}
-use Rattle.http_header.specs.Token.{IsToken}
-use Rattle.headers.specs.LineMap.{lines_at}
-use Rattle.headers_preconditions.specs.Selection.{Selects}
+use Rattle.std.proofs.Common.{Ok, subst}
 use Rattle.headers_preconditions.specs.declared.resource.Resource.{Resource}
 use Rattle.headers_c.specs.Preconditions.{IsResourceOf}
 use Rattle.headers_c.proofs.selection.select_ranges.Goals as goal

@@ -1,7 +1,7 @@
 //! The fields of a header section, as a map.
 ghost use Rattle.std.specs.Prelude.{IfOk, IfSome, IfNone};
 ghost use Rattle.headers_section.specs.Section.{IsField, IsNoField};
-ghost use Rattle.headers_c.specs.SectionMap.{IsMapOf};
+ghost use Rattle.headers_c_parts.specs.SectionMap.{IsMapOf};
 
 use crate::keys::HashKeys;
 use crate::lines::cut_line;

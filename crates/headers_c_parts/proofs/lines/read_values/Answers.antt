@@ -3,10 +3,10 @@ use Rattle.std.proofs.lemmas.List.{append-nil}
 use Rattle.http_header.specs.FieldValue.{FieldValue, IsFieldValue}
 use Rattle.headers.specs.Lines.{Line, lines_of}
 use Rattle.headers_section.specs.Section.{input_lines}
-use Rattle.headers_c.specs.FieldText.{field_lines}
-use Rattle.headers_c.proofs.LineLemmas.{first_line, lines_read, some_is_bad, values_read}
-use Rattle.headers_c.proofs.lines.read_values.Goals as goal
-use Rattle.headers_c.proofs.lines.read_values.Goals.{In_ok-push}
+use Rattle.headers_c_parts.specs.FieldText.{field_lines}
+use Rattle.headers_c_parts.proofs.LineLemmas.{first_line, lines_read, some_is_bad, values_read}
+use Rattle.headers_c_parts.proofs.lines.read_values.Goals as goal
+use Rattle.headers_c_parts.proofs.lines.read_values.Goals.{In_ok-push}
 
 pub returns-in_default-clause-none : goal.returns-in_default-clause-none
 returns-in_default-clause-none c =

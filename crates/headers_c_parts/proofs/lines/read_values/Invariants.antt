@@ -2,8 +2,8 @@ use Rattle.std.proofs.Common.{◌≡◌, ◌++◌, All, length}
 use Rattle.http_header.specs.FieldValue.{IsFieldValue}
 use Rattle.headers.specs.Lines.{lines_of}
 use Rattle.headers_section.specs.Section.{input_lines}
-use Rattle.headers_c.specs.FieldText.{field_lines}
-use Rattle.headers_c.proofs.lines.read_values.Given as goal
+use Rattle.headers_c_parts.specs.FieldText.{field_lines}
+use Rattle.headers_c_parts.proofs.lines.read_values.Given as goal
 
 abbrev pub invariant-loop-values : goal.invariant-loop-values
 invariant-loop-values l =

@@ -6,8 +6,8 @@ use Rattle.http_header.specs.declared.map.HeaderMapError.{HeaderMapError}
 use Rattle.http_header.specs.declared.map.HeaderMapError.TheVariants.{MaxSizeReached, OutOfMemory}
 use Rattle.headers.specs.Lines.{Line}
 use Rattle.headers_section.specs.Section.{Field, AreFields, IsField, HasNoField, section}
-use Rattle.headers_c.specs.declared.status.Failure.{Failure}
-use Rattle.headers_c.specs.declared.status.Failure.TheVariants.{Refused, Memory, Absent, TooLarge}
+use Rattle.headers_c_parts.specs.declared.status.Failure.{Failure}
+use Rattle.headers_c_parts.specs.declared.status.Failure.TheVariants.{Refused, Memory, Absent, TooLarge}
 
 -- the map has the fields of the input, and no other
 pub record Holds (input : List ℕ) (map : Entries FieldValue) : Type 0 where

@@ -12,7 +12,7 @@ use Rattle.headers_section.specs.Section.{Field, AreFields, IsField, IsNoField, 
 use Rattle.headers_section.specs.Section.{section}
 use Rattle.headers_section.proofs.NameLemmas.{append_all-push}
 use Rattle.headers_section.proofs.SectionLemmas.{AreFields-push, HasNoField-from_line, section_taken}
-use Rattle.headers_c.specs.SectionMap.{Holds, HasNoRoom, IsMapOf, failure_of}
+use Rattle.headers_c_parts.specs.SectionMap.{Holds, HasNoRoom, IsMapOf, failure_of}
 
 -- the fields of the first lines are in the map, and the section goes on with that of the rest
 pub record IsRead (input rest : List ℕ) (map : Entries FieldValue) : Type 0 where

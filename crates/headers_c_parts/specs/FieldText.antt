@@ -5,8 +5,8 @@ use Rattle.http_header.specs.FieldValue.{IsFieldValue}
 use Rattle.headers.specs.Lines.{Line}
 use Rattle.headers.specs.Typed.{HasLine}
 use Rattle.headers_section.specs.Section.{input_lines}
-use Rattle.headers_c.specs.declared.status.Failure.{Failure}
-use Rattle.headers_c.specs.declared.status.Failure.TheVariants.{Refused, Memory, Absent, TooLarge}
+use Rattle.headers_c_parts.specs.declared.status.Failure.{Failure}
+use Rattle.headers_c_parts.specs.declared.status.Failure.TheVariants.{Refused, Memory, Absent, TooLarge}
 
 -- the bytes without their last one, if it is this one
 abbrev pub without_last : ℕ → List ℕ → List ℕ

@@ -11,8 +11,8 @@ use Rattle.headers.specs.Lines.{Line}
 use Rattle.headers.specs.Text.{trim}
 use Rattle.headers_section.proofs.FieldLemmas.{IsField-from_parts, IsFieldName-from_kept, IsNoField-without_colon}
 use Rattle.headers_section.proofs.FieldLemmas.{parts_of_field}
-use Rattle.headers_c.proofs.LineLemmas.{IsFieldValue-from_kept}
-use Rattle.headers_c.proofs.section.read_line.Goals as goal
+use Rattle.headers_c_parts.proofs.LineLemmas.{IsFieldValue-from_kept}
+use Rattle.headers_c_parts.proofs.section.read_line.Goals as goal
 
 -- what stands after the colon, once the line was split there
 after_colon : (line rest : Line) (colon : ℕ) → rest ≡ drop colon line

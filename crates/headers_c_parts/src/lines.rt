@@ -3,7 +3,7 @@ ghost use Rattle.std.specs.Prelude.{◌≡◌, ◌<◌, ◌∷◌, [], length, A
 ghost use Rattle.http_header.specs.FieldValue.{IsFieldValue, plain_value};
 ghost use Rattle.headers.specs.Lines.{lines_of};
 ghost use Rattle.headers_section.specs.Section.{input_lines};
-ghost use Rattle.headers_c.specs.FieldText.{without_last, field_lines, FieldDecodes};
+ghost use Rattle.headers_c_parts.specs.FieldText.{without_last, field_lines, FieldDecodes};
 
 use crate::status::Failure;
 use headers::{Header, HeaderValue, Refused, decode_values};

@@ -3,9 +3,9 @@ use Rattle.std.proofs.Common.{◌≡◌, ℕ, ◌≤◌, List, [], ◌∷◌, le
 use Rattle.http_header.specs.FieldValue.{FieldValue}
 use Rattle.headers.specs.Lines.{Line, lines_of, only_line}
 use Rattle.headers.specs.Typed.{HasLine}
-use Rattle.headers_c.specs.FieldText.{FieldDecodes, field_lines}
-use Rattle.headers_c.specs.declared.status.Failure.{Failure}
-use Rattle.headers_c.specs.declared.status.Failure.TheVariants.{Refused, Memory, Absent, TooLarge}
+use Rattle.headers_c_parts.specs.FieldText.{FieldDecodes, field_lines}
+use Rattle.headers_c_parts.specs.declared.status.Failure.{Failure}
+use Rattle.headers_c_parts.specs.declared.status.Failure.TheVariants.{Refused, Memory, Absent, TooLarge}
 
 -- a failure says the same of values that are read only if some value of the first kind is
 pub FieldDecodes-fails : {V W : Type 0} (reads : List Line → V → Type 0) (others : List Line → W → Type 0)

@@ -3,11 +3,11 @@ use Rattle.std.proofs.lemmas.Bool.Decides.{nat_tests}
 use Rattle.std.proofs.lemmas.Result.{err_from_is_err_and}
 use Rattle.http_header.specs.declared.map.HeaderMapError.{HeaderMapError}
 use Rattle.headers_section.specs.Section.{input_lines}
-use Rattle.headers_c.specs.SectionMap.{IsMapOf, failure_of}
-use Rattle.headers_c.proofs.LineLemmas.{first_line}
-use Rattle.headers_c.proofs.SectionLemmas.{HasNoField-from_read, HasNoRoom-from_read, Holds-last, IsMapOf-refused}
-use Rattle.headers_c.proofs.SectionLemmas.{IsRead-more, IsRead-none}
-use Rattle.headers_c.proofs.section.read_map.Goals as goal
+use Rattle.headers_c_parts.specs.SectionMap.{IsMapOf, failure_of}
+use Rattle.headers_c_parts.proofs.LineLemmas.{first_line}
+use Rattle.headers_c_parts.proofs.SectionLemmas.{HasNoField-from_read, HasNoRoom-from_read, Holds-last, IsMapOf-refused}
+use Rattle.headers_c_parts.proofs.SectionLemmas.{IsRead-more, IsRead-none}
+use Rattle.headers_c_parts.proofs.section.read_map.Goals as goal
 
 pub loop-line-init : goal.loop-line-init
 loop-line-init c = IsRead-none c.args.section.now c.with_hasher-map.result c.with_hasher-map.ensures

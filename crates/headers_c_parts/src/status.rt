@@ -1,6 +1,6 @@
 //! How calls end.
 ghost use Rattle.std.specs.Prelude.{◌≡◌};
-ghost use Rattle.headers_c.specs.Endings.{IsWritten, status_of};
+ghost use Rattle.headers_c_parts.specs.Endings.{IsWritten, status_of};
 
 use http_header::HeaderMapError;
 use std::alloc::{AllocError, AllocFailed};
@@ -43,7 +43,7 @@ impl Failure {
 
 impl From<AllocError> for Failure {
     ghost use Rattle.std.specs.Prelude.{◌≡◌};
-    ghost use Rattle.headers_c.specs.declared.status.Failure.TheVariants.{Memory};
+    ghost use Rattle.headers_c_parts.specs.declared.status.Failure.TheVariants.{Memory};
 
     ghost from_gives = { λ _ failure. failure ≡ Memory };
 
@@ -54,7 +54,7 @@ impl From<AllocError> for Failure {
 
 impl<T: Drop> From<AllocFailed<T>> for Failure {
     ghost use Rattle.std.specs.Prelude.{◌≡◌};
-    ghost use Rattle.headers_c.specs.declared.status.Failure.TheVariants.{Memory};
+    ghost use Rattle.headers_c_parts.specs.declared.status.Failure.TheVariants.{Memory};
 
     ghost from_gives = { λ _ failure. failure ≡ Memory };
 
@@ -65,7 +65,7 @@ impl<T: Drop> From<AllocFailed<T>> for Failure {
 
 impl From<HeaderMapError> for Failure {
     ghost use Rattle.std.specs.Prelude.{◌≡◌};
-    ghost use Rattle.headers_c.specs.SectionMap.{failure_of};
+    ghost use Rattle.headers_c_parts.specs.SectionMap.{failure_of};
 
     ghost from_gives = { λ error failure. failure ≡ failure_of error };
 

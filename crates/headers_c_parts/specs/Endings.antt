@@ -1,7 +1,7 @@
 -- How calls end: their status, and what is behind the caller's pointers.
 use Rattle.std.specs.Prelude.{◌≡◌, ℕ, ◌<◌, ◌≤◌, List, length, take, drop, Result, Ok, Err}
-use Rattle.headers_c.specs.declared.status.Failure.{Failure}
-use Rattle.headers_c.specs.declared.status.Failure.TheVariants.{Refused, Memory, Absent, TooLarge}
+use Rattle.headers_c_parts.specs.declared.status.Failure.{Failure}
+use Rattle.headers_c_parts.specs.declared.status.Failure.TheVariants.{Refused, Memory, Absent, TooLarge}
 
 -- the status of a call that gave what it was asked for
 abbrev pub done : ℕ
@@ -55,3 +55,17 @@ abbrev pub Writes : {V X : Type 0} → (V → List X) → (V → ℕ) → (Resul
     → (before written status : ℕ) → Type 0
 Writes {V} items success P old new before written status =
     (answer : Result V Failure) × P answer × IsHandedOut items success answer old new before written status
+
+-- what is told of the value is in its place; if there is no value, the place is as it was
+abbrev pub IsTold : {V F : Type 0} → (V → F) → Result V Failure → F → F → Type 0
+IsTold told (Ok value) old new = new ≡ told value
+IsTold told (Err failure) old new = new ≡ old
+
+-- a call that tells something of a value and writes its items has an answer of which P holds
+abbrev pub TellsAndWrites : {V F X : Type 0} → (V → F) → (V → List X) → (Result V Failure → Type 0)
+    → (fact new_fact : F) → (old new : List X) → (before written status : ℕ) → Type 0
+TellsAndWrites {V} told items P fact new_fact old new before written status =
+    (answer : Result V Failure)
+    × P answer
+    × IsTold told answer fact new_fact
+    × IsHandedOut items (λ _. done) answer old new before written status
