@@ -1,1 +1,2 @@
+pub mod RuleLemmas
 pub mod TagLemmas

@@ -1,8 +1,10 @@
 pub mod CacheDirectives
 pub mod Canonical
+pub mod Cors
 pub mod Fields
 pub mod Handshake
 pub mod Preconditions
 pub mod Ranges
+pub mod Rules
 pub mod Selection
 pub mod Tags

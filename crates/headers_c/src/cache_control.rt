@@ -58,7 +58,8 @@ pub extern "C" fn typed_headers_cache_control(
     }
 }
 
-fn flag_of(is_set: bool) -> u8
+/// 1 if it is set, else 0.
+pub fn flag_of(is_set: bool) -> u8
     ensures { result ≡ flag_of is_set }
 {
     if is_set { 1 } else { 0 }

@@ -4,10 +4,12 @@
 
 mod cache_control;
 mod canonical;
+mod cors;
 mod fields;
 mod handshake;
 mod media_type;
 mod preconditions;
 mod ranges;
+mod rules;
 mod selection;
 mod tags;

@@ -1,0 +1,64 @@
+-- What a server answers a request from another origin, by what a caller hands in.
+use Rattle.std.specs.Prelude.{◌≡◌, ◌⊎◌, ℕ, List, [], flat_map, Result, Ok, Err}
+use Rattle.http_header.specs.FieldValue.{FieldValue}
+use Rattle.http_header.specs.HeaderMap.{Entries}
+use Rattle.http_header.specs.Token.{IsToken}
+use Rattle.headers.specs.LineMap.{lines_at}
+use Rattle.headers.specs.Lines.{lines_of}
+use Rattle.headers.specs.declared.Step.{Step}
+use Rattle.headers.specs.declared.Step.TheVariants.{Put, Remove}
+use Rattle.headers_section.specs.CanonicalText.{line_text}
+use Rattle.headers_cors_policy.specs.Answer.{IsAnswer}
+use Rattle.headers_cors_policy.specs.Policy.{Policy}
+use Rattle.headers_cors_policy.specs.declared.kind.CorsKind.{CorsKind}
+use Rattle.headers_cors_policy.specs.declared.kind.CorsKind.TheVariants.{Preflight, Plain, NoOrigin}
+use Rattle.headers_cors_policy.specs.declared.policy.CorsAnswer.{CorsAnswer}
+use Rattle.headers_c.specs.CacheDirectives.{flag_of}
+use Rattle.headers_c_parts.specs.Endings.{TellsAndWrites}
+use Rattle.headers_c.specs.Preconditions.{IsMethodOf}
+use Rattle.headers_c.specs.Rules.{IsPolicyAnswer, IsPolicyFor}
+use Rattle.headers_c_parts.specs.SectionMap.{Holds, IsMapOf}
+use Rattle.headers_c.specs.declared.cors.CorsFacts.{CorsFacts}
+use Rattle.headers_c.specs.declared.cors.Shared.{Shared}
+use Rattle.headers_c.specs.declared.rules.Rules.{Rules}
+use Rattle.headers_c_parts.specs.declared.status.Failure.{Failure}
+
+abbrev pub kind_number : CorsKind → ℕ
+kind_number NoOrigin = 0
+kind_number Plain = 1
+kind_number Preflight = 2
+
+-- the lines that a step puts
+abbrev pub step_text : Step → List ℕ
+step_text (Put e) = flat_map (line_text e.name) (lines_of e.lines.items)
+step_text (Remove name) = []
+
+-- what an answer says of its request, and the lines that its steps put
+pub record IsShownAnswer (answer : CorsAnswer) (shared : Shared) : Type 0 where
+  pub kind : shared.facts.kind ≡ kind_number answer.kind
+  pub allowed : shared.facts.is_allowed ≡ flag_of answer.is_allowed
+  pub text : shared.text.items ≡ flat_map step_text answer.steps.items
+
+-- the rules, the method and the fields of both sections are those that were handed in, and this is their answer
+pub record IsShared (given : Rules) (method request response : List ℕ) (shared : Shared) : Type 0 where
+  pub policy : Policy
+  pub is_policy : IsPolicyFor given policy
+  pub is_method : IsToken method
+  pub asked : Entries FieldValue
+  pub is_asked : Holds request asked
+  pub told : Entries FieldValue
+  pub is_told : Holds response told
+  pub answer : CorsAnswer
+  pub is_answer : IsAnswer policy method (lines_at asked) (lines_at told) answer
+  pub is_shown : IsShownAnswer answer shared
+
+-- the answer is that of the rules, or the failure of reading what was handed in
+abbrev pub Shares : Rules → (method request response : List ℕ) → Result Shared Failure → Type 0
+Shares given method request response (Ok shared) = IsShared given method request response shared
+Shares given method request response (Err failure) =
+    IsPolicyAnswer given (Err failure)
+    ⊎ (IsMethodOf method (Err failure) ⊎ (IsMapOf request (Err failure) ⊎ IsMapOf response (Err failure)))
+
+abbrev pub WritesShared : (Result Shared Failure → Type 0) → (facts new_facts : CorsFacts) → (old new : List ℕ)
+    → (before written status : ℕ) → Type 0
+WritesShared = TellsAndWrites (λ (shared : Shared). shared.facts) (λ (shared : Shared). shared.text.items)

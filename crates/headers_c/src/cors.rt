@@ -1,0 +1,115 @@
+//! What a server answers a request from another origin.
+ghost use Rattle.std.specs.Prelude.{◌≡◌, ◌++◌, IfOk, OnOk, flat_map};
+ghost use Rattle.headers_c.specs.Cors.{IsShownAnswer, Shares, WritesShared, kind_number, step_text};
+
+use crate::cache_control::flag_of;
+use crate::preconditions::read_method;
+use crate::rules::{Rules, read_policy};
+use headers::{Encoded, Step};
+use headers_c_parts::{DONE, Failure, HashKeys, copy_into, read_map};
+use headers_cors_policy::{CorsAnswer, CorsKind};
+use headers_section::print_lines;
+use std::alloc::{AllocError, Global};
+
+/// What a policy says of a request.
+#[repr(C)]
+#[derive(Clone, Copy)]
+pub struct CorsFacts {
+    /// 0 if the request has no `Origin`; 2 if it asks for leave to send another request; else 1.
+    pub kind: u8,
+    /// 1 if the policy allows its origin, or if it has none, else 0.
+    pub is_allowed: u8,
+}
+
+/// What a policy says of a request, and the lines that it gives the response.
+#[derive(Drop)]
+pub struct Shared {
+    pub facts: CorsFacts,
+    pub text: Vec<u8>,
+}
+
+/// What the policy of the rules answers a request from another origin (Fetch standard, "CORS
+/// protocol"): its lines, for a response with these fields.
+#[unsafe(no_mangle)]
+pub extern "C" fn typed_headers_cors_answer(
+    alloc: Global,
+    rules: &Rules<'_>,
+    method: &[u8],
+    request: &[u8],
+    response: &[u8],
+    keys: &HashKeys,
+    facts: &mut CorsFacts,
+    room: &mut [u8],
+    written: &mut usize,
+) -> u8
+    ensures { WritesShared (Shares rules.now method.now request.now response.now)
+        facts.old facts.new room.old room.new written.old written.new result }
+{
+    match answer_request(alloc, rules, method, request, response, keys) {
+        Ok(shared) => {
+            *facts = shared.facts;
+            copy_into(shared.text.as_slice(), DONE, room, written)
+        }
+        Err(failure) => failure.status(),
+    }
+}
+
+fn answer_request(
+    alloc: Global,
+    rules: &Rules<'_>,
+    method: &[u8],
+    request: &[u8],
+    response: &[u8],
+    keys: &HashKeys,
+) -> Result<Shared, Failure>
+    ensures { Shares rules.now method.now request.now response.now result }
+{
+    let policy = read_policy(alloc, rules)?;
+    let method = read_method(alloc, method)?;
+    let request = read_map(alloc, request, keys)?;
+    let response = read_map(alloc, response, keys)?;
+    let answer = policy.answer(alloc, &method, &request, &response)?;
+    let shared = show(alloc, &answer)?;
+    Ok(shared)
+}
+
+fn show(alloc: Global, answer: &CorsAnswer) -> Result<Shared, AllocError>
+    ensures { IfOk result (IsShownAnswer answer.now) }
+{
+    let facts = CorsFacts {
+        kind: kind_number(answer.kind),
+        is_allowed: flag_of(answer.is_allowed),
+    };
+    let text = steps_text(alloc, answer.steps.as_slice())?;
+    Ok(Shared { facts, text })
+}
+
+fn kind_number(kind: CorsKind) -> u8
+    ensures { result ≡ kind_number kind }
+{
+    match kind {
+        CorsKind::NoOrigin => 0,
+        CorsKind::Plain => 1,
+        CorsKind::Preflight => 2,
+    }
+}
+
+fn steps_text(alloc: Global, steps: &[Step]) -> Result<Vec<u8>, AllocError>
+    ensures { IfOk result (λ text. text.items ≡ flat_map step_text steps.now) }
+{
+    let mut text = Vec::new(alloc);
+    for step in steps {
+        print_step(&mut text, step)?;
+    }
+    Ok(text)
+}
+
+// Prints the lines that the step puts.
+fn print_step(text: &mut Vec<u8>, step: &Step) -> Result<(), AllocError>
+    ensures { OnOk result (text.new.items ≡ text.old.items ++ step_text step.now) }
+{
+    match step {
+        Step::Put(Encoded { name, lines }) => print_lines(text, name, lines.as_slice()),
+        Step::Remove(_) => Ok(()),
+    }
+}
