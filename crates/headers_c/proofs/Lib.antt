@@ -1,2 +1,3 @@
+pub mod CacheLemmas
 pub mod RuleLemmas
 pub mod TagLemmas

@@ -1,3 +1,4 @@
+pub mod Cache
 pub mod CacheDirectives
 pub mod Canonical
 pub mod Cors

@@ -2,6 +2,7 @@
 //! documents them for their callers, and `build_c` makes the library.
 #![tactic(auto)]
 
+mod cache;
 mod cache_control;
 mod canonical;
 mod cors;

@@ -1,0 +1,124 @@
+-- What a cache may do with a response, by what a caller hands in.
+use Rattle.std.specs.Prelude.{◌≡◌, ◌⊎◌, ℕ, ◌++◌, Bool, true, false, List, [], flat_map, codes, Option, Some, None}
+use Rattle.std.specs.Prelude.{Result, Ok, Err}
+use Rattle.std.specs.Global.{Vec}
+use Rattle.http.specs.StatusCode.{IsStatusCode}
+use Rattle.http_header.specs.FieldValue.{FieldValue}
+use Rattle.http_header.specs.HeaderMap.{Entries}
+use Rattle.http_header.specs.Token.{IsToken}
+use Rattle.headers.specs.LineMap.{LineMap, lines_at}
+use Rattle.headers_section.specs.CanonicalText.{line_text}
+use Rattle.headers_cache_policy.specs.Age.{age_at, capped}
+use Rattle.headers_cache_policy.specs.Decisions.{DecidesStored}
+use Rattle.headers_cache_policy.specs.Freshness.{HasLifetime}
+use Rattle.headers_cache_policy.specs.Storing.{MayStore}
+use Rattle.headers_cache_policy.specs.Validating.{conditional}
+use Rattle.headers_cache_policy.specs.declared.age.Times.{Times}
+use Rattle.headers_cache_policy.specs.declared.decision.Decision.{Decision}
+use Rattle.headers_cache_policy.specs.declared.decision.Decision.TheVariants as Decided
+use Rattle.headers_cache_policy.specs.declared.kind.Kind.{Kind}
+use Rattle.headers_cache_policy.specs.declared.kind.Kind.TheVariants.{Shared, Private}
+use Rattle.headers_c.specs.Preconditions.{IsMethodOf}
+use Rattle.headers_c_parts.specs.SectionMap.{Holds, IsMapOf}
+use Rattle.headers_c.specs.Tags.{Tells}
+use Rattle.headers_c.specs.declared.cache.Moments.{Moments}
+use Rattle.headers_c_parts.specs.declared.status.Failure.{Failure}
+use Rattle.headers_c_parts.specs.declared.status.Failure.TheVariants.{Refused, Absent}
+
+abbrev pub times_of : Moments → Times
+times_of moments = record { request = moments.request; response = moments.response; now = moments.now }
+
+abbrev pub kind_of : Bool → Kind
+kind_of true = Shared
+kind_of false = Private
+
+-- the status, if the number is one
+abbrev pub IsStatusOf : ℕ → Result ℕ Failure → Type 0
+IsStatusOf number (Ok status) = IsStatusCode number × (status ≡ number)
+IsStatusOf number (Err failure) = (failure ≡ Refused) × ¬ (IsStatusCode number)
+
+-- the method, the status and the fields of both sections are those that were handed in, and the number tells whether
+-- the response may be stored
+pub record IsStored (method request : List ℕ) (status : ℕ) (response : List ℕ) (is_shared : Bool) (number : ℕ)
+    : Type 0 where
+  pub is_method : IsToken method
+  pub is_status : IsStatusCode status
+  pub asked : Entries FieldValue
+  pub is_asked : Holds request asked
+  pub told : Entries FieldValue
+  pub is_told : Holds response told
+  pub tells : Tells (MayStore (kind_of is_shared) method (lines_at asked) status (lines_at told)) number
+
+-- the answer is the number, or the failure of reading what was handed in
+abbrev pub Stores : (method request : List ℕ) → ℕ → List ℕ → Bool → Result ℕ Failure → Type 0
+Stores method request status response is_shared (Ok number) =
+    IsStored method request status response is_shared number
+Stores method request status response is_shared (Err failure) =
+    IsMethodOf method (Err failure)
+    ⊎ (IsStatusOf status (Err failure) ⊎ (IsMapOf request (Err failure) ⊎ IsMapOf response (Err failure)))
+
+-- the fields of the section have this lifetime
+pub record HasLife (response : List ℕ) (received : ℕ) (is_shared : Bool) (seconds : Option ℕ) : Type 0 where
+  pub told : Entries FieldValue
+  pub is_told : Holds response told
+  pub lives : HasLifetime (kind_of is_shared) received (lines_at told) seconds
+
+-- the answer is the lifetime, or the failure of reading the section; `Absent` only if none is stated
+abbrev pub Lives : List ℕ → ℕ → Bool → Result ℕ Failure → Type 0
+Lives response received is_shared (Ok seconds) = HasLife response received is_shared (Some seconds)
+Lives response received is_shared (Err failure) =
+    IsMapOf response (Err failure) ⊎ ((failure ≡ Absent) × HasLife response received is_shared None)
+
+-- the answer is the current age, or the failure of reading the section
+abbrev pub Ages : List ℕ → Moments → Result ℕ Failure → Type 0
+Ages response moments (Ok seconds) =
+    (told : Entries FieldValue)
+    × Holds response told
+    × (seconds ≡ capped (age_at (times_of moments) (lines_at told)))
+Ages response moments (Err failure) = IsMapOf response (Err failure)
+
+abbrev pub decision_number : Decision → ℕ
+decision_number Decided.Serve = 0
+decision_number Decided.ServeAndRevalidate = 1
+decision_number Decided.ServeStale = 2
+decision_number Decided.Revalidate = 3
+decision_number Decided.RevalidateOrServe = 4
+decision_number Decided.Unavailable = 5
+decision_number Decided.Fetch = 6
+
+-- the fields of the three sections are those that were handed in, and this is the number of their decision
+pub record IsDecided (stored request response : List ℕ) (moments : Moments) (is_shared : Bool) (number : ℕ)
+    : Type 0 where
+  pub first : Entries FieldValue
+  pub is_first : Holds stored first
+  pub asked : Entries FieldValue
+  pub is_asked : Holds request asked
+  pub told : Entries FieldValue
+  pub is_told : Holds response told
+  pub decision : Decision
+  pub decides : DecidesStored (kind_of is_shared) (lines_at first) (lines_at asked) (lines_at told) (times_of moments)
+      decision
+  pub number_is : number ≡ decision_number decision
+
+-- the answer is the number, or the failure of reading a section
+abbrev pub Decides : (stored request response : List ℕ) → Moments → Bool → Result ℕ Failure → Type 0
+Decides stored request response moments is_shared (Ok number) =
+    IsDecided stored request response moments is_shared number
+Decides stored request response moments is_shared (Err failure) =
+    IsMapOf stored (Err failure) ⊎ (IsMapOf request (Err failure) ⊎ IsMapOf response (Err failure))
+
+-- each line of a request under a name, after the name
+abbrev pub field_text : LineMap → List ℕ → List ℕ
+field_text request name = flat_map (line_text name) (request name)
+
+-- the lines of a request under the two names of validators
+abbrev pub validators_text : LineMap → List ℕ
+validators_text request = field_text request (codes "if-none-match") ++ field_text request (codes "if-modified-since")
+
+-- a request without fields, made conditional, has the text; or the section could not be read
+abbrev pub Validates : List ℕ → Result (Vec ℕ) Failure → Type 0
+Validates response (Ok text) =
+    (told : Entries FieldValue)
+    × Holds response told
+    × (text.items ≡ validators_text (conditional (lines_at []) (lines_at told)))
+Validates response (Err failure) = IsMapOf response (Err failure)

@@ -1,0 +1,291 @@
+//! What a cache may do with a response.
+ghost use Rattle.std.specs.Prelude.{◌≡◌, ◌++◌, IfOk, OnOk, flat_map};
+ghost use Rattle.headers.specs.LineMap.{lines_at};
+ghost use Rattle.headers_section.specs.CanonicalText.{line_text};
+ghost use Rattle.headers_c.specs.Cache.{Ages, Decides, IsStatusOf, Lives, Stores, Validates, decision_number, kind_of};
+ghost use Rattle.headers_c.specs.Cache.{times_of, validators_text};
+ghost use Rattle.headers_c_parts.specs.Endings.{Gives, Writes, done};
+
+use crate::preconditions::read_method;
+use headers::{HeaderMap, HeaderName, apply};
+use headers_c_parts::{DONE, Failure, HashKeys, copy_into, read_map};
+use headers_cache_policy::{
+    Decision, Kind, Times, current_age, decide, lifetime, may_store, validation_steps,
+};
+use headers_section::print_line;
+use http::StatusCode;
+use http_header::{IF_MODIFIED_SINCE, IF_NONE_MATCH};
+use std::alloc::{AllocError, Global};
+
+/// Moments that a cache knows of a stored response, in seconds since the start of 1970, all of its
+/// own clock.
+#[repr(C)]
+#[derive(Clone, Copy)]
+pub struct Moments {
+    /// When the request was made that the response answered.
+    pub request: u64,
+    /// When that response came.
+    pub response: u64,
+    /// The present.
+    pub now: u64,
+}
+
+fn times_of(moments: &Moments) -> Times
+    ensures { result ≡ times_of moments.entry.now }
+{
+    Times {
+        request: moments.request,
+        response: moments.response,
+        now: moments.now,
+    }
+}
+
+fn kind_of(is_shared: bool) -> Kind
+    ensures { result ≡ kind_of is_shared }
+{
+    if is_shared {
+        Kind::Shared
+    } else {
+        Kind::Private
+    }
+}
+
+/// Whether a cache may store the response to a request: 1 if it may, 0 if not (RFC 9111, sections 3
+/// and 3.5).
+#[unsafe(no_mangle)]
+pub extern "C" fn typed_headers_may_store(
+    alloc: Global,
+    method: &[u8],
+    request: &[u8],
+    status: u16,
+    response: &[u8],
+    keys: &HashKeys,
+    is_shared: bool,
+    answer: &mut u8,
+) -> u8
+    ensures { Gives (Stores method.now request.now status response.now is_shared) answer.old answer.new result }
+{
+    match stores(alloc, method, request, status, response, keys, is_shared) {
+        Ok(number) => {
+            *answer = number;
+            DONE
+        }
+        Err(failure) => failure.status(),
+    }
+}
+
+fn read_status(status: u16) -> Result<StatusCode, Failure>
+    ensures { IsStatusOf status result }
+{
+    match StatusCode::from_u16(status) {
+        Ok(code) => Ok(code),
+        Err(_) => Err(Failure::Refused),
+    }
+}
+
+fn stores(
+    alloc: Global,
+    method: &[u8],
+    request: &[u8],
+    status: u16,
+    response: &[u8],
+    keys: &HashKeys,
+    is_shared: bool,
+) -> Result<u8, Failure>
+    ensures { Stores method.now request.now status response.now is_shared result }
+{
+    let method = read_method(alloc, method)?;
+    let status = read_status(status)?;
+    let request = read_map(alloc, request, keys)?;
+    let response = read_map(alloc, response, keys)?;
+    let is_stored = may_store(
+        alloc,
+        &method,
+        &request,
+        status,
+        &response,
+        kind_of(is_shared),
+    )?;
+    if is_stored { Ok(1) } else { Ok(0) }
+}
+
+/// For how many seconds a response is fresh by what its origin says (RFC 9111, section 4.2.1).
+#[unsafe(no_mangle)]
+pub extern "C" fn typed_headers_lifetime(
+    alloc: Global,
+    response: &[u8],
+    keys: &HashKeys,
+    received: u64,
+    is_shared: bool,
+    seconds: &mut u64,
+) -> u8
+    ensures { Gives (Lives response.now received is_shared) seconds.old seconds.new result }
+{
+    match lives(alloc, response, keys, received, is_shared) {
+        Ok(number) => {
+            *seconds = number;
+            DONE
+        }
+        Err(failure) => failure.status(),
+    }
+}
+
+fn lives(
+    alloc: Global,
+    response: &[u8],
+    keys: &HashKeys,
+    received: u64,
+    is_shared: bool,
+) -> Result<u64, Failure>
+    ensures { Lives response.now received is_shared result }
+{
+    let response = read_map(alloc, response, keys)?;
+    match lifetime(alloc, &response, received, kind_of(is_shared))? {
+        Some(seconds) => Ok(seconds),
+        None => Err(Failure::Absent),
+    }
+}
+
+/// How many seconds old a response is (RFC 9111, section 4.2.3).
+#[unsafe(no_mangle)]
+pub extern "C" fn typed_headers_current_age(
+    alloc: Global,
+    response: &[u8],
+    keys: &HashKeys,
+    moments: &Moments,
+    seconds: &mut u64,
+) -> u8
+    ensures { Gives (Ages response.now moments.entry.now) seconds.old seconds.new result }
+{
+    match ages(alloc, response, keys, moments) {
+        Ok(number) => {
+            *seconds = number;
+            DONE
+        }
+        Err(failure) => failure.status(),
+    }
+}
+
+fn ages(alloc: Global, response: &[u8], keys: &HashKeys, moments: &Moments) -> Result<u64, Failure>
+    ensures { Ages response.now moments.entry.now result }
+{
+    let response = read_map(alloc, response, keys)?;
+    Ok(current_age(alloc, &response, times_of(moments)))
+}
+
+/// What a cache does with a request, by a response that it has stored: the number of the decision
+/// (RFC 9111, section 4, and RFC 5861). `stored` is the request that the response answered.
+#[unsafe(no_mangle)]
+pub extern "C" fn typed_headers_decide(
+    alloc: Global,
+    stored: &[u8],
+    request: &[u8],
+    response: &[u8],
+    keys: &HashKeys,
+    moments: &Moments,
+    is_shared: bool,
+    decision: &mut u8,
+) -> u8
+    ensures { Gives (Decides stored.now request.now response.now moments.entry.now is_shared)
+        decision.old decision.new result }
+{
+    match decides(alloc, stored, request, response, keys, moments, is_shared) {
+        Ok(number) => {
+            *decision = number;
+            DONE
+        }
+        Err(failure) => failure.status(),
+    }
+}
+
+fn decides(
+    alloc: Global,
+    stored: &[u8],
+    request: &[u8],
+    response: &[u8],
+    keys: &HashKeys,
+    moments: &Moments,
+    is_shared: bool,
+) -> Result<u8, Failure>
+    ensures { Decides stored.now request.now response.now moments.entry.now is_shared result }
+{
+    let stored = read_map(alloc, stored, keys)?;
+    let request = read_map(alloc, request, keys)?;
+    let response = read_map(alloc, response, keys)?;
+    let decision = decide(
+        alloc,
+        &stored,
+        &request,
+        &response,
+        times_of(moments),
+        kind_of(is_shared),
+    )?;
+    Ok(decision_number(decision))
+}
+
+fn decision_number(decision: Decision) -> u8
+    ensures { result ≡ decision_number decision }
+{
+    match decision {
+        Decision::Serve => 0,
+        Decision::ServeAndRevalidate => 1,
+        Decision::ServeStale => 2,
+        Decision::Revalidate => 3,
+        Decision::RevalidateOrServe => 4,
+        Decision::Unavailable => 5,
+        Decision::Fetch => 6,
+    }
+}
+
+/// The fields by which a request asks whether a stored response is still good (RFC 9111, section
+/// 4.3.1).
+#[unsafe(no_mangle)]
+pub extern "C" fn typed_headers_validators(
+    alloc: Global,
+    response: &[u8],
+    keys: &HashKeys,
+    room: &mut [u8],
+    written: &mut usize,
+) -> u8
+    ensures { Writes (λ text. text.items) (λ _. done) (Validates response.now)
+        room.old room.new written.old written.new result }
+{
+    match validators(alloc, response, keys) {
+        Ok(text) => copy_into(text.as_slice(), DONE, room, written),
+        Err(failure) => failure.status(),
+    }
+}
+
+fn validators(alloc: Global, response: &[u8], keys: &HashKeys) -> Result<Vec<u8>, Failure>
+    ensures { Validates response.now result }
+{
+    let response = read_map(alloc, response, keys)?;
+    let steps = validation_steps(alloc, &response)?;
+    let mut request = HeaderMap::new(alloc);
+    match apply(&mut request, steps) {
+        Ok(()) => Ok(validators_text(alloc, &request)?),
+        // An empty map has room for two names.
+        Err(_) => Err(Failure::Memory),
+    }
+}
+
+// The lines that a conditional request has under the names of validators.
+fn validators_text(alloc: Global, request: &HeaderMap) -> Result<Vec<u8>, AllocError>
+    ensures { IfOk result (λ text. text.items ≡ validators_text (lines_at request.now)) }
+{
+    let mut text = Vec::new(alloc);
+    print_field(&mut text, request, IF_NONE_MATCH)?;
+    print_field(&mut text, request, IF_MODIFIED_SINCE)?;
+    Ok(text)
+}
+
+// Prints the lines that the map has under the name.
+fn print_field(text: &mut Vec<u8>, map: &HeaderMap, name: HeaderName) -> Result<(), AllocError>
+    ensures { OnOk result (text.new.items ≡ text.old.items
+        ++ flat_map (line_text name) (lines_at map.now name)) }
+{
+    for line in map.get_all(&name) {
+        print_line(text, &name, line)?;
+    }
+    Ok(())
+}
