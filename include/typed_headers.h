@@ -100,6 +100,79 @@ struct typed_headers_bytes_range {
     uint64_t last;
 };
 
+/* A text: bytes, and how many they are. */
+struct typed_headers_text {
+    const uint8_t *bytes;
+    size_t length;
+};
+
+/*
+ * What a server allows requests from other origins. Each text has one value a line, as the lines of a field: the line
+ * `*` alone stands for any value, and the empty text for none.
+ */
+struct typed_headers_cors_rules {
+    /* The origins, as `https://a.example`. One is compared byte for byte with what a browser sends. */
+    struct typed_headers_text origins;
+    /* The methods besides GET, HEAD and POST, with case. */
+    struct typed_headers_text methods;
+    /* The names of request fields besides those that need no leave. Any name is all but `authorization`. */
+    struct typed_headers_text headers;
+    /* The names of response fields that scripts may read besides those that are always readable. */
+    struct typed_headers_text exposed;
+    /* For how many seconds the answer to a preflight may be cached. */
+    uint64_t max_age;
+    /* Whether `max_age` counts. If not, browsers take five seconds. */
+    bool has_max_age;
+    /* Whether requests may include credentials. */
+    bool credentials;
+};
+
+/* What a request is to a server's rules for other origins. */
+enum typed_headers_cors_kind {
+    /* It has no `Origin`. */
+    TYPED_HEADERS_NO_ORIGIN = 0,
+    /* It has an `Origin`, and is no preflight. */
+    TYPED_HEADERS_PLAIN = 1,
+    /* It asks for leave to send another one: OPTIONS, with `Origin` and `Access-Control-Request-Method`. */
+    TYPED_HEADERS_PREFLIGHT = 2
+};
+
+/* What the rules say of a request. */
+struct typed_headers_cors_facts {
+    /* One of `typed_headers_cors_kind`. */
+    uint8_t kind;
+    /* 1 if its origin is allowed, or if it has none, else 0. */
+    uint8_t is_allowed;
+};
+
+/* Moments that a cache knows of a stored response, in seconds since the start of 1970, all of its own clock. */
+struct typed_headers_moments {
+    /* When the request was made that the response answered. */
+    uint64_t request;
+    /* When that response came. */
+    uint64_t response;
+    /* The present. */
+    uint64_t now;
+};
+
+/* What a cache does with a request that a stored response could answer. */
+enum typed_headers_decision {
+    /* The stored response is the answer. It is fresh. */
+    TYPED_HEADERS_SERVE = 0,
+    /* It is the answer though it is stale, and is to be revalidated after that (`stale-while-revalidate`). */
+    TYPED_HEADERS_SERVE_AND_REVALIDATE = 1,
+    /* It is the answer though it is stale: the request takes that (`max-stale`). */
+    TYPED_HEADERS_SERVE_STALE = 2,
+    /* The origin has to say that the stored response is still good. */
+    TYPED_HEADERS_REVALIDATE = 3,
+    /* The same, but it may be the answer if the origin can't be reached or fails (`stale-if-error`). */
+    TYPED_HEADERS_REVALIDATE_OR_SERVE = 4,
+    /* The answer is 504: the request forbids to ask on (`only-if-cached`). */
+    TYPED_HEADERS_UNAVAILABLE = 5,
+    /* The origin has to answer: the stored response doesn't suit the request. */
+    TYPED_HEADERS_FETCH = 6
+};
+
 /*
  * The canonical text of a header section (RFC 9112, section 5). `section` is read up to its first empty line: each
  * line before it is a name, a colon and a value. The text has each name once, in lower case, at its first appearance,
@@ -206,6 +279,78 @@ uint8_t typed_headers_select(const uint8_t *method, size_t method_length, const 
  */
 uint8_t typed_headers_websocket_accept(const uint8_t *lines, size_t lines_length, uint8_t *room, size_t room_length,
                                        size_t *written);
+
+/*
+ * What a server with these rules answers a request from another origin (Fetch standard, "CORS protocol"). `request` and
+ * `response` are header sections: the request's, and that of the response as its handler left it, of which the field
+ * Vary counts.
+ *
+ * The text is the lines of the answer, each `name: value` and a LF, names in lower case. Six fields are the rules'
+ * alone, and are to be taken off the response first: access-control-allow-origin, -allow-credentials,
+ * -expose-headers, -allow-methods, -allow-headers and access-control-max-age. If the text has lines of `vary`, they
+ * stand in place of the response's own. A preflight is answered with a status from 200 to 299.
+ *
+ * Refused: the rules have a line that is no origin, method or name; they have `*` in a list of several methods or
+ * names, or any origin, method or name with credentials, which no browser reads so; the method is no token; or a line
+ * of a section before its first empty one is no field. Too large: a section has more names than a map has room for
+ * (24,576). Whether rules are refused shows with the method GET and two empty sections.
+ */
+uint8_t typed_headers_cors_answer(const struct typed_headers_cors_rules *rules, const uint8_t *method,
+                                  size_t method_length, const uint8_t *request, size_t request_length,
+                                  const uint8_t *response, size_t response_length,
+                                  const struct typed_headers_keys *keys, struct typed_headers_cors_facts *facts,
+                                  uint8_t *room, size_t room_length, size_t *written);
+
+/*
+ * Whether a cache may store the response to a request (RFC 9111, sections 3 and 3.5): `*answer` is 1 if it may, 0 if
+ * not. `is_shared` is true for a cache of several users, as a proxy's, and false for that of one, as a browser's.
+ *
+ * Refused: the method is no token, the status is no number from 100 to 999, or a line of a section before its first
+ * empty one is no field. Too large, here and below: a section has more names than a map has room for (24,576).
+ */
+uint8_t typed_headers_may_store(const uint8_t *method, size_t method_length, const uint8_t *request,
+                                size_t request_length, uint16_t status, const uint8_t *response,
+                                size_t response_length, const struct typed_headers_keys *keys, bool is_shared,
+                                uint8_t *answer);
+
+/*
+ * For how many seconds a response is fresh by what its origin says (RFC 9111, section 4.2.1): `s-maxage` in a shared
+ * cache, else `max-age`, else Expires less Date. `received` is when it came, and stands for a Date that is missing or
+ * can't be read.
+ *
+ * Absent: the origin doesn't say. Refused: a line of the section before its first empty one is no field.
+ */
+uint8_t typed_headers_lifetime(const uint8_t *response, size_t response_length, const struct typed_headers_keys *keys,
+                               uint64_t received, bool is_shared, uint64_t *seconds);
+
+/*
+ * How many seconds old a stored response is (RFC 9111, section 4.2.3). Refused: a line of the section before its first
+ * empty one is no field.
+ */
+uint8_t typed_headers_current_age(const uint8_t *response, size_t response_length,
+                                  const struct typed_headers_keys *keys, const struct typed_headers_moments *moments,
+                                  uint64_t *seconds);
+
+/*
+ * What a cache does with a request, by a response that it has stored to the same URI (RFC 9111, section 4, and RFC
+ * 5861): `*decision` is one of `typed_headers_decision`. `stored` is the section of the request that the response
+ * answered. Refused: a line of a section before its first empty one is no field.
+ */
+uint8_t typed_headers_decide(const uint8_t *stored, size_t stored_length, const uint8_t *request,
+                             size_t request_length, const uint8_t *response, size_t response_length,
+                             const struct typed_headers_keys *keys, const struct typed_headers_moments *moments,
+                             bool is_shared, uint8_t *decision);
+
+/*
+ * The fields by which the origin is asked whether a stored response is still good (RFC 9111, section 4.3.1): its
+ * entity tag as a line of `if-none-match`, and the date of its last modification as one of `if-modified-since`, each
+ * with a LF. A validator that it doesn't have, or that can't be read, has no line. They stand in place of the request's
+ * own two fields, which are to be taken off first. Refused: a line of the section before its first empty one is no
+ * field.
+ */
+uint8_t typed_headers_validators(const uint8_t *response, size_t response_length,
+                                 const struct typed_headers_keys *keys, uint8_t *room, size_t room_length,
+                                 size_t *written);
 
 #ifdef __cplusplus
 }

@@ -87,7 +87,7 @@ struct row {
 };
 
 static size_t rows, wrong, refusals;
-static struct area first_area, second_area, third_area, room_area;
+static struct area first_area, second_area, third_area, rule_areas[4], room_area;
 
 static void complain(const struct row *row, const char *what) {
     wrong++;
@@ -142,6 +142,10 @@ static bool answer_is(const struct row *row, size_t place, const char *answer) {
 }
 
 static bool is_answer(const struct row *row, const char *answer) { return strcmp(row->answer, answer) == 0; }
+
+static bool is_word(const struct word *word, const char *text) {
+    return word->length == strlen(text) && memcmp(word->bytes, text, word->length) == 0;
+}
 
 /* A call over the areas: its status, and what it gave. */
 typedef uint8_t call_fn(const void *arguments, uint64_t *number, uint8_t *room, size_t room_length, size_t *written);
@@ -506,28 +510,63 @@ static uint8_t call_select(const void *arguments, uint64_t *number, uint8_t *roo
     return ranges_written(status, ranges, room, room_length, written);
 }
 
-static bool is_word(const struct word *word, const char *text) {
-    return word->length == strlen(text) && memcmp(word->bytes, text, word->length) == 0;
-}
+/* Whether a word is the name of a field, which stands in parentheses. */
+static bool is_name(const struct word *word) { return word->length > 2 && word->bytes[0] == '('; }
 
-/* `METHOD (NAME) LINE.. (/)`: the place behind it. */
-static size_t read_request(const struct row *row, struct request_call *call) {
+/* `(NAME) LINE.. (/)` as a header section in an area, which ends with the row at the latest. The place behind it. */
+static size_t read_section(const struct row *row, size_t i, struct area area, struct text *text) {
     static char section[AREA];
-    size_t length = 0, i = 1;
+    size_t length = 0;
     struct word name = {"", 0};
     for (; i < row->count && !is_word(&row->words[i], "(/)"); i++) {
         const struct word *word = &row->words[i];
-        if (word->length > 2 && word->bytes[0] == '(') {
+        if (is_name(word)) {
             name = (struct word){word->bytes + 1, word->length - 2};
             continue;
         }
         length += sprintf(section + length, "%.*s: %.*s\r\n", (int)name.length, name.bytes, (int)word->length,
                           word->bytes);
     }
-    call->method = put(third_area, row->words[0].bytes, row->words[0].length);
-    call->section = put(first_area, section, length);
-    call->etag = put(second_area, "", 0);
+    *text = put(area, section, length);
     return i + 1;
+}
+
+/* Writes the lines of a field of such words, each as is told, and says how many bytes they are. */
+static size_t field_lines(const struct row *row, size_t i, const char *name, const char *form, char *lines) {
+    size_t length = 0;
+    bool is_wanted = false;
+    for (; i < row->count && !is_word(&row->words[i], "(/)"); i++) {
+        const struct word *word = &row->words[i];
+        if (is_name(word)) {
+            is_wanted = word->length == strlen(name) + 2 && memcmp(word->bytes + 1, name, strlen(name)) == 0;
+        } else if (is_wanted) {
+            length += sprintf(lines + length, form, (int)word->length, word->bytes);
+        }
+    }
+    lines[length] = 0;
+    return length;
+}
+
+/* The words of the row's answer. */
+static struct row *answer_words(const struct row *row) {
+    static struct row answer;
+    static char copy[AREA];
+    snprintf(copy, sizeof copy, "%s", row->answer);
+    answer.count = 0;
+    for (char *word = strtok(copy, " "); word && answer.count < MOST_WORDS; word = strtok(NULL, " ")) {
+        answer.words[answer.count++] = (struct word){word, 0};
+    }
+    for (size_t i = 0; i < answer.count; i++) {
+        answer.words[i].length = decode(answer.words[i].bytes);
+    }
+    return &answer;
+}
+
+/* `METHOD (NAME) LINE.. (/)`: the place behind it. */
+static size_t read_request(const struct row *row, struct request_call *call) {
+    call->method = put(third_area, row->words[0].bytes, row->words[0].length);
+    call->etag = put(second_area, "", 0);
+    return read_section(row, 1, first_area, &call->section);
 }
 
 /* `TAG SECOND KIND` of a representation. */
@@ -574,6 +613,244 @@ static void check_select(const struct row *row) {
           (struct word){(char *)bounds, count * sizeof(uint64_t)});
 }
 
+/* A request from another origin. */
+struct cors_call {
+    struct typed_headers_cors_rules rules;
+    struct text method, request, response;
+};
+
+static uint8_t call_cors(const void *arguments, uint64_t *number, uint8_t *room, size_t room_length,
+                         size_t *written) {
+    const struct cors_call *call = arguments;
+    struct typed_headers_cors_facts facts = {FILL, FILL};
+    uint8_t status = typed_headers_cors_answer(&call->rules, call->method.bytes, call->method.length,
+                                               call->request.bytes, call->request.length, call->response.bytes,
+                                               call->response.length, &KEYS, &facts, room, room_length, written);
+    if (facts.kind != FILL || facts.is_allowed != FILL) {
+        *number = facts.kind * 256 + facts.is_allowed;
+    }
+    return status;
+}
+
+/* Rules as the fields of a row. The place behind them, or 0 if the only line of a list is a star, which is any here. */
+static size_t read_rules(const struct row *row, struct typed_headers_cors_rules *rules) {
+    static const char *names[] = {"origins", "methods", "names", "exposed"};
+    static char any[AREA], list[AREA], number[64];
+    struct typed_headers_text *texts[] = {&rules->origins, &rules->methods, &rules->headers, &rules->exposed};
+    bool has_star = false;
+    field_lines(row, 0, "any", " %.*s ", any);
+    for (int i = 0; i < 4; i++) {
+        char name[32];
+        size_t length = field_lines(row, 0, names[i], "%.*s\n", list);
+        snprintf(name, sizeof name, " %s ", names[i]);
+        has_star |= strcmp(list, "*\n") == 0;
+        if (strstr(any, name)) {
+            length = sprintf(list, "*\n");
+        }
+        struct text text = put(rule_areas[i], list, length);
+        *texts[i] = (struct typed_headers_text){text.bytes, text.length};
+    }
+    rules->credentials = field_lines(row, 0, "credentials", "%.*s\n", list);
+    rules->has_max_age = field_lines(row, 0, "max-age", "%.*s", number);
+    rules->max_age = strtoull(number, NULL, 10);
+    size_t i = 0;
+    while (!is_word(&row->words[i], "(/)")) {
+        i++;
+    }
+    return has_star ? 0 : i + 1;
+}
+
+/* `CorsPolicy.new RULES (/)` */
+static void check_rules(const struct row *row) {
+    struct cors_call call = {0};
+    call.method = put(third_area, "GET", 3);
+    call.request = put(first_area, "", 0);
+    call.response = put(second_area, "", 0);
+    if (!read_rules(row, &call.rules)) {
+        return;
+    }
+    if (!is_answer(row, "made")) {
+        check(row, call_cors, &call, TYPED_HEADERS_REFUSED, NO_NUMBER, NO_TEXT);
+        return;
+    }
+    rows++;
+    if (make(call_cors, &call, 0, 0).status != TYPED_HEADERS_NO_ROOM) {
+        complain(row, "another status");
+    }
+}
+
+/* `CorsPolicy.answer RULES (/) METHOD REQUEST (/) RESPONSE` */
+static void check_cors(const struct row *row) {
+    static const char *names[] = {"access-control-allow-origin",   "access-control-allow-credentials",
+                                  "access-control-expose-headers", "access-control-allow-methods",
+                                  "access-control-allow-headers",  "access-control-max-age"};
+    static const char *kinds[] = {"no-origin", "plain", "preflight"};
+    static char wanted[AREA], vary[AREA];
+    struct cors_call call = {0};
+    size_t i = read_rules(row, &call.rules), length = 0;
+    if (!i) {
+        return;
+    }
+    call.method = put(third_area, row->words[i].bytes, row->words[i].length);
+    const size_t response = read_section(row, i + 1, first_area, &call.request);
+    read_section(row, response, second_area, &call.response);
+    if (is_answer(row, "(refused)")) {
+        check(row, call_cors, &call, TYPED_HEADERS_REFUSED, NO_NUMBER, NO_TEXT);
+        return;
+    }
+    const struct row *answer = answer_words(row);
+    for (int name = 0; name < 6; name++) {
+        char form[64];
+        snprintf(form, sizeof form, "%s: %%.*s\n", names[name]);
+        length += field_lines(answer, 2, names[name], form, wanted + length);
+    }
+    /* Vary is there if it isn't as it was. */
+    field_lines(row, response, "vary", "vary: %.*s\n", vary);
+    const size_t added = field_lines(answer, 2, "vary", "vary: %.*s\n", wanted + length);
+    length += strcmp(vary, wanted + length) == 0 ? 0 : added;
+    uint64_t kind = 0;
+    while (!is_word(&answer->words[0], kinds[kind])) {
+        kind++;
+    }
+    check(row, call_cors, &call, TYPED_HEADERS_DONE, kind * 256 + is_word(&answer->words[1], "true"),
+          (struct word){wanted, length});
+}
+
+/* What a cache may do with a response. */
+struct cache_call {
+    struct text method, stored, request, response;
+    uint16_t status;
+    bool is_shared;
+    struct typed_headers_moments moments;
+};
+
+static bool read_kind(const struct row *row) { return is_word(&row->words[0], "shared"); }
+
+static uint64_t read_number(const struct row *row, size_t i) {
+    row->words[i].bytes[row->words[i].length] = 0;
+    return strtoull(row->words[i].bytes, NULL, 10);
+}
+
+static void read_moments(const struct row *row, size_t i, struct typed_headers_moments *moments) {
+    *moments = (struct typed_headers_moments){read_number(row, i), read_number(row, i + 1), read_number(row, i + 2)};
+}
+
+static uint8_t call_may_store(const void *arguments, uint64_t *number, uint8_t *room, size_t room_length,
+                              size_t *written) {
+    const struct cache_call *call = arguments;
+    uint8_t answer = FILL;
+    (void)room, (void)room_length, (void)written;
+    uint8_t status = typed_headers_may_store(call->method.bytes, call->method.length, call->request.bytes,
+                                             call->request.length, call->status, call->response.bytes,
+                                             call->response.length, &KEYS, call->is_shared, &answer);
+    if (answer != FILL) {
+        *number = answer;
+    }
+    return status;
+}
+
+/* `may_store KIND METHOD STATUS REQUEST (/) RESPONSE` */
+static void check_may_store(const struct row *row) {
+    struct cache_call call = {.is_shared = read_kind(row), .status = (uint16_t)read_number(row, 2)};
+    call.method = put(third_area, row->words[1].bytes, row->words[1].length);
+    read_section(row, read_section(row, 3, first_area, &call.request), second_area, &call.response);
+    check(row, call_may_store, &call, TYPED_HEADERS_DONE, is_answer(row, "true"), NO_TEXT);
+    call.status = 99;
+    check(row, call_may_store, &call, TYPED_HEADERS_REFUSED, NO_NUMBER, NO_TEXT);
+}
+
+static uint8_t call_lifetime(const void *arguments, uint64_t *number, uint8_t *room, size_t room_length,
+                             size_t *written) {
+    const struct cache_call *call = arguments;
+    (void)room, (void)room_length, (void)written;
+    return typed_headers_lifetime(call->response.bytes, call->response.length, &KEYS, call->moments.response,
+                                  call->is_shared, number);
+}
+
+/* `lifetime KIND RECEIVED RESPONSE` */
+static void check_lifetime(const struct row *row) {
+    struct cache_call call = {.is_shared = read_kind(row)};
+    call.moments.response = read_number(row, 1);
+    read_section(row, 2, first_area, &call.response);
+    if (is_answer(row, "(none)")) {
+        check(row, call_lifetime, &call, TYPED_HEADERS_ABSENT, NO_NUMBER, NO_TEXT);
+    } else {
+        check(row, call_lifetime, &call, TYPED_HEADERS_DONE, strtoull(row->answer, NULL, 10), NO_TEXT);
+    }
+}
+
+static uint8_t call_current_age(const void *arguments, uint64_t *number, uint8_t *room, size_t room_length,
+                                size_t *written) {
+    const struct cache_call *call = arguments;
+    (void)room, (void)room_length, (void)written;
+    return typed_headers_current_age(call->response.bytes, call->response.length, &KEYS, &call->moments, number);
+}
+
+/* `current_age REQUESTED RECEIVED NOW RESPONSE` */
+static void check_current_age(const struct row *row) {
+    struct cache_call call = {0};
+    read_moments(row, 0, &call.moments);
+    read_section(row, 3, first_area, &call.response);
+    check(row, call_current_age, &call, TYPED_HEADERS_DONE, strtoull(row->answer, NULL, 10), NO_TEXT);
+}
+
+static uint8_t call_decide(const void *arguments, uint64_t *number, uint8_t *room, size_t room_length,
+                           size_t *written) {
+    const struct cache_call *call = arguments;
+    uint8_t decision = FILL;
+    (void)room, (void)room_length, (void)written;
+    uint8_t status = typed_headers_decide(call->stored.bytes, call->stored.length, call->request.bytes,
+                                          call->request.length, call->response.bytes, call->response.length, &KEYS,
+                                          &call->moments, call->is_shared, &decision);
+    if (decision != FILL) {
+        *number = decision;
+    }
+    return status;
+}
+
+/*
+ * `decide KIND REQUESTED RECEIVED NOW STORED (/) REQUEST (/) RESPONSE`, or `decide_matched` without the stored request:
+ * the request stands for it, which a response without Vary suits.
+ */
+static void check_decide(const struct row *row) {
+    static const char *decisions[] = {"Serve",      "ServeAndRevalidate", "ServeStale", "Revalidate",
+                                      "RevalidateOrServe", "Unavailable", "Fetch"};
+    struct cache_call call = {.is_shared = read_kind(row)};
+    const bool has_stored = strcmp(row->call, "decide") == 0;
+    read_moments(row, 1, &call.moments);
+    const size_t request = has_stored ? read_section(row, 4, third_area, &call.stored) : 4;
+    const size_t response = read_section(row, request, first_area, &call.request);
+    read_section(row, response, second_area, &call.response);
+    if (!has_stored) {
+        call.stored = call.request;
+    }
+    for (uint64_t i = 0; i < 7; i++) {
+        if (is_answer(row, decisions[i])) {
+            check(row, call_decide, &call, TYPED_HEADERS_DONE, i, NO_TEXT);
+            return;
+        }
+    }
+    complain(row, "a decision that no call has");
+}
+
+static uint8_t call_validators(const void *arguments, uint64_t *number, uint8_t *room, size_t room_length,
+                               size_t *written) {
+    const struct text *response = arguments;
+    (void)number;
+    return typed_headers_validators(response->bytes, response->length, &KEYS, room, room_length, written);
+}
+
+/* `validation_steps REQUEST (/) RESPONSE`: of the answer the two fields count. */
+static void check_validators(const struct row *row) {
+    static char wanted[AREA];
+    struct text request, response;
+    read_section(row, read_section(row, 0, first_area, &request), second_area, &response);
+    const struct row *answer = answer_words(row);
+    size_t length = field_lines(answer, 0, "if-none-match", "if-none-match: %.*s\n", wanted);
+    length += field_lines(answer, 0, "if-modified-since", "if-modified-since: %.*s\n", wanted + length);
+    check(row, call_validators, &response, TYPED_HEADERS_DONE, NO_NUMBER, (struct word){wanted, length});
+}
+
 static void make_row(struct row *row) {
     static const char *numbers[] = {"Age", "ContentLength", "Date", "Expires", "LastModified"};
     for (int i = 0; i < 5; i++) {
@@ -602,6 +879,20 @@ static void make_row(struct row *row) {
         check_evaluate(row);
     } else if (strcmp(row->call, "select") == 0) {
         check_select(row);
+    } else if (strcmp(row->call, "CorsPolicy.new") == 0) {
+        check_rules(row);
+    } else if (strcmp(row->call, "CorsPolicy.answer") == 0) {
+        check_cors(row);
+    } else if (strcmp(row->call, "may_store") == 0) {
+        check_may_store(row);
+    } else if (strcmp(row->call, "lifetime") == 0) {
+        check_lifetime(row);
+    } else if (strcmp(row->call, "current_age") == 0) {
+        check_current_age(row);
+    } else if (strcmp(row->call, "decide") == 0 || strcmp(row->call, "decide_matched") == 0) {
+        check_decide(row);
+    } else if (strcmp(row->call, "validation_steps") == 0) {
+        check_validators(row);
     }
 }
 
@@ -659,6 +950,9 @@ int main(int count, char **names) {
     first_area = new_area();
     second_area = new_area();
     third_area = new_area();
+    for (int i = 0; i < 4; i++) {
+        rule_areas[i] = new_area();
+    }
     room_area = new_area();
     for (int i = 1; i < count; i++) {
         read_file(names[i]);
