@@ -67,15 +67,26 @@ def ranges(words, wanted):
     return given == list(zip(bounds[::2], bounds[1::2]))
 
 
-def request(words):
-    end = words.index("(/)")
-    section, name = b"", b""
-    for word in words[1:end]:
+def fields(words):
+    """The fields of words up to `(/)`, and the words behind it."""
+    end = words.index("(/)") if "(/)" in words else len(words)
+    found, name = [], b""
+    for word in words[:end]:
         if word.startswith("(") and word != "()":
             name = word[1:-1].encode()
         else:
-            section += name + b": " + decode(word) + b"\n"
-    return decode(words[0]), section, words[end + 1 :]
+            found.append((name, decode(word)))
+    return found, words[end + 1 :]
+
+
+def section(words):
+    found, words = fields(words)
+    return b"".join(name + b": " + value + b"\n" for name, value in found), words
+
+
+def request(words):
+    sent, left = section(words[1:])
+    return decode(words[0]), sent, left
 
 
 def known(resource):
@@ -86,18 +97,83 @@ def known(resource):
 
 
 def evaluate(words, wanted):
-    method, section, resource = request(words)
+    method, sent, resource = request(words)
     target = {"exists": False} if resource[0] == "missing" else known(resource)
-    return headers.evaluate(method, section, **target).name.lower() == wanted[0]
+    return headers.evaluate(method, sent, **target).name.lower() == wanted[0]
 
 
 def select(words, wanted):
-    method, section, target = request(words)
+    method, sent, target = request(words)
     is_strong = target[2] == "strong"
-    given = headers.select(method, section, int(target[3]), **known(target), is_date_strong=is_strong)
+    given = headers.select(method, sent, int(target[3]), **known(target), is_date_strong=is_strong)
     if wanted[0] in ("whole", "unsatisfiable"):
         return given == (200 if wanted[0] == "whole" else 416, [])
     return given == (206, [tuple(map(int, part.split("-"))) for part in wanted])
+
+
+def rules(words):
+    """The rules of a row, or `None` if the only value of a list is a star, which is any here."""
+    found, left = fields(words)
+    listed = {name: [value for other, value in found if other == name] for name, _ in found}
+    names = (b"origins", b"methods", b"names", b"exposed")
+    if any(listed.get(name) == [b"*"] for name in names):
+        return None, left
+    lists = [headers.ANY if name in listed.get(b"any", []) else listed.get(name, []) for name in names]
+    max_age = int(listed[b"max-age"][0]) if b"max-age" in listed else None
+    return headers.CorsRules(*lists, max_age, b"credentials" in listed), left
+
+
+def cors_new(words, wanted):
+    given, _ = rules(words)
+    if given is None:
+        return True
+    return (answer(headers.cors_answer, given, b"GET", b"") == REFUSED) == (wanted[0] != "made")
+
+
+def cors_answer(words, wanted):
+    given, left = rules(words)
+    method, sent, left = request(left)
+    before, _ = section(left)
+    shared = answer(headers.cors_answer, given, method, sent, before)
+    if wanted[0] == REFUSED:
+        return shared == REFUSED
+    after = [(name, value) for name, value in fields(left)[0] if name not in headers.CORS_FIELDS]
+    if any(name == b"vary" for name, _ in shared.fields):
+        after = [(name, value) for name, value in after if name != b"vary"]
+    kind = shared.kind.name.lower().replace("_", "-")
+    seen = sorted(after + shared.fields, key=lambda field: field[0])
+    return (kind, shared.is_allowed, seen) == (wanted[0], wanted[1] == "true", fields(wanted[2:])[0])
+
+
+def may_store(words, wanted):
+    sent, left = section(words[3:])
+    stored = headers.may_store(decode(words[1]), sent, int(words[2]), section(left)[0], words[0] == "shared")
+    return stored == (wanted[0] == "true")
+
+
+def lifetime(words, wanted):
+    given = headers.lifetime(section(words[2:])[0], int(words[1]), words[0] == "shared")
+    return given == (None if wanted[0] == "(none)" else int(wanted[0]))
+
+
+def current_age(words, wanted):
+    moments = headers.Moments(*map(int, words[:3]))
+    return headers.current_age(section(words[3:])[0], moments) == int(wanted[0])
+
+
+def decide(words, wanted, has_stored=True):
+    moments = headers.Moments(*map(int, words[1:4]))
+    stored, left = section(words[4:])
+    sent, left = section(left) if has_stored else (stored, left)
+    decision = headers.decide(stored, sent, section(left)[0], moments, words[0] == "shared")
+    return decision.name == re.sub(r"(?<!^)(?=[A-Z])", "_", wanted[0]).upper()
+
+
+def validators(words, wanted):
+    _, left = section(words)
+    names = (b"if-none-match", b"if-modified-since")
+    found = fields(wanted)[0]
+    return headers.validators(section(left)[0]) == [it for name in names for it in found if it[0] == name]
 
 
 CALLS = {
@@ -113,6 +189,14 @@ CALLS = {
     "Range.satisfiable_ranges": ranges,
     "evaluate": evaluate,
     "select": select,
+    "CorsPolicy.new": cors_new,
+    "CorsPolicy.answer": cors_answer,
+    "may_store": may_store,
+    "lifetime": lifetime,
+    "current_age": current_age,
+    "decide": decide,
+    "decide_matched": lambda *row: decide(*row, has_stored=False),
+    "validation_steps": validators,
 }
 
 

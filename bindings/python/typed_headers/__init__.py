@@ -13,8 +13,15 @@ from enum import IntEnum
 from typing import Callable, Iterable, List, NamedTuple, Optional, Tuple
 
 __all__ = [
+    "ANY",
+    "CORS_FIELDS",
     "CacheControl",
     "Canonical",
+    "CorsAnswer",
+    "CorsKind",
+    "CorsRules",
+    "Decision",
+    "Moments",
     "Precondition",
     "Refused",
     "TooLarge",
@@ -22,16 +29,22 @@ __all__ = [
     "cache_control",
     "canonical",
     "content_length",
+    "cors_answer",
+    "current_age",
     "date",
+    "decide",
     "essence",
     "evaluate",
     "expires",
     "last_modified",
+    "lifetime",
     "lines",
+    "may_store",
     "media_type",
     "ranges",
     "select",
     "strong_eq",
+    "validators",
     "weak_eq",
     "websocket_accept",
 ]
@@ -78,6 +91,75 @@ class Precondition(IntEnum):
     FAILED = 412
 
 
+#: Any value, in a list of `CorsRules`.
+ANY = (b"*",)
+
+#: The fields of a response that are the rules' alone: take them off before those of a `CorsAnswer` are added.
+CORS_FIELDS = (
+    b"access-control-allow-origin",
+    b"access-control-allow-credentials",
+    b"access-control-expose-headers",
+    b"access-control-allow-methods",
+    b"access-control-allow-headers",
+    b"access-control-max-age",
+)
+
+#: Names and values of fields, in order.
+Fields = List[Tuple[bytes, bytes]]
+
+
+class CorsRules(NamedTuple):
+    """What a server allows requests from other origins: the origins; the methods besides GET, HEAD and POST; the names
+    of request fields besides those that need no leave; those of response fields that scripts may read besides those
+    that are always readable; for how many seconds the answer to a preflight may be cached; and whether requests may
+    include credentials. A list may be `ANY`."""
+
+    origins: Iterable[bytes] = ()
+    methods: Iterable[bytes] = ()
+    headers: Iterable[bytes] = ()
+    exposed: Iterable[bytes] = ()
+    max_age: Optional[int] = None
+    credentials: bool = False
+
+
+class CorsKind(IntEnum):
+    """What a request is to a server's rules for other origins."""
+
+    NO_ORIGIN = 0
+    PLAIN = 1
+    PREFLIGHT = 2
+
+
+class CorsAnswer(NamedTuple):
+    """What the request is, whether its origin is allowed, and the fields to add to the response. Those of
+    `CORS_FIELDS` are to be taken off it first. If there are fields `vary`, they stand in place of the response's."""
+
+    kind: CorsKind
+    is_allowed: bool
+    fields: Fields
+
+
+class Moments(NamedTuple):
+    """When the request was made that a stored response answered, when that came, and the present, in seconds since
+    1970 by the cache's own clock."""
+
+    request: int
+    response: int
+    now: int
+
+
+class Decision(IntEnum):
+    """What a cache does with a request that a stored response could answer."""
+
+    SERVE = 0
+    SERVE_AND_REVALIDATE = 1
+    SERVE_STALE = 2
+    REVALIDATE = 3
+    REVALIDATE_OR_SERVE = 4
+    UNAVAILABLE = 5
+    FETCH = 6
+
+
 class _Keys(ctypes.Structure):
     _fields_ = [("first", ctypes.c_uint64), ("second", ctypes.c_uint64)]
 
@@ -103,6 +185,26 @@ class _Target(ctypes.Structure):
         ("has_last_modified", ctypes.c_bool),
         ("is_date_strong", ctypes.c_bool),
     ]
+
+
+class _Text(ctypes.Structure):
+    _fields_ = [("bytes", ctypes.c_char_p), ("length", ctypes.c_size_t)]
+
+
+class _Rules(ctypes.Structure):
+    _fields_ = [(name, _Text) for name in CorsRules._fields[:4]] + [
+        ("max_age", ctypes.c_uint64),
+        ("has_max_age", ctypes.c_bool),
+        ("credentials", ctypes.c_bool),
+    ]
+
+
+class _Facts(ctypes.Structure):
+    _fields_ = [("kind", ctypes.c_uint8), ("is_allowed", ctypes.c_uint8)]
+
+
+class _Moments(ctypes.Structure):
+    _fields_ = [(name, ctypes.c_uint64) for name in Moments._fields]
 
 
 _DONE, _REFUSED, _NO_MEMORY, _NO_ROOM, _ABSENT, _TOO_LARGE, _MARKED = range(7)
@@ -139,6 +241,19 @@ _REQUEST = [*_TEXT, *_TEXT, ctypes.POINTER(_Keys), *_TEXT, ctypes.POINTER(_Targe
 _evaluate = _call("evaluate", *_REQUEST, ctypes.POINTER(ctypes.c_uint16))
 _select = _call("select", *_REQUEST, ctypes.c_uint64, ctypes.POINTER(ctypes.c_uint16), *_ROOM)
 _canonical = _call("canonical", *_TEXT, ctypes.POINTER(_Keys), *_ROOM)
+_SECTION = [*_TEXT, ctypes.POINTER(_Keys)]
+_cors_answer = _call(
+    "cors_answer", ctypes.POINTER(_Rules), *_TEXT, *_TEXT, *_SECTION, ctypes.POINTER(_Facts), *_ROOM
+)
+_may_store = _call(
+    "may_store", *_TEXT, *_TEXT, ctypes.c_uint16, *_SECTION, ctypes.c_bool, ctypes.POINTER(ctypes.c_uint8)
+)
+_lifetime = _call("lifetime", *_SECTION, ctypes.c_uint64, ctypes.c_bool, ctypes.POINTER(ctypes.c_uint64))
+_current_age = _call("current_age", *_SECTION, ctypes.POINTER(_Moments), ctypes.POINTER(ctypes.c_uint64))
+_decide = _call(
+    "decide", *_TEXT, *_TEXT, *_SECTION, ctypes.POINTER(_Moments), ctypes.c_bool, ctypes.POINTER(ctypes.c_uint8)
+)
+_validators = _call("validators", *_SECTION, *_ROOM)
 
 
 def _check(status: int) -> None:
@@ -313,3 +428,70 @@ def canonical(section: bytes) -> Canonical:
         lambda *room: _canonical(section, len(section), ctypes.byref(_keys), *room), len(section) + 64
     )
     return Canonical(text, status == _MARKED)
+
+
+def _fields(text: bytes) -> Fields:
+    return [(name, value) for name, _, value in (line.partition(b": ") for line in text.split(b"\n")[:-1])]
+
+
+def _rules(rules: CorsRules) -> _Rules:
+    texts = [lines(values) for values in rules[:4]]
+    return _Rules(
+        *(_Text(text, len(text)) for text in texts), rules.max_age or 0, rules.max_age is not None, rules.credentials
+    )
+
+
+def cors_answer(rules: CorsRules, method: bytes, request: bytes, response: bytes = b"") -> CorsAnswer:
+    """What a server with these rules answers a request from another origin (Fetch standard, "CORS protocol"), by its
+    method and its header section, and by the section of the response as its handler left it, of which Vary counts.
+    `Refused` also if no browser would read the rules as they are meant."""
+    given, facts = _rules(rules), _Facts()
+    arguments = (ctypes.byref(given), method, len(method), request, len(request), *_section(response))
+    _, text = _bytes(lambda *room: _cors_answer(*arguments, ctypes.byref(facts), *room), 512)
+    return CorsAnswer(CorsKind(facts.kind), facts.is_allowed == 1, _fields(text))
+
+
+def _section(section: bytes) -> tuple:
+    return (section, len(section), ctypes.byref(_keys))
+
+
+def may_store(method: bytes, request: bytes, status: int, response: bytes, is_shared: bool) -> bool:
+    """Whether a cache may store the response to a request (RFC 9111, sections 3 and 3.5), by their header sections."""
+    if not 0 <= status < 65536:
+        raise Refused
+    answer = ctypes.c_uint8()
+    arguments = (method, len(method), request, len(request), status, *_section(response), is_shared)
+    _check(_may_store(*arguments, ctypes.byref(answer)))
+    return answer.value == 1
+
+
+def lifetime(response: bytes, received: int, is_shared: bool) -> Optional[int]:
+    """For how many seconds a response that came at a moment is fresh, if its origin says so (RFC 9111, section
+    4.2.1)."""
+    seconds = ctypes.c_uint64()
+    status = _lifetime(*_section(response), received, is_shared, ctypes.byref(seconds))
+    _check(status)
+    return seconds.value if status == _DONE else None
+
+
+def current_age(response: bytes, moments: Moments) -> int:
+    """How many seconds old a stored response is (RFC 9111, section 4.2.3)."""
+    seconds = ctypes.c_uint64()
+    _check(_current_age(*_section(response), ctypes.byref(_Moments(*moments)), ctypes.byref(seconds)))
+    return seconds.value
+
+
+def decide(stored: bytes, request: bytes, response: bytes, moments: Moments, is_shared: bool) -> Decision:
+    """What a cache does with a request, by a response that it has stored and the request that this answered (RFC 9111,
+    section 4, and RFC 5861)."""
+    decision = ctypes.c_uint8()
+    arguments = (stored, len(stored), request, len(request), *_section(response))
+    _check(_decide(*arguments, ctypes.byref(_Moments(*moments)), is_shared, ctypes.byref(decision)))
+    return Decision(decision.value)
+
+
+def validators(response: bytes) -> Fields:
+    """The fields by which the origin is asked whether a stored response is still good (RFC 9111, section 4.3.1). They
+    stand in place of the request's own `if-none-match` and `if-modified-since`."""
+    _, text = _bytes(lambda *room: _validators(*_section(response), *room), 128)
+    return _fields(text)
