@@ -17,6 +17,93 @@ pub struct Target {
     pub is_date_strong: bool,
 }
 
+#[repr(C)]
+#[derive(Clone, Copy, Debug, Default)]
+pub struct DirectiveSeconds {
+    pub seconds: u64,
+    pub is_set: u8,
+}
+
+#[repr(C)]
+#[derive(Clone, Copy, Debug, Default)]
+pub struct CacheDirectives {
+    pub max_age: DirectiveSeconds,
+    pub max_stale: DirectiveSeconds,
+    pub min_fresh: DirectiveSeconds,
+    pub s_maxage: DirectiveSeconds,
+    pub no_cache: u8,
+    pub no_store: u8,
+    pub no_transform: u8,
+    pub only_if_cached: u8,
+    pub must_revalidate: u8,
+    pub must_understand: u8,
+    pub is_public: u8,
+    pub is_private: u8,
+    pub immutable: u8,
+}
+
+#[repr(C)]
+#[derive(Clone, Copy, Debug, Default, PartialEq, Eq)]
+pub struct BytesRange {
+    pub first: u64,
+    pub last: u64,
+}
+
+#[repr(C)]
+#[derive(Clone, Copy, Debug)]
+pub struct Text {
+    pub bytes: *const u8,
+    pub length: usize,
+}
+
+#[repr(C)]
+#[derive(Clone, Copy, Debug)]
+pub struct CorsRules {
+    pub origins: Text,
+    pub methods: Text,
+    pub headers: Text,
+    pub exposed: Text,
+    pub max_age: u64,
+    pub has_max_age: bool,
+    pub credentials: bool,
+}
+
+#[repr(C)]
+#[derive(Clone, Copy, Debug, Default)]
+pub struct CorsFacts {
+    pub kind: u8,
+    pub is_allowed: u8,
+}
+
+#[repr(C)]
+#[derive(Clone, Copy, Debug)]
+pub struct Moments {
+    pub request: u64,
+    pub response: u64,
+    pub now: u64,
+}
+
+/// A call that reads one number of the lines of a field.
+pub type NumberCall = unsafe extern "C" fn(lines: *const u8, lines_length: usize, number: *mut u64) -> u8;
+
+/// A call that writes bytes, by the lines of a field.
+pub type BytesCall = unsafe extern "C" fn(
+    lines: *const u8,
+    lines_length: usize,
+    room: *mut u8,
+    room_length: usize,
+    written: *mut usize,
+) -> u8;
+
+/// A call that compares two entity tags.
+pub type TagsCall = unsafe extern "C" fn(
+    one: *const u8,
+    one_length: usize,
+    other: *const u8,
+    other_length: usize,
+    equal: *mut u8,
+) -> u8;
+
 extern "C" {
     pub fn typed_headers_canonical(
         section: *const u8,
@@ -27,13 +114,50 @@ extern "C" {
         written: *mut usize,
     ) -> u8;
     pub fn typed_headers_age(lines: *const u8, lines_length: usize, seconds: *mut u64) -> u8;
+    pub fn typed_headers_content_length(lines: *const u8, lines_length: usize, length: *mut u64) -> u8;
     pub fn typed_headers_date(lines: *const u8, lines_length: usize, second: *mut u64) -> u8;
+    pub fn typed_headers_expires(lines: *const u8, lines_length: usize, second: *mut u64) -> u8;
+    pub fn typed_headers_last_modified(lines: *const u8, lines_length: usize, second: *mut u64) -> u8;
+    pub fn typed_headers_media_type(
+        lines: *const u8,
+        lines_length: usize,
+        room: *mut u8,
+        room_length: usize,
+        written: *mut usize,
+    ) -> u8;
+    pub fn typed_headers_essence(
+        lines: *const u8,
+        lines_length: usize,
+        room: *mut u8,
+        room_length: usize,
+        written: *mut usize,
+    ) -> u8;
     pub fn typed_headers_strong_eq(
         one: *const u8,
         one_length: usize,
         other: *const u8,
         other_length: usize,
         equal: *mut u8,
+    ) -> u8;
+    pub fn typed_headers_weak_eq(
+        one: *const u8,
+        one_length: usize,
+        other: *const u8,
+        other_length: usize,
+        equal: *mut u8,
+    ) -> u8;
+    pub fn typed_headers_cache_control(
+        lines: *const u8,
+        lines_length: usize,
+        directives: *mut CacheDirectives,
+    ) -> u8;
+    pub fn typed_headers_ranges(
+        lines: *const u8,
+        lines_length: usize,
+        length: u64,
+        room: *mut BytesRange,
+        room_length: usize,
+        written: *mut usize,
     ) -> u8;
     pub fn typed_headers_evaluate(
         method: *const u8,
@@ -45,5 +169,88 @@ extern "C" {
         etag_length: usize,
         target: *const Target,
         answer: *mut u16,
+    ) -> u8;
+    pub fn typed_headers_select(
+        method: *const u8,
+        method_length: usize,
+        section: *const u8,
+        section_length: usize,
+        keys: *const Keys,
+        etag: *const u8,
+        etag_length: usize,
+        target: *const Target,
+        length: u64,
+        answer: *mut u16,
+        room: *mut BytesRange,
+        room_length: usize,
+        written: *mut usize,
+    ) -> u8;
+    pub fn typed_headers_websocket_accept(
+        lines: *const u8,
+        lines_length: usize,
+        room: *mut u8,
+        room_length: usize,
+        written: *mut usize,
+    ) -> u8;
+    pub fn typed_headers_cors_answer(
+        rules: *const CorsRules,
+        method: *const u8,
+        method_length: usize,
+        request: *const u8,
+        request_length: usize,
+        response: *const u8,
+        response_length: usize,
+        keys: *const Keys,
+        facts: *mut CorsFacts,
+        room: *mut u8,
+        room_length: usize,
+        written: *mut usize,
+    ) -> u8;
+    pub fn typed_headers_may_store(
+        method: *const u8,
+        method_length: usize,
+        request: *const u8,
+        request_length: usize,
+        status: u16,
+        response: *const u8,
+        response_length: usize,
+        keys: *const Keys,
+        is_shared: bool,
+        answer: *mut u8,
+    ) -> u8;
+    pub fn typed_headers_lifetime(
+        response: *const u8,
+        response_length: usize,
+        keys: *const Keys,
+        received: u64,
+        is_shared: bool,
+        seconds: *mut u64,
+    ) -> u8;
+    pub fn typed_headers_current_age(
+        response: *const u8,
+        response_length: usize,
+        keys: *const Keys,
+        moments: *const Moments,
+        seconds: *mut u64,
+    ) -> u8;
+    pub fn typed_headers_decide(
+        stored: *const u8,
+        stored_length: usize,
+        request: *const u8,
+        request_length: usize,
+        response: *const u8,
+        response_length: usize,
+        keys: *const Keys,
+        moments: *const Moments,
+        is_shared: bool,
+        decision: *mut u8,
+    ) -> u8;
+    pub fn typed_headers_validators(
+        response: *const u8,
+        response_length: usize,
+        keys: *const Keys,
+        room: *mut u8,
+        room_length: usize,
+        written: *mut usize,
     ) -> u8;
 }
