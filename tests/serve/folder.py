@@ -1,4 +1,5 @@
 """Makes the folder that both servers serve, and beside it one that neither should."""
+import gzip
 import os
 import sys
 
@@ -28,6 +29,9 @@ def make(top):
         "sub/a.txt": b"a\n",
         "sub/.secret": b"secret\n",
         "none/b.txt": b"b\n",
+        "coded.css": b"a { color: blue }\n" * 50,
+        "coded.css.gz": gzip.compress(b"a { color: blue }\n" * 50, mtime=0),
+        "coded.css.br": b"in another coding\n",
         "../outside/secret.txt": b"secret\n",
     }
     for name, content in files.items():

@@ -7,4 +7,5 @@ pub mod PartLemmas
 pub mod PathLemmas
 pub mod PlanLemmas
 pub mod RedirectLemmas
+pub mod RepresentationLemmas
 pub mod WholeLemmas

@@ -1,5 +1,5 @@
 -- A request has one response at most.
-use Rattle.std.proofs.Common.{◌≡◌, ℕ, Bool, true, List, [], ◌∷◌, ◌++◌, length, Option, Some, refl}
+use Rattle.std.proofs.Common.{◌≡◌, ℕ, Bool, true, List, [], ◌∷◌, ◌++◌, length, Option, Some, None, refl}
 use Rattle.std.proofs.Common.{sym, ap, subst, ◌∙◌, inl, inr}
 use Rattle.std.specs.Prelude.{codes, decimal}
 use Rattle.http.specs.declared.request.Request.{Request}
@@ -22,16 +22,19 @@ use Rattle.headers_preconditions.specs.declared.plan.Plan.TheVariants.{Unsatisfi
 use Rattle.headers_preconditions.specs.declared.response.Response.{Response as Answer}
 use Rattle.headers_preconditions.proofs.OnePlanLemmas.{one_plan}
 use Rattle.headers_serve.specs.Answer.{AnswersBehind, AnswersEntry, AnswersFile, AnswersOther, Carries}
-use Rattle.headers_serve.specs.Answer.{IsAnswerOf, IsSendable, LeadsTo, body_sent, cache_sent, is_several}
+use Rattle.headers_serve.specs.Answer.{IsAnswerOf, IsSendable, LeadsTo, body_sent, cache_sent, coding_sent, is_several}
 use Rattle.headers_serve.specs.File.{boundary_of, resource_of, tag_of}
 use Rattle.headers_serve.specs.Multipart.{multipart}
 use Rattle.headers_serve.specs.Redirect.{AnswersFolder}
 use Rattle.headers_serve.specs.Response.{IsSameResponse, IsWith, fields_sent, no_lines}
+use Rattle.headers_serve.specs.Representations.{IsServedAt}
+use Rattle.headers_serve.specs.declared.coding.Coding.{Coding}
 use Rattle.headers_serve.specs.declared.file.Entry.{Entry}
 use Rattle.headers_serve.specs.declared.file.Entry.TheVariants.{Missing, Forbidden, Folder, Readable}
 use Rattle.headers_serve.specs.declared.file.File.{File}
 use Rattle.headers_serve.proofs.FieldLemmas.{SendSame, fields_from_same}
 use Rattle.headers_serve.proofs.PlanLemmas.{same_by_plan}
+use Rattle.headers_serve.proofs.RepresentationLemmas.{served_once}
 
 with_same : (before : List Header) (code : ℕ) (sent : List Header) (content : List ℕ) (r s : Response)
     → IsWith before code sent content r → IsWith before code sent content s → IsSameResponse r s
@@ -53,6 +56,16 @@ type_same (Multiple parts) is_known media_type x y e = ap (λ (line : List ℕ).
 type_same NotModified is_known media_type x y e = refl
 type_same Failed is_known media_type x y e = refl
 type_same Unsatisfiable is_known media_type x y e = refl
+
+-- several parts go without Content-Encoding
+abbrev coding_several : Option Coding → List Header
+coding_several None = []
+coding_several (Some coding) = (codes "vary", codes "accept-encoding") ∷ []
+
+several_alike : (is_known : Bool) (coding : Option Coding) (parts : _)
+    → coding_sent (Multiple parts) is_known coding ≡ coding_several coding
+several_alike is_known None parts = refl
+several_alike is_known (Some coding) parts = refl
 
 module _ (method : List ℕ) (request : LineMap) (file : File) (a b : Answer)
     (h : IsAnswerOf method request file a) (k : IsAnswerOf method request file b) where
@@ -110,13 +123,25 @@ module _ (method : List ℕ) (request : LineMap) (file : File) (a b : Answer)
       }
 
   module _ (before : List Header) (cache_control : Option FieldValue) (r s : Response)
-      (x : Carries before cache_control file a r) (y : Carries before cache_control file b s) where
-    fields_same : before ++ cache_sent a.plan cache_control ++ fields_sent (run no_lines a.steps.items)
-        ≡ before ++ cache_sent b.plan cache_control ++ fields_sent (run no_lines b.steps.items)
+      (x : Carries before cache_control (is_known_by request) file a r)
+      (y : Carries before cache_control (is_known_by request) file b s) where
+    fields_same : before ++ cache_sent a.plan cache_control ++ coding_sent a.plan (is_known_by request) file.coding
+        ++ fields_sent (run no_lines a.steps.items)
+        ≡ before ++ cache_sent b.plan cache_control ++ coding_sent b.plan (is_known_by request) file.coding
+        ++ fields_sent (run no_lines b.steps.items)
     fields_same =
-        ap (λ (l : List Header). before ++ l ++ fields_sent (run no_lines a.steps.items))
+        ap
+        (λ (l : List Header). before ++ l ++ coding_sent a.plan (is_known_by request) file.coding
+        ++ fields_sent (run no_lines a.steps.items))
         (by_plan (λ plan. cache_sent plan cache_control) (λ _. cache_sent Full cache_control) (λ _. refl))
-        ∙ ap (λ (l : List Header). before ++ cache_sent b.plan cache_control ++ l)
+        ∙ ap
+        (λ (l : List Header). before ++ cache_sent b.plan cache_control ++ l
+        ++ fields_sent (run no_lines a.steps.items))
+        (by_plan (λ plan. coding_sent plan (is_known_by request) file.coding)
+        (λ _. coding_several file.coding) (several_alike (is_known_by request) file.coding))
+        ∙ ap
+        (λ (l : List Header). before ++ cache_sent b.plan cache_control
+        ++ coding_sent b.plan (is_known_by request) file.coding ++ l)
         (fields_from_same (run no_lines a.steps.items) (run no_lines b.steps.items) sent_same)
 
     carried_same : IsSameResponse r s
@@ -176,30 +201,38 @@ module _ (before : List Header) (cache_control : Option FieldValue) (request : R
   entry_once (Readable file) x y =
       file_once before cache_control (head_of request).method (lines_at (head_of request).headers) file r s x y
 
--- a path leads to one entry, where the store has one at each path
-pub leads_once : (look : List ℕ → Entry) (path : List ℕ) (e f : Entry)
-    → LeadsTo (λ named entry. entry ≡ look named) path e
-    → LeadsTo (λ named entry. entry ≡ look named) path f → e ≡ f
-leads_once look path e f x y =
+-- a path leads a request to one entry, where the store has one at each path
+pub leads_once : (negotiates : Bool) (look : List ℕ → Entry) (request : LineMap) (path : List ℕ) (e f : Entry)
+    → LeadsTo negotiates (λ named entry. entry ≡ look named) request path e
+    → LeadsTo negotiates (λ named entry. entry ≡ look named) request path f → e ≡ f
+leads_once negotiates look request path e f x y =
     elim x [
       | inl h ↦
           elim y [
-            | inl k ↦ h.2 ∙ ap look (h.1.is_named ∙ sym k.1.is_named) ∙ sym k.2
+            | inl k ↦
+                let named : h.0 ≡ k.0 = h.1.is_named ∙ sym k.1.is_named in
+                let found : h.2.0 ≡ k.2.0 = h.2.1 ∙ ap look named ∙ sym k.2.1 in
+                served_once look negotiates request k.0 k.2.0 e f
+                (subst (λ (p : List ℕ). IsServedAt negotiates (λ at entry. entry ≡ look at) request p k.2.0 e) named
+                (subst (λ (g : Entry). IsServedAt negotiates (λ at entry. entry ≡ look at) request h.0 g e) found h.2.2))
+                k.2.2
             | inr k ↦ absurd (k.0 h.0 h.1)
           ]
       | inr h ↦ elim y [ inl k ↦ absurd (h.0 k.0 k.1) | inr k ↦ h.1 ∙ sym k.1 ]
     ]
 
-pub one_response : (before : List Header) (cache_control : Option FieldValue) (look : List ℕ → Entry)
+pub one_response : (before : List Header) (negotiates : Bool) (cache_control : Option FieldValue) (look : List ℕ → Entry)
     (request : Request (List ℕ)) (r s : Response)
-    → AnswersBehind before cache_control (λ named entry. entry ≡ look named) request r
-    → AnswersBehind before cache_control (λ named entry. entry ≡ look named) request s → IsSameResponse r s
-one_response before cache_control look request r s x y =
+    → AnswersBehind before negotiates cache_control (λ named entry. entry ≡ look named) request r
+    → AnswersBehind before negotiates cache_control (λ named entry. entry ≡ look named) request s → IsSameResponse r s
+one_response before negotiates cache_control look request r s x y =
     elim x [
       | inl h ↦
           elim y [
             | inl k ↦
-                let same = leads_once look (uri_path (head_of request).uri) h.1.0 k.1.0 h.1.1 k.1.1 in
+                let same =
+                leads_once negotiates look (lines_at (head_of request).headers) (uri_path (head_of request).uri) h.1.0 k.1.0
+                h.1.1 k.1.1 in
                 entry_once before cache_control request r s k.1.0
                 (subst (λ (e : Entry). AnswersEntry before cache_control request e r) same h.1.2) k.1.2
             | inr k ↦ absurd (k.0 h.0)

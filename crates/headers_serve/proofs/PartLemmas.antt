@@ -60,7 +60,7 @@ pub no_part_holds_boundary : (method : List ℕ) (request : LineMap) (file : Fil
     → (part : Part) → ¬ (Occurs (boundary_of file) (part_bytes file.content part))
 no_part_holds_boundary method request file answer h several part =
     elim h [
-      | inl sent ↦ no_part_holds file.content (boundary_of file) part (sent.0 several)
+      | inl sent ↦ no_part_holds file.content (boundary_of file) part (sent.0 several).apart
       | inr whole ↦
           let none =
           head_has_none request (resource_of file) (length file.content) answer.plan whole.3.2.plan in

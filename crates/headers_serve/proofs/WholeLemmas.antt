@@ -1,5 +1,5 @@
 -- A GET that makes no condition and asks for no range gets the content.
-use Rattle.std.proofs.Common.{◌≡◌, ℕ, List, length, true, false, Option, Some, refl, sym, subst, ◌∙◌}
+use Rattle.std.proofs.Common.{◌≡◌, ℕ, Bool, List, length, true, false, Option, Some, refl, sym, subst, ◌∙◌}
 use Rattle.std.proofs.Common.{inl, inr}
 use Rattle.std.specs.Prelude.{codes}
 use Rattle.http.specs.declared.request.Request.{Request}
@@ -9,6 +9,7 @@ use Rattle.http_uri.specs.Uri.{uri_path}
 use Rattle.http_server.specs.declared.response.Response.{Response}
 use Rattle.http1.specs.Fields.{Header}
 use Rattle.headers.specs.LineMap.{LineMap, lines_at}
+use Rattle.headers_preconditions.specs.Fields.{is_known_by}
 use Rattle.headers_preconditions.specs.Plans.{IsPlan, IsSamePlan}
 use Rattle.headers_preconditions.specs.Selection.{Selects}
 use Rattle.headers_preconditions.specs.declared.part.Part.{Part}
@@ -26,7 +27,7 @@ use Rattle.headers_serve.specs.Path.{Names}
 use Rattle.headers_serve.specs.declared.file.Entry.{Entry}
 use Rattle.headers_serve.specs.declared.file.Entry.TheVariants.{Readable}
 use Rattle.headers_serve.specs.declared.file.File.{File}
-use Rattle.headers_serve.proofs.OneResponseLemmas.{leads_once}
+use Rattle.headers_serve.proofs.RepresentationLemmas.{leads_own}
 use Rattle.headers_serve.proofs.PlanLemmas.{same_by_plan}
 
 abbrev get : List ℕ
@@ -68,7 +69,7 @@ module _ (request : LineMap) (file : File) (all : AsksForAll request) where
     one_part = by_plan is_several (λ _. true) (λ _. refl)
 
     carried : (before : List Header) (cache_control : Option FieldValue) (response : Response)
-        → Carries before cache_control file answer response → HasAll file response
+        → Carries before cache_control (is_known_by request) file answer response → HasAll file response
     carried before cache_control response x = (
       x.status ∙ h.2.status ∙ same.0,
       x.body ∙ by_plan (body_sent file) (multipart (boundary_of file) file) (λ _. refl),
@@ -83,22 +84,23 @@ module _ (request : LineMap) (file : File) (all : AsksForAll request) where
             absurd (whole.1 (λ several. let no = one_part whole.0 whole.2 in absurd (cc (no, several))))
       ]
 
-pub get_whole : (before : List Header) (cache_control : Option FieldValue) (look : List ℕ → Entry)
+pub get_whole : (before : List Header) (negotiates : Bool) (cache_control : Option FieldValue) (look : List ℕ → Entry)
     (request : Request (List ℕ)) (named : List ℕ) (file : File) (response : Response)
     → (head_of request).method ≡ get → Names (uri_path (head_of request).uri) (Some named) → look named ≡ Readable file
     → AsksForAll (lines_at (head_of request).headers)
-    → AnswersBehind before cache_control (λ path entry. entry ≡ look path) request response → HasAll file response
-get_whole before cache_control look request named file response method names found all x =
+    → AnswersBehind before negotiates cache_control (λ path entry. entry ≡ look path) request response
+    → HasAll file response
+get_whole before negotiates cache_control look request named file response method names found all x =
     elim x [
       | inl h ↦
-          let entry =
-          leads_once look (uri_path (head_of request).uri) h.1.0 (Readable file) h.1.1
-          (inl (named, names, sym found)) in
+          let lines : LineMap = lines_at (head_of request).headers in
+          let own = leads_own look negotiates lines (uri_path (head_of request).uri) named file h.1.0 names found
+          all.accept_encoding h.1.1 in
           let answers =
-          subst (λ (e : Entry). AnswersEntry before cache_control request e response) entry h.1.2 in
-          file_whole (lines_at (head_of request).headers) file all before cache_control response
-          (subst
-          (λ (m : List ℕ). AnswersFile before cache_control m (lines_at (head_of request).headers) file response)
-          method answers)
+          subst (λ (e : Entry). AnswersEntry before cache_control request e response) own.1 h.1.2 in
+          let whole =
+          file_whole lines own.0 all before cache_control response
+          (subst (λ (m : List ℕ). AnswersFile before cache_control m lines own.0 response) method answers) in
+          (whole.0, whole.1 ∙ own.2)
       | inr h ↦ absurd (h.0 (inl method))
     ]

@@ -12,18 +12,23 @@ use Rattle.http1.specs.Fields.{Header}
 use Rattle.headers.specs.Date.{fixdate}
 use Rattle.headers.specs.LineMap.{LineMap, lines_at, run}
 use Rattle.headers_preconditions.specs.Boundaries.{multipart_type}
+use Rattle.headers_preconditions.specs.Fields.{is_known_by}
 use Rattle.headers_preconditions.specs.Preconditions.{IsGetOrHead}
 use Rattle.headers_preconditions.specs.Responses.{IsResponse}
 use Rattle.headers_preconditions.specs.declared.plan.Plan.{Plan}
 use Rattle.headers_preconditions.specs.declared.plan.Plan.TheVariants.{NotModified, Failed, Full, Single, Multiple}
 use Rattle.headers_preconditions.specs.declared.plan.Plan.TheVariants.{Unsatisfiable}
 use Rattle.headers_preconditions.specs.declared.response.Response.{Response as Answer}
+use Rattle.headers_serve.specs.Codings.{coding_name, is_encoded}
 use Rattle.headers_serve.specs.File.{boundary_of, content_of, resource_of}
 use Rattle.headers_serve.specs.Multipart.{multipart}
 use Rattle.headers_serve.specs.Parts.{Occurs, part_bytes}
 use Rattle.headers_serve.specs.Path.{Names}
 use Rattle.headers_serve.specs.Redirect.{AnswersFolder}
+use Rattle.headers_serve.specs.Representations.{IsServedAt}
 use Rattle.headers_serve.specs.Response.{IsWith, fields_sent, no_lines}
+use Rattle.headers_serve.specs.declared.coding.Coding.{Coding}
+use Rattle.headers_serve.specs.declared.coding.Coding.TheVariants.{Identity, Brotli, Gzip}
 use Rattle.headers_serve.specs.declared.file.Entry.{Entry}
 use Rattle.headers_serve.specs.declared.file.Entry.TheVariants.{Missing, Forbidden, Folder, Readable}
 use Rattle.headers_serve.specs.declared.file.File.{File}
@@ -46,9 +51,21 @@ is_several NotModified = false
 is_several Failed = false
 is_several Unsatisfiable = false
 
--- no part holds what stands between the parts (RFC 2046, section 5.1.1), since the content doesn't
+-- the coding changes the file's content
+abbrev pub is_encoded_in : Option Coding → Bool
+is_encoded_in None = false
+is_encoded_in (Some coding) = is_encoded coding
+
+-- The file can be sent in parts: its content has no coding, which would be that of the parts and what stands between
+-- them (RFC 9110, section 8.4), and no part holds what stands between the parts (RFC 2046, section 5.1.1), since the
+-- content doesn't.
+pub record IsDivisible (file : File) : Type 0 where
+  pub plain : is_encoded_in file.coding ≡ false
+  pub apart : ¬ (Occurs (boundary_of file) file.content)
+
+-- the plan sends no parts, or they can be sent
 abbrev pub IsSendable : File → Plan → Type 0
-IsSendable file plan = is_several plan ≡ true → ¬ (Occurs (boundary_of file) file.content)
+IsSendable file plan = is_several plan ≡ true → IsDivisible file
 
 -- The answer to a read of the file. If its parts can't be sent, Range is ignored, as RFC 9110, section 14.2, lets a
 -- server do: the plan is that of a HEAD, which is that of a GET without Range.
@@ -76,6 +93,31 @@ cache_fields (Some value) = (codes "cache-control", value.bytes) ∷ []
 abbrev pub cache_sent : Plan → Option FieldValue → List Header
 cache_sent plan cache_control = if is_reusable plan then cache_fields cache_control else []
 
+-- Content-Encoding of a content in a coding
+abbrev pub encoding_fields : Coding → List Header
+encoding_fields Identity = []
+encoding_fields Brotli = (codes "content-encoding", coding_name Brotli) ∷ []
+encoding_fields Gzip = (codes "content-encoding", coding_name Gzip) ∷ []
+
+-- Content-Encoding (section 8.4): of 200, and of 206 with one part unless the client knows it (section 15.3.7)
+abbrev pub encoding_sent : Plan → Bool → Coding → List Header
+encoding_sent Full is_known coding = encoding_fields coding
+encoding_sent (Single part) is_known coding = if is_known then [] else encoding_fields coding
+encoding_sent (Multiple parts) is_known coding = []
+encoding_sent NotModified is_known coding = []
+encoding_sent Failed is_known coding = []
+encoding_sent Unsatisfiable is_known coding = []
+
+-- what is said of a coding that was negotiated: Vary (section 12.5.5), of answers that a cache may use again, and
+-- Content-Encoding
+abbrev pub coding_fields : Plan → Bool → Option Coding → List Header
+coding_fields plan is_known None = []
+coding_fields plan is_known (Some coding) =
+    (codes "vary", codes "accept-encoding") ∷ encoding_sent plan is_known coding
+
+abbrev pub coding_sent : Plan → Bool → Option Coding → List Header
+coding_sent plan is_known coding = if is_reusable plan then coding_fields plan is_known coding else []
+
 -- the bytes that a plan sends of the file; to a HEAD the connection sends none
 abbrev pub body_sent : File → Plan → List ℕ
 body_sent file Full = file.content
@@ -86,17 +128,19 @@ body_sent file Failed = []
 body_sent file Unsatisfiable = []
 
 -- the response has the answer's status, its fields behind those from before, and the bytes of its plan
-pub record Carries (before : List Header) (cache_control : Option FieldValue) (file : File) (answer : Answer)
-    (response : Response) : Type 0 where
+pub record Carries (before : List Header) (cache_control : Option FieldValue) (is_known : Bool) (file : File)
+    (answer : Answer) (response : Response) : Type 0 where
   pub status : response.status ≡ answer.status
   pub headers : fields_of response
-      ≡ before ++ cache_sent answer.plan cache_control ++ fields_sent (run no_lines answer.steps.items)
+      ≡ before ++ cache_sent answer.plan cache_control ++ coding_sent answer.plan is_known file.coding
+      ++ fields_sent (run no_lines answer.steps.items)
   pub body : response.body.items ≡ body_sent file answer.plan
 
 -- the response to a read of the file
 abbrev pub AnswersFile : List Header → Option FieldValue → List ℕ → LineMap → File → Response → Type 0
 AnswersFile before cache_control method request file response =
-    (answer : Answer) × AnswersRead method request file answer × Carries before cache_control file answer response
+    (answer : Answer) × AnswersRead method request file answer
+    × Carries before cache_control (is_known_by request) file answer response
 
 -- ---- a request
 
@@ -125,27 +169,32 @@ AnswersOther before method response =
     ((method ≡ codes "OPTIONS") × IsWith before 204 (allow_field ∷ []) [] response)
     ⊎ ((method ≢ codes "OPTIONS") × IsWith before 405 (allow_field ∷ []) [] response)
 
--- what the path of a URI leads to in a store: what the store has at the path that is named, or nothing if none is named
-abbrev pub LeadsTo : (List ℕ → Entry → Type 0) → List ℕ → Entry → Type 0
-LeadsTo has path entry =
-    ((named : List ℕ) × Names path (Some named) × has named entry) ⊎ (Names path None × (entry ≡ Missing))
+-- what the path of a URI leads a request to in a store: what it gets where the store has something at the path that is
+-- named, or nothing if none is named
+abbrev pub LeadsTo : Bool → (List ℕ → Entry → Type 0) → LineMap → List ℕ → Entry → Type 0
+LeadsTo negotiates has request path entry =
+    ((named : List ℕ) × Names path (Some named)
+    × ((found : Entry) × has named found × IsServedAt negotiates has request named found entry))
+    ⊎ (Names path None × (entry ≡ Missing))
 
 -- the response to a request, where the store has this at its paths
-abbrev pub AnswersBehind : List Header → Option FieldValue → (List ℕ → Entry → Type 0) → Request (List ℕ) → Response
-    → Type 0
-AnswersBehind before cache_control has request response =
+abbrev pub AnswersBehind : List Header → Bool → Option FieldValue → (List ℕ → Entry → Type 0) → Request (List ℕ)
+    → Response → Type 0
+AnswersBehind before negotiates cache_control has request response =
     (IsGetOrHead (head_of request).method
-    × ((entry : Entry) × LeadsTo has (uri_path (head_of request).uri) entry
+    × ((entry : Entry)
+    × LeadsTo negotiates has (lines_at (head_of request).headers) (uri_path (head_of request).uri) entry
     × AnswersEntry before cache_control request entry response))
     ⊎ ((¬ (IsGetOrHead (head_of request).method)) × AnswersOther before (head_of request).method response)
 
--- the request makes no condition, and asks for no range
+-- the request makes no condition, and asks for no range and no coding
 pub record AsksForAll (request : LineMap) : Type 0 where
   pub if_match : request (codes "if-match") ≡ []
   pub if_none_match : request (codes "if-none-match") ≡ []
   pub if_modified_since : request (codes "if-modified-since") ≡ []
   pub if_unmodified_since : request (codes "if-unmodified-since") ≡ []
   pub range : request (codes "range") ≡ []
+  pub accept_encoding : request (codes "accept-encoding") ≡ []
 
 -- the fields of a date
 abbrev pub date_fields : Option ℕ → List Header
@@ -153,6 +202,6 @@ date_fields None = []
 date_fields (Some seconds) = (codes "date", fixdate seconds) ∷ []
 
 -- The response to a request, where the store has this at its paths: behind a date, if there is a clock.
-abbrev pub IsAnswer : Option FieldValue → (List ℕ → Entry → Type 0) → Request (List ℕ) → Response → Type 0
-IsAnswer cache_control has request response =
-    (now : Option ℕ) × AnswersBehind (date_fields now) cache_control has request response
+abbrev pub IsAnswer : Bool → Option FieldValue → (List ℕ → Entry → Type 0) → Request (List ℕ) → Response → Type 0
+IsAnswer negotiates cache_control has request response =
+    (now : Option ℕ) × AnswersBehind (date_fields now) negotiates cache_control has request response

@@ -1,4 +1,5 @@
 pub mod Answer
+pub mod Codings
 pub mod Connection
 pub mod File
 pub mod MediaTypes
@@ -7,4 +8,5 @@ pub mod Multipart
 pub mod Parts
 pub mod Path
 pub mod Redirect
+pub mod Representations
 pub mod Response

@@ -12,4 +12,4 @@ HasOne store path Folder = ⊥
 HasOne store path (Readable file) =
     (path ≡ string_bytes store.path) × (file.content ≡ store.file.content)
     × (file.media_type ≡ store.file.media_type) × (file.modified ≡ store.file.modified)
-    × (file.digest ≡ store.file.digest)
+    × (file.coding ≡ store.file.coding) × (file.digest ≡ store.file.digest)

@@ -5,7 +5,7 @@ ghost use Rattle.http_header.specs.FieldValue.{plain_value};
 ghost use Rattle.headers.specs.LineMap.{lines_at};
 ghost use Rattle.headers_preconditions.specs.Boundaries.{is_boundary, multipart_type};
 ghost use Rattle.headers_preconditions.specs.Preconditions.{IsGetOrHead};
-ghost use Rattle.headers_serve.specs.Answer.{AnswersRead, IsAnswerOf, IsSendable};
+ghost use Rattle.headers_serve.specs.Answer.{AnswersRead, IsAnswerOf, IsDivisible, IsSendable, is_encoded_in};
 ghost use Rattle.headers_serve.specs.File.{boundary_of, content_of, resource_of, strong_tag, tag_of};
 ghost use Rattle.headers_serve.specs.Parts.{Fits, Occurs};
 
@@ -136,13 +136,32 @@ fn occurs(bytes: &[u8], content: &[u8]) -> bool
     }
 }
 
-// Whether no part holds what stands between the parts.
+fn is_encoded(file: &File) -> bool
+    ensures { result ≡ is_encoded_in file.now.coding }
+{
+    match file.coding {
+        Some(coding) => coding.is_encoded(),
+        None => false,
+    }
+}
+
+fn is_divisible(file: &File, text: &str) -> bool
+    requires { text.now ≡ boundary_of file.now }
+    ensures { MatchBool result (IsDivisible file.now) (¬ (IsDivisible file.now)) }
+{
+    if is_encoded(file) {
+        return false;
+    }
+    !occurs(text.as_bytes(), file.content.as_slice())
+}
+
+// Whether the file can be sent by the plan.
 fn is_sendable(plan: &Plan, file: &File, text: &str) -> bool
     requires { text.now ≡ boundary_of file.now }
     ensures { MatchBool result (IsSendable file.now plan.now) (¬ (IsSendable file.now plan.now)) }
 {
     match plan {
-        Plan::Multiple(_) => !occurs(text.as_bytes(), file.content.as_slice()),
+        Plan::Multiple(_) => is_divisible(file, text),
         Plan::Full | Plan::Single(_) | Plan::NotModified | Plan::Failed | Plan::Unsatisfiable => {
             true
         }

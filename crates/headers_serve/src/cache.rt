@@ -1,11 +1,14 @@
-//! The field Cache-Control of an answer.
+//! The fields Cache-Control, Vary and Content-Encoding of an answer.
 ghost use Rattle.std.specs.Prelude.{◌≡◌, ◌++◌, OnOk};
 ghost use Rattle.http_server.specs.Response.{fields_of};
-ghost use Rattle.headers_serve.specs.Answer.{cache_fields, cache_sent, is_reusable};
+ghost use Rattle.headers_serve.specs.Answer.{cache_fields, cache_sent, coding_fields, coding_sent, encoding_fields};
+ghost use Rattle.headers_serve.specs.Answer.{encoding_sent, is_reusable};
 
+use crate::coding::Coding;
 use headers::HeaderValue;
+use headers_negotiation::AcceptEncoding;
 use headers_preconditions::Plan;
-use http_header::CACHE_CONTROL;
+use http_header::{CACHE_CONTROL, CONTENT_ENCODING, VARY};
 use http_server::Response;
 use std::alloc::AllocError;
 
@@ -46,5 +49,87 @@ pub(crate) fn put_cache_control(
         return Ok(());
     }
     put_value(value, response)?;
+    Ok(())
+}
+
+// Adds Content-Encoding, if the coding changes a content.
+fn put_name(coding: Coding, response: &mut Response) -> Result<(), AllocError>
+    ensures headers { OnOk result (fields_of response.new ≡ fields_of response.old ++ encoding_fields coding) }
+    ensures body { response.new.body ≡ response.old.body }
+{
+    match coding {
+        Coding::Identity => Ok(()),
+        Coding::Brotli | Coding::Gzip => {
+            response.add_header(CONTENT_ENCODING, coding.name())?;
+            Ok(())
+        }
+    }
+}
+
+// Adds Content-Encoding to an answer by this plan.
+fn put_encoding(
+    coding: Coding,
+    plan: &Plan,
+    is_known: bool,
+    response: &mut Response,
+) -> Result<(), AllocError>
+    ensures headers { OnOk result (fields_of response.new
+        ≡ fields_of response.old ++ encoding_sent plan.now is_known coding) }
+    ensures body { response.new.body ≡ response.old.body }
+{
+    match plan {
+        Plan::Full => {
+            put_name(coding, response)?;
+            Ok(())
+        }
+        Plan::Single(_) if !is_known => {
+            put_name(coding, response)?;
+            Ok(())
+        }
+        Plan::Single(_)
+        | Plan::Multiple(_)
+        | Plan::NotModified
+        | Plan::Failed
+        | Plan::Unsatisfiable => Ok(()),
+    }
+}
+
+// Adds Vary and Content-Encoding, if a coding was negotiated.
+fn put_negotiated(
+    coding: Option<Coding>,
+    plan: &Plan,
+    is_known: bool,
+    response: &mut Response,
+) -> Result<(), AllocError>
+    ensures headers { OnOk result (fields_of response.new
+        ≡ fields_of response.old ++ coding_fields plan.now is_known coding) }
+    ensures body { response.new.body ≡ response.old.body }
+{
+    match coding {
+        Some(coding) => {
+            response.add_header(VARY, AcceptEncoding::varies_by())?;
+            put_encoding(coding, plan, is_known, response)?;
+            Ok(())
+        }
+        None => Ok(()),
+    }
+}
+
+/// Adds Vary and Content-Encoding, if a coding was negotiated, to an answer that a cache may use
+/// again.
+pub(crate) fn put_coding(
+    coding: Option<Coding>,
+    plan: &Plan,
+    is_known: bool,
+    response: &mut Response,
+) -> Result<(), AllocError>
+    ensures headers { OnOk result (fields_of response.new
+        ≡ fields_of response.old ++ coding_sent plan.now is_known coding) }
+    ensures body { response.new.body ≡ response.old.body }
+{
+    if !is_reusable(plan) {
+        return Ok(());
+    }
+    put_negotiated(coding, plan, is_known, response)?;
     Ok(())
 }

@@ -3,6 +3,7 @@ ghost use Rattle.std.specs.Prelude.{◌≡◌, IfOk, None, Some};
 ghost use Rattle.std.specs.Option.{ForSome};
 ghost use Rattle.sha2.specs.Sha256.{sha256};
 
+use crate::coding::Coding;
 use bytes::Bytes;
 use headers::{HeaderValue, LastModified};
 use sha2::{Digest, Sha256};
@@ -17,6 +18,8 @@ pub struct File {
     pub media_type: HeaderValue,
     /// When it was last modified, if that is known and before the year 10000.
     pub modified: Option<LastModified>,
+    /// The coding of its bytes, if it was negotiated.
+    pub coding: Option<Coding>,
     /// The SHA-256 of its bytes, of which its entity tag is made. A file without one has no tag.
     pub digest: Option<[u8; 32]>,
     ghost is_digest: { ForSome digest (λ bytes. bytes ≡ sha256 content) },
@@ -35,6 +38,7 @@ impl File {
         ensures content { result.content ≡ content }
         ensures media_type { result.media_type ≡ media_type }
         ensures modified { result.modified ≡ modified }
+        ensures coding { result.coding ≡ None }
         ensures digest { result.digest ≡ Some (sha256 content) }
     {
         let digest = digest_of(content.as_slice());
@@ -42,6 +46,7 @@ impl File {
             content,
             media_type,
             modified,
+            coding: None,
             digest: Some(digest),
         }
     }
@@ -55,12 +60,14 @@ impl File {
         ensures content { result.content ≡ content }
         ensures media_type { result.media_type ≡ media_type }
         ensures modified { result.modified ≡ modified }
+        ensures coding { result.coding ≡ None }
         ensures digest { result.digest ≡ None }
     {
         File {
             content,
             media_type,
             modified,
+            coding: None,
             digest: None,
         }
     }
@@ -70,6 +77,7 @@ impl File {
         ensures content { IfOk result (λ copy. copy.content ≡ self.now.content) }
         ensures media_type { IfOk result (λ copy. copy.media_type ≡ self.now.media_type) }
         ensures modified { IfOk result (λ copy. copy.modified ≡ self.now.modified) }
+        ensures coding { IfOk result (λ copy. copy.coding ≡ self.now.coding) }
         ensures digest { IfOk result (λ copy. copy.digest ≡ self.now.digest) }
     {
         let content = self.content.clone()?;
@@ -78,6 +86,7 @@ impl File {
             content,
             media_type,
             modified: self.modified,
+            coding: self.coding,
             digest: self.digest,
         })
     }

@@ -1,5 +1,5 @@
 //! What follows from the definitions alone. A proof cites a law by calling it.
-ghost use Rattle.std.specs.Prelude.{◌≡◌, ℕ, true, List, [], ◌∷◌, ◌++◌, Option, Some, codes};
+ghost use Rattle.std.specs.Prelude.{◌≡◌, ℕ, Bool, true, List, [], ◌∷◌, ◌++◌, Option, Some, codes};
 ghost use Rattle.http.specs.Request.{head_of};
 ghost use Rattle.http.specs.declared.request.Request.{Request};
 ghost use Rattle.http_header.specs.FieldValue.{FieldValue};
@@ -23,21 +23,22 @@ ghost use Rattle.headers_serve.specs.declared.file.File.{File};
 /// A request has one response at most, where the store has one entry at each path: two responses
 /// with the same date have the same status, the same fields in the same order, and the same body.
 pub fn request_has_one_response()
-    ensures { (cache_control : Option FieldValue) (look : List ℕ → Entry) (date : Option ℕ)
+    ensures { (negotiates : Bool) (cache_control : Option FieldValue) (look : List ℕ → Entry) (date : Option ℕ)
         (request : Request (List ℕ)) (r s : Response)
-        → AnswersBehind (date_fields date) cache_control (λ path entry. entry ≡ look path) request r
-        → AnswersBehind (date_fields date) cache_control (λ path entry. entry ≡ look path) request s
+        → AnswersBehind (date_fields date) negotiates cache_control (λ path entry. entry ≡ look path) request r
+        → AnswersBehind (date_fields date) negotiates cache_control (λ path entry. entry ≡ look path) request s
         → IsSameResponse r s }
 {}
 
-/// A GET of a file that makes no condition and asks for no range is answered by 200 with its content.
+/// A GET of a file that makes no condition and asks for no range and no coding is answered by 200 with
+/// its content.
 pub fn get_gets_the_content()
-    ensures { (cache_control : Option FieldValue) (look : List ℕ → Entry) (date : Option ℕ)
+    ensures { (negotiates : Bool) (cache_control : Option FieldValue) (look : List ℕ → Entry) (date : Option ℕ)
         (request : Request (List ℕ)) (named : List ℕ) (file : File) (response : Response)
         → (head_of request).method ≡ codes "GET"
         → Names (uri_path (head_of request).uri) (Some named) → look named ≡ Readable file
         → AsksForAll (lines_at (head_of request).headers)
-        → AnswersBehind (date_fields date) cache_control (λ path entry. entry ≡ look path) request response
+        → AnswersBehind (date_fields date) negotiates cache_control (λ path entry. entry ≡ look path) request response
         → (response.status ≡ 200) × (response.body.items ≡ file.content) }
 {}
 

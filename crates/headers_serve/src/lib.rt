@@ -4,6 +4,7 @@
 
 mod answer;
 mod cache;
+mod coding;
 mod connection;
 mod fields;
 mod file;
@@ -13,9 +14,11 @@ mod memory;
 mod multipart;
 mod path;
 mod redirect;
+mod representation;
 mod service;
 mod store;
 
+pub use crate::coding::Coding;
 pub use crate::connection::serve_store;
 pub use crate::file::{Entry, File};
 pub use crate::media_type::media_type_of;

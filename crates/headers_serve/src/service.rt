@@ -4,6 +4,7 @@ ghost use Rattle.std.specs.Bool.{MatchBool};
 ghost use Rattle.http.specs.Request.{head_of};
 ghost use Rattle.http_uri.specs.Uri.{uri_path, uri_query};
 ghost use Rattle.headers.specs.LineMap.{lines_at};
+ghost use Rattle.headers_preconditions.specs.Fields.{is_known_by};
 ghost use Rattle.headers_preconditions.specs.Preconditions.{IsGetOrHead};
 ghost use Rattle.http_server.specs.Response.{fields_of};
 ghost use Rattle.headers_serve.specs.Answer.{AnswersBehind, AnswersEntry, AnswersFile, AnswersOther, Carries};
@@ -12,18 +13,19 @@ ghost use Rattle.headers_serve.specs.File.{boundary_of};
 ghost use Rattle.headers_serve.specs.Parts.{Fits};
 
 use crate::answer::{answer_read, boundary_of};
-use crate::cache::put_cache_control;
+use crate::cache::{put_cache_control, put_coding};
 use crate::fields::{put_date, put_fields};
 use crate::file::{Entry, File};
 use crate::multipart::{push_parts, slice_of};
 use crate::path::store_path;
 use crate::redirect::answer_folder;
+use crate::representation::served_at;
 use crate::store::Store;
 use bytes::Bytes;
 use headers::{HeaderMap, HeaderValue};
 use headers_preconditions::Plan;
 use http::{Method, Request, StatusCode};
-use http_header::ALLOW;
+use http_header::{ALLOW, IF_RANGE};
 use http_server::{Response, Rope, Service};
 use std::alloc::{AllocError, Global};
 
@@ -36,6 +38,8 @@ pub struct FileService<S: Store> {
     pub store: S,
     /// What Cache-Control says of the answers that a cache may use again: 200, 206 and 304.
     pub cache_control: Option<HeaderValue>,
+    /// Whether a client may get what stands beside a file in a coding, by Accept-Encoding.
+    pub negotiates: bool,
 }
 
 fn is_read(method: &Method) -> bool
@@ -82,10 +86,18 @@ fn put_body(
     }
 }
 
+// Whether the client knows a representation, which it names in If-Range.
+fn is_known_by(request: &HeaderMap) -> bool
+    ensures { result ≡ is_known_by (lines_at request.now) }
+{
+    request.get_all(IF_RANGE).iter().next().is_some()
+}
+
 // Fills a response with an answer to a read of a file.
 fn carry(
     alloc: Global,
     cache_control: &Option<HeaderValue>,
+    request: &HeaderMap,
     file: &File,
     boundary: &str,
     answer: headers_preconditions::Response,
@@ -94,9 +106,12 @@ fn carry(
     requires blank { response.old.body.items ≡ [] }
     requires boundary { boundary.now ≡ boundary_of file.now }
     requires fits { Fits (length file.now.content) answer.plan }
-    ensures { OnOk result (Carries (fields_of response.old) cache_control.now file.now answer response.new) }
+    ensures { OnOk result (Carries (fields_of response.old) cache_control.now (is_known_by (lines_at request.now))
+        file.now answer response.new) }
 {
     put_cache_control(cache_control, &answer.plan, response)?;
+    let is_known = is_known_by(request);
+    put_coding(file.coding, &answer.plan, is_known, response)?;
     put_body(alloc, boundary, &answer.plan, file, &mut response.body)?;
     response.status = answer.status;
     put_fields(alloc, answer.steps, response)?;
@@ -120,7 +135,15 @@ fn answer_file(
     let text = boundary_of(alloc, file)?;
     let boundary = text.as_str();
     let answer = answer_read(alloc, method, request, file, boundary)?;
-    carry(alloc, cache_control, file, boundary, answer, response)?;
+    carry(
+        alloc,
+        cache_control,
+        request,
+        file,
+        boundary,
+        answer,
+        response,
+    )?;
     Ok(())
 }
 
@@ -178,12 +201,20 @@ fn query_of(request: &Request<Bytes>) -> Option<&str>
 }
 
 // What the path of a URI leads to.
-fn look_up<S: Store>(alloc: Global, store: &S, path: &str) -> Result<Entry, AllocError>
-    ensures { IfOk result (LeadsTo (S.has store.now) path.now) }
+fn look_up<S: Store>(
+    alloc: Global,
+    store: &S,
+    negotiates: bool,
+    request: &HeaderMap,
+    path: &str,
+) -> Result<Entry, AllocError>
+    ensures { IfOk result (LeadsTo negotiates (S.has store.now) (lines_at request.now) path.now) }
 {
     match store_path(alloc, path)? {
         Some(named) => {
-            let entry = store.find(alloc, named.as_str())?;
+            let path = named.as_str();
+            let found = store.find(alloc, path)?;
+            let entry = served_at(alloc, store, negotiates, request, path, found)?;
             Ok(entry)
         }
         None => Ok(Entry::Missing),
@@ -208,19 +239,26 @@ fn answer_other(method: &Method, response: &mut Response) -> Result<(), AllocErr
 fn answer<S: Store>(
     alloc: Global,
     store: &S,
+    negotiates: bool,
     cache_control: &Option<HeaderValue>,
     request: &Request<Bytes>,
     response: &mut Response,
 ) -> Result<(), AllocError>
     requires { response.old.body.items ≡ [] }
-    ensures { OnOk result (AnswersBehind (fields_of response.old) cache_control.now (S.has store.now)
-        request.now response.new) }
+    ensures { OnOk result (AnswersBehind (fields_of response.old) negotiates cache_control.now
+        (S.has store.now) request.now response.new) }
 {
     if !is_read(request.method()) {
         answer_other(request.method(), response)?;
         return Ok(());
     }
-    let entry = look_up(alloc, store, path_of(request))?;
+    let entry = look_up(
+        alloc,
+        store,
+        negotiates,
+        request.headers(),
+        path_of(request),
+    )?;
     answer_entry(alloc, cache_control, request, &entry, response)?;
     Ok(())
 }
@@ -230,7 +268,7 @@ impl<S: Store> Service for FileService<S> {
     ghost use Rattle.headers_serve.specs.Answer.{IsAnswer};
 
     ghost answers = { λ before request response after.
-        IsAnswer before.cache_control (S.has before.store) request response × (after ≡ before) };
+        IsAnswer before.negotiates before.cache_control (S.has before.store) request response × (after ≡ before) };
 
     fn call(
         &mut self,
@@ -241,6 +279,7 @@ impl<S: Store> Service for FileService<S> {
         answer(
             self.alloc,
             &self.store,
+            self.negotiates,
             &self.cache_control,
             request,
             response,

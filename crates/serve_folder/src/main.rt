@@ -56,6 +56,7 @@ fn run(rt: &HostRuntime, matches: &ArgMatches<'_>) -> anyhow::Result<ExitCode> {
         alloc,
         store,
         cache_control,
+        negotiates: matches.get_flag("precompressed"),
     };
     let keys = RandomState::new(rt)?;
     let (mut reader, mut writer) = (rt.stdin(), rt.stdout());

@@ -19,6 +19,10 @@ pub fn command<'a>(alloc: Global) -> Result<Command<'a>, AllocError> {
         .value_parser(value_parser!(u64))
         .default_value("268435456")
         .help("A longer file is answered by 403");
+    let precompressed = Arg::new(alloc, "precompressed")
+        .long("precompressed")
+        .action(ArgAction::SetTrue)
+        .help("Serve what stands beside a file as .br or .gz, to clients that take it");
     let no_dates = Arg::new(alloc, "no-dates")
         .long("no-dates")
         .action(ArgAction::SetTrue)
@@ -27,5 +31,6 @@ pub fn command<'a>(alloc: Global) -> Result<Command<'a>, AllocError> {
         .arg(folder)?
         .arg(cache_control)?
         .arg(max_file)?
+        .arg(precompressed)?
         .arg(no_dates)
 }

@@ -3,4 +3,4 @@ use Rattle.headers_serve.proofs.WholeLemmas.{get_whole}
 use Rattle.headers_serve.proofs.laws.get_gets_the_content.Goals as goal
 
 pub returns : goal.returns
-returns c = λ cache_control look date. get_whole (date_fields date) cache_control look
+returns c = λ negotiates cache_control look date. get_whole (date_fields date) negotiates cache_control look

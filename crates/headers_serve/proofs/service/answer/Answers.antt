@@ -1,16 +1,27 @@
 use Rattle.std.proofs.Common.{ℕ, List, subst, inl}
+use Rattle.http.specs.Request.{head_of}
+use Rattle.http_header.specs.FieldValue.{FieldValue}
+use Rattle.http_header.specs.HeaderMap.{Entries}
+use Rattle.headers.specs.LineMap.{lines_at}
 use Rattle.headers_preconditions.specs.Preconditions.{IsGetOrHead}
 use Rattle.headers_serve.specs.Answer.{LeadsTo}
 use Rattle.headers_serve.proofs.service.answer.Goals as goal
 
 pub returns : goal.returns
 returns g c =
+    let has = g.S.Store.has c.args.store.now in
+    let entry = c.in_ok-entry.entry in
     inl (
       subst (λ (method : List ℕ). IsGetOrHead method) c.method.ensures (rw c.if-not-is_read.false at c.is_read.ensures),
       (
-        c.in_ok-entry.entry,
-        subst (λ (path : List ℕ). LeadsTo (g.S.Store.has c.args.store.now) path c.in_ok-entry.entry) c.path_of.ensures
-            c.in_ok-entry.ensures,
+        entry,
+        subst
+            (λ (path : List ℕ). LeadsTo c.args.negotiates has (lines_at (head_of c.args.request.now).headers) path entry)
+            c.path_of.ensures
+            (subst
+            (λ (headers : Entries FieldValue). LeadsTo c.args.negotiates has (lines_at headers) c.path_of.result.now
+            entry)
+            c.headers.ensures c.in_ok-entry.ensures),
         c.in_ok-answer_entry.ensures,
       ),
     )

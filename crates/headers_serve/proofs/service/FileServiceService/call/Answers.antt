@@ -8,7 +8,7 @@ returns-clause-ok g c =
     let date = c.in_ok-put_date.ensures.headers in
     let behind =
     subst
-    (λ (before : List Header). AnswersBehind before c.args.self.now.cache_control
+    (λ (before : List Header). AnswersBehind before c.args.self.now.negotiates c.args.self.now.cache_control
     (g.S.Store.has c.args.self.now.store) c.args.request.now c.answer.new.response)
     date.1 c.in_ok-answer.ensures in
     ((date.0, behind), refl)
