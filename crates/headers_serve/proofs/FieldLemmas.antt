@@ -3,6 +3,7 @@ use Rattle.std.proofs.Common.{◌≡◌, ℕ, List, ◌++◌, ap, ◌∙◌, app
 use Rattle.std.specs.Prelude.{codes}
 use Rattle.headers.specs.LineMap.{LineMap}
 use Rattle.http1.specs.Fields.{Header}
+use Rattle.headers_serve.specs.Cors.{cors_fields, leave_fields, share_fields}
 use Rattle.headers_serve.specs.Response.{content_fields, fields_sent, under, validator_fields}
 
 -- three lists are joined alike if each is the same
@@ -51,3 +52,16 @@ module _ (s t : LineMap) where
         content_length = same (codes "content-length");
         content_type = same (codes "content-type");
       })
+
+  pub cors_same : ((name : List ℕ) → s name ≡ t name) → cors_fields s ≡ cors_fields t
+  unfolding share_fields leave_fields
+  cors_same same =
+      joined _ _ _ _ _ _
+      (joined _ _ _ _ _ _ (ap (under (codes "access-control-allow-origin")) (same (codes "access-control-allow-origin")))
+      (ap (under (codes "access-control-allow-credentials")) (same (codes "access-control-allow-credentials")))
+      (ap (under (codes "access-control-expose-headers")) (same (codes "access-control-expose-headers"))))
+      (joined _ _ _ _ _ _
+      (ap (under (codes "access-control-allow-methods")) (same (codes "access-control-allow-methods")))
+      (ap (under (codes "access-control-allow-headers")) (same (codes "access-control-allow-headers")))
+      (ap (under (codes "access-control-max-age")) (same (codes "access-control-max-age"))))
+      (ap (under (codes "vary")) (same (codes "vary")))

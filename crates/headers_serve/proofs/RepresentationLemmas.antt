@@ -1,5 +1,5 @@
 -- A request gets one representation of a file.
-use Rattle.std.proofs.Common.{◌≡◌, ℕ, ◌<◌, Bool, true, false, List, [], ◌∷◌, ◌++◌, length, Option, Some, None, refl}
+use Rattle.std.proofs.Common.{◌≡◌, ℕ, ◌<◌, Bool, true, false, List, [], ◌∷◌, ◌++◌, length, Option, Some, refl}
 use Rattle.std.proofs.Common.{sym, ap, subst, ◌∙◌, inl, inr}
 use Rattle.std.proofs.lemmas.List.{get_or_default}
 use Rattle.std.specs.Prelude.{codes, get_or, map}
@@ -11,7 +11,7 @@ use Rattle.headers_negotiation.specs.Quality.{QualityIn}
 use Rattle.headers_negotiation.proofs.LawLemmas.{one_choice, takes_first}
 use Rattle.headers_serve.specs.Answer.{LeadsTo}
 use Rattle.headers_serve.specs.Codings.{coding_suffix}
-use Rattle.headers_serve.specs.Path.{Names, is_plain}
+use Rattle.headers_serve.specs.Path.{Names}
 use Rattle.headers_serve.specs.Representations.{AreOffers, IsServedAt, Represents, StandsAt, name_of, offered}
 use Rattle.headers_serve.specs.Representations.{place_of, represented}
 use Rattle.headers_serve.specs.declared.coding.Coding.TheVariants.{Identity, Brotli, Gzip}

@@ -1,5 +1,5 @@
 -- A GET that makes no condition and asks for no range gets the content.
-use Rattle.std.proofs.Common.{◌≡◌, ℕ, Bool, List, length, true, false, Option, Some, refl, sym, subst, ◌∙◌}
+use Rattle.std.proofs.Common.{◌≡◌, ℕ, Bool, List, length, true, false, Option, Some, refl, subst, ◌∙◌}
 use Rattle.std.proofs.Common.{inl, inr}
 use Rattle.std.specs.Prelude.{codes}
 use Rattle.http.specs.declared.request.Request.{Request}

@@ -11,6 +11,7 @@ use Rattle.http_server.specs.Response.{fields_of}
 use Rattle.http1.specs.Fields.{Header}
 use Rattle.headers.specs.Date.{fixdate}
 use Rattle.headers.specs.LineMap.{LineMap, lines_at, run}
+use Rattle.headers_cors_policy.specs.Policy.{Policy}
 use Rattle.headers_preconditions.specs.Boundaries.{multipart_type}
 use Rattle.headers_preconditions.specs.Fields.{is_known_by}
 use Rattle.headers_preconditions.specs.Preconditions.{IsGetOrHead}
@@ -20,6 +21,7 @@ use Rattle.headers_preconditions.specs.declared.plan.Plan.TheVariants.{NotModifi
 use Rattle.headers_preconditions.specs.declared.plan.Plan.TheVariants.{Unsatisfiable}
 use Rattle.headers_preconditions.specs.declared.response.Response.{Response as Answer}
 use Rattle.headers_serve.specs.Codings.{coding_name, is_encoded}
+use Rattle.headers_serve.specs.Cors.{IsShared}
 use Rattle.headers_serve.specs.File.{boundary_of, content_of, resource_of}
 use Rattle.headers_serve.specs.Multipart.{multipart}
 use Rattle.headers_serve.specs.Parts.{Occurs, part_bytes}
@@ -201,7 +203,10 @@ abbrev pub date_fields : Option ℕ → List Header
 date_fields None = []
 date_fields (Some seconds) = (codes "date", fixdate seconds) ∷ []
 
--- The response to a request, where the store has this at its paths: behind a date, if there is a clock.
-abbrev pub IsAnswer : Bool → Option FieldValue → (List ℕ → Entry → Type 0) → Request (List ℕ) → Response → Type 0
-IsAnswer negotiates cache_control has request response =
-    (now : Option ℕ) × AnswersBehind (date_fields now) negotiates cache_control has request response
+-- The response to a request, where the store has this at its paths: behind a date, if there is a clock, and what a policy
+-- for requests from other origins says, if there is one. The answer to a preflight (OPTIONS) is 204, which lets it pass.
+abbrev pub IsAnswer : Option Policy → Bool → Option FieldValue → (List ℕ → Entry → Type 0) → Request (List ℕ) → Response
+    → Type 0
+IsAnswer cors negotiates cache_control has request response =
+    (now : Option ℕ) × (shared : List Header) × IsShared cors request shared
+    × AnswersBehind (date_fields now ++ shared) negotiates cache_control has request response

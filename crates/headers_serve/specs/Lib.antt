@@ -1,6 +1,7 @@
 pub mod Answer
 pub mod Codings
 pub mod Connection
+pub mod Cors
 pub mod File
 pub mod MediaTypes
 pub mod Memory

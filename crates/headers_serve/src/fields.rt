@@ -67,8 +67,12 @@ pub(crate) fn put_date(
     Ok(())
 }
 
-// Adds the lines that a map has under a name.
-fn add_lines(map: &HeaderMap, name: &HeaderName, response: &mut Response) -> Result<(), AllocError>
+/// Adds the lines that a map has under a name.
+pub(crate) fn add_lines(
+    map: &HeaderMap,
+    name: &HeaderName,
+    response: &mut Response,
+) -> Result<(), AllocError>
     ensures headers { OnOk result (fields_of response.new
         ≡ fields_of response.old ++ under name.now (lines_at map.now name.now)) }
     ensures status { response.new.status ≡ response.old.status }
@@ -104,8 +108,8 @@ fn add_content(map: &HeaderMap, response: &mut Response) -> Result<(), AllocErro
     Ok(())
 }
 
-// The map that steps make.
-fn map_of(alloc: Global, steps: Vec<Step>) -> Result<HeaderMap, AllocError>
+/// The map that steps make.
+pub(crate) fn map_of(alloc: Global, steps: Vec<Step>) -> Result<HeaderMap, AllocError>
     ensures { IfOk result (λ map. (name : List ℕ) → lines_at map name ≡ run no_lines steps.items name) }
 {
     let mut map = HeaderMap::new(alloc);

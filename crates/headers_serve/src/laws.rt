@@ -10,7 +10,7 @@ ghost use Rattle.http1.specs.Fields.{Header};
 ghost use Rattle.headers.specs.LineMap.{LineMap, lines_at};
 ghost use Rattle.headers_preconditions.specs.declared.part.Part.{Part};
 ghost use Rattle.headers_preconditions.specs.declared.response.Response.{Response as Answer};
-ghost use Rattle.headers_serve.specs.Answer.{AnswersBehind, AnswersRead, AsksForAll, date_fields, is_several};
+ghost use Rattle.headers_serve.specs.Answer.{AnswersBehind, AnswersRead, AsksForAll, is_several};
 ghost use Rattle.headers_serve.specs.File.{boundary_of};
 ghost use Rattle.headers_serve.specs.Parts.{Occurs, part_bytes};
 ghost use Rattle.headers_serve.specs.Path.{Names};
@@ -21,24 +21,25 @@ ghost use Rattle.headers_serve.specs.declared.file.Entry.{Entry};
 ghost use Rattle.headers_serve.specs.declared.file.File.{File};
 
 /// A request has one response at most, where the store has one entry at each path: two responses
-/// with the same date have the same status, the same fields in the same order, and the same body.
+/// with the same date, and the same fields for other origins, have the same status, the same fields
+/// in the same order, and the same body.
 pub fn request_has_one_response()
-    ensures { (negotiates : Bool) (cache_control : Option FieldValue) (look : List ℕ → Entry) (date : Option ℕ)
+    ensures { (negotiates : Bool) (cache_control : Option FieldValue) (look : List ℕ → Entry) (before : List Header)
         (request : Request (List ℕ)) (r s : Response)
-        → AnswersBehind (date_fields date) negotiates cache_control (λ path entry. entry ≡ look path) request r
-        → AnswersBehind (date_fields date) negotiates cache_control (λ path entry. entry ≡ look path) request s
+        → AnswersBehind before negotiates cache_control (λ path entry. entry ≡ look path) request r
+        → AnswersBehind before negotiates cache_control (λ path entry. entry ≡ look path) request s
         → IsSameResponse r s }
 {}
 
 /// A GET of a file that makes no condition and asks for no range and no coding is answered by 200 with
 /// its content.
 pub fn get_gets_the_content()
-    ensures { (negotiates : Bool) (cache_control : Option FieldValue) (look : List ℕ → Entry) (date : Option ℕ)
+    ensures { (negotiates : Bool) (cache_control : Option FieldValue) (look : List ℕ → Entry) (before : List Header)
         (request : Request (List ℕ)) (named : List ℕ) (file : File) (response : Response)
         → (head_of request).method ≡ codes "GET"
         → Names (uri_path (head_of request).uri) (Some named) → look named ≡ Readable file
         → AsksForAll (lines_at (head_of request).headers)
-        → AnswersBehind (date_fields date) negotiates cache_control (λ path entry. entry ≡ look path) request response
+        → AnswersBehind before negotiates cache_control (λ path entry. entry ≡ look path) request response
         → (response.status ≡ 200) × (response.body.items ≡ file.content) }
 {}
 

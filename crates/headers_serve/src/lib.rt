@@ -6,6 +6,7 @@ mod answer;
 mod cache;
 mod coding;
 mod connection;
+mod cors;
 mod fields;
 mod file;
 pub mod laws;

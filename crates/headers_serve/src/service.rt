@@ -14,6 +14,7 @@ ghost use Rattle.headers_serve.specs.Parts.{Fits};
 
 use crate::answer::{answer_read, boundary_of};
 use crate::cache::{put_cache_control, put_coding};
+use crate::cors::put_shared;
 use crate::fields::{put_date, put_fields};
 use crate::file::{Entry, File};
 use crate::multipart::{push_parts, slice_of};
@@ -23,6 +24,7 @@ use crate::representation::served_at;
 use crate::store::Store;
 use bytes::Bytes;
 use headers::{HeaderMap, HeaderValue};
+use headers_cors_policy::CorsPolicy;
 use headers_preconditions::Plan;
 use http::{Method, Request, StatusCode};
 use http_header::{ALLOW, IF_RANGE};
@@ -40,6 +42,8 @@ pub struct FileService<S: Store> {
     pub cache_control: Option<HeaderValue>,
     /// Whether a client may get what stands beside a file in a coding, by Accept-Encoding.
     pub negotiates: bool,
+    /// What answers say to requests from other origins, if they say anything.
+    pub cors: Option<CorsPolicy>,
 }
 
 fn is_read(method: &Method) -> bool
@@ -268,7 +272,7 @@ impl<S: Store> Service for FileService<S> {
     ghost use Rattle.headers_serve.specs.Answer.{IsAnswer};
 
     ghost answers = { λ before request response after.
-        IsAnswer before.negotiates before.cache_control (S.has before.store) request response × (after ≡ before) };
+        IsAnswer before.cors before.negotiates before.cache_control (S.has before.store) request response × (after ≡ before) };
 
     fn call(
         &mut self,
@@ -276,6 +280,7 @@ impl<S: Store> Service for FileService<S> {
         response: &mut Response,
     ) -> Result<(), AllocError> {
         put_date(self.alloc, response, self.store.now())?;
+        put_shared(self.alloc, &self.cors, request, response)?;
         answer(
             self.alloc,
             &self.store,

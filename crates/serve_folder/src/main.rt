@@ -1,11 +1,13 @@
 //! Serves the files of a folder over standard input and output, until the connection is done.
 #![tactic(auto)]
 
+mod cors;
 mod folder;
 mod kept;
 mod options;
 mod place;
 
+use crate::cors::policy_for;
 use crate::folder::Folder;
 use crate::kept::KeptFiles;
 use crate::options::command;
@@ -45,6 +47,16 @@ fn run(rt: &HostRuntime, matches: &ArgMatches<'_>) -> anyhow::Result<ExitCode> {
         },
         None => None,
     };
+    let cors = match matches.get_str("cors-origin") {
+        Some(text) => match policy_for(alloc, text) {
+            Some(policy) => Some(policy),
+            None => {
+                eprintln!(rt; "error: '{text}' is no origin")?;
+                return Ok(ExitCode::from(MISTAKE));
+            }
+        },
+        None => None,
+    };
     let store = Folder {
         rt,
         root: root.as_str(),
@@ -57,6 +69,7 @@ fn run(rt: &HostRuntime, matches: &ArgMatches<'_>) -> anyhow::Result<ExitCode> {
         store,
         cache_control,
         negotiates: matches.get_flag("precompressed"),
+        cors,
     };
     let keys = RandomState::new(rt)?;
     let (mut reader, mut writer) = (rt.stdin(), rt.stdout());

@@ -13,6 +13,10 @@ pub fn command<'a>(alloc: Global) -> Result<Command<'a>, AllocError> {
         .long("cache-control")
         .value_name("VALUE")
         .help("Cache-Control of the answers 200, 206 and 304");
+    let cors_origin = Arg::new(alloc, "cors-origin")
+        .long("cors-origin")
+        .value_name("ORIGIN")
+        .help("Let scripts of another origin read the files, or of any, by *");
     let max_file = Arg::new(alloc, "max-file")
         .long("max-file")
         .value_name("BYTES")
@@ -30,6 +34,7 @@ pub fn command<'a>(alloc: Global) -> Result<Command<'a>, AllocError> {
     Command::new(alloc, "serve_folder")
         .arg(folder)?
         .arg(cache_control)?
+        .arg(cors_origin)?
         .arg(max_file)?
         .arg(precompressed)?
         .arg(no_dates)

@@ -1,6 +1,5 @@
-use Rattle.headers_serve.specs.Answer.{date_fields}
 use Rattle.headers_serve.proofs.WholeLemmas.{get_whole}
 use Rattle.headers_serve.proofs.laws.get_gets_the_content.Goals as goal
 
 pub returns : goal.returns
-returns c = λ negotiates cache_control look date. get_whole (date_fields date) negotiates cache_control look
+returns c = λ negotiates cache_control look before. get_whole before negotiates cache_control look

@@ -1,4 +1,4 @@
-use Rattle.std.proofs.Common.{List, refl, subst}
+use Rattle.std.proofs.Common.{List, ◌++◌, ap, refl, subst, ◌∙◌}
 use Rattle.http1.specs.Fields.{Header}
 use Rattle.headers_serve.specs.Answer.{AnswersBehind}
 use Rattle.headers_serve.proofs.service.FileServiceService.call.Goals as goal
@@ -6,9 +6,10 @@ use Rattle.headers_serve.proofs.service.FileServiceService.call.Goals as goal
 pub returns-clause-ok : goal.returns-clause-ok
 returns-clause-ok g c =
     let date = c.in_ok-put_date.ensures.headers in
+    let shared = c.in_ok-put_shared.ensures.headers in
     let behind =
     subst
     (λ (before : List Header). AnswersBehind before c.args.self.now.negotiates c.args.self.now.cache_control
     (g.S.Store.has c.args.self.now.store) c.args.request.now c.answer.new.response)
-    date.1 c.in_ok-answer.ensures in
-    ((date.0, behind), refl)
+    (shared.2 ∙ ap (λ (l : List Header). l ++ shared.0) date.1) c.in_ok-answer.ensures in
+    ((date.0, shared.0, shared.1, behind), refl)
