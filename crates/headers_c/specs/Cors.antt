@@ -39,10 +39,8 @@ pub record IsShownAnswer (answer : CorsAnswer) (shared : Shared) : Type 0 where
   pub allowed : shared.facts.is_allowed ≡ flag_of answer.is_allowed
   pub text : shared.text.items ≡ flat_map step_text answer.steps.items
 
--- the rules, the method and the fields of both sections are those that were handed in, and this is their answer
-pub record IsShared (given : Rules) (method request response : List ℕ) (shared : Shared) : Type 0 where
-  pub policy : Policy
-  pub is_policy : IsPolicyFor given policy
+-- the method and the fields of both sections are those that were handed in, and this is the policy's answer
+pub record IsSharedBy (policy : Policy) (method request response : List ℕ) (shared : Shared) : Type 0 where
   pub is_method : IsToken method
   pub asked : Entries FieldValue
   pub is_asked : Holds request asked
@@ -52,12 +50,22 @@ pub record IsShared (given : Rules) (method request response : List ℕ) (shared
   pub is_answer : IsAnswer policy method (lines_at asked) (lines_at told) answer
   pub is_shown : IsShownAnswer answer shared
 
--- the answer is that of the rules, or the failure of reading what was handed in
+-- the failure is that of reading the method or a section
+abbrev pub FailsAtMessage : (method request response : List ℕ) → Failure → Type 0
+FailsAtMessage method request response failure =
+    IsMethodOf method (Err failure) ⊎ (IsMapOf request (Err failure) ⊎ IsMapOf response (Err failure))
+
+-- the answer is that of the policy, or the failure of reading what was handed in
+abbrev pub SharesBy : Policy → (method request response : List ℕ) → Result Shared Failure → Type 0
+SharesBy policy method request response (Ok shared) = IsSharedBy policy method request response shared
+SharesBy policy method request response (Err failure) = FailsAtMessage method request response failure
+
+-- the same of the policy of the rules that were handed in
 abbrev pub Shares : Rules → (method request response : List ℕ) → Result Shared Failure → Type 0
-Shares given method request response (Ok shared) = IsShared given method request response shared
+Shares given method request response (Ok shared) =
+    (policy : Policy) × IsPolicyFor given policy × IsSharedBy policy method request response shared
 Shares given method request response (Err failure) =
-    IsPolicyAnswer given (Err failure)
-    ⊎ (IsMethodOf method (Err failure) ⊎ (IsMapOf request (Err failure) ⊎ IsMapOf response (Err failure)))
+    IsPolicyAnswer given (Err failure) ⊎ FailsAtMessage method request response failure
 
 abbrev pub WritesShared : (Result Shared Failure → Type 0) → (facts new_facts : CorsFacts) → (old new : List ℕ)
     → (before written status : ℕ) → Type 0

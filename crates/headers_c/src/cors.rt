@@ -1,13 +1,13 @@
 //! What a server answers a request from another origin.
 ghost use Rattle.std.specs.Prelude.{◌≡◌, ◌++◌, IfOk, OnOk, flat_map};
-ghost use Rattle.headers_c.specs.Cors.{IsShownAnswer, Shares, WritesShared, kind_number, step_text};
+ghost use Rattle.headers_c.specs.Cors.{IsShownAnswer, Shares, SharesBy, WritesShared, kind_number, step_text};
 
 use crate::cache_control::flag_of;
 use crate::preconditions::read_method;
 use crate::rules::{Rules, read_policy};
 use headers::{Encoded, Step};
 use headers_c_parts::{DONE, Failure, HashKeys, copy_into, read_map};
-use headers_cors_policy::{CorsAnswer, CorsKind};
+use headers_cors_policy::{CorsAnswer, CorsKind, CorsPolicy};
 use headers_section::print_lines;
 use std::alloc::{AllocError, Global};
 
@@ -65,6 +65,21 @@ fn answer_request(
     ensures { Shares rules.now method.now request.now response.now result }
 {
     let policy = read_policy(alloc, rules)?;
+    let shared = answer_by(alloc, &policy, method, request, response, keys)?;
+    Ok(shared)
+}
+
+// The same of a policy, which is borrowed: dropped at each `?`, it would split the goals behind.
+fn answer_by(
+    alloc: Global,
+    policy: &CorsPolicy,
+    method: &[u8],
+    request: &[u8],
+    response: &[u8],
+    keys: &HashKeys,
+) -> Result<Shared, Failure>
+    ensures { SharesBy policy.now method.now request.now response.now result }
+{
     let method = read_method(alloc, method)?;
     let request = read_map(alloc, request, keys)?;
     let response = read_map(alloc, response, keys)?;
