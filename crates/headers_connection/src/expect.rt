@@ -42,8 +42,11 @@ impl Header for Expect {
     where
         I::Item: AsHeaderValue,
     {
-        only_word(values, "100-continue").ok_or(Error::invalid())?;
-        Ok(Expect::CONTINUE)
+        if only_word(values, "100-continue") {
+            Ok(Expect::CONTINUE)
+        } else {
+            Err(Refused::Invalid(Error::invalid()))
+        }
     }
 
     fn encode(&self, _alloc: Global, values: &mut Vec<HeaderValue>) -> Result<(), AllocError> {

@@ -38,8 +38,11 @@ impl Header for AccessControlAllowCredentials {
     where
         I::Item: AsHeaderValue,
     {
-        first_word(values, "true").ok_or(Error::invalid())?;
-        Ok(AccessControlAllowCredentials)
+        if first_word(values, "true") {
+            Ok(AccessControlAllowCredentials)
+        } else {
+            Err(Refused::Invalid(Error::invalid()))
+        }
     }
 
     fn encode(&self, _alloc: Global, values: &mut Vec<HeaderValue>) -> Result<(), AllocError> {

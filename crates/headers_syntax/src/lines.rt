@@ -1,5 +1,6 @@
 //! Readers of one line, and how a kept line is written.
-ghost use Rattle.std.specs.Prelude.{◌≡◌, [], ◌∷◌, ◌++◌, None, IfSome, OnOk, OnErr, option_map};
+ghost use Rattle.std.specs.Prelude.{◌≡◌, [], ◌∷◌, ◌++◌, Some, None, IfSome, OnOk, OnErr};
+ghost use Rattle.std.specs.Prelude.{option_map, if◌then◌else◌};
 ghost use Rattle.std.specs.Iterator.{YieldsThen};
 ghost use Rattle.headers_syntax.specs.Lines.{first_line, only_line};
 ghost use Rattle.std.specs.Option.{option_and_then};
@@ -42,41 +43,39 @@ where
 }
 
 // Whether the value is the word, byte for byte.
-fn is_word(value: &HeaderValue, word: &str) -> Option<()>
-    ensures { word_line word.now value.now.bytes ≡ option_map (λ _. word.now) result }
+fn is_word(value: &HeaderValue, word: &str) -> bool
+    ensures { word_line word.now value.now.bytes ≡ (if result then Some word.now else None) }
 {
-    if value.as_bytes() == word.as_bytes() {
-        Some(())
-    } else {
-        None
-    }
+    value.as_bytes() == word.as_bytes()
 }
 
 /// Whether the first value is the word, byte for byte.
-pub fn first_word<I: Iterator>(values: &mut I, word: &str) -> Option<()>
+pub fn first_word<I: Iterator>(values: &mut I, word: &str) -> bool
 where
     I::Item: AsHeaderValue,
     requires { I.can_next values.old }
     ensures { OfLines I.Item.shown I.next_gives values.old values.new
-        (λ lines. option_and_then (word_line word.now) (first_line lines) ≡ option_map (λ _. word.now) result) }
+        (λ lines. option_and_then (word_line word.now) (first_line lines)
+        ≡ (if result then Some word.now else None)) }
 {
     match first(values) {
         Some(line) => is_word(line.as_header_value(), word),
-        None => None,
+        None => false,
     }
 }
 
 /// Whether there is exactly one value, and it is the word, byte for byte.
-pub fn only_word<I: Iterator>(values: &mut I, word: &str) -> Option<()>
+pub fn only_word<I: Iterator>(values: &mut I, word: &str) -> bool
 where
     I::Item: AsHeaderValue,
     requires { I.can_next values.old }
     ensures { OfLines I.Item.shown I.next_gives values.old values.new
-        (λ lines. option_and_then (word_line word.now) (only_line lines) ≡ option_map (λ _. word.now) result) }
+        (λ lines. option_and_then (word_line word.now) (only_line lines)
+        ≡ (if result then Some word.now else None)) }
 {
     match just_one(values) {
         Some(line) => is_word(line.as_header_value(), word),
-        None => None,
+        None => false,
     }
 }
 

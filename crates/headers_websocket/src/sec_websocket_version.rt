@@ -45,8 +45,11 @@ impl Header for SecWebsocketVersion {
     where
         I::Item: AsHeaderValue,
     {
-        first_word(values, "13").ok_or(Error::invalid())?;
-        Ok(SecWebsocketVersion::V13)
+        if first_word(values, "13") {
+            Ok(SecWebsocketVersion::V13)
+        } else {
+            Err(Refused::Invalid(Error::invalid()))
+        }
     }
 
     fn encode(&self, _alloc: Global, values: &mut Vec<HeaderValue>) -> Result<(), AllocError> {
