@@ -1,2 +1,3 @@
+pub mod FormatterLemmas
 pub mod OneLineLemmas
 pub mod OriginLemmas

@@ -226,9 +226,15 @@ pub fn origin_of_own_text()
 impl fmt::Display for Origin {
     ghost output = { λ origin. Some (origin_text origin) };
 
+    ghost styled_output = { λ origin _. Some (origin_text origin) };
+
     fn fmt<W: fmt::Write>(&self, f: &mut fmt::Formatter<W>) -> fmt::Result {
         match &self.kind {
-            OriginOrNull::Tuple(scheme, authority) => write!(f, "{scheme}://{authority}"),
+            OriginOrNull::Tuple(scheme, authority) => {
+                f.write_str(scheme.as_str())?;
+                f.write_str("://")?;
+                f.write_str(authority.as_str())
+            }
             OriginOrNull::Null => f.write_str("null"),
         }
     }
