@@ -57,7 +57,8 @@ module _ (s t : LineMap) where
   unfolding share_fields leave_fields
   cors_same same =
       joined _ _ _ _ _ _
-      (joined _ _ _ _ _ _ (ap (under (codes "access-control-allow-origin")) (same (codes "access-control-allow-origin")))
+      (joined _ _ _ _ _ _
+      (ap (under (codes "access-control-allow-origin")) (same (codes "access-control-allow-origin")))
       (ap (under (codes "access-control-allow-credentials")) (same (codes "access-control-allow-credentials")))
       (ap (under (codes "access-control-expose-headers")) (same (codes "access-control-expose-headers"))))
       (joined _ _ _ _ _ _

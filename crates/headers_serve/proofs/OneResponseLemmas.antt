@@ -12,6 +12,8 @@ use Rattle.headers.specs.ContentBytes.{content_text}
 use Rattle.headers.specs.Date.{fixdate}
 use Rattle.headers.specs.LineMap.{LineMap, lines_at, run}
 use Rattle.headers.specs.Lines.{Line}
+use Rattle.headers_cors_policy.proofs.SameLemmas.{same_lines}
+use Rattle.headers_cors_policy.specs.Policy.{Policy}
 use Rattle.headers_preconditions.specs.Fields.{etag_sent, is_known_by, length_sent, lines_sent, modified_sent}
 use Rattle.headers_preconditions.specs.Fields.{range_sent, type_sent, units_sent, unless_known}
 use Rattle.headers_preconditions.specs.Plans.{IsSamePlan}
@@ -21,8 +23,10 @@ use Rattle.headers_preconditions.specs.declared.plan.Plan.TheVariants.{NotModifi
 use Rattle.headers_preconditions.specs.declared.plan.Plan.TheVariants.{Unsatisfiable}
 use Rattle.headers_preconditions.specs.declared.response.Response.{Response as Answer}
 use Rattle.headers_preconditions.proofs.OnePlanLemmas.{one_plan}
-use Rattle.headers_serve.specs.Answer.{AnswersBehind, AnswersEntry, AnswersFile, AnswersOther, Carries}
-use Rattle.headers_serve.specs.Answer.{IsAnswerOf, IsSendable, LeadsTo, body_sent, cache_sent, coding_sent, is_several}
+use Rattle.headers_serve.specs.Answer.{AnswersBehind, AnswersEntry, AnswersFile, AnswersOther, Carries, IsAnswerAt}
+use Rattle.headers_serve.specs.Answer.{IsAnswerOf, IsSendable, LeadsTo, body_sent, cache_sent, coding_sent, date_fields}
+use Rattle.headers_serve.specs.Answer.{is_several}
+use Rattle.headers_serve.specs.Cors.{IsShared}
 use Rattle.headers_serve.specs.File.{boundary_of, resource_of, tag_of}
 use Rattle.headers_serve.specs.Multipart.{multipart}
 use Rattle.headers_serve.specs.Redirect.{AnswersFolder}
@@ -32,7 +36,7 @@ use Rattle.headers_serve.specs.declared.coding.Coding.{Coding}
 use Rattle.headers_serve.specs.declared.file.Entry.{Entry}
 use Rattle.headers_serve.specs.declared.file.Entry.TheVariants.{Missing, Forbidden, Folder, Readable}
 use Rattle.headers_serve.specs.declared.file.File.{File}
-use Rattle.headers_serve.proofs.FieldLemmas.{SendSame, fields_from_same}
+use Rattle.headers_serve.proofs.FieldLemmas.{SendSame, cors_same, fields_from_same}
 use Rattle.headers_serve.proofs.PlanLemmas.{same_by_plan}
 use Rattle.headers_serve.proofs.RepresentationLemmas.{served_once}
 
@@ -214,25 +218,27 @@ leads_once negotiates look request path e f x y =
                 let found : h.2.0 ≡ k.2.0 = h.2.1 ∙ ap look named ∙ sym k.2.1 in
                 served_once look negotiates request k.0 k.2.0 e f
                 (subst (λ (p : List ℕ). IsServedAt negotiates (λ at entry. entry ≡ look at) request p k.2.0 e) named
-                (subst (λ (g : Entry). IsServedAt negotiates (λ at entry. entry ≡ look at) request h.0 g e) found h.2.2))
+                (subst (λ (g : Entry). IsServedAt negotiates (λ at entry. entry ≡ look at) request h.0 g e) found
+                h.2.2))
                 k.2.2
             | inr k ↦ absurd (k.0 h.0 h.1)
           ]
       | inr h ↦ elim y [ inl k ↦ absurd (h.0 k.0 k.1) | inr k ↦ h.1 ∙ sym k.1 ]
     ]
 
-pub one_response : (before : List Header) (negotiates : Bool) (cache_control : Option FieldValue) (look : List ℕ → Entry)
+-- what is said behind the same fields is one response
+behind_once : (before : List Header) (negotiates : Bool) (cache_control : Option FieldValue) (look : List ℕ → Entry)
     (request : Request (List ℕ)) (r s : Response)
     → AnswersBehind before negotiates cache_control (λ named entry. entry ≡ look named) request r
     → AnswersBehind before negotiates cache_control (λ named entry. entry ≡ look named) request s → IsSameResponse r s
-one_response before negotiates cache_control look request r s x y =
+behind_once before negotiates cache_control look request r s x y =
     elim x [
       | inl h ↦
           elim y [
             | inl k ↦
                 let same =
-                leads_once negotiates look (lines_at (head_of request).headers) (uri_path (head_of request).uri) h.1.0 k.1.0
-                h.1.1 k.1.1 in
+                leads_once negotiates look (lines_at (head_of request).headers) (uri_path (head_of request).uri)
+                h.1.0 k.1.0 h.1.1 k.1.1 in
                 entry_once before cache_control request r s k.1.0
                 (subst (λ (e : Entry). AnswersEntry before cache_control request e r) same h.1.2) k.1.2
             | inr k ↦ absurd (k.0 h.0)
@@ -243,3 +249,26 @@ one_response before negotiates cache_control look request r s x y =
             | inr k ↦ other_once before (head_of request).method r s h.1 k.1
           ]
     ]
+
+-- a policy says one list of fields of a request
+shared_once : (cors : Option Policy) (request : Request (List ℕ)) (f g : List Header) → IsShared cors request f
+    → IsShared cors request g → f ≡ g
+shared_once None request f g x y = x ∙ sym y
+shared_once (Some policy) request f g x y =
+    x.2
+    ∙ cors_same (run no_lines x.0.steps.items) (run no_lines y.0.steps.items)
+    (same_lines policy (head_of request).method (lines_at (head_of request).headers)
+    (lines_at (head_of request).headers) no_lines no_lines x.0 y.0 x.1 y.1 refl refl)
+    ∙ sym y.2
+
+pub one_response : (now : Option ℕ) (cors : Option Policy) (negotiates : Bool) (cache_control : Option FieldValue)
+    (look : List ℕ → Entry) (request : Request (List ℕ)) (r s : Response)
+    → IsAnswerAt now cors negotiates cache_control (λ path entry. entry ≡ look path) request r
+    → IsAnswerAt now cors negotiates cache_control (λ path entry. entry ≡ look path) request s → IsSameResponse r s
+one_response now cors negotiates cache_control look request r s x y =
+    behind_once (date_fields now ++ y.0) negotiates cache_control look request r s
+    (subst
+    (λ (fields : List Header).
+    AnswersBehind (date_fields now ++ fields) negotiates cache_control (λ path entry. entry ≡ look path) request r)
+    (shared_once cors request x.0 y.0 x.1 y.1) x.2)
+    y.2

@@ -37,9 +37,11 @@ module _ (look : List ℕ → Entry) where
       let gzip = stands_once (path ++ coding_suffix Gzip) h.gzip k.gzip h.has_gzip k.has_gzip in
       h.are
       ∙ ap
-      (λ (e : Entry). (represented file.media_type Identity file ∷ offered file.media_type Brotli e) ++ offered file.media_type Gzip h.gzip) brotli
+      (λ (e : Entry). (represented file.media_type Identity file ∷ offered file.media_type Brotli e)
+      ++ offered file.media_type Gzip h.gzip) brotli
       ∙ ap
-      (λ (e : Entry). (represented file.media_type Identity file ∷ offered file.media_type Brotli k.brotli) ++ offered file.media_type Gzip e) gzip
+      (λ (e : Entry). (represented file.media_type Identity file ∷ offered file.media_type Brotli k.brotli)
+      ++ offered file.media_type Gzip e) gzip
       ∙ sym k.are
 
   module _ (request : LineMap) (path : List ℕ) (file : File) where

@@ -203,10 +203,17 @@ abbrev pub date_fields : Option ℕ → List Header
 date_fields None = []
 date_fields (Some seconds) = (codes "date", fixdate seconds) ∷ []
 
--- The response to a request, where the store has this at its paths: behind a date, if there is a clock, and what a policy
--- for requests from other origins says, if there is one. The answer to a preflight (OPTIONS) is 204, which lets it pass.
+-- The response to a request at a moment, if there is a clock, where the store has this at its paths: behind the date,
+-- and what a policy for requests from other origins says, if there is one. The answer to a preflight (OPTIONS) is 204,
+-- which lets it pass.
+abbrev pub IsAnswerAt : Option ℕ → Option Policy → Bool → Option FieldValue → (List ℕ → Entry → Type 0)
+    → Request (List ℕ) → Response → Type 0
+IsAnswerAt now cors negotiates cache_control has request response =
+    (shared : List Header) × IsShared cors request shared
+    × AnswersBehind (date_fields now ++ shared) negotiates cache_control has request response
+
+-- the response to a request at some moment
 abbrev pub IsAnswer : Option Policy → Bool → Option FieldValue → (List ℕ → Entry → Type 0) → Request (List ℕ) → Response
     → Type 0
 IsAnswer cors negotiates cache_control has request response =
-    (now : Option ℕ) × (shared : List Header) × IsShared cors request shared
-    × AnswersBehind (date_fields now ++ shared) negotiates cache_control has request response
+    (now : Option ℕ) × IsAnswerAt now cors negotiates cache_control has request response

@@ -11,7 +11,8 @@ use Rattle.headers_serve.specs.declared.file.Entry.{Entry}
 -- Of the bytes that were received these were sent: the connection is served as `http_server` says, so what it sends is
 -- the responses to the first requests, in order, and then what its state calls for. And each response is the answer
 -- from the store to its request.
-pub record Serves (cors : Option Policy) (negotiates : Bool) (cache_control : Option FieldValue) (has : List ℕ → Entry → Type 0)
+pub record Serves (cors : Option Policy) (negotiates : Bool) (cache_control : Option FieldValue)
+    (has : List ℕ → Entry → Type 0)
     (config : Config) (received sent : List ℕ) : Type 0 where
   pub history : History
   pub is_received : history.received ≡ received

@@ -25,7 +25,8 @@ pub fn serve_store<S: Store, R: Read, W: Write>(
     ensures served { (received : List ℕ) × (sent : List ℕ)
         × Consumes (R.remaining reader.old) (R.remaining reader.new) received
         × Appends (W.contents writer.old) (W.contents writer.new) sent
-        × Serves service.old.cors service.old.negotiates service.old.cache_control (S.has service.old.store) config received sent }
+        × Serves service.old.cors service.old.negotiates service.old.cache_control (S.has service.old.store)
+        config received sent }
     ensures kept { service.new ≡ service.old }
 {
     let mut connection = Connection::new(service.alloc, keys, config);

@@ -8,9 +8,10 @@ ghost use Rattle.http_server.specs.declared.response.Response.{Response};
 ghost use Rattle.http_server.specs.Response.{fields_of};
 ghost use Rattle.http1.specs.Fields.{Header};
 ghost use Rattle.headers.specs.LineMap.{LineMap, lines_at};
+ghost use Rattle.headers_cors_policy.specs.Policy.{Policy};
 ghost use Rattle.headers_preconditions.specs.declared.part.Part.{Part};
 ghost use Rattle.headers_preconditions.specs.declared.response.Response.{Response as Answer};
-ghost use Rattle.headers_serve.specs.Answer.{AnswersBehind, AnswersRead, AsksForAll, is_several};
+ghost use Rattle.headers_serve.specs.Answer.{AnswersBehind, AnswersRead, AsksForAll, IsAnswerAt, is_several};
 ghost use Rattle.headers_serve.specs.File.{boundary_of};
 ghost use Rattle.headers_serve.specs.Parts.{Occurs, part_bytes};
 ghost use Rattle.headers_serve.specs.Path.{Names};
@@ -20,14 +21,13 @@ ghost use Rattle.headers_serve.specs.declared.file.Entry.TheVariants.{Readable};
 ghost use Rattle.headers_serve.specs.declared.file.Entry.{Entry};
 ghost use Rattle.headers_serve.specs.declared.file.File.{File};
 
-/// A request has one response at most, where the store has one entry at each path: two responses
-/// with the same date, and the same fields for other origins, have the same status, the same fields
-/// in the same order, and the same body.
+/// A request has one response at most at a moment, where the store has one entry at each path: two
+/// responses have the same status, the same fields in the same order, and the same body.
 pub fn request_has_one_response()
-    ensures { (negotiates : Bool) (cache_control : Option FieldValue) (look : List ℕ → Entry) (before : List Header)
-        (request : Request (List ℕ)) (r s : Response)
-        → AnswersBehind before negotiates cache_control (λ path entry. entry ≡ look path) request r
-        → AnswersBehind before negotiates cache_control (λ path entry. entry ≡ look path) request s
+    ensures { (now : Option ℕ) (cors : Option Policy) (negotiates : Bool) (cache_control : Option FieldValue)
+        (look : List ℕ → Entry) (request : Request (List ℕ)) (r s : Response)
+        → IsAnswerAt now cors negotiates cache_control (λ path entry. entry ≡ look path) request r
+        → IsAnswerAt now cors negotiates cache_control (λ path entry. entry ≡ look path) request s
         → IsSameResponse r s }
 {}
 

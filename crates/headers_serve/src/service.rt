@@ -272,7 +272,8 @@ impl<S: Store> Service for FileService<S> {
     ghost use Rattle.headers_serve.specs.Answer.{IsAnswer};
 
     ghost answers = { λ before request response after.
-        IsAnswer before.cors before.negotiates before.cache_control (S.has before.store) request response × (after ≡ before) };
+        IsAnswer before.cors before.negotiates before.cache_control (S.has before.store) request response
+        × (after ≡ before) };
 
     fn call(
         &mut self,

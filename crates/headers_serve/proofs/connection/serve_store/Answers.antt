@@ -15,8 +15,9 @@ returns-clause-served g c =
     let written = c.serve.ensures.written in
     let calls = c.serve.ensures.calls in
     let all =
-    all_answered (λ s request response. IsAnswer s.cors s.negotiates s.cache_control (g.S.Store.has s.store) request response) calls.0
-    c.args.service.now c.serve.new.service calls.2 in
+    all_answered
+    (λ s request response. IsAnswer s.cors s.negotiates s.cache_control (g.S.Store.has s.store) request response)
+    calls.0 c.args.service.now c.serve.new.service calls.2 in
     let same : h.calls ≡ calls.0 = calls.1 ∙ ap (λ (k : History). k.calls ++ calls.0) began in (
       read.0,
       written.0,
@@ -36,5 +37,6 @@ returns-clause-served g c =
 
 pub returns-clause-kept : goal.returns-clause-kept
 returns-clause-kept g c =
-    (all_answered (λ s request response. IsAnswer s.cors s.negotiates s.cache_control (g.S.Store.has s.store) request response)
+    (all_answered
+    (λ s request response. IsAnswer s.cors s.negotiates s.cache_control (g.S.Store.has s.store) request response)
     c.serve.ensures.calls.0 c.args.service.now c.serve.new.service c.serve.ensures.calls.2).1

@@ -16,7 +16,8 @@ returns g c =
       (
         entry,
         subst
-            (λ (path : List ℕ). LeadsTo c.args.negotiates has (lines_at (head_of c.args.request.now).headers) path entry)
+            (λ (path : List ℕ).
+            LeadsTo c.args.negotiates has (lines_at (head_of c.args.request.now).headers) path entry)
             c.path_of.ensures
             (subst
             (λ (headers : Entries FieldValue). LeadsTo c.args.negotiates has (lines_at headers) c.path_of.result.now

@@ -12,4 +12,4 @@ returns-clause-ok g c =
     (λ (before : List Header). AnswersBehind before c.args.self.now.negotiates c.args.self.now.cache_control
     (g.S.Store.has c.args.self.now.store) c.args.request.now c.answer.new.response)
     (shared.2 ∙ ap (λ (l : List Header). l ++ shared.0) date.1) c.in_ok-answer.ensures in
-    ((date.0, shared.0, shared.1, behind), refl)
+    ((date.0, (shared.0, shared.1, behind)), refl)
