@@ -11,7 +11,8 @@ use Rattle.headers_cache_policy.specs.Fields.{greatest}
 use Rattle.headers_cache_policy.specs.declared.age.Times.{Times}
 use Rattle.headers_cache_policy.specs.declared.decision.Decision.{Decision}
 use Rattle.headers_cache_policy.specs.declared.decision.Decision.TheVariants.{Serve, ServeAndRevalidate, ServeStale}
-use Rattle.headers_cache_policy.specs.declared.decision.Decision.TheVariants.{Revalidate, RevalidateOrServe, Unavailable, Fetch}
+use Rattle.headers_cache_policy.specs.declared.decision.Decision.TheVariants.{Revalidate, RevalidateOrServe}
+use Rattle.headers_cache_policy.specs.declared.decision.Decision.TheVariants.{Unavailable, Fetch}
 use Rattle.headers_cache_policy.specs.declared.decision.Freshness.{Freshness}
 use Rattle.headers_cache_policy.specs.declared.directives.Directives.{Directives}
 use Rattle.headers_cache_policy.specs.declared.kind.Kind.{Kind}

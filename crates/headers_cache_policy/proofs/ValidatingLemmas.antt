@@ -23,6 +23,7 @@ module _ (response : LineMap) where
       by : (o : Option Line) → tag_in response ≡ o
           → Leaves (codes "if-none-match") (tag_lines response) (Remove (codes "if-none-match"))
       by None e =
-          subst (λ (o : Option Line). Leaves (codes "if-none-match") (lines_of_option o) (Remove (codes "if-none-match")))
+          subst
+          (λ (o : Option Line). Leaves (codes "if-none-match") (lines_of_option o) (Remove (codes "if-none-match")))
           (sym e) removes
       by (Some tag) e = absurd (h (plain_value tag) e)

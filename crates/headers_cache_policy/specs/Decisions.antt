@@ -1,5 +1,6 @@
 -- What a cache does with a request that a stored response could answer (RFC 9111, section 4, and RFC 5861).
-use Rattle.std.specs.Prelude.{◌≡◌, ◌⊎◌, ⊤, ℕ, ◌+◌, ◌-◌, ◌<◌, ◌≤◌, true, false, Option, IfSome, IsSome, IsSomeAnd, unwrap_or}
+use Rattle.std.specs.Prelude.{◌≡◌, ◌⊎◌, ⊤, ℕ, ◌+◌, ◌-◌, ◌<◌, ◌≤◌, true, false, Option, IfSome, IsSome}
+use Rattle.std.specs.Prelude.{IsSomeAnd, unwrap_or}
 use Rattle.headers.specs.LineMap.{LineMap}
 use Rattle.headers_cache_policy.specs.Age.{age_at, capped}
 use Rattle.headers_cache_policy.specs.Directives.{directed}
@@ -11,7 +12,8 @@ use Rattle.headers_cache_policy.specs.declared.kind.Kind.{Kind}
 use Rattle.headers_cache_policy.specs.declared.kind.Kind.TheVariants.{Shared, Private}
 use Rattle.headers_cache_policy.specs.declared.decision.Decision.{Decision}
 use Rattle.headers_cache_policy.specs.declared.decision.Decision.TheVariants.{Serve, ServeAndRevalidate, ServeStale}
-use Rattle.headers_cache_policy.specs.declared.decision.Decision.TheVariants.{Revalidate, RevalidateOrServe, Unavailable, Fetch}
+use Rattle.headers_cache_policy.specs.declared.decision.Decision.TheVariants.{Revalidate, RevalidateOrServe}
+use Rattle.headers_cache_policy.specs.declared.decision.Decision.TheVariants.{Unavailable, Fetch}
 use Rattle.headers_cache_policy.specs.declared.decision.Freshness.{Freshness}
 
 -- the response is fresh (section 4.2)

@@ -1,5 +1,6 @@
 -- How long a response is fresh (RFC 9111, section 4.2).
-use Rattle.std.specs.Prelude.{◌≡◌, ◌⊎◌, ℕ, ◌-◌, ◌/◌, Bool, true, IsTrue, nat_eq, List, [], ◌∷◌, Option, Some, None, MatchOption, codes}
+use Rattle.std.specs.Prelude.{◌≡◌, ◌⊎◌, ℕ, ◌-◌, ◌/◌, Bool, true, IsTrue, nat_eq, List, [], ◌∷◌, Option, Some}
+use Rattle.std.specs.Prelude.{None, MatchOption, codes}
 use Rattle.std.specs.List.{list_any}
 use Rattle.headers.specs.LineMap.{LineMap}
 use Rattle.headers_cache_policy.specs.Directives.{directed}
@@ -26,7 +27,8 @@ StatesNoAge kind directives = (shared_age kind directives ≡ None) × (directiv
 -- Expires lies so many seconds after Date: 0 if it isn't later, or if it is no valid date (section 5.3)
 abbrev pub ExpiresAfter : ℕ → LineMap → ℕ → Type 0
 ExpiresAfter received response seconds =
-    MatchOption (date_in (codes "expires") response) (seconds ≡ 0) (λ expires. seconds ≡ expires - dated received response)
+    MatchOption (date_in (codes "expires") response) (seconds ≡ 0)
+    (λ expires. seconds ≡ expires - dated received response)
 
 -- Which facts give each lifetime (section 4.2.1), for a response that came at a moment: so many seconds by
 -- Cache-Control, or by Expires if Cache-Control says nothing; or none is stated.

@@ -64,7 +64,8 @@ module _ (sent : LineMap) (status : ℕ) (response : LineMap) where
 
   pub first_accept : IsSwitched status → NamesWebsocket response → ListsUpgrade response
       → ¬ (AcceptsKey sent response) → First WrongAccept
-  first_accept switched upgrade connection fails = record { broken = fails; before = below_3 switched upgrade connection }
+  first_accept switched upgrade connection fails =
+      record { broken = fails; before = below_3 switched upgrade connection }
 
   pub first_extension : IsSwitched status → NamesWebsocket response → ListsUpgrade response → AcceptsKey sent response
       → ¬ (UsesAskedExtensions sent response) → First UnaskedExtension

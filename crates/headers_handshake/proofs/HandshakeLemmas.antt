@@ -64,7 +64,8 @@ opens_by_value : (accept : FieldValue) (protocol : Option FieldValue) (map respo
     → SendsKey sent key → HasNoOffer map → Carries (Switch accept protocol) map response
     → IsOpened sent 101 response ↔ ((accept.bytes ≡ accept_key_of key) × FitsProtocol sent (Switch accept protocol))
 opens_by_value accept None map response sent key sends clean carries =
-    let none : response (codes "sec-websocket-protocol") ≡ [] = carries (codes "sec-websocket-protocol") ∙ clean.protocol in
+    let none : response (codes "sec-websocket-protocol") ≡ [] =
+    carries (codes "sec-websocket-protocol") ∙ clean.protocol in
     opens_by_lines accept.bytes sent response key ⊤ sends (carries (codes "upgrade")) (carries (codes "connection"))
     (carries (codes "sec-websocket-accept")) (carries (codes "sec-websocket-extensions") ∙ clean.extension)
     (λ _. tt) (λ _. uses_no_protocol sent response none)

@@ -1,5 +1,6 @@
 -- Subprotocols and extensions: what is picked is picked once, and what a server's response uses.
-use Rattle.std.proofs.Common.{◌≡◌, ℕ, zero, suc, ◌<◌, List, [], ◌∷◌, length, Option, Some, None, get_or, inl, inr, codes}
+use Rattle.std.proofs.Common.{◌≡◌, ℕ, zero, suc, ◌<◌, List, [], ◌∷◌, length, Option, Some, None, get_or, inl}
+use Rattle.std.proofs.Common.{inr, codes}
 use Rattle.std.proofs.Common.{refl, sym, ◌∙◌, ap, subst, arith}
 use Rattle.std.proofs.lemmas.Bool.{cases_order}
 use Rattle.http_header.specs.FieldValue.{FieldValue}
@@ -12,7 +13,8 @@ use Rattle.headers_handshake.specs.Offers.{UsesAskedProtocol, extensions_of}
 module _ (list : List (List ℕ)) (own : List FieldValue) where
   -- none before the first is listed, so there is one first
   not_before : (p q : FieldValue) (h : IsFirstListed list own p) (k : IsFirstListed list own q) → ¬ (h.place < k.place)
-  not_before p q h k low = k.before h.place p low (subst (λ (v : FieldValue). IsListed list v.bytes) (sym h.stands) h.listed)
+  not_before p q h k low =
+      k.before h.place p low (subst (λ (v : FieldValue). IsListed list v.bytes) (sym h.stands) h.listed)
 
   one_listed : (p q : FieldValue) → IsFirstListed list own p → IsFirstListed list own q → p ≡ q
   one_listed p q h k =

@@ -1,6 +1,7 @@
 -- Subprotocols and extensions: what a handshake asks for, what a server takes, and what a response uses (RFC 6455,
 -- sections 4.1, 4.2.2 and 9.1).
-use Rattle.std.specs.Prelude.{◌≡◌, ◌⊎◌, ℕ, ◌<◌, ◌==◌, List, [], length, Option, Some, None, IsSomeAnd, All, Any, Contains}
+use Rattle.std.specs.Prelude.{◌≡◌, ◌⊎◌, ℕ, ◌<◌, ◌==◌, List, [], length, Option, Some, None, IsSomeAnd, All, Any}
+use Rattle.std.specs.Prelude.{Contains}
 use Rattle.std.specs.Prelude.{codes, get_or}
 use Rattle.std.specs.List.{before_first}
 use Rattle.http_header.specs.FieldValue.{FieldValue}

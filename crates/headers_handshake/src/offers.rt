@@ -3,7 +3,8 @@ ghost use Rattle.std.specs.Prelude.{◌≡◌, ◌↔◌, ◌<◌, length, All, 
 ghost use Rattle.std.specs.Bool.{MatchBool};
 ghost use Rattle.headers.specs.LineMap.{lines_at};
 ghost use Rattle.headers.specs.Places.{comma, items};
-ghost use Rattle.headers_handshake.specs.Offers.{IsAllowed, IsListed, IsPick, NamesExtension, Takes, UsesAskedExtensions, UsesAskedProtocol, extension_of};
+ghost use Rattle.headers_handshake.specs.Offers.{IsAllowed, IsListed, IsPick, NamesExtension, Takes};
+ghost use Rattle.headers_handshake.specs.Offers.{UsesAskedExtensions, UsesAskedProtocol, extension_of};
 
 use crate::fields::{has_line, items_at, only_value};
 use headers::{HeaderMap, HeaderValue, Vary, trim};

@@ -7,7 +7,8 @@ use Rattle.headers_preconditions.specs.Plans.{IsPlan, IsPlanned, Reads}
 use Rattle.headers_preconditions.specs.Preconditions.{Answers, IsGetOrHead, IsUnconditional, StepsAnswer}
 use Rattle.headers_preconditions.specs.Selection.{Applies}
 use Rattle.headers_preconditions.specs.declared.plan.Plan.{Plan}
-use Rattle.headers_preconditions.specs.declared.plan.Plan.TheVariants.{NotModified, Failed, Full, Single, Multiple, Unsatisfiable}
+use Rattle.headers_preconditions.specs.declared.plan.Plan.TheVariants.{NotModified, Failed, Full, Single}
+use Rattle.headers_preconditions.specs.declared.plan.Plan.TheVariants.{Multiple, Unsatisfiable}
 use Rattle.headers_preconditions.specs.declared.precondition.Precondition.{Precondition}
 use Rattle.headers_preconditions.specs.declared.precondition.Precondition.TheVariants as precondition
 use Rattle.headers_preconditions.specs.declared.resource.Resource.{Resource}
@@ -125,4 +126,7 @@ module _ (request : LineMap) (resource : Resource) where
         → IsPlanned (codes "HEAD") request resource len plan
         ↔ IsPlanned (codes "GET") (remove request (codes "range")) resource len plan
     head_as_get (Some plan) = (plan_of_get plan, plan_of_head plan)
-    head_as_get None = ((λ h. (performs_as_get h.0, served_as_get h.1)), (λ h. (performs_as_head h.0, served_as_head h.1)))
+    head_as_get None = (
+      (λ h. (performs_as_get h.0, served_as_get h.1)),
+      (λ h. (performs_as_head h.0, served_as_head h.1)),
+    )

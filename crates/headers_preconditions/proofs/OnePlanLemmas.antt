@@ -1,5 +1,6 @@
 -- A request has one plan at most.
-use Rattle.std.proofs.Common.{◌≡◌, ◌≢◌, ◌↔◌, ℕ, ◌<◌, List, [], ◌∷◌, Option, Some, None, Any, length, refl, sym, ap, ◌∙◌, subst, inl, inr, arith}
+use Rattle.std.proofs.Common.{◌≡◌, ◌≢◌, ◌↔◌, ℕ, ◌<◌, List, [], ◌∷◌, Option, Some, None, Any, length, refl, sym}
+use Rattle.std.proofs.Common.{ap, ◌∙◌, subst, inl, inr, arith}
 use Rattle.std.proofs.lemmas.List.Elements.{All-nil}
 use Rattle.headers.specs.LineMap.{LineMap}
 use Rattle.headers.specs.Lines.{Line}
@@ -10,7 +11,8 @@ use Rattle.headers_preconditions.specs.Preconditions.{Answers, IsGetOrHead}
 use Rattle.headers_preconditions.specs.Selection.{Applies, IsAsked}
 use Rattle.headers_preconditions.specs.declared.part.Part.{Part}
 use Rattle.headers_preconditions.specs.declared.plan.Plan.{Plan}
-use Rattle.headers_preconditions.specs.declared.plan.Plan.TheVariants.{NotModified, Failed, Full, Single, Multiple, Unsatisfiable}
+use Rattle.headers_preconditions.specs.declared.plan.Plan.TheVariants.{NotModified, Failed, Full, Single}
+use Rattle.headers_preconditions.specs.declared.plan.Plan.TheVariants.{Multiple, Unsatisfiable}
 use Rattle.headers_preconditions.specs.declared.precondition.Precondition.{Precondition}
 use Rattle.headers_preconditions.specs.declared.precondition.Precondition.TheVariants as precondition
 use Rattle.headers_preconditions.specs.declared.resource.Resource.{Resource}

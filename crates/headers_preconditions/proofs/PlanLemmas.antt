@@ -6,7 +6,8 @@ use Rattle.headers_preconditions.specs.Fields.{IsSized}
 use Rattle.headers_preconditions.specs.Parts.{IsPartOf}
 use Rattle.headers_preconditions.specs.Plans.{IsPlan}
 use Rattle.headers_preconditions.specs.declared.plan.Plan.{Plan}
-use Rattle.headers_preconditions.specs.declared.plan.Plan.TheVariants.{NotModified, Failed, Full, Single, Multiple, Unsatisfiable}
+use Rattle.headers_preconditions.specs.declared.plan.Plan.TheVariants.{NotModified, Failed, Full, Single}
+use Rattle.headers_preconditions.specs.declared.plan.Plan.TheVariants.{Multiple, Unsatisfiable}
 use Rattle.headers_preconditions.specs.declared.resource.Resource.{Resource}
 
 module _ (method : List ℕ) (request : LineMap) (resource : Resource) (len : ℕ) where

@@ -29,7 +29,8 @@ lost_or_kept request resource (inr h) k =
     later_or_not (dates (codes "if-unmodified-since") request resource) h.1 (k.1 h.0)
 
 module _ (request : LineMap) (resource : Resource) (method : List ℕ) where
-  failed_or_not_modified : StepsAnswer request resource method Failed → ¬ (StepsAnswer request resource method NotModified)
+  failed_or_not_modified : StepsAnswer request resource method Failed
+      → ¬ (StepsAnswer request resource method NotModified)
   failed_or_not_modified (inl h) k = lost_or_kept request resource h k.0
   failed_or_not_modified (inr h) k = h.1 k.1
 
@@ -37,7 +38,8 @@ module _ (request : LineMap) (resource : Resource) (method : List ℕ) where
   failed_or_performed (inl h) k = lost_or_kept request resource h k.0
   failed_or_performed (inr h) k = h.2.1 (k.1 h.2.0)
 
-  stored_or_performed : StepsAnswer request resource method NotModified → ¬ (StepsAnswer request resource method Perform)
+  stored_or_performed : StepsAnswer request resource method NotModified
+      → ¬ (StepsAnswer request resource method Perform)
   stored_or_performed h k =
       elim h.2 [
         | inl tag ↦ tag.1 (k.1 tag.0)

@@ -1,5 +1,6 @@
 -- What follows from the rows of `Selects`, and from what typed reads say of ranges.
-use Rattle.std.proofs.Common.{◌≡◌, ℕ, List, Option, Some, None, refl, sym, ap, ◌∙◌, subst, ◌↔◌, Any, inl, inr, option_map, length, arith}
+use Rattle.std.proofs.Common.{◌≡◌, ℕ, List, Option, Some, None, refl, sym, ap, ◌∙◌, subst, ◌↔◌, Any, inl, inr}
+use Rattle.std.proofs.Common.{option_map, length, arith}
 use Rattle.std.specs.Option.{option_and_then}
 use Rattle.std.proofs.lemmas.Bool.{cases_Bool}
 use Rattle.http_header.specs.FieldValue.{FieldValue, plain_value}

@@ -44,7 +44,8 @@ pub run-six : (n1 n2 n3 n4 n5 n6 : List ℕ) (l1 l2 l3 l4 l5 l6 : List Line) (s1
     → IsStepTo n1 l1 s1 → IsStepTo n2 l2 s2 → IsStepTo n3 l3 s3 → IsStepTo n4 l4 s4 → IsStepTo n5 l5 s5
     → IsStepTo n6 l6 s6 → (before : LineMap) (other : List ℕ)
     → run before (s1 ∷ s2 ∷ s3 ∷ s4 ∷ s5 ∷ s6 ∷ []) other
-    ≡ with_lines (with_lines (with_lines (with_lines (with_lines (with_lines before n1 l1) n2 l2) n3 l3) n4 l4) n5 l5) n6 l6 other
+    ≡ with_lines (with_lines (with_lines (with_lines (with_lines (with_lines before n1 l1) n2 l2) n3 l3) n4 l4) n5 l5)
+    n6 l6 other
 run-six n1 n2 n3 n4 n5 n6 l1 l2 l3 l4 l5 l6 s1 s2 s3 s4 s5 s6 h1 h2 h3 h4 h5 h6 before =
     let m1 = after_step before s1 in
     let m2 = after_step m1 s2 in

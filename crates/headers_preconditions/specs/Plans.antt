@@ -7,7 +7,8 @@ use Rattle.headers_preconditions.specs.Preconditions.{Answers, IsGetOrHead}
 use Rattle.headers_preconditions.specs.Selection.{Applies, ArePartsAsked, Selects}
 use Rattle.headers_preconditions.specs.declared.part.Part.{Part}
 use Rattle.headers_preconditions.specs.declared.plan.Plan.{Plan}
-use Rattle.headers_preconditions.specs.declared.plan.Plan.TheVariants.{NotModified, Failed, Full, Single, Multiple, Unsatisfiable}
+use Rattle.headers_preconditions.specs.declared.plan.Plan.TheVariants.{NotModified, Failed, Full, Single}
+use Rattle.headers_preconditions.specs.declared.plan.Plan.TheVariants.{Multiple, Unsatisfiable}
 use Rattle.headers_preconditions.specs.declared.precondition.Precondition.TheVariants as precondition
 use Rattle.headers_preconditions.specs.declared.resource.Resource.{Resource}
 use Rattle.headers_preconditions.specs.declared.resource.Resource.TheVariants.{Missing, Current}

@@ -37,8 +37,8 @@ IfRangeLets request current =
 abbrev pub HasValidSpec : Line → Type 0
 HasValidSpec line = IsTrue (list_any is_valid_spec (specs line))
 
--- Range applies to the request, and this is its line: the method is GET, the unit is bytes, some spec is valid, If-Range
--- lets it, and the representation has content
+-- Range applies to the request, and this is its line: the method is GET, the unit is bytes, some spec is valid,
+-- If-Range lets it, and the representation has content
 pub record Applies (method : List ℕ) (request : LineMap) (current : Validators) (len : ℕ) (line : Line) : Type 0 where
   pub is_get : method ≡ codes "GET"
   pub asked : range_asked request ≡ Some line

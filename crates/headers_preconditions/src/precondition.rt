@@ -8,7 +8,8 @@ ghost use Rattle.headers_preconditions.specs.Conditions.{date_in, modified_of, I
 ghost use Rattle.headers_preconditions.specs.Conditions.{IfMatchIsTrue, IfNoneMatchIsTrue};
 ghost use Rattle.headers_preconditions.specs.Conditions.{ModifiedSinceIsFalse, ModifiedSinceLets};
 ghost use Rattle.headers_preconditions.specs.Conditions.{UnmodifiedSinceIsFalse, UnmodifiedSinceLets};
-ghost use Rattle.headers_preconditions.specs.Preconditions.{Answers, IsFound, IsGetOrHead, IsUnconditional, StateIsKept};
+ghost use Rattle.headers_preconditions.specs.Preconditions.{Answers, IsFound, IsGetOrHead, IsUnconditional};
+ghost use Rattle.headers_preconditions.specs.Preconditions.{StateIsKept};
 ghost use Rattle.headers_preconditions.specs.Preconditions.{StateIsLost, StepsAnswer};
 
 use crate::resource::Resource;

@@ -1,5 +1,6 @@
 //! Which part of a representation a request selects.
-ghost use Rattle.std.specs.Prelude.{◌≡◌, ◌↔◌, ℕ, All, Any, IfOk, MatchOption, None, option_copied, option_map, if◌then◌else◌};
+ghost use Rattle.std.specs.Prelude.{◌≡◌, ◌↔◌, ℕ, All, Any, IfOk, MatchOption, None, option_copied, option_map};
+ghost use Rattle.std.specs.Prelude.{if◌then◌else◌};
 ghost use Rattle.std.specs.Bool.{MatchBool};
 ghost use Rattle.std.specs.List.{filter_map};
 ghost use Rattle.headers.specs.LineMap.{lines_at};

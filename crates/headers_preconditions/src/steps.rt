@@ -7,7 +7,8 @@ ghost use Rattle.headers.specs.LineMap.{LineMap, run};
 ghost use Rattle.headers.specs.Lines.{Line};
 ghost use Rattle.headers_preconditions.specs.Conditions.{modified_of};
 ghost use Rattle.headers_preconditions.specs.Fields.{etag_of, etag_sent, modified_sent, units_sent, range_sent};
-ghost use Rattle.headers_preconditions.specs.Fields.{length_sent, type_sent, lines_sent, IsSized, IsStepTo, SendsFields, written};
+ghost use Rattle.headers_preconditions.specs.Fields.{length_sent, type_sent, lines_sent, IsSized, IsStepTo};
+ghost use Rattle.headers_preconditions.specs.Fields.{SendsFields, written};
 
 use crate::boundary::Boundary;
 use crate::content::Content;

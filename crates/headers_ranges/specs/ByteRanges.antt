@@ -56,8 +56,8 @@ pieces text = slice_split (λ b. b == comma) text
 abbrev pub specs : Line → List Spec
 specs line = filter_map spec_of (pieces (drop (length bytes_unit) line))
 
--- The grammar has a spec of these halves (section 14.1.1): they aren't both empty, and the first position isn't past the
--- last.
+-- The grammar has a spec of these halves (section 14.1.1): they aren't both empty, and the first position isn't past
+-- the last.
 abbrev pub are_valid_halves : Option ℕ → Option ℕ → Bool
 are_valid_halves (Some a) (Some b) = nat_le a b
 are_valid_halves (Some a) None = true

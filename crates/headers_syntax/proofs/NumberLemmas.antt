@@ -1,5 +1,6 @@
 -- What `parse` reads of a line is its number, and a printed number is read back.
-use Rattle.std.proofs.Common.{if◌then◌else◌, ◌≡◌, ℕ, ◌<◌, ◌≤◌, ◌≢◌, ◌^◌, ◌&&◌, true, false, [], ◌∷◌, length, Some, None, Result, Ok}
+use Rattle.std.proofs.Common.{if◌then◌else◌, ◌≡◌, ℕ, ◌<◌, ◌≤◌, ◌≢◌, ◌^◌, ◌&&◌, true, false, [], ◌∷◌, length}
+use Rattle.std.proofs.Common.{Some, None, Result, Ok}
 use Rattle.std.proofs.Common.{Err, refl, sym, ◌∙◌, ap, subst, inl, inr, arith, rules, nat_lt, nat_le, get_or, ◌==◌}
 use Rattle.std.specs.Str.{all_ascii_digits}
 use Rattle.std.specs.Str.Parse.{ParsesUnsigned}

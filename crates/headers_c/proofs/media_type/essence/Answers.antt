@@ -20,5 +20,6 @@ returns-in-None c =
     let text = c.args.media_type.now in
     let place =
     position_or_len_is (is_byte 59) text (length text) 0 (omega arith)
-    (λ k below. false_from_ne_true _ (c.in-None.ensures k (omega arith) below)) (λ past. absurd (omega (arith, past))) in
+    (λ k below. false_from_ne_true _ (c.in-None.ensures k (omega arith) below))
+    (λ past. absurd (omega (arith, past))) in
     sym (ap (λ n. take n text) place ∙ take_all (length text) text (omega arith))

@@ -7,4 +7,5 @@ returns-in-Some c = (c.in-Some.ensures.byte (omega arith) (λ w o h. h)).0
 
 pub returns-in-None : goal.returns-in-None
 returns-in-None c =
-    let uncut = c.in-None.ensures.byte (omega arith) (λ w o h. h) in sym (take_all _ c.args.member.now (omega (arith, uncut)))
+    let uncut = c.in-None.ensures.byte (omega arith) (λ w o h. h) in
+    sym (take_all _ c.args.member.now (omega (arith, uncut)))

@@ -25,7 +25,13 @@ loop-index-preserved g c =
             ap {B = ℕ} (λ b. cond b 1 0) w.if-is_row.true,
           )
       | else-is_row w ↦
-          omega (arith, ap (λ t. t.rows) w.tally-is, c.loop-index.invariant, more, ap {B = ℕ} (λ b. cond b 1 0) w.if-is_row.false)
+          omega (
+            arith,
+            ap (λ t. t.rows) w.tally-is,
+            c.loop-index.invariant,
+            more,
+            ap {B = ℕ} (λ b. cond b 1 0) w.if-is_row.false,
+          )
     ]
 
 pub returns : goal.returns
@@ -38,5 +44,6 @@ returns g c =
     ap (map (λ line. line.now)) c.deref-line-items.ensures.value ∙ found in
     let whole =
     take_all c.loop-index.index (map (λ line. line.now) c.deref-line-items.result.now)
-    (subst (λ n. n ≤ c.loop-index.index) (sym (length-map c.deref-line-items.result.now (λ line. line.now))) c.loop-index-test.false) in
+    (subst (λ n. n ≤ c.loop-index.index) (sym (length-map c.deref-line-items.result.now (λ line. line.now)))
+    c.loop-index-test.false) in
     c.loop-index.invariant ∙ ap (λ ls. c.args.tally.now.rows + length (filter is_row_line ls)) (whole ∙ held)
