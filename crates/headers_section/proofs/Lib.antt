@@ -1,8 +1,9 @@
 pub mod BlockLemmas
-pub mod CollectLemmas
 pub mod FieldLemmas
 pub mod KnownLemmas
 pub mod NameLemmas
+pub mod ReadLemmas
 pub mod RoomLemmas
 pub mod RunLemmas
 pub mod SectionLemmas
+pub mod TextLemmas

@@ -11,12 +11,8 @@ use Rattle.std.proofs.lemmas.Map.Views.{any-filter_same}
 use Rattle.std.proofs.lemmas.Slice.Eq.{bytes_eq-Decides}
 use Rattle.http_header.specs.FieldValue.{FieldValue}
 use Rattle.http_header.specs.HeaderMap.{Entries, keys, get_all, append, append_all, RefusesAppend}
-use Rattle.http_header.specs.declared.map.HeaderMapError.{HeaderMapError}
-use Rattle.http_header.specs.declared.map.HeaderMapError.TheVariants.{MaxSizeReached, OutOfMemory}
 use Rattle.http_header.proofs.HeaderMapLemmas.{get_all-append_same, get_all-append_other}
 use Rattle.headers.specs.Lines.{Line, lines_of}
-use Rattle.headers_section.specs.declared.status.RunError.TheVariants.{Room, Io}
-use Rattle.headers_section.specs.MapErrors.{run_error_of}
 use Rattle.headers_section.specs.Section.{Field, FillsMap}
 use Rattle.headers_section.specs.CanonicalText.{names, lines_under, first_appearances}
 
@@ -192,11 +188,3 @@ FillsMap-from_refusal before field later m held full =
       split = refl;
       full = subst (λ (n : Entries FieldValue). RefusesAppend n field.0) held full;
     }
-
-pub full_from_room : (e : HeaderMapError) → run_error_of e ≡ Room → e ≡ MaxSizeReached
-full_from_room MaxSizeReached h = refl
-full_from_room OutOfMemory h = absurd (cc h)
-
-pub never_io : (e : HeaderMapError) → run_error_of e ≡ Io → ⊥
-never_io MaxSizeReached h = cc h
-never_io OutOfMemory h = cc h

@@ -5,7 +5,7 @@ use Rattle.std.specs.List.{slice_split, AllZip}
 use Rattle.http_header.specs.Token.{lowercase}
 use Rattle.http_header.specs.FieldName.{IsFieldName}
 use Rattle.http_header.specs.FieldValue.{FieldValue, IsFieldValue, plain_value}
-use Rattle.http_header.specs.HeaderMap.{append_all, RefusesAppend}
+use Rattle.http_header.specs.HeaderMap.{Entries, append_all, RefusesAppend}
 use Rattle.headers.specs.Lines.{Line}
 use Rattle.headers.specs.Text.{trim}
 
@@ -50,6 +50,10 @@ pub record IsField (line : Line) (field : Field) : Type 0 where
 abbrev pub AreFields : List Line → List Field → Type 0
 AreFields lines fields = AllZip IsField lines fields
 
+-- each line is a field
+abbrev pub HasOnlyFields : List Line → Type 0
+HasOnlyFields lines = (fields : List Field) × AreFields lines fields
+
 -- the line is no field
 abbrev pub IsNoField : Line → Type 0
 IsNoField line = (field : Field) → ¬ (IsField line field)
@@ -57,6 +61,12 @@ IsNoField line = (field : Field) → ¬ (IsField line field)
 -- some line is no field
 abbrev pub HasNoField : List Line → Type 0
 HasNoField lines = (line : Line) × Contains lines line × IsNoField line
+
+-- the map has the fields of the input, and no other
+pub record Holds (input : List ℕ) (map : Entries FieldValue) : Type 0 where
+  pub fields : List Field
+  pub are_fields : AreFields (section input) fields
+  pub held : map ≡ append_all [] fields
 
 -- a map that holds the fields before one of them, and no other, has no room for it
 pub record FillsMap (fields : List Field) : Type 0 where

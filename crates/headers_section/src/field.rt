@@ -1,17 +1,18 @@
 //! The fields of an input.
-ghost use Rattle.std.specs.Prelude.{◌≡◌, ◌<◌, ◌∷◌, [], length, IfOk, IfSome, IfNone};
+ghost use Rattle.std.specs.Prelude.{◌≡◌, ◌<◌, ◌∷◌, [], length, Err, IfOk, IfSome, IfNone, MatchBool};
 ghost use Rattle.headers.specs.Text.{trim};
-ghost use Rattle.headers_section.specs.Section.{without_return, input_lines, section, IsField, IsNoField, AreFields};
-ghost use Rattle.headers_section.specs.Section.{HasNoField};
+ghost use Rattle.headers_section.specs.Section.{without_return, input_lines, section, IsField, IsNoField};
+ghost use Rattle.headers_section.specs.Section.{HasOnlyFields, HasNoField, HasTooManyFields, Holds};
 
 use bytes::Bytes;
-use headers::{HeaderName, HeaderValue, trimmed};
-use http_header::HeaderNameError;
+use headers::{HeaderMap, HeaderName, HeaderValue, trimmed};
+use http_header::{HeaderMapError, HeaderNameError};
 use memchr::memchr;
 use std::alloc::{AllocError, Global};
+use std::hash::RandomState;
 
-/// A name and a value.
-pub type Field = (HeaderName, HeaderValue);
+// A name and a value.
+type Field = (HeaderName, HeaderValue);
 
 // The line without the byte 13 at its end, if one is there.
 fn without_return(mut line: Bytes) -> Bytes
@@ -37,6 +38,22 @@ fn cut_line(mut input: Bytes) -> Result<(Bytes, Option<Bytes>), AllocError>
             Ok((without_return(line), Some(input)))
         }
         None => Ok((without_return(input), None)),
+    }
+}
+
+// The first line of a section, and what follows it. `None` if the section has no line.
+fn first_line(input: Bytes) -> Result<Option<(Bytes, Bytes)>, AllocError>
+    ensures none { IfOk result (λ found. IfNone found (section input ≡ [])) }
+    ensures some { IfOk result (λ found. IfSome found (λ cut. section input ≡ cut.0 ∷ section cut.1)) }
+    ensures shorter { IfOk result (λ found. IfSome found (λ cut. length cut.1 < length input)) }
+{
+    let (line, after) = cut_line(input)?;
+    if line.is_empty() {
+        return Ok(None);
+    }
+    match after {
+        Some(rest) => Ok(Some((line, rest))),
+        None => Ok(Some((line, Bytes::new()))),
     }
 }
 
@@ -72,26 +89,61 @@ fn read_field(alloc: Global, mut line: Bytes) -> Result<Option<Field>, AllocErro
     }
 }
 
-/// The fields before the first empty line (RFC 9112, sections 2.1 and 5), or `None` if a line
-/// before it is no field. They share the bytes of the input.
-pub fn read_fields(alloc: Global, input: Bytes) -> Result<Option<Vec<Field>>, AllocError>
-    ensures some { IfOk result (λ found. IfSome found (λ fields. AreFields (section input) fields.items)) }
-    ensures none { IfOk result (λ found. IfNone found (HasNoField (section input))) }
+// Whether each line of a section is a field.
+fn has_only_fields(alloc: Global, input: Bytes) -> Result<bool, AllocError>
+    ensures { IfOk result (λ all. MatchBool all (HasOnlyFields (section input)) (HasNoField (section input))) }
 {
-    let mut fields = Vec::new(alloc);
     let mut rest = input;
-    loop {
-        let (line, after) = cut_line(rest)?;
-        if line.is_empty() {
-            return Ok(Some(fields));
-        }
-        let Some(field) = read_field(alloc, line)? else {
-            return Ok(None);
-        };
-        fields.push(field)?;
-        match after {
-            Some(after) => rest = after,
-            None => return Ok(Some(fields)),
+    while let Some((line, after)) = first_line(rest)? {
+        match read_field(alloc, line)? {
+            Some(_) => rest = after,
+            None => return Ok(false),
         }
     }
+    Ok(true)
+}
+
+// An empty map, which hashes with the keys where names collide.
+fn empty_map(alloc: Global, keys: Option<RandomState>) -> HeaderMap
+    ensures { result ≡ [] }
+{
+    match keys {
+        Some(keys) => HeaderMap::with_hasher(alloc, keys),
+        None => HeaderMap::new(alloc),
+    }
+}
+
+/// The fields before the first empty line (RFC 9112, sections 2.1 and 5) in one map, which hashes
+/// with the keys where names collide. `None` if a line before the empty one is no field,
+/// `MaxSizeReached` if all are fields and a map has no room for them. The map shares the bytes of
+/// the input.
+pub fn read_map(
+    alloc: Global,
+    keys: Option<RandomState>,
+    input: Bytes,
+) -> Result<Option<HeaderMap>, HeaderMapError>
+    ensures some { IfOk result (λ found. IfSome found (Holds input)) }
+    ensures fits { IfOk result (λ found. IfSome found (λ _. ¬ (HasTooManyFields input))) }
+    ensures none { IfOk result (λ found. IfNone found (HasNoField (section input))) }
+    ensures full { result ≡ Err HeaderMapError.MaxSizeReached → HasTooManyFields input }
+{
+    let mut map = empty_map(alloc, keys);
+    let mut rest = input;
+    while let Some((line, after)) = first_line(rest)? {
+        let Some((name, value)) = read_field(alloc, line)? else {
+            return Ok(None);
+        };
+        match map.append(name, value) {
+            Ok(_) => rest = after,
+            Err(HeaderMapError::OutOfMemory) => return Err(HeaderMapError::OutOfMemory),
+            Err(HeaderMapError::MaxSizeReached) => {
+                // A line that is no field comes before a full map, wherever it stands.
+                if has_only_fields(alloc, after)? {
+                    return Err(HeaderMapError::MaxSizeReached);
+                }
+                return Ok(None);
+            }
+        }
+    }
+    Ok(Some(map))
 }

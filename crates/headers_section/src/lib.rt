@@ -1,4 +1,4 @@
-//! The canonical text of a header section.
+//! The fields of a header section in a map, and its canonical text.
 #![tactic(auto)]
 
 mod block;
@@ -9,6 +9,7 @@ mod runs;
 mod status;
 mod text;
 
+pub use crate::field::read_map;
 pub use crate::runs::{run, run_with_keys, run_with_system_keys};
 pub use crate::status::{Outcome, RunError, exit_status};
 pub use crate::text::{print_line, print_lines};

@@ -1,13 +1,12 @@
 //! The canonical text of a header section.
-ghost use Rattle.std.specs.Prelude.{◌≡◌, ◌≢◌, ◌<◌, ◌++◌, [], length, option_map, IfOk, IfSome, IfNone, OnOk, All};
-ghost use Rattle.std.specs.Prelude.{flat_map};
-ghost use Rattle.http_header.specs.HeaderMap.{keys, get_all, append_all};
+ghost use Rattle.std.specs.Prelude.{◌≡◌, ◌≢◌, ◌<◌, ◌++◌, length, option_map, IfOk, IfSome, IfNone, OnOk, All, flat_map};
+ghost use Rattle.http_header.specs.HeaderMap.{keys, get_all};
 ghost use Rattle.headers.specs.Lines.{lines_of};
-ghost use Rattle.headers_section.specs.Section.{section, HasNoField, FillsMap, HasTooManyFields};
-ghost use Rattle.headers_section.specs.CanonicalText.{block_text, line_text, HasBlocks, IsTextOf, IsCanonicalText};
+ghost use Rattle.headers_section.specs.Section.{section, HasNoField, HasTooManyFields};
+ghost use Rattle.headers_section.specs.CanonicalText.{block_text, line_text, HasBlocks, IsCanonicalText};
 
 use crate::block::read_block;
-use crate::field::{Field, read_fields};
+use crate::field::read_map;
 use crate::status::RunError;
 use bytes::Bytes;
 use headers::{HeaderMap, HeaderName, HeaderValue};
@@ -19,34 +18,6 @@ use std::hash::RandomState;
 pub struct CanonicalText {
     pub bytes: Vec<u8>,
     pub some_refused: bool,
-}
-
-// An empty map, which hashes with the keys where names collide.
-fn empty_map(alloc: Global, keys: Option<RandomState>) -> HeaderMap
-    ensures { result ≡ [] }
-{
-    match keys {
-        Some(keys) => HeaderMap::with_hasher(alloc, keys),
-        None => HeaderMap::new(alloc),
-    }
-}
-
-// The fields in one map.
-fn collect_fields(
-    alloc: Global,
-    keys: Option<RandomState>,
-    fields: Vec<Field>,
-) -> Result<HeaderMap, RunError>
-    ensures held { IfOk result (λ map. map ≡ append_all [] fields.items) }
-    ensures fits { IfOk result (λ _. ¬ (FillsMap fields.items)) }
-    ensures room { result ≡ Err RunError.Room → FillsMap fields.items }
-    ensures never_io { result ≢ Err RunError.Io }
-{
-    let mut map = empty_map(alloc, keys);
-    for (name, value) in fields {
-        map.append(name, value)?;
-    }
-    Ok(map)
 }
 
 /// Prints the line after the name, a colon and a space.
@@ -124,21 +95,6 @@ fn print_blocks(alloc: Global, map: &HeaderMap) -> Result<CanonicalText, AllocEr
     })
 }
 
-// The canonical text of the fields.
-fn print_fields(
-    alloc: Global,
-    keys: Option<RandomState>,
-    fields: Vec<Field>,
-) -> Result<CanonicalText, RunError>
-    ensures text { IfOk result (λ text. IsTextOf fields.items text.bytes.items text.some_refused) }
-    ensures fits { IfOk result (λ _. ¬ (FillsMap fields.items)) }
-    ensures room { result ≡ Err RunError.Room → FillsMap fields.items }
-    ensures never_io { result ≢ Err RunError.Io }
-{
-    let map = collect_fields(alloc, keys, fields)?;
-    Ok(print_blocks(alloc, &map)?)
-}
-
 /// The canonical text of an input, or `None` if a line before the first empty one is no field.
 /// `Room` if a header map has no room for the fields. The keys are those of the map.
 pub fn canonical_text(
@@ -154,8 +110,8 @@ pub fn canonical_text(
         → HasTooManyFields input }
     ensures never_io { result ≢ Err RunError.Io }
 {
-    match read_fields(alloc, input)? {
-        Some(fields) => Ok(Some(print_fields(alloc, keys, fields)?)),
+    match read_map(alloc, keys, input)? {
+        Some(map) => Ok(Some(print_blocks(alloc, &map)?)),
         None => Ok(None),
     }
 }

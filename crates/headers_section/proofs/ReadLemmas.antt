@@ -1,0 +1,109 @@
+-- Fields that are read from the front of a section, and put into a map.
+use Rattle.std.proofs.Common.{◌≡◌, ℕ, List, [], ◌∷◌, ◌++◌, refl, sym, ◌∙◌, ap, subst, append_assoc, arith}
+use Rattle.std.proofs.lemmas.List.{append-nil}
+use Rattle.std.proofs.lemmas.List.Elements.{Contains-append_right}
+use Rattle.http_header.specs.FieldValue.{FieldValue}
+use Rattle.http_header.specs.HeaderMap.{Entries, append, append_all, RefusesAppend}
+use Rattle.headers.specs.Lines.{Line}
+use Rattle.headers_section.specs.Section.{Field, section, IsField, AreFields, IsNoField, HasOnlyFields, HasNoField}
+use Rattle.headers_section.specs.Section.{Holds, FillsMap, HasTooManyFields}
+use Rattle.headers_section.proofs.NameLemmas.{append_all-push, FillsMap-from_refusal}
+use Rattle.headers_section.proofs.RoomLemmas.{AreFields-once, fits_none, fits_more}
+
+-- the fields are those of the input's lines before the rest
+pub record IsRead (input rest : List ℕ) (fields : List Field) : Type 0 where
+  pub before : (later : List Field) → AreFields (section rest) later → AreFields (section input) (fields ++ later)
+  pub no_field : HasNoField (section rest) → HasNoField (section input)
+
+pub IsRead-none : (input : List ℕ) → IsRead input input []
+IsRead-none input = record { before = λ later are. are; no_field = λ none. none }
+
+-- all lines are read
+pub AreFields-from_read : (input rest : List ℕ) (fields : List Field) → IsRead input rest fields → section rest ≡ []
+    → AreFields (section input) fields
+AreFields-from_read input rest fields read ended =
+    subst (λ (all : List Field). AreFields (section input) all) (append-nil fields)
+    (read.before [] (subst (λ (lines : List Line). AreFields lines []) (sym ended) tt))
+
+-- a line is next
+module _ (input rest : List ℕ) (fields : List Field) (read : IsRead input rest fields) (line : Line) (behind : List ℕ)
+    (next : section rest ≡ line ∷ section behind) where
+  -- it is no field
+  pub HasNoField-from_line : IsNoField line → HasNoField (section input)
+  HasNoField-from_line none =
+      read.no_field (subst HasNoField (sym next)
+      (line, (0, omega arith, refl), none))
+
+  -- it is a field
+  module _ (field : Field) (is : IsField line field) where
+    pub AreFields-more : (later : List Field) → AreFields (section behind) later
+        → AreFields (section input) (fields ++ field ∷ later)
+    AreFields-more later are =
+        read.before (field ∷ later)
+        (subst (λ (lines : List Line). AreFields lines (field ∷ later)) (sym next) (is, are))
+
+    pub IsRead-more : IsRead input behind (fields ++ field ∷ [])
+    IsRead-more =
+        record {
+          before = λ later are.
+              subst (λ (all : List Field). AreFields (section input) all)
+              (sym (append_assoc fields (field ∷ []) later)) (AreFields-more later are);
+          no_field = λ none.
+              read.no_field (subst HasNoField (sym next)
+              (none.0, Contains-append_right (line ∷ []) (section behind) none.0 none.1, none.2));
+        }
+
+-- the map has the fields of the input's lines before the rest
+pub record IsInMap (input rest : List ℕ) (map : Entries FieldValue) : Type 0 where
+  pub fields : List Field
+  pub read : IsRead input rest fields
+  pub held : map ≡ append_all [] fields
+  pub fits : ¬ (FillsMap fields)
+
+pub IsInMap-none : (input : List ℕ) (map : Entries FieldValue) → map ≡ [] → IsInMap input input map
+IsInMap-none input map none = record { fields = []; read = IsRead-none input; held = none; fits = fits_none }
+
+-- all fields are in the map
+module _ (input rest : List ℕ) (map : Entries FieldValue) (so_far : IsInMap input rest map) (ended : section rest ≡ [])
+  where
+    pub Holds-from_map : Holds input map
+    Holds-from_map =
+        record {
+          fields = so_far.fields;
+          are_fields = AreFields-from_read input rest so_far.fields so_far.read ended;
+          held = so_far.held;
+        }
+
+    pub fits-from_map : ¬ (HasTooManyFields input)
+    fits-from_map many =
+        so_far.fits (subst FillsMap (AreFields-once (section input) many.0 so_far.fields many.1
+        (AreFields-from_read input rest so_far.fields so_far.read ended)) many.2)
+
+-- a field is next
+module _ (input rest : List ℕ) (map : Entries FieldValue) (so_far : IsInMap input rest map) (line : Line)
+    (behind : List ℕ) (next : section rest ≡ line ∷ section behind) (field : Field) (is : IsField line field) where
+  -- the map takes it
+  pub IsInMap-more : (after : Entries FieldValue) → after ≡ append map field.0 field.1 → ¬ (RefusesAppend map field.0)
+      → IsInMap input behind after
+  IsInMap-more after appended room =
+      record {
+        fields = so_far.fields ++ field ∷ [];
+        read = IsRead-more input rest so_far.fields so_far.read line behind next field is;
+        held =
+            appended
+            ∙ ap (λ (m : Entries FieldValue). append m field.0 field.1) so_far.held
+            ∙ sym (append_all-push [] so_far.fields field);
+        fits = fits_more so_far.fields field map so_far.held room so_far.fits;
+      }
+
+  -- the map refuses it
+  pub HasTooManyFields-from_map : RefusesAppend map field.0 → HasOnlyFields (section behind) → HasTooManyFields input
+  HasTooManyFields-from_map full later = (
+    so_far.fields ++ field ∷ later.0,
+    AreFields-more input rest so_far.fields so_far.read line behind next field is later.0 later.1,
+    FillsMap-from_refusal so_far.fields field later.0 map so_far.held full,
+  )
+
+  pub HasNoField-from_behind : HasNoField (section behind) → HasNoField (section input)
+  HasNoField-from_behind =
+      (IsRead-more input rest so_far.fields so_far.read line behind next field is).no_field
