@@ -8,6 +8,7 @@ use Rattle.http_header.specs.HeaderMap.{Entries}
 use Rattle.http_header.specs.Token.{IsToken}
 use Rattle.headers.specs.LineMap.{LineMap, lines_at}
 use Rattle.headers_section.specs.CanonicalText.{line_text}
+use Rattle.headers_section.specs.Section.{Holds}
 use Rattle.headers_cache_policy.specs.Age.{age_at, capped}
 use Rattle.headers_cache_policy.specs.Decisions.{DecidesStored}
 use Rattle.headers_cache_policy.specs.Freshness.{HasLifetime}
@@ -19,7 +20,7 @@ use Rattle.headers_cache_policy.specs.declared.decision.Decision.TheVariants as 
 use Rattle.headers_cache_policy.specs.declared.kind.Kind.{Kind}
 use Rattle.headers_cache_policy.specs.declared.kind.Kind.TheVariants.{Shared, Private}
 use Rattle.headers_c.specs.Preconditions.{IsMethodOf}
-use Rattle.headers_c_parts.specs.SectionMap.{Holds, IsMapOf}
+use Rattle.headers_c_parts.specs.SectionMap.{IsMapOf}
 use Rattle.headers_c.specs.Tags.{Tells}
 use Rattle.headers_c.specs.declared.cache.Moments.{Moments}
 use Rattle.headers_c_parts.specs.declared.status.Failure.{Failure}

@@ -8,6 +8,7 @@ use Rattle.headers.specs.Lines.{lines_of}
 use Rattle.headers.specs.declared.Step.{Step}
 use Rattle.headers.specs.declared.Step.TheVariants.{Put, Remove}
 use Rattle.headers_section.specs.CanonicalText.{line_text}
+use Rattle.headers_section.specs.Section.{Holds}
 use Rattle.headers_cors_policy.specs.Answer.{IsAnswer}
 use Rattle.headers_cors_policy.specs.Policy.{Policy}
 use Rattle.headers_cors_policy.specs.declared.kind.CorsKind.{CorsKind}
@@ -17,7 +18,7 @@ use Rattle.headers_c.specs.CacheDirectives.{flag_of}
 use Rattle.headers_c_parts.specs.Endings.{TellsAndWrites}
 use Rattle.headers_c.specs.Preconditions.{IsMethodOf}
 use Rattle.headers_c.specs.Rules.{IsPolicyAnswer, IsPolicyFor}
-use Rattle.headers_c_parts.specs.SectionMap.{Holds, IsMapOf}
+use Rattle.headers_c_parts.specs.SectionMap.{IsMapOf}
 use Rattle.headers_c.specs.declared.cors.CorsFacts.{CorsFacts}
 use Rattle.headers_c.specs.declared.cors.Shared.{Shared}
 use Rattle.headers_c.specs.declared.rules.Rules.{Rules}

@@ -6,13 +6,14 @@ use Rattle.http_header.specs.HeaderMap.{Entries}
 use Rattle.http_header.specs.Token.{IsToken}
 use Rattle.headers.specs.Date.{IsDated}
 use Rattle.headers.specs.LineMap.{lines_at}
+use Rattle.headers_section.specs.Section.{Holds}
 use Rattle.headers_preconditions.specs.Preconditions.{Answers}
 use Rattle.headers_preconditions.specs.declared.precondition.Precondition.{Precondition}
 use Rattle.headers_preconditions.specs.declared.precondition.Precondition.TheVariants.{Perform, NotModified, Failed}
 use Rattle.headers_preconditions.specs.declared.resource.Resource.{Resource}
 use Rattle.headers_preconditions.specs.declared.resource.Resource.TheVariants.{Missing, Current}
 use Rattle.headers_c_parts.specs.FieldText.{FieldDecodes, field_lines}
-use Rattle.headers_c_parts.specs.SectionMap.{Holds, IsMapOf}
+use Rattle.headers_c_parts.specs.SectionMap.{IsMapOf}
 use Rattle.headers_c.specs.Tags.{reads_etag}
 use Rattle.headers_c.specs.declared.preconditions.Target.{Target}
 use Rattle.headers_c_parts.specs.declared.status.Failure.{Failure}

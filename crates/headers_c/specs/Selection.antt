@@ -4,6 +4,7 @@ use Rattle.http_header.specs.FieldValue.{FieldValue}
 use Rattle.http_header.specs.HeaderMap.{Entries}
 use Rattle.http_header.specs.Token.{IsToken}
 use Rattle.headers.specs.LineMap.{lines_at}
+use Rattle.headers_section.specs.Section.{Holds}
 use Rattle.headers_preconditions.specs.Selection.{Selects as SelectsOf}
 use Rattle.headers_preconditions.specs.declared.part.Part.{Part}
 use Rattle.headers_preconditions.specs.declared.resource.Resource.TheVariants.{Current}
@@ -12,7 +13,7 @@ use Rattle.headers_preconditions.specs.declared.selection.Selection.{Selection}
 use Rattle.headers_preconditions.specs.declared.selection.Selection.TheVariants.{Whole, Parts, Unsatisfiable}
 use Rattle.headers_c_parts.specs.Endings.{TellsAndWrites}
 use Rattle.headers_c.specs.Preconditions.{IsMethodOf, IsResourceOf}
-use Rattle.headers_c_parts.specs.SectionMap.{Holds, IsMapOf}
+use Rattle.headers_c_parts.specs.SectionMap.{IsMapOf}
 use Rattle.headers_c.specs.declared.preconditions.Target.{Target}
 use Rattle.headers_c.specs.declared.ranges.BytesRange.{BytesRange}
 use Rattle.headers_c.specs.declared.selection.Selected.{Selected}

@@ -1,3 +1,2 @@
 pub mod DecodeLemmas
 pub mod LineLemmas
-pub mod SectionLemmas

@@ -1,25 +1,12 @@
 -- The lines of a text, one after the other.
 use Rattle.std.proofs.Common.{◌≡◌, ℕ, List, [], ◌∷◌, ◌++◌, All, Contains, Option, Some, None, IfSome}
-use Rattle.std.proofs.Common.{IfNone, refl, sym, ◌∙◌, ap, subst, arith, append_assoc, inl, inr}
-use Rattle.std.specs.List.{list_all}
-use Rattle.std.proofs.lemmas.Bool.{cases_Bool}
+use Rattle.std.proofs.Common.{IfNone, refl, sym, ◌∙◌, ap, subst, arith, append_assoc}
 use Rattle.std.proofs.lemmas.List.{map-append}
 use Rattle.std.proofs.lemmas.List.Elements.{All-push, All-contains, Contains-append_right}
-use Rattle.std.proofs.lemmas.List.Sums.{AllPass-from_list_all, list_all-from_AllPass}
 use denote.Ref.{Bor}
 use Rattle.http_header.specs.FieldValue.{FieldValue, IsFieldValue, plain_value}
-use Rattle.http_header.specs.Token.{is_value_byte}
 use Rattle.headers.specs.Lines.{Line, lines_of}
 use Rattle.headers_section.specs.Section.{input_lines}
-
--- bytes that aren't refused may be a header value
-pub IsFieldValue-from_kept : (bytes : List ℕ) → ¬ (¬ (IsFieldValue bytes)) → IsFieldValue bytes
-IsFieldValue-from_kept bytes kept =
-    elim (cases_Bool (list_all is_value_byte bytes)) [
-      | inl t ↦ AllPass-from_list_all is_value_byte bytes t
-      | inr f ↦
-          absurd (kept (λ valid. let t = list_all-from_AllPass is_value_byte bytes valid in absurd (cc (t, f))))
-    ]
 
 -- a text has a first line
 pub first_line : (text : List ℕ) (line : Line) (after : Option (Bor (List ℕ)))

@@ -1,16 +1,14 @@
 -- The lines of an input, one after the other.
-use Rattle.std.proofs.Common.{◌≡◌, ℕ, suc, ◌+◌, ◌<◌, true, false, List, [], ◌∷◌, ◌++◌, length, take, drop, map}
-use Rattle.std.proofs.Common.{get_or, Option, Some, None, IfSome, IfNone, refl, sym, ◌∙◌, ap, subst, arith, Contains}
-use Rattle.std.proofs.Common.{append_assoc, All}
-use Rattle.std.specs.List.{slice_split, prefix_len}
+use Rattle.std.proofs.Common.{◌≡◌, ℕ, ◌+◌, ◌<◌, false, List, [], ◌∷◌, ◌++◌, length, take, drop, map, get_or, sym, ◌∙◌}
+use Rattle.std.proofs.Common.{ap, subst, arith, All}
+use Rattle.std.specs.List.{slice_split}
 use Rattle.std.proofs.lemmas.Bool.{false_from_ne_true}
 use Rattle.std.proofs.lemmas.List.{take-append-drop, drop_more, get_or-take, length-take-le}
 use Rattle.std.proofs.lemmas.List.Splits.{slice_split_at, slice_split_none}
-use Rattle.std.proofs.lemmas.List.Elements.{All-from_get_or, Contains-append_left, Contains-push}
+use Rattle.std.proofs.lemmas.List.Elements.{All-from_get_or}
 use Rattle.memchr.specs.Find.{NoneBefore, Nowhere, Passes, is_byte}
 use Rattle.headers.specs.Lines.{Line}
-use Rattle.headers_section.specs.Section.{without_return, is_newline, is_filled, input_lines, section, Field, IsField}
-use Rattle.headers_section.specs.Section.{AreFields, IsNoField, HasNoField}
+use Rattle.headers_section.specs.Section.{without_return, is_newline, input_lines}
 
 -- a list at one of its places
 pub split_at_place : (s : List ℕ) (k : ℕ) → k < length s → s ≡ take k s ++ get_or s k 0 ∷ drop (k + 1) s
@@ -52,55 +50,3 @@ input_lines-some input end line rest first here line_is rest_is =
     ∙ ap (λ (first_line : Line). first_line ∷ map without_return (slice_split is_newline (drop (end + 1) input)))
     (sym line_is)
     ∙ ap (λ (later : List ℕ). line ∷ input_lines later) (sym rest_is)
-
-empty_line : (line : Line) → length line ≡ 0 → is_filled line ≡ false
-empty_line [] e = refl
-empty_line (b ∷ line) e = absurd (omega (arith, e))
-
-filled_line : (line : Line) → 0 < length line → is_filled line ≡ true
-filled_line [] e = absurd (omega (arith, e))
-filled_line (b ∷ line) e = refl
-
--- the lines before the first empty one, where the first is not empty
-pub section-filled : (input : List ℕ) (line : Line) (lines : List Line) → input_lines input ≡ line ∷ lines
-    → 0 < length line → section input ≡ line ∷ take (prefix_len is_filled lines) lines
-section-filled input line lines e h =
-    let more : 1 + prefix_len is_filled lines ≡ suc (prefix_len is_filled lines) = omega arith in
-    rw (e, filled_line line h, more) refl
-
--- one more line was taken
-pub section_taken : (all : List ℕ) (taken : List Line) (input : List ℕ) (line : Line) (lines : List Line)
-    → section all ≡ taken ++ section input → input_lines input ≡ line ∷ lines → 0 < length line
-    → section all ≡ (taken ++ line ∷ []) ++ take (prefix_len is_filled lines) lines
-section_taken all taken input line lines all_is input_is filled =
-    all_is
-    ∙ ap (λ (left : List Line). taken ++ left) (section-filled input line lines input_is filled)
-    ∙ sym (append_assoc taken (line ∷ []) _)
-
--- the line that a cut gives is the first
-pub first_line_of : (input : List ℕ) (line : Line) (after : Option (List ℕ))
-    → IfNone after (input_lines input ≡ line ∷ [])
-    → IfSome after (λ rest. input_lines input ≡ line ∷ input_lines rest)
-    → (lines : List Line) × (input_lines input ≡ line ∷ lines)
-first_line_of input line None last more = ([], last)
-first_line_of input line (Some rest) last more = (input_lines rest, more)
-
--- one more field was read
-pub AreFields-push : (lines : List Line) (fields : List Field) (line : Line) (field : Field) → AreFields lines fields
-    → IsField line field → AreFields (lines ++ line ∷ []) (fields ++ field ∷ [])
-AreFields-push [] [] line field h is = (is, tt)
-AreFields-push [] (f ∷ fields) line field h is = absurd h
-AreFields-push (l ∷ lines) [] line field h is = absurd h
-AreFields-push (l ∷ lines) (f ∷ fields) line field h is = (h.0, AreFields-push lines fields line field h.1 is)
-
--- a line that is no field stands before the first empty one
-pub HasNoField-from_line : (all : List ℕ) (taken : List Line) (input : List ℕ) (line : Line) (lines : List Line)
-    → section all ≡ taken ++ section input → input_lines input ≡ line ∷ lines → 0 < length line → IsNoField line
-    → HasNoField (section all)
-HasNoField-from_line all taken input line lines all_is input_is filled not_a_field = (
-  line,
-  subst (λ (lines : List Line). Contains lines line)
-      (sym (section_taken all taken input line lines all_is input_is filled))
-      (Contains-append_left (taken ++ line ∷ []) _ line (Contains-push taken line)),
-  not_a_field,
-)
