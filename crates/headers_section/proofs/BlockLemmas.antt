@@ -1,12 +1,12 @@
 -- A text that is printed block by block.
-use Rattle.std.proofs.Common.{◌≡◌, ℕ, ◌<◌, ◌||◌, Bool, false, List, [], ◌∷◌, ◌++◌, length, All, flat_map, Option, Some}
+use Rattle.std.proofs.Common.{◌≡◌, ℕ, ◌||◌, Bool, false, List, [], ◌∷◌, ◌++◌, flat_map, Option, Some}
 use Rattle.std.proofs.Common.{None, is_none, option_map, refl, sym, ◌∙◌, ap, subst, append_assoc}
 use Rattle.std.specs.List.{list_any}
 use Rattle.std.proofs.Math.Bool.{or-false}
 use Rattle.std.proofs.lemmas.List.{append-nil, map-append}
 use Rattle.std.proofs.lemmas.List.Concat.{flat_map-append}
 use Rattle.std.proofs.lemmas.List.Folds.{list_any-append}
-use Rattle.std.proofs.lemmas.List.Elements.{All-nil, All-push, All-head, All-tail, All-weaker}
+use Rattle.std.proofs.lemmas.List.Elements.{All-nil, All-push, All-weaker}
 use Rattle.http_header.specs.FieldValue.{FieldValue}
 use Rattle.http_header.specs.HeaderMap.{Entries, keys, get_all}
 use Rattle.headers.specs.Lines.{Line, lines_of}
@@ -58,34 +58,25 @@ pub record IsPrinted (map : Entries FieldValue) (left : List (List ℕ)) (text :
     : Type 0 where
   pub printed : List (List ℕ)
   pub whole : printed ++ left ≡ keys map
-  pub filled : All (λ name. 0 < length (get_all map name)) left
   pub has : HasBlocks (λ name. lines_of (get_all map name)) printed text some_refused
 
-pub IsPrinted-none : (map : Entries FieldValue) (text : List ℕ)
-    → All (λ name. 0 < length (get_all map name)) (keys map) → text ≡ [] → IsPrinted map (keys map) text false
-IsPrinted-none map text filled empty =
-    record { printed = []; whole = refl; filled = filled; has = rw empty (HasBlocks-none _) }
+pub IsPrinted-none : (map : Entries FieldValue) (text : List ℕ) → text ≡ [] → IsPrinted map (keys map) text false
+IsPrinted-none map text empty = record { printed = []; whole = refl; has = rw empty (HasBlocks-none _) }
 
 -- the block of the next name was printed
 pub IsPrinted-more : (map : Entries FieldValue) (left : List (List ℕ)) (text : List ℕ) (before : Bool)
     → IsPrinted map left text before → (name : List ℕ) (rest : List (List ℕ)) → left ≡ name ∷ rest
-    → (block : Block) → (0 < length (get_all map name) → IsBlock name (lines_of (get_all map name)) block)
+    → (block : Block) → IsBlock name (lines_of (get_all map name)) block
     → (more : List ℕ) → more ≡ text ++ block_text name block
     → (after : Bool) → after ≡ (before || is_none block) → IsPrinted map rest more after
 IsPrinted-more map left text before so_far name rest next block is more printed after marked =
-    let has_line : List ℕ → Type 0 = λ own. 0 < length (get_all map own) in
-    let filled : All has_line (name ∷ rest) =
-    subst (λ (names : List (List ℕ)). All has_line names) next so_far.filled in
     record {
       printed = so_far.printed ++ name ∷ [];
       whole =
           append_assoc so_far.printed (name ∷ []) rest
           ∙ ap (λ (names : List (List ℕ)). so_far.printed ++ names) (sym next)
           ∙ so_far.whole;
-      filled = All-tail has_line name rest filled;
-      has =
-          rw (printed, marked) (HasBlocks-push _ so_far.printed text before name block so_far.has
-          (is (All-head has_line name rest filled)));
+      has = rw (printed, marked) (HasBlocks-push _ so_far.printed text before name block so_far.has is);
     }
 
 pub HasBlocks-from_printed : (map : Entries FieldValue) (left : List (List ℕ)) (text : List ℕ) (some_refused : Bool)

@@ -7,3 +7,4 @@ pub mod RoomLemmas
 pub mod RunLemmas
 pub mod SectionLemmas
 pub mod TextLemmas
+pub mod ValueLemmas

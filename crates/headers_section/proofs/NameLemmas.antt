@@ -1,12 +1,10 @@
 -- Names at their first appearance, and the values under them, in a map to which the fields were appended.
-use Rattle.std.proofs.Common.{◌≡◌, ℕ, ◌<◌, ◌||◌, Bool, true, false, not, List, [], ◌∷◌, ◌++◌, length, map, filter}
-use Rattle.std.proofs.Common.{bytes_eq, if◌then◌else◌, All, refl, sym, ◌∙◌, ap, subst, inl, inr}
-use Rattle.std.proofs.Common.{arith}
+use Rattle.std.proofs.Common.{◌≡◌, ℕ, Bool, true, false, not, List, [], ◌∷◌, ◌++◌, map, filter}
+use Rattle.std.proofs.Common.{bytes_eq, if◌then◌else◌, refl, sym, ◌∙◌, ap, subst, inl, inr}
 use Rattle.std.specs.List.{list_any}
 use Rattle.std.proofs.lemmas.Bool.{cases_Bool}
 use Rattle.std.proofs.lemmas.List.{append-nil, append_assoc, map-append}
-use Rattle.std.proofs.lemmas.List.Elements.{filter-append, All-nil, All-cons, All-filter, All-weaker}
-use Rattle.std.proofs.lemmas.List.Folds.{Any-from_list_any}
+use Rattle.std.proofs.lemmas.List.Elements.{filter-append}
 use Rattle.std.proofs.lemmas.Map.Views.{any-filter_same}
 use Rattle.std.proofs.lemmas.Slice.Eq.{bytes_eq-Decides}
 use Rattle.http_header.specs.FieldValue.{FieldValue}
@@ -141,41 +139,6 @@ pub lines_held : (fields : List Field) (name : List ℕ)
     → lines_of (get_all (append_all [] fields) name) ≡ lines_under fields name
 lines_held fields name =
     ap lines_of (get_all-append_all [] fields name) ∙ map-bytes (filter (λ field. bytes_eq field.0 name) fields)
-
-has_line : (fields : List Field) (name : List ℕ) → has name (names fields) ≡ true
-    → 0 < length (get_all (append_all [] fields) name)
-has_line fields name h =
-    subst (λ (values : List FieldValue). 0 < length values) (sym (get_all-append_all [] fields name)) (by fields h)
-  where
-    by : (fields : List Field) → has name (names fields) ≡ true
-        → 0 < length (map (λ field. field.1) (filter (λ field. bytes_eq field.0 name) fields))
-    by [] e = absurd (cc e)
-    by (f ∷ fields) e =
-        elim (cases_Bool (bytes_eq f.0 name)) [
-          | inl t ↦ rw t (omega arith)
-          | inr n ↦ rw n (by fields (rw n at e))
-        ]
-
-first_has : (list : List (List ℕ)) → All (λ name. has name list ≡ true) (first_appearances list)
-first_has [] = All-nil _
-first_has (x ∷ list) =
-    All-cons (λ name. has name (x ∷ list) ≡ true) x _ (let same = (bytes_eq-Decides x x).1 refl in rw same refl)
-    (All-filter (λ other. not (bytes_eq other x)) (λ name. has name (x ∷ list) ≡ true) (first_appearances list)
-    (All-weaker (λ name. has name list ≡ true) (λ name. has name (x ∷ list) ≡ true)
-    (λ name h. more (bytes_eq x name) (has name list) h) (first_appearances list) (first_has list)))
-  where
-    more : (a b : Bool) → b ≡ true → (a || b) ≡ true
-    more true b h = refl
-    more false b h = h
-
--- each name of the map that holds the fields has a line
-pub names_filled : (fields : List Field)
-    → All (λ name. 0 < length (get_all (append_all [] fields) name)) (keys (append_all [] fields))
-names_filled fields =
-    subst (λ (list : List (List ℕ)). All (λ (name : List ℕ). 0 < length (get_all (append_all [] fields) name)) list)
-    (sym (keys-append_all fields))
-    (All-weaker (λ name. has name (names fields) ≡ true) _ (has_line fields) (first_appearances (names fields))
-    (first_has (names fields)))
 
 -- a map that refuses the field after those that it holds
 pub FillsMap-from_refusal : (before : List Field) (field : Field) (later : List Field) (m : Entries FieldValue)

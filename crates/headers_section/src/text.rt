@@ -1,5 +1,5 @@
 //! The canonical text of a header section.
-ghost use Rattle.std.specs.Prelude.{◌≡◌, ◌≢◌, ◌<◌, ◌++◌, length, option_map, IfOk, IfSome, IfNone, OnOk, All, flat_map};
+ghost use Rattle.std.specs.Prelude.{◌≡◌, ◌≢◌, ◌++◌, option_map, IfOk, IfSome, IfNone, OnOk, flat_map};
 ghost use Rattle.http_header.specs.HeaderMap.{keys, get_all};
 ghost use Rattle.headers.specs.Lines.{lines_of};
 ghost use Rattle.headers_section.specs.Section.{section, HasNoField, HasTooManyFields};
@@ -76,14 +76,13 @@ fn print_block(
 
 // The block of each name, in the order of the map: that of their first appearance.
 fn print_blocks(alloc: Global, map: &HeaderMap) -> Result<CanonicalText, AllocError>
-    requires { All (λ name. 0 < length (get_all map.now name)) (keys map.now) }
     ensures { IfOk result (λ text. HasBlocks (λ name. lines_of (get_all map.now name)) (keys map.now)
         text.bytes.items text.some_refused) }
 {
     let mut bytes = Vec::new(alloc);
     let mut some_refused = false;
     for name in map.keys() {
-        let block = read_block(alloc, map, name)?;
+        let block = read_block(alloc, name, &map.get_all(name))?;
         if block.is_none() {
             some_refused = true;
         }

@@ -1,11 +1,8 @@
-use Rattle.std.proofs.Common.{◌≡◌, ◌∷◌, Err, ap}
-use Rattle.http_header.specs.HeaderMap.{RefusesAppend}
+use Rattle.std.proofs.Common.{Err, ap}
 use Rattle.http_header.specs.declared.map.HeaderMapError.{HeaderMapError}
-use Rattle.headers_section.specs.Section.{section, IsField}
 use Rattle.headers_section.proofs.ReadLemmas.{IsInMap-none, IsInMap-more, Holds-from_map, fits-from_map}
 use Rattle.headers_section.proofs.ReadLemmas.{HasTooManyFields-from_map, HasNoField-from_behind, HasNoField-from_line}
 use Rattle.headers_section.proofs.field.read_map.Goals as goal
-use Rattle.headers_section.proofs.field.read_map.Goals.{In-Some-2}
 
 pub loop-map-init : goal.loop-map-init
 loop-map-init c = IsInMap-none c.args.input c.empty_map-map.result c.empty_map-map.ensures

@@ -3,7 +3,7 @@ use Rattle.std.proofs.Common.{false, subst}
 use Rattle.std.proofs.Math.Bool.{not-not, or-true, or-false}
 use Rattle.http_header.specs.FieldValue.{FieldValue}
 use Rattle.headers.specs.Lines.{lines_of}
-use Rattle.headers_section.specs.CanonicalText.{Block}
+use Rattle.headers_section.specs.CanonicalText.{Block, IsBlock}
 use Rattle.headers_section.proofs.BlockLemmas.{IsPrinted, IsPrinted-none, IsPrinted-more, HasBlocks-from_printed}
 use Rattle.headers_section.proofs.BlockLemmas.{is_none-map}
 use Rattle.headers_section.proofs.text.print_blocks.Goals as goal
@@ -13,7 +13,7 @@ pub loop-name-init : goal.loop-name-init
 loop-name-init c =
     let order = c.into_iter-name-iterator.ensures.into_iter_gives ∙ c.keys-name-items.ensures.value in
     subst (λ (left : List (List ℕ)). IsPrinted c.args.map.now left c.new-bytes.result.items false) (sym order)
-    (IsPrinted-none c.args.map.now _ c.requires c.new-bytes.ensures.items)
+    (IsPrinted-none c.args.map.now _ c.new-bytes.ensures.items)
 
 -- the block of the name was printed
 printed : (c : In_ok-print_block)
@@ -29,8 +29,10 @@ printed c =
       | then-is_none way ↦ way.some_refused-is ∙ rw (none, way.if-is_none.true) (sym (or-true before))
       | else-is_none way ↦ way.some_refused-is ∙ rw (none, way.if-is_none.false) (sym (or-false before))
     ] in
+    let is = subst (λ (values : List FieldValue). IsBlock c.in-Some.name.now (lines_of values) block)
+    c.get_all.ensures.value c.in_ok-block.ensures in
     IsPrinted-more _ _ _ before c.loop-name.invariant c.in-Some.name.now c.next.new.self c.in-Some.ensures.steps block
-    c.in_ok-block.ensures _ c.in_ok-print_block.ensures _ marked
+    is _ c.in_ok-print_block.ensures _ marked
 
 pub loop-name-preserved : goal.loop-name-preserved
 loop-name-preserved c = printed (goal.at.loop-name-preserved c).In_ok-print_block
