@@ -18,12 +18,15 @@ pub fn base64_value(alloc: Global, prefix: &str, bytes: &[u8]) -> Result<HeaderV
     requires { IsTrue (is_visible_text prefix.now) }
     ensures { IfOk result (λ value. value ≡ plain_value (prefix.now ++ base64 bytes.now)) }
 {
-    let mut text = String::from_str(alloc, prefix)?;
+    // Base64 writes four characters for each three bytes, and for what is left of them.
+    let room = prefix.len().saturating_add(bytes.len() / 3 * 4 + 4);
+    let mut text = String::with_capacity(alloc, room)?;
+    text.push_str(prefix)?;
     STANDARD.encode_string(bytes, &mut text)?;
     Ok(HeaderValue::from_known_valid(Bytes::from_string(text)?))
 }
 
-/// The bytes that the base64 text encodes. `None` if padding is missing, if bits are set behind the
+/// The bytes that the base64 text encodes. `None` if padding is missing, if bits are set after the
 /// last byte, or if another byte stands in the text.
 pub fn read_base64(alloc: Global, text: &[u8]) -> Result<Option<Vec<u8>>, AllocError>
     ensures { IfOk result (λ read. MatchOption read
