@@ -26,7 +26,7 @@ abbrev pub some_lines : List Line → Option (List Line)
 some_lines [] = None
 some_lines (line ∷ lines) = Some (line ∷ lines)
 
--- new values stand behind the old ones, and these are their lines
+-- new values follow the old ones, and these are their lines
 pub record Appends (old new : List FieldValue) (lines : List Line) : Type 0 where
   pub added : List FieldValue
   pub behind : new ≡ old ++ added

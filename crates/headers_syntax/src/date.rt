@@ -95,10 +95,7 @@ where
     ensures { OfLines I.Item.shown I.next_gives values.old values.new
         (λ lines. option_and_then date (only_line lines) ≡ result) }
 {
-    match just_one(values) {
-        Some(line) => Date1::from_val(line.as_header_value()),
-        None => None,
-    }
+    Date1::from_val(just_one(values)?.as_header_value())
 }
 
 /// A second from 1970 to 9999 is written as a line that reads as that second.

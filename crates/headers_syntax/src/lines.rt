@@ -33,12 +33,10 @@ where
     ensures value { OfLines I.Item.shown I.next_gives values.old values.new
         (λ lines. only_line lines ≡ option_map (λ item. (I.Item.shown item).bytes) result) }
 {
+    let only = values.next()?;
     match values.next() {
-        None => None,
-        Some(only) => match values.next() {
-            None => Some(only),
-            Some(_) => None,
-        },
+        None => Some(only),
+        Some(_) => None,
     }
 }
 

@@ -37,10 +37,9 @@ impl Seconds {
     pub fn from_val(value: &HeaderValue) -> Option<Seconds>
         ensures { result ≡ number value.now.bytes }
     {
-        match read_number(value) {
-            Some(seconds) => Some(Seconds { seconds }),
-            None => None,
-        }
+        Some(Seconds {
+            seconds: read_number(value)?,
+        })
     }
 
     /// This many seconds.
@@ -91,8 +90,5 @@ where
     ensures { OfLines I.Item.shown I.next_gives values.old values.new
         (λ lines. option_and_then number (only_line lines) ≡ result) }
 {
-    match just_one(values) {
-        Some(line) => Seconds::from_val(line.as_header_value()),
-        None => None,
-    }
+    Seconds::from_val(just_one(values)?.as_header_value())
 }

@@ -77,7 +77,8 @@ impl HeaderValueString {
     pub fn as_str(&self) -> &str
         ensures { result.now ≡ self.now.bytes }
     {
-        str::from_utf8(self.value.as_bytes()).unwrap()
+        // The invariant says that the bytes are UTF-8. To test them again takes three times as long.
+        unsafe { str::from_utf8_unchecked(self.value.as_bytes()) }
     }
 
     /// The header value, whose bytes are those of the text.
