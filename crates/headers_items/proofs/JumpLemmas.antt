@@ -1,9 +1,10 @@
 -- A search for the next mark by searches for bytes.
-use Rattle.std.proofs.Common.{◌≡◌, ⊎_elim, ℕ, ◌+◌, ◌-◌, ◌<◌, ◌≤◌, Bool, true, false, eqb, List, length, drop, get_or}
-use Rattle.std.proofs.Common.{sym, ◌∙◌, ap, arith, Option, None, Some}
+use Rattle.std.proofs.Common.{◌≡◌, ⊎_elim, ℕ, ◌+◌, ◌-◌, ◌<◌, ◌≤◌, Bool, true, false, eqb, List, length}
+use Rattle.std.proofs.Common.{take, drop, get_or, sym, ◌∙◌, ap, subst, arith, Option, None, Some}
+use Rattle.std.specs.Prelude.{not, if◌then◌else◌}
 use Rattle.std.specs.Option.{MatchOption}
-use Rattle.std.proofs.lemmas.Bool.{false_from_ne_true, or_parts, or_from, or_cases, eqb-true, eqb-false, false≢true}
-use Rattle.std.proofs.lemmas.List.{get_or-drop, length-drop}
+use Rattle.std.proofs.lemmas.Bool.{false_from_ne_true, not-true, not-false, or_parts, or_from, or_cases, eqb-true, eqb-false, false≢true}
+use Rattle.std.proofs.lemmas.List.{get_or-drop, length-drop, take_rest}
 use Rattle.memchr.specs.Find.{IsFirstByte, is_byte, is_byte2}
 use Rattle.headers_items.specs.Places.{is_even, quotes_before, NoHit}
 use Rattle.headers_items.specs.ScanState.{IsNextMark}
@@ -44,7 +45,7 @@ inside_none sep s i j l odd h k low high =
     let same = quotes_along s i k low (omega arith) (λ n a b. h n a (omega arith)) in
     or_from _ _ (h k low high) (counting_place_inside sep s k (ap is_even same ∙ odd))
 
-pub ahead_inside : (sep : ℕ) (s : List ℕ) (i : ℕ) (r : Option ℕ) → i ≤ length s → is_even (quotes_before s i) ≡ false
+ahead_inside : (sep : ℕ) (s : List ℕ) (i : ℕ) (r : Option ℕ) → i ≤ length s → is_even (quotes_before s i) ≡ false
     → IsFirstByte (is_byte 34) (drop i s) r → FindsAhead sep s i r
 ahead_inside sep s i None l odd h =
     let long = length-drop i s in
@@ -64,7 +65,7 @@ ahead_inside sep s i (Some k) l odd h =
       },
     )
 
-pub ahead_outside : (sep : ℕ) (s : List ℕ) (i : ℕ) (r : Option ℕ) → i ≤ length s → is_even (quotes_before s i) ≡ true
+ahead_outside : (sep : ℕ) (s : List ℕ) (i : ℕ) (r : Option ℕ) → i ≤ length s → is_even (quotes_before s i) ≡ true
     → IsFirstByte (is_byte2 34 sep) (drop i s) r → FindsAhead sep s i r
 ahead_outside sep s i None l even h =
     let long = length-drop i s in
@@ -85,3 +86,15 @@ ahead_outside sep s i (Some k) l even h =
             (λ q. counting_place_from sep s (i + k) (eqb-true _ _ q) (ap is_even same ∙ even)) (or_cases _ _ here);
       },
     )
+
+-- from a place inside quotes or outside them, by a search of the rest of s
+pub ahead : (sep : ℕ) (s : List ℕ) (i : ℕ) (inside : Bool) (r : Option ℕ) → i ≤ length s
+    → inside ≡ not (is_even (quotes_before s i))
+    → IsFirstByte (if inside then is_byte 34 else is_byte2 34 sep) (take (length s - i) (drop i s)) r
+    → FindsAhead sep s i r
+ahead sep s i true r l state h =
+    ahead_inside sep s i r l (not-true _ (sym state))
+    (subst (λ (t : List ℕ). IsFirstByte (is_byte 34) t r) (take_rest s i) h)
+ahead sep s i false r l state h =
+    ahead_outside sep s i r l (not-false _ (sym state))
+    (subst (λ (t : List ℕ). IsFirstByte (is_byte2 34 sep) t r) (take_rest s i) h)

@@ -19,7 +19,7 @@ use Rattle.http_header.specs.FieldValue.{FieldValue, IsFieldValue}
 use Rattle.headers_items.specs.Merge.{merge, merged}
 use Rattle.headers_syntax.specs.HeaderLaws.{ReadsBack}
 
--- a line behind at least one other
+-- a line after at least one other
 pub merge_push : (sep : ℕ) (x : List ℕ) (xs : List (List ℕ)) (y : List ℕ)
     → merge sep (x ∷ xs ++ y ∷ []) ≡ merge sep (x ∷ xs) ++ sep ∷ 32 ∷ y
 merge_push sep x [] y = refl

@@ -40,7 +40,7 @@ impl<S: Separator> Model for FlatCsv<S> {
     ghost view = { λ c. c.value.bytes };
 }
 
-// Adds a line behind the others.
+// Adds a line after the others.
 fn append(buffer: &mut BytesMut, separator: u8, line: &HeaderValue) -> Result<(), AllocError>
     ensures items { OnOk result (buffer.new.items ≡ buffer.old.items ++ separator ∷ 32 ∷ line.now.bytes) }
     ensures valid { OnOk result (IsFieldValue line.now.bytes) }

@@ -35,14 +35,10 @@ fn halves(item: &str) -> Option<(&str, &str)>
     ensures { option_map pair_shown result ≡ pair_of item.now }
 {
     let bytes = item.as_bytes();
-    match memchr(b'=', bytes) {
-        Some(equals) => {
-            let (start, end) = trimmed(bytes, 0, equals);
-            let (from, to) = trimmed(bytes, equals + 1, bytes.len());
-            Some((&item[start..end], &item[from..to]))
-        }
-        None => None,
-    }
+    let equals = memchr(b'=', bytes)?;
+    let (start, end) = trimmed(bytes, 0, equals);
+    let (from, to) = trimmed(bytes, equals + 1, bytes.len());
+    Some((&item[start..end], &item[from..to]))
 }
 
 // The next pair of the items.

@@ -87,6 +87,17 @@ fn first_quote_or(separator: u8, bytes: &[u8]) -> Option<usize>
     }
 }
 
+// The first byte that may be a mark: inside quotes a quote, outside them a separator too.
+fn first_mark(separator: u8, bytes: &[u8], is_open: bool) -> Option<usize>
+    ensures { IsFirstByte (if is_open then is_byte QUOTE else is_byte2 QUOTE separator) bytes.now result }
+{
+    if is_open {
+        first_quote(bytes)
+    } else {
+        first_quote_or(separator, bytes)
+    }
+}
+
 // The next quote or separator at a counting place, from a place that stands inside or outside
 // quotes.
 fn find_mark(bytes: &[u8], separator: u8, from: usize, is_open: bool) -> Option<Mark>
@@ -95,22 +106,11 @@ fn find_mark(bytes: &[u8], separator: u8, from: usize, is_open: bool) -> Option<
     requires is_open { is_open ≡ not (is_even (quotes_before bytes.now from)) }
     ensures { FindsMark separator bytes.now from result }
 {
-    let rest = &bytes[from..];
-    let found = if is_open {
-        first_quote(rest)
-    } else {
-        first_quote_or(separator, rest)
-    };
-    match found {
-        Some(ahead) => {
-            let place = from + ahead;
-            Some(Mark {
-                place,
-                quote: bytes[place] == QUOTE,
-            })
-        }
-        None => None,
-    }
+    let place = from + first_mark(separator, &bytes[from..], is_open)?;
+    Some(Mark {
+        place,
+        quote: bytes[place] == QUOTE,
+    })
 }
 
 impl<'a> Scan<'a> {
