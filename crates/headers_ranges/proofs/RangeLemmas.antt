@@ -1,11 +1,15 @@
 -- What a spec gives has just the positions that it covers; and what is printed of a range is one.
 use Rattle.std.proofs.Common.{◌≡◌, ℕ, zero, suc, ◌+◌, ◌-◌, ◌<◌, ◌≤◌, ◌↔◌, true, ◌&&◌, ◌==◌, nat_lt}
 use Rattle.std.proofs.Common.{nat_le, List, [], ◌∷◌, length, get_or, Option, Some, None, min, MatchOption, refl}
-use Rattle.std.proofs.Common.{sym, subst, arith, inl, inr, ◌⊎◌, ⊎_elim, All, Any}
+use Rattle.std.proofs.Common.{sym, ◌∙◌, ap, subst, arith, false, inl, inr, ◌⊎◌, ⊎_elim, All, Any}
+use denote.Ref.{Bor}
 use Rattle.std.specs.List.{filter_map, cons_option, starts_with}
+use Rattle.std.specs.Option.{IsSome}
+use Rattle.std.specs.Str.Pattern.{FindsTextPrefix, StripsPrefix}
 use Rattle.std.specs.Prelude.{nat_eq}
 use Rattle.std.proofs.lemmas.Bool.{cases_Bool, and_parts, and_from, leb-true, ltb-true, le-leb, lt-ltb, eqb-true}
-use Rattle.std.proofs.lemmas.Bool.{eqb-false}
+use Rattle.std.proofs.lemmas.Bool.{eqb-false, false≢true}
+use Rattle.std.proofs.lemmas.Str.Pattern.{starts_text}
 use Rattle.std.proofs.lemmas.List.Elements.{All-nil, All-cons}
 use Rattle.std.proofs.lemmas.List.Splits.{length-slice_split}
 use Rattle.std.proofs.lemmas.List.Sums.{count_by-le-length}
@@ -131,6 +135,18 @@ unfolding is_range_line
 range_value value text same h =
     subst IsFieldValue (sym same) (IsFieldValue-from_visible text (visible-from_is_text text (and_parts
     (is_text text) (starts_with nat_eq text bytes_unit) h).0))
+
+begins : (text : List ℕ) → is_range_line text ≡ true → starts_with nat_eq text bytes_unit ≡ true
+unfolding is_range_line
+begins text h = (and_parts (is_text text) (starts_with nat_eq text bytes_unit) h).1
+
+-- so a search for the unit at its start finds it
+pub rest_found : (line text : List ℕ) (found : Option (Bor (List ℕ))) → line ≡ text → is_range_line text ≡ true
+    → MatchOption found (FindsTextPrefix bytes_unit line None)
+    (λ rest. StripsPrefix (FindsTextPrefix bytes_unit) line rest.now) → IsSome found
+rest_found line text (Some rest) same h f = refl
+rest_found line text None same h f =
+    absurd (false≢true (starts_text false bytes_unit line f ∙ begins line (ap is_range_line same ∙ h)))
 
 -- ---- how many there are
 

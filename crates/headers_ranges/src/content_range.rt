@@ -167,7 +167,7 @@ impl ContentRange {
         }
     }
 
-    // What stands behind the unit, which must be `bytes`.
+    // What follows the unit, which must be `bytes`.
     fn in_bytes(unit: &str, rest: &str) -> Option<ContentRange>
         ensures { result ≡ in_bytes (unit.now, rest.now) }
     {

@@ -10,8 +10,7 @@ ghost use Rattle.headers_ranges.specs.ByteRanges.{IsWithin, bytes_from_to, is_ra
 ghost use Rattle.headers_ranges.specs.Range.{IsValueOf, range_grammar};
 
 use crate::satisfiable::{Satisfiable, has_valid_spec};
-use bytes::Bytes;
-use headers_core::{AsHeaderValue, Error, Header, Refused, first, push_clone, read_text};
+use headers_core::{AsHeaderValue, Error, Header, HeaderValueString, Refused, first, push_clone};
 use http_header::{HeaderName, HeaderValue, RANGE};
 use std::alloc::{AllocError, Global};
 use std::fmt;
@@ -23,7 +22,7 @@ use std::ops::Bound;
 /// by the bytes.
 #[derive(Debug, Drop, PartialEq)]
 pub struct Range {
-    value: HeaderValue,
+    text: HeaderValueString,
 }
 
 impl Model for Range {
@@ -33,11 +32,11 @@ impl Model for Range {
 
     ghost Value = { FieldValue };
 
-    ghost view = { λ range. range.value };
+    ghost view = { λ range. range.text };
 
-    ghost invariant = { λ range. is_range_line range.value.bytes ≡ true };
+    ghost invariant = { λ range. is_range_line range.text.bytes ≡ true };
 
-    ghost inverse = { λ value. record { value = value } };
+    ghost inverse = { λ text. record { text = text } };
 }
 
 /// The bounds can't be written as a range of bytes.
@@ -101,11 +100,11 @@ impl Range {
     }
 
     /// A copy of the ranges.
-    pub fn clone(&self, _alloc: Global) -> Result<Range, AllocError>
+    pub fn clone(&self, alloc: Global) -> Result<Range, AllocError>
         ensures { IfOk result (λ range. range ≡ self.now) }
     {
         Ok(Range {
-            value: self.value.clone()?,
+            text: self.text.clone(alloc)?,
         })
     }
 
@@ -113,24 +112,26 @@ impl Range {
     fn between(alloc: Global, first: u64, last: u64) -> Result<Range, AllocError>
         ensures { IfOk result (λ range. range ≡ plain_value (bytes_from_to first (Some last))) }
     {
-        Range::from_text(format!(in alloc; "bytes={first}-{last}")?)
+        Range::from_text(alloc, format!(in alloc; "bytes={first}-{last}")?)
     }
 
     // The range from a position on.
     fn starting_at(alloc: Global, first: u64) -> Result<Range, AllocError>
         ensures { IfOk result (λ range. range ≡ plain_value (bytes_from_to first None)) }
     {
-        Range::from_text(format!(in alloc; "bytes={first}-")?)
+        Range::from_text(alloc, format!(in alloc; "bytes={first}-")?)
     }
 
     // The range of a text.
-    fn from_text(text: String) -> Result<Range, AllocError>
+    fn from_text(alloc: Global, text: String) -> Result<Range, AllocError>
         requires { is_range_line (string_bytes text) ≡ true }
         ensures { IfOk result (λ range. range ≡ plain_value (string_bytes text)) }
     {
-        Ok(Range {
-            value: HeaderValue::from_known_valid(Bytes::from_string(text)?),
-        })
+        match HeaderValueString::from_str(alloc, &text) {
+            Ok(text) => Ok(Range { text }),
+            Err(Refused::Memory(error)) => Err(error),
+            Err(Refused::Invalid(_)) => unreachable!(),
+        }
     }
 
     // What follows `bytes=`.
@@ -139,22 +140,18 @@ impl Range {
         ensures value { result.now ≡ drop (length bytes_unit) self.now.bytes }
         ensures text { is_text result.now ≡ true }
     {
-        read_text(&self.value)
-            .unwrap()
-            .strip_prefix("bytes=")
-            .unwrap()
+        self.text.as_str().strip_prefix("bytes=").unwrap()
     }
 
     // A copy of the value, if it is text that begins with `bytes=`.
     #[tactic(auto, unfolding(crate::specs::ByteRanges::is_range_line))]
-    fn from_val(value: &HeaderValue) -> Result<Option<Range>, AllocError>
+    fn from_val(alloc: Global, value: &HeaderValue) -> Result<Option<Range>, AllocError>
         ensures { IfOk result (λ found. found ≡ (if is_range_line value.now.bytes then Some value.now else None)) }
     {
-        match read_text(value) {
-            Some(text) if text.starts_with("bytes=") => Ok(Some(Range {
-                value: value.clone()?,
-            })),
-            _ => Ok(None),
+        match HeaderValueString::from_val(alloc, value) {
+            Ok(text) if text.as_str().starts_with("bytes=") => Ok(Some(Range { text })),
+            Ok(_) | Err(Refused::Invalid(_)) => Ok(None),
+            Err(Refused::Memory(error)) => Err(error),
         }
     }
 }
@@ -163,7 +160,7 @@ impl Range {
 pub fn ranges_read_back(range: &Range)
     ensures { ReadsBy range_grammar (written_by range_grammar range.now) range.now }
 {
-    let _value = &range.value;
+    let _text = &range.text;
 }
 
 impl Header for Range {
@@ -188,20 +185,20 @@ impl Header for Range {
         RANGE
     }
 
-    fn decode<I: Iterator>(_alloc: Global, values: &mut I) -> Result<Range, Refused<Error>>
+    fn decode<I: Iterator>(alloc: Global, values: &mut I) -> Result<Range, Refused<Error>>
     where
         I::Item: AsHeaderValue,
     {
         let Some(line) = first(values) else {
             return Err(Refused::Invalid(Error::invalid()));
         };
-        match Range::from_val(line.as_header_value())? {
+        match Range::from_val(alloc, line.as_header_value())? {
             Some(range) => Ok(range),
             None => Err(Refused::Invalid(Error::invalid())),
         }
     }
 
     fn encode(&self, _alloc: Global, values: &mut Vec<HeaderValue>) -> Result<(), AllocError> {
-        push_clone(values, &self.value)
+        push_clone(values, self.text.as_value())
     }
 }

@@ -1,5 +1,6 @@
 use Rattle.headers_ranges.proofs.RangeLemmas.{range_value}
 use Rattle.headers_ranges.proofs.range.Range.from_text.Goals as goal
 
-pub from_known_valid-requires : goal.from_known_valid-requires
-from_known_valid-requires c = range_value _ _ c.in_ok-from_string.ensures c.requires
+pub unreachable-requires : goal.unreachable-requires
+unreachable-requires c =
+    c.in-Err-Invalid.ensures.invalid.0 (rw c.in-Err-Invalid.field-0-is tt) (range_value _ _ c.deref.ensures c.requires)
