@@ -19,7 +19,7 @@ use Rattle.headers_authorization.specs.BasicLaws.{HasScheme-basic, basic_encoded
 abbrev slice_to_end : List ℕ → ℕ → List ℕ
 slice_to_end s i = take (length s - i) (drop i s)
 
--- what is left of a line, cut twice, behind the scheme and behind the spaces
+-- what is left of a line, cut twice, after the scheme and after the spaces
 pub encoded_rest : (line bytes : List ℕ) (n : ℕ) → bytes ≡ line → n ≡ prefix_len is_space (slice_to_end bytes 6)
     → after_spaces (drop 6 line) ≡ slice_to_end (slice_to_end bytes 6) n
 encoded_rest line bytes n same count =
@@ -39,7 +39,7 @@ before_colon : (user password : List ℕ) (k : ℕ) → k < length user
 before_colon user password k lt =
     get_or_append_left user (colon ∷ password) 0 k lt ∙ get_or_default user k 0 colon lt
 
--- the colon behind the user name is the first one exactly if the name has none
+-- the colon after the user name is the first one exactly if the name has none
 first_colon : (user password : List ℕ)
     → IsFirstByte (is_byte colon) (user ++ colon ∷ password) (Some (length user)) ↔ ¬ (Contains user colon)
 first_colon user password = (

@@ -5,7 +5,7 @@ use Rattle.std.proofs.lemmas.Str.{IsCharBoundary-after_ascii}
 use Rattle.headers_syntax.specs.Lines.{Line}
 use Rattle.headers_authorization.specs.Scheme.{HasScheme}
 
--- a text may be cut behind its scheme and the space
+-- a text may be cut after its scheme and the space
 pub IsCharBoundary-after_scheme : (scheme : List ℕ) (line text : Line) → HasScheme scheme line
     → text ≡ line → IsUtf8 text → IsCharBoundary text (length scheme + 1)
 IsCharBoundary-after_scheme scheme line text h same utf8 =

@@ -37,7 +37,7 @@ basic_once line v w h k =
 pub HasScheme-basic : (v : UserPass) → HasScheme basic_scheme (basic_writes v)
 HasScheme-basic v = record { longer = omega arith; spaced = refl; named = refl }
 
--- and the base64 stands behind it
+-- and the base64 follows it
 pub basic_encoded : (v : UserPass) → IsBytes v.bytes → after_spaces (drop 6 (basic_writes v)) ≡ base64 v.bytes
 basic_encoded v octets = rw (base64-no_space v.bytes octets) refl
 

@@ -16,7 +16,7 @@ reads_tag = ReadsBy (only_tag {V = Line} (λ line. line))
 abbrev pub reads_etag : List Line → FieldValue → Type 0
 reads_etag = ReadsBy (only_tag (λ (value : FieldValue). value.bytes))
 
--- what stands behind `W/`, if the bytes begin so
+-- what follows `W/`, if the bytes begin so
 abbrev pub quoted_part : List ℕ → List ℕ
 quoted_part tag = if slice_index tag 0 == 87 && slice_index tag 1 == 47 then drop 2 tag else tag
 

@@ -50,7 +50,7 @@ fn read_canonical(alloc: Global, section: &[u8], keys: &HashKeys) -> Result<Cano
         }),
         Ok(Outcome::NotAField) => Err(Failure::Refused),
         Err(RunError::Room) => Err(Failure::TooLarge),
-        // Only a write to the vector fails, and that for want of memory.
+        // Only a write to the vector fails, if it runs out of memory.
         Err(RunError::Memory | RunError::Io) => Err(Failure::Memory),
     }
 }

@@ -69,7 +69,7 @@ fn answer_request(
     Ok(shared)
 }
 
-// The same of a policy, which is borrowed: dropped at each `?`, it would split the goals behind.
+// The same of a policy, which is borrowed: dropped at each `?`, it would split the goals that follow.
 fn answer_by(
     alloc: Global,
     policy: &CorsPolicy,

@@ -1,4 +1,4 @@
--- How calls end: their status, and what is behind the caller's pointers.
+-- How calls end: their status, and what stands at the caller's pointers.
 use Rattle.std.specs.Prelude.{◌≡◌, ℕ, ◌<◌, ◌≤◌, List, length, take, drop, Result, Ok, Err}
 use Rattle.headers_c_parts.specs.declared.status.Failure.{Failure}
 use Rattle.headers_c_parts.specs.declared.status.Failure.TheVariants.{Refused, Memory, Absent, TooLarge}
@@ -30,7 +30,7 @@ IsGiven (Err failure) old new status = (status ≡ status_of failure) × (new �
 abbrev pub Gives : {V : Type 0} → (Result V Failure → Type 0) → V → V → ℕ → Type 0
 Gives {V} P old new status = (answer : Result V Failure) × P answer × IsGiven answer old new status
 
--- the items are at the front of the room, and what is behind them is as it was
+-- the items are at the front of the room, and what follows them is as it was
 abbrev pub IsAtFront : {X : Type 0} → List X → List X → List X → Type 0
 IsAtFront items old new = (take (length items) new ≡ items) × (drop (length items) new ≡ drop (length items) old)
 

@@ -1,4 +1,4 @@
--- Pieces behind commas, one row after the other, are the pieces joined once the first comma is cut off.
+-- Pieces after commas, one row after the other, are the pieces joined once the first comma is cut off.
 use Rattle.std.proofs.Common.{◌≡◌, ℕ, true, nat_lt, min, List, [], ◌∷◌, ◌++◌, length, drop, refl, sym, ◌∙◌, ap, arith}
 use Rattle.std.proofs.Common.{append_assoc}
 use Rattle.std.specs.List.{list_all, flat_map, fold}
@@ -15,7 +15,7 @@ use Rattle.headers_caching.specs.CacheControl.{Directives, flag_rows, number_row
 use Rattle.headers_caching.specs.CacheControlLaws.{behind_commas}
 use Rattle.headers_syntax.proofs.PlainLemmas.{is_plain, is_piece, list_all-weaker}
 
--- the pieces of each row behind a text, row by row
+-- the pieces of each row after a text, row by row
 abbrev pub row_by_row : {X : Type 0} → (X → List (List ℕ)) → List ℕ → List X → List ℕ
 row_by_row pieces text rows = fold (λ before row. before ++ behind_commas (pieces row)) text rows
 

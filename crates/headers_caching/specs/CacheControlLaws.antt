@@ -72,7 +72,7 @@ FitsOption o = (n : ℕ) → o ≡ Some n → n < 2 ^ 64
 abbrev pub FitRows : Directives → List (List ℕ × (Directives → Option ℕ)) → Type 0
 FitRows d rows = AllByRecursion (λ row. FitsOption (row.1 d)) rows
 
--- pieces, each behind a comma and a space
+-- pieces, each after a comma and a space
 abbrev pub behind_commas : List (List ℕ) → List ℕ
 behind_commas pieces = flat_map (λ piece. 44 ∷ 32 ∷ piece) pieces
 

@@ -466,7 +466,7 @@ fn number_fits(number: Option<u64>)
     ensures { FitsOption number }
 {}
 
-// The flag behind a comma and a space, if it is set.
+// The flag after a comma and a space, if it is set.
 fn push_flag(text: &mut String, flag: &str, set: bool) -> Result<(), AllocError>
     ensures { OnOk result (string_bytes text.new
         ≡ string_bytes text.old ++ behind_commas (print_flag flag.now set)) }
@@ -478,7 +478,7 @@ fn push_flag(text: &mut String, flag: &str, set: bool) -> Result<(), AllocError>
     Ok(())
 }
 
-// The directive and its number behind a comma and a space, if it is set.
+// The directive and its number after a comma and a space, if it is set.
 fn push_number(text: &mut String, directive: &str, number: Option<u64>) -> Result<(), AllocError>
     ensures { OnOk result (string_bytes text.new
         ≡ string_bytes text.old ++ behind_commas (print_number directive.now number)) }

@@ -28,7 +28,7 @@ suffix_len-append p xs ys =
     ap (prefix_len p) (reverse-append xs ys) ∙ prefix_len-append p (reverse ys) (reverse xs)
     ∙ ap (λ n. cond (eqb (suffix_len p ys) n) (n + suffix_len p xs) (suffix_len p ys)) (length-reverse ys)
 
--- ---- behind a comma
+-- ---- after a comma
 
 after_last-drop : (s : List ℕ) (k : ℕ) → get_or s k 0 ≡ 44
     → after_last is_comma (drop (k + 1) s) ≡ after_last is_comma s

@@ -13,7 +13,7 @@ use std::alloc::{AllocError, Global};
 
 /// What is kept of the lines of a field, whatever its name: how it is read and how it is written.
 pub trait FieldForm: Drop {
-    // Whether `read_lines` never answers for want of memory.
+    // Whether `read_lines` never runs out of memory.
     ghost free: { Bool };
 
     // What a value is, once its representation is set aside.

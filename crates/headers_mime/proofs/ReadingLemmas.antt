@@ -260,7 +260,7 @@ record ParametersRead (s : List ℕ) (ps : List Parameter) : Type 0 where
   pub segments_are : All IsSegment segments
   pub back_is : IsBlanks back
 
--- the same behind more blanks
+-- the same after more blanks
 more_blanks : (lead s : List ℕ) (ps : List Parameter) (segments : List Segment) (back : List ℕ) → IsBlanks lead
     → s ≡ segments_text segments ++ back → ps ≡ parameters_of segments
     → All IsSegment segments → IsBlanks back → ParametersRead (lead ++ s) ps

@@ -170,7 +170,7 @@ record Quoted (s : List ℕ) (n : ℕ) : Type 0 where
   pub text : s ≡ flat_map quoted_part_text parts ++ quote ∷ rest
   pub len : n ≡ length (flat_map quoted_part_text parts) + 1
 
--- the same behind a backslash, after the byte that it escapes
+-- the same after a backslash, after the byte that it escapes
 abbrev QuotedFrom : Bool → List ℕ → ℕ → Type 0
 QuotedFrom false s n = Quoted s n
 QuotedFrom true s n = (c : ℕ) × (t : List ℕ) × (m : ℕ) × (is_visible_or_blank c ≡ true) × (s ≡ c ∷ t) × (n ≡ 1 + m) ×

@@ -101,7 +101,7 @@ text_before top_level subtype none one two three a b c d =
     d ∙ ap (λ (t : List ℕ). t ++ lowercase subtype)
     (c ∙ ap (λ (t : List ℕ). t ++ slash ∷ []) (b ∙ ap (λ (t : List ℕ). t ++ lowercase top_level) a))
 
--- and the rest behind it
+-- and the rest after it
 pub canonical_of-pieces : (s top_level subtype rest old : List ℕ) → read_essence s ≡ Some (top_level, subtype, rest)
     → old ≡ (lowercase top_level ++ slash ∷ []) ++ lowercase subtype
     → canonical_of s ≡ option_map (λ (t : List ℕ). old ++ t) (canonical_rest rest)

@@ -36,7 +36,7 @@ pub record MediaType : Type 0 where
 abbrev pub IsBlanks : List ℕ → Type 0
 IsBlanks s = AllPass is_blank s
 
--- what stands between quotes: a byte by itself, or one behind a backslash
+-- what stands between quotes: a byte by itself, or one after a backslash
 pub data QuotedPart : Type 0 where
   plain : ℕ → QuotedPart
   escaped : ℕ → QuotedPart
@@ -64,7 +64,7 @@ pub record IsParameter (p : Parameter) : Type 0 where
 abbrev pub parameter_text : Parameter → List ℕ
 parameter_text p = p.name ++ equals ∷ p.value
 
--- a semicolon, with blanks on both sides, and a parameter or nothing behind it
+-- a semicolon, with blanks on both sides, and a parameter or nothing after it
 pub record Segment : Type 0 where
   pub before : List ℕ
   pub after : List ℕ

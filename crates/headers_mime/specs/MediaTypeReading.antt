@@ -70,7 +70,7 @@ read_optional s =
     then option_map (λ (read : Parameter × List ℕ). (Some read.0, trim_start read.1)) (read_parameter s)
     else Some (None, s)
 
--- the same behind a semicolon and blanks
+-- the same after a semicolon and blanks
 unfoldable pub read_segment : List ℕ → Option (Option Parameter × List ℕ)
 read_segment s = option_and_then (λ (s : List ℕ). read_optional (trim_start s)) (after_byte semicolon s)
 
@@ -126,7 +126,7 @@ canonical_of s = option_map canonical (read_media s)
 abbrev pub read_shown : {A : Type 0} → A × Bor (List ℕ) → A × List ℕ
 read_shown read = (read.0, read.1.now)
 
--- an answer of a writer that read on: what was read stands behind the old bytes, or nothing was read
+-- an answer of a writer that read on: what was read follows the old bytes, or nothing was read
 abbrev pub WritesBehind : {E : Type 0} → List ℕ → Option (List ℕ) → List ℕ → Result (Unit {0}) (Refused E) → Type 0
 WritesBehind old read new (Ok x) = option_map (λ (t : List ℕ). old ++ t) read ≡ Some new
 WritesBehind old read new (Err (Invalid e)) = read ≡ None

@@ -114,7 +114,7 @@ impl Mime {
 
     /// Reads a media type, and puts it in canonical form. Spaces and tabs may stand at both ends
     /// and around a semicolon, and nowhere else outside quotes. A semicolon need not have a
-    /// parameter behind it. `Invalid` if the text is no media type.
+    /// parameter after it. `Invalid` if the text is no media type.
     pub fn parse(alloc: Global, text: &str) -> Result<Mime, Refused<Error>>
         ensures { ReadsMime text.now result }
     {

@@ -164,7 +164,7 @@ fn read_optional(bytes: &[u8]) -> Option<(Option<ParameterRef<'_>>, &[u8])>
     }
 }
 
-/// A semicolon at the front with the parameter behind it, if any, and what follows.
+/// A semicolon at the front with the parameter after it, if any, and what follows.
 #[tactic(auto, unfolding(crate::specs::MediaTypeReading::read_segment))]
 pub(crate) fn read_segment(bytes: &[u8]) -> Option<(Option<ParameterRef<'_>>, &[u8])>
     ensures { option_map read_shown result ≡ read_segment bytes.now }

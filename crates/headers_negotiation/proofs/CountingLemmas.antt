@@ -11,7 +11,7 @@ use Rattle.headers.specs.Places.{counting_from, is_counting_place, is_even, piec
 use Rattle.headers.specs.Text.{is_quote, quote}
 use Rattle.headers_negotiation.specs.Parts.{is_cut, is_open_behind}
 
--- the bytes before the first cut, between the cuts, and behind the last; `is_open` is whether a quote is open
+-- the bytes before the first cut, between the cuts, and after the last; `is_open` is whether a quote is open
 abbrev pub cuts : Bool → List ℕ → List (List ℕ)
 cuts is_open [] = [] ∷ []
 cuts is_open (b ∷ s) =
@@ -49,7 +49,7 @@ unfolding is_counting_place
 counting_is_cut s i =
     ap (λ (even : Bool). get_or s i 0 == semicolon && even) (sym (not_not (is_even (quotes_before s i))))
 
--- behind a cut no quote is open
+-- after a cut no quote is open
 closed_behind : (is_open : Bool) (b : ℕ) → is_cut is_open b ≡ true → is_open_behind is_open b ≡ false
 closed_behind is_open b e =
     let both : ((b == semicolon) ≡ true) × (not is_open ≡ true) = and_parts (b == semicolon) (not is_open) e in

@@ -17,7 +17,7 @@ parts_by_pass : (text : List ℕ) → parts text ≡ map trim (cuts false text)
 unfolding parts
 parts_by_pass text = ap (λ (ps : List (List ℕ)). map trim ps) (pieces_by_pass text)
 
--- the pieces behind a cut, if there is one
+-- the pieces after a cut, if there is one
 abbrev cuts_behind : Bool → List ℕ → List (List ℕ)
 cuts_behind true s = cuts false s
 cuts_behind false s = []
@@ -56,7 +56,7 @@ cuts_from_front is_open (b ∷ s) =
         ∙ (ap (λ (t : Bool). (b ∷ take n s) ∷ cuts_behind t (drop (n + 1) s)) (sym (lt-suc n (length s)))
         ∙ ap (λ (k : ℕ). (b ∷ take n s) ∷ cuts_behind (nat_lt (suc n) (suc (length s))) (drop k (b ∷ s))) next)
 
--- so a text is its first part and what stands behind the first cut
+-- so a text is its first part and what follows the first cut
 pub first_of_parts : (text : List ℕ) → parts text ≡ first_part text ∷ parts_left (behind_cut text)
 unfolding behind_cut
 first_of_parts text =
@@ -70,7 +70,7 @@ first_of_parts text =
     behind true s = sym (parts_by_pass s)
     behind false s = refl
 
--- the range is the first part, and the parameters stand behind it
+-- the range is the first part, and the parameters follow it
 pub range_is_first_part : (element : List ℕ) → range_of element ≡ first_part element
 unfolding range_of
 range_is_first_part element = ap first_of (first_of_parts element)
@@ -95,7 +95,7 @@ length-cuts is_open (b ∷ s) =
     by true later h k = omega (arith, h)
     by false later h k = omega (arith, k, length-onto_first b (cuts later s))
 
--- and no more parts stand behind its first cut than it has bytes
+-- and no more parts follow its first cut than it has bytes
 pub parts_behind_fit : (text : List ℕ) → length (parts_left (behind_cut text)) ≤ length text
 unfolding behind_cut
 parts_behind_fit text = by (nat_lt (piece_len false text) (length text)) refl

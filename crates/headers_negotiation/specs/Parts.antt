@@ -9,7 +9,7 @@ use Rattle.headers_negotiation.specs.Elements.{parts}
 abbrev pub is_cut : Bool → ℕ → Bool
 is_cut is_open b = b == semicolon && not is_open
 
--- whether a quote is open behind a byte
+-- whether a quote is open after a byte
 abbrev pub is_open_behind : Bool → ℕ → Bool
 is_open_behind is_open b = if b == quote then not is_open else is_open
 
@@ -22,7 +22,7 @@ piece_len is_open (b ∷ s) = if is_cut is_open b then 0 else suc (piece_len (is
 abbrev pub first_part : List ℕ → List ℕ
 first_part text = trim (take (piece_len false text) text)
 
--- what stands behind the first cut, if there is one
+-- what follows the first cut, if there is one
 unfoldable pub behind_cut : List ℕ → Option (List ℕ)
 behind_cut text =
     let n = piece_len false text in if nat_lt n (length text) then Some (drop (n + 1) text) else None

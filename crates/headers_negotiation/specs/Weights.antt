@@ -8,7 +8,7 @@ use Rattle.std.specs.Char.{is_ascii_digit, eq_ignore_ascii_case}
 abbrev pub digit : ℕ → Option ℕ
 digit b = if is_ascii_digit b then Some (b - 48) else None
 
--- the digit at a place, where a 0 stands behind the last one
+-- the digit at a place, where a 0 follows the last one
 unfoldable pub digit_at : List ℕ → ℕ → Option ℕ
 digit_at digits place = option_map_or digit (slice_get digits place) (Some 0)
 
@@ -25,12 +25,12 @@ fraction digits =
     (digit_at digits 1))
     (digit_at digits 0)
 
--- what may stand behind the first digit: nothing, or a point and a fraction
+-- what may follow the first digit: nothing, or a point and a fraction
 unfoldable pub decimals : List ℕ → Option ℕ
 decimals [] = Some 0
 decimals (b ∷ digits) = if b == 46 then fraction digits else None
 
--- behind a 1 only zeros may stand
+-- after a 1 only zeros may stand
 abbrev pub one : ℕ → Option ℕ
 one n = if n == 0 then Some 1000 else None
 
@@ -46,7 +46,7 @@ abbrev pub after_letter : ℕ → List ℕ → Option (List ℕ)
 after_letter letter [] = None
 after_letter letter (b ∷ s) = if eq_ignore_ascii_case b letter then Some s else None
 
--- what stands behind `q=`, in either case, if a parameter begins so: it is then a weight
+-- what follows `q=`, in either case, if a parameter begins so: it is then a weight
 unfoldable pub weight_text : List ℕ → Option (List ℕ)
 weight_text parameter = option_and_then (after_letter 61) (after_letter 113 parameter)
 

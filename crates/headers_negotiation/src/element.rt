@@ -16,7 +16,7 @@ pub(crate) fn range_of(element: &[u8]) -> &[u8]
     first_part(element)
 }
 
-/// The parameters behind it.
+/// The parameters after it.
 #[tactic(auto, using(crate::proofs::PartLemmas::parameters_stand_behind))]
 pub(crate) fn parameters(element: &[u8]) -> Parts<'_>
     ensures value { parts_left (option_copied result.rest) ≡ parameters element.now }

@@ -14,7 +14,7 @@ fn is_cut(is_open: bool, byte: u8) -> bool
     byte == b';' && !is_open
 }
 
-// Whether a quote is open behind a byte.
+// Whether a quote is open after a byte.
 fn is_open_behind(is_open: bool, byte: u8) -> bool
     ensures { result ≡ is_open_behind is_open byte }
 {
@@ -43,7 +43,7 @@ pub(crate) fn first_part(text: &[u8]) -> &[u8]
     trim(&text[..piece_len(text)])
 }
 
-/// What stands behind the first cut, if there is one.
+/// What follows the first cut, if there is one.
 #[tactic(auto, unfolding(crate::specs::Parts::behind_cut), using(crate::proofs::PartLemmas::parts_behind_fit))]
 pub(crate) fn behind_cut(text: &[u8]) -> Option<&[u8]>
     ensures value { option_copied result ≡ behind_cut text.now }

@@ -7,7 +7,7 @@ ghost use Rattle.headers_negotiation.specs.Weights.{weight_text};
 
 use crate::parts::Parts;
 
-// The digit at a place, where a 0 stands behind the last one.
+// The digit at a place, where a 0 follows the last one.
 #[tactic(auto, unfolding(crate::specs::Weights::digit_at))]
 fn digit_at(digits: &[u8], place: usize) -> Option<u16>
     ensures value { result ≡ digit_at digits.now place }
@@ -35,7 +35,7 @@ fn fraction(digits: &[u8]) -> Option<u16>
     Some(100 * tenths + 10 * hundredths + thousandths)
 }
 
-// The thousandths behind the first digit of a weight: nothing stands there, or a point and a
+// The thousandths after the first digit of a weight: nothing stands there, or a point and a
 // fraction.
 #[tactic(auto, unfolding(crate::specs::Weights::decimals))]
 fn decimals(text: &[u8]) -> Option<u16>
@@ -75,7 +75,7 @@ fn after_letter(letter: u8, bytes: &[u8]) -> Option<&[u8]>
     }
 }
 
-/// What stands behind `q=`, if a parameter begins so. It is then a weight.
+/// What follows `q=`, if a parameter begins so. It is then a weight.
 #[tactic(auto, unfolding(crate::specs::Weights::weight_text))]
 pub(crate) fn weight_text(parameter: &[u8]) -> Option<&[u8]>
     ensures { option_copied result ≡ weight_text parameter.now }

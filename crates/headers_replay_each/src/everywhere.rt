@@ -165,7 +165,7 @@ fn add_calls<H: Header>(
     reads::<H>(&map, lines, answer)
 }
 
-/// Adds the lines that each call writes of the header that the lines read, behind the name of a call that
+/// Adds the lines that each call writes of the header that the lines read, after the name of a call that
 /// writes others. `(left)` if a call that was refused memory left what it must not.
 pub fn everywhere<H: Header + Getters<P>, P>(
     arguments: &mut Arguments<'_>,

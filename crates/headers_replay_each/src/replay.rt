@@ -148,7 +148,7 @@ pub fn padded<H: Header + Display>(
     Ok(answer.bytes(text.as_bytes())?)
 }
 
-// The header of the lines under its name in a map that has other names before and behind it.
+// The header of the lines under its name in a map that has other names before and after it.
 fn typed_try_get<H: Header + Getters<P>, P>(
     arguments: &mut Arguments<'_>,
     answer: &mut Answer,

@@ -29,7 +29,7 @@ pub fn is_sensitive<H: Header>(alloc: Global, header: &H) -> Result<bool, AllocE
     })
 }
 
-/// A list of one value, which is marked sensitive. Headers write behind it.
+/// A list of one value, which is marked sensitive. Headers write after it.
 pub fn value_before(alloc: Global) -> Result<Vec<HeaderValue>, AllocError> {
     let mut value = HeaderValue::from_static("before");
     value.set_sensitive(true);
@@ -38,7 +38,7 @@ pub fn value_before(alloc: Global) -> Result<Vec<HeaderValue>, AllocError> {
     Ok(lines)
 }
 
-/// The lines that stand behind that value. `None` if it isn't as it was.
+/// The lines that follow that value. `None` if it isn't as it was.
 pub fn lines_behind(lines: &[HeaderValue]) -> Option<&[HeaderValue]> {
     match lines {
         [before, behind @ ..] => {
@@ -66,7 +66,7 @@ fn add_lines(lines: &[HeaderValue], answer: &mut Answer) -> Result<(), AllocErro
     }
 }
 
-/// Adds the lines that a header writes behind a value, and whether they are marked sensitive.
+/// Adds the lines that a header writes after a value, and whether they are marked sensitive.
 pub fn add_written<H: Header>(header: &H, answer: &mut Answer) -> Result<(), AllocError> {
     let mut lines = value_before(answer.alloc())?;
     header.encode(answer.alloc(), &mut lines)?;
@@ -79,7 +79,7 @@ pub fn add_written<H: Header>(header: &H, answer: &mut Answer) -> Result<(), All
     }
 }
 
-/// Adds the words of a header, and, if those of its copy are others, these behind them.
+/// Adds the words of a header, and, if those of its copy are others, these after them.
 pub fn add_with_copy(
     of_header: &Answer,
     of_copy: &Answer,

@@ -68,7 +68,7 @@ fn are_equal<S: Separator>(
 ///
 /// `items LINE..`: the items of the merged lines; `from_items LINE..`: the same of lines that are
 /// handed over; `from_names NAME..`: the line that names make; `copy LINE..`: the line of a copy of
-/// the merged lines, behind `(copy)` if the copy isn't equal; `eq LINE LINE`.
+/// the merged lines, after `(copy)` if the copy isn't equal; `eq LINE LINE`.
 pub fn call_list<S: Separator>(
     call: &str,
     arguments: &mut Arguments<'_>,
@@ -144,7 +144,7 @@ fn places(arguments: &mut Arguments<'_>) -> Result<Vec<usize>, Failure> {
     Ok(places)
 }
 
-// The pieces of a cut, behind the line that they are merged to.
+// The pieces of a cut, after the line that they are merged to.
 fn show_pieces(arguments: &mut Arguments<'_>, answer: &mut Answer) -> Result<(), Failure> {
     let alloc = arguments.alloc();
     let line = HeaderValue::from_vec(arguments.bytes()?)?;

@@ -37,7 +37,7 @@ pub fn same_lines(one: &HeaderMap, other: &HeaderMap) -> bool {
     has_all_but(one, other, None) && has_all_but(other, one, None)
 }
 
-// Whether a map is as it was before a step that was refused for want of memory, but for lines of that
+// Whether a map is as it was before a step that was refused memory, but for lines of that
 // step that may have been begun.
 fn is_left(map: &HeaderMap, before: &HeaderMap, step: &Step) -> bool {
     if same_lines(map, before) {
@@ -51,7 +51,7 @@ fn is_left(map: &HeaderMap, before: &HeaderMap, step: &Step) -> bool {
         && has_all_but(before, map, Some(name))
 }
 
-// The same of the step behind so many that are done.
+// The same of the step after so many that are done.
 fn is_left_by(alloc: Global, map: &HeaderMap, text: &str, done: usize) -> Result<bool, Failure> {
     let (mut before, steps) = Arguments::new(alloc, text).map_and_steps()?;
     let mut first = Vec::new(alloc);
@@ -205,8 +205,8 @@ fn show_errors(arguments: &mut Arguments<'_>, answer: &mut Answer) -> Result<(),
 
 /// Adds the answer of a call of a map.
 ///
-/// `apply FIELD.. STEP..`: the map that the steps leave, behind `(full) DONE` if it has no room;
-/// `apply_full`: the same of a map that is filled with names `x-0`, `x-1` .. first, behind their
+/// `apply FIELD.. STEP..`: the map that the steps leave, after `(full) DONE` if it has no room;
+/// `apply_full`: the same of a map that is filled with names `x-0`, `x-1` .. first, after their
 /// number; `insert_full N FIELD..`: a typed insert of an age in such a map; `canonical TYPE LINE..`;
 /// `errors CAUSE DONE`: how the errors of an insert and of steps are printed.
 pub fn call_map(

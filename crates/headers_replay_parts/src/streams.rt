@@ -8,7 +8,7 @@ use std::io::{self, ErrorKind, Read, Write};
 const INPUT_LIMIT: usize = 8_388_608;
 
 /// Gives a text, up to `each` bytes a call, and then as many bytes of nonsense. Then it fails, if it
-/// is to, else it gives nothing. A later read fails and is counted, also one behind the limit.
+/// is to, else it gives nothing. A later read fails and is counted, also one past the limit.
 #[derive(Drop)]
 pub struct Source<'a> {
     text: &'a [u8],

@@ -226,7 +226,7 @@ leads_once negotiates look request path e f x y =
       | inr h ↦ elim y [ inl k ↦ absurd (h.0 k.0 k.1) | inr k ↦ h.1 ∙ sym k.1 ]
     ]
 
--- what is said behind the same fields is one response
+-- what is said after the same fields is one response
 behind_once : (before : List Header) (negotiates : Bool) (cache_control : Option FieldValue) (look : List ℕ → Entry)
     (request : Request (List ℕ)) (r s : Response)
     → AnswersBehind before negotiates cache_control (λ named entry. entry ≡ look named) request r

@@ -129,7 +129,7 @@ body_sent file NotModified = []
 body_sent file Failed = []
 body_sent file Unsatisfiable = []
 
--- the response has the answer's status, its fields behind those from before, and the bytes of its plan
+-- the response has the answer's status, its fields after those from before, and the bytes of its plan
 pub record Carries (before : List Header) (cache_control : Option FieldValue) (is_known : Bool) (file : File)
     (answer : Answer) (response : Response) : Type 0 where
   pub status : response.status ≡ answer.status
@@ -203,7 +203,7 @@ abbrev pub date_fields : Option ℕ → List Header
 date_fields None = []
 date_fields (Some seconds) = (codes "date", fixdate seconds) ∷ []
 
--- The response to a request at a moment, if there is a clock, where the store has this at its paths: behind the date,
+-- The response to a request at a moment, if there is a clock, where the store has this at its paths: after the date,
 -- and what a policy for requests from other origins says, if there is one. The answer to a preflight (OPTIONS) is 204,
 -- which lets it pass.
 abbrev pub IsAnswerAt : Option ℕ → Option Policy → Bool → Option FieldValue → (List ℕ → Entry → Type 0)

@@ -9,7 +9,7 @@ coding_name Identity = codes "identity"
 coding_name Brotli = codes "br"
 coding_name Gzip = codes "gzip"
 
--- what stands behind the name of a file whose content has the coding
+-- what is appended to the name of a file whose content has the coding
 abbrev pub coding_suffix : Coding → List ℕ
 coding_suffix Identity = []
 coding_suffix Brotli = codes ".br"

@@ -25,15 +25,15 @@ part_fields file part =
     header_line (codes "content-type") file.media_type.bytes
     ++ header_line (codes "content-range") (content_text (part_range file.content part))
 
--- a part's bytes, behind an empty line and before a line's end
+-- a part's bytes, after an empty line and before a line's end
 unfoldable pub part_lines : List ℕ → List ℕ
 part_lines bytes = codes "\r\n" ++ bytes ++ codes "\r\n"
 
--- one part behind the boundary
+-- one part after the boundary
 unfoldable pub part_text : List ℕ → File → Part → List ℕ
 part_text boundary file part = opening boundary ++ part_fields file part ++ part_lines (part_bytes file.content part)
 
--- what stands behind the last part
+-- what follows the last part
 unfoldable pub closing : List ℕ → List ℕ
 closing boundary = codes "--" ++ boundary ++ codes "--\r\n"
 

@@ -34,7 +34,7 @@ abbrev pub IsDecoded : List ℕ → Option (List ℕ) → Type 0
 IsDecoded encoded None = ¬ (IsUtf8 (percent_decode encoded))
 IsDecoded encoded (Some text) = (text ≡ percent_decode encoded) × IsUtf8 text
 
--- The path of a URI begins with a slash and names this path of a store: what stands behind the slash, percent-decoded,
+-- The path of a URI begins with a slash and names this path of a store: what follows the slash, percent-decoded,
 -- with the index, which is plain.
 pub record IsStorePath (path named : List ℕ) : Type 0 where
   pub rooted : slice_index path 0 ≡ 47

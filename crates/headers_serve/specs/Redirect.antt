@@ -6,7 +6,7 @@ use Rattle.http_server.specs.declared.response.Response.{Response}
 use Rattle.headers_serve.specs.Path.{ends_in_slash}
 use Rattle.headers_serve.specs.Response.{IsWith}
 
--- a query behind its question mark
+-- a query after its question mark
 abbrev pub query_text : Option (List ℕ) → List ℕ
 query_text None = []
 query_text (Some query) = codes "?" ++ query

@@ -6,7 +6,7 @@ use Rattle.http1.specs.Fields.{Header}
 use Rattle.http_server.specs.declared.response.Response.{Response}
 use Rattle.http_server.specs.Response.{fields_of}
 
--- the response has this status, these fields behind those from before, and this body
+-- the response has this status, these fields after those from before, and this body
 pub record IsWith (before : List Header) (code : ℕ) (sent : List Header) (content : List ℕ) (response : Response)
     : Type 0 where
   pub status : response.status ≡ code

@@ -28,7 +28,7 @@ impl Coding {
         }
     }
 
-    /// What is put behind the name of a file.
+    /// What is appended to the name of a file.
     pub(crate) fn suffix(self) -> &'static str
         ensures { result.now ≡ coding_suffix self }
     {

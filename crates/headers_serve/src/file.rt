@@ -99,7 +99,7 @@ pub enum Entry {
     Missing,
     /// What may not be read: the answer is 403.
     Forbidden,
-    /// A folder: the answer is 301, to the path with a slash behind it.
+    /// A folder: the answer is 301, to the path with a slash after it.
     Folder,
     /// A file.
     Readable(File),

@@ -76,7 +76,7 @@ fn push_bytes(bytes: Bytes, body: &mut Rope) -> Result<(), AllocError>
     Ok(())
 }
 
-// Appends what stands behind the last part.
+// Appends what follows the last part.
 #[tactic(auto, unfolding(crate::specs::Multipart::closing))]
 fn push_closing(boundary: &str, body: &mut Rope) -> Result<(), AllocError>
     ensures { OnOk result (body.new.items ≡ body.old.items ++ closing boundary.now) }
@@ -87,7 +87,7 @@ fn push_closing(boundary: &str, body: &mut Rope) -> Result<(), AllocError>
     Ok(())
 }
 
-// Appends one part, behind the boundary and its header lines.
+// Appends one part, after the boundary and its header lines.
 #[tactic(auto, unfolding(crate::specs::Multipart::part_text))]
 fn push_part(
     alloc: Global,

@@ -74,7 +74,7 @@ fn decoded(alloc: Global, encoded: &[u8]) -> Result<Option<String>, AllocError>
     }
 }
 
-// The path of a file: that of a folder has `index.html` put behind it.
+// The path of a file: that of a folder has `index.html` appended.
 fn with_index(mut path: String) -> Result<String, AllocError>
     ensures { IfOk result (λ file. string_bytes file ≡ with_index (string_bytes path)) }
 {
@@ -84,7 +84,7 @@ fn with_index(mut path: String) -> Result<String, AllocError>
     Ok(path)
 }
 
-// What stands behind the first slash of a path, percent-decoded.
+// What follows the first slash of a path, percent-decoded.
 fn below_root(alloc: Global, path: &str) -> Result<Option<String>, AllocError>
     requires { slice_index path.now 0 ≡ 47 }
     ensures { IfOk result (λ text. IsDecoded (drop 1 path.now) (option_map string_bytes text)) }
@@ -94,8 +94,8 @@ fn below_root(alloc: Global, path: &str) -> Result<Option<String>, AllocError>
     Ok(text)
 }
 
-/// The path in a store that the path of a URI names: what stands behind its first slash,
-/// percent-decoded, with `index.html` behind it if it is empty or ends in a slash. `None` if it
+/// The path in a store that the path of a URI names: what follows its first slash,
+/// percent-decoded, with `index.html` appended if it is empty or ends in a slash. `None` if it
 /// doesn't begin with a slash, if it isn't UTF-8, or if that path isn't plain.
 pub fn store_path(alloc: Global, path: &str) -> Result<Option<String>, AllocError>
     ensures { IfOk result (λ named. Names path.now (option_map string_bytes named)) }

@@ -10,7 +10,7 @@ use http_header::{HeaderValueError, LOCATION};
 use http_server::Response;
 use std::alloc::{AllocError, Global};
 
-/// Answers a request for a folder: 301, to the path with a slash behind it and the query (RFC 9110,
+/// Answers a request for a folder: 301, to the path with a slash after it and the query (RFC 9110,
 /// section 15.4.2), or 404 if it has one already.
 pub(crate) fn answer_folder(
     alloc: Global,
