@@ -14,7 +14,7 @@
  *   but the tab) makes the call refuse the text. The empty text has no line. A line is the field's value alone, without
  *   its name. No space is taken off its ends.
  * - A call that writes bytes takes room for them. `*written` says how many bytes there are, also if they don't fit: the
- *   status is TYPED_HEADERS_NO_ROOM then, and the room is as it was. Nothing is written behind them.
+ *   status is TYPED_HEADERS_NO_ROOM then, and the room is as it was. Nothing is written after them.
  * - Calls keep no state. They may run in several threads at once; none may run in a signal handler, nor in the child
  *   of a fork of a process with threads.
  * - Memory comes from malloc, realloc and free, and is given back before the call returns.

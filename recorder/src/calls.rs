@@ -58,7 +58,7 @@ fn from_str<H: Getters + PartialEq + FromStr>(
     Ok(())
 }
 
-/// The header of the lines under its name in a map that has other names before and behind it.
+/// The header of the lines under its name in a map that has other names before and after it.
 fn typed_try_get<H: Getters>(arguments: &mut Arguments, answer: &mut Answer) -> Made {
     let mut map = HeaderMap::new();
     map.append("x-before", HeaderValue::from_static("1"));
@@ -114,7 +114,7 @@ fn common<H: Getters>(call: &str, arguments: &mut Arguments, answer: &mut Answer
     Ok(())
 }
 
-/// A call of a type: one of those that stand behind it, or one that every header has.
+/// A call of a type: one of those that follow it, or one that every header has.
 fn of_type(name: &str, call: &str, arguments: &mut Arguments, answer: &mut Answer) -> Made {
     macro_rules! types {
         ($($name:literal $type:ty: $($own:ident)*;)*) => {

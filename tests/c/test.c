@@ -46,7 +46,7 @@ void __wrap_free(void *block) {
     __real_free(block);
 }
 
-/* An area of memory with a page behind it that nothing may touch. */
+/* An area of memory before a page that nothing may touch. */
 struct area {
     uint8_t *end;
 };
@@ -113,7 +113,7 @@ static size_t decode(char *word) {
     return length;
 }
 
-/* The words from one on, each with a byte 10 behind it. */
+/* The words from one on, each with a byte 10 after it. */
 static struct text lines(const struct row *row, size_t from) {
     static char joined[AREA];
     size_t length = 0;
@@ -513,7 +513,7 @@ static uint8_t call_select(const void *arguments, uint64_t *number, uint8_t *roo
 /* Whether a word is the name of a field, which stands in parentheses. */
 static bool is_name(const struct word *word) { return word->length > 2 && word->bytes[0] == '('; }
 
-/* `(NAME) LINE.. (/)` as a header section in an area, which ends with the row at the latest. The place behind it. */
+/* `(NAME) LINE.. (/)` as a header section in an area, which ends with the row at the latest. The place after it. */
 static size_t read_section(const struct row *row, size_t i, struct area area, struct text *text) {
     static char section[AREA];
     size_t length = 0;
@@ -562,7 +562,7 @@ static struct row *answer_words(const struct row *row) {
     return &answer;
 }
 
-/* `METHOD (NAME) LINE.. (/)`: the place behind it. */
+/* `METHOD (NAME) LINE.. (/)`: the place after it. */
 static size_t read_request(const struct row *row, struct request_call *call) {
     call->method = put(third_area, row->words[0].bytes, row->words[0].length);
     call->etag = put(second_area, "", 0);
@@ -632,7 +632,7 @@ static uint8_t call_cors(const void *arguments, uint64_t *number, uint8_t *room,
     return status;
 }
 
-/* Rules as the fields of a row. The place behind them, or 0 if the only line of a list is a star, which is any here. */
+/* Rules as the fields of a row. The place after them, or 0 if the only line of a list is a star, which is any here. */
 static size_t read_rules(const struct row *row, struct typed_headers_cors_rules *rules) {
     static const char *names[] = {"origins", "methods", "names", "exposed"};
     static char any[AREA], list[AREA], number[64];
@@ -904,7 +904,7 @@ static void read_row(struct row *row, char *line) {
     }
     *end = 0;
     row->answer = end + 3;
-    /* Behind `!` and the kind of a difference stands the answer that is wanted here. */
+    /* After `!` and the kind of a difference stands the answer that is wanted here. */
     char *other = strstr(row->answer, " ! ");
     if (other) {
         row->answer = strchr(other + 3, ' ') + 1;

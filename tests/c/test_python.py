@@ -68,7 +68,7 @@ def ranges(words, wanted):
 
 
 def fields(words):
-    """The fields of words up to `(/)`, and the words behind it."""
+    """The fields of words up to `(/)`, and the words after it."""
     end = words.index("(/)") if "(/)" in words else len(words)
     found, name = [], b""
     for word in words[:end]:
