@@ -12,7 +12,8 @@ ghost use Rattle.headers_syntax.specs.Lines.{Line, only_line};
 use crate::item::AsHeaderValue;
 use crate::lines::just_one;
 use crate::trimming::trim;
-use http_header::{HeaderValue, HeaderValueError};
+use bytes::Bytes;
+use http_header::HeaderValue;
 use httpdate::HttpDate;
 use std::alloc::{AllocError, Global};
 use std::marker::Model;
@@ -74,16 +75,11 @@ impl Date1 {
         ensures value { IfOk result (λ value. value ≡ plain_value (fixdate self.now)) }
         ensures reads_back { IfOk result (λ value. date value.bytes ≡ Some self.now) }
     {
-        let date = match HttpDate::from_unix_secs(self.seconds) {
-            Ok(date) => date,
-            Err(_) => unreachable!(),
+        let Ok(date) = HttpDate::from_unix_secs(self.seconds) else {
+            unreachable!();
         };
-        let text = date.to_bytes();
-        match HeaderValue::from_bytes(alloc, &text) {
-            Ok(value) => Ok(value),
-            Err(HeaderValueError::OutOfMemory) => Err(AllocError),
-            Err(HeaderValueError::Invalid) => unreachable!(),
-        }
+        let text = Bytes::copy_from_slice(alloc, &date.to_bytes())?;
+        Ok(HeaderValue::from_known_valid(text))
     }
 }
 
