@@ -19,7 +19,7 @@ use Rattle.headers_mime.specs.MediaType.{IsQuotedPart, quoted_part_text, IsQuote
 use Rattle.headers_mime.specs.MediaType.{parameters_text, media_text, IsMediaType, canonical_parts, canonical}
 use Rattle.headers_mime.specs.MediaType.{IsCanonical}
 use Rattle.headers_mime.specs.MediaTypeReading.{read_media, canonical_of, GivesRead}
-use Rattle.headers_mime.specs.MimeText.{text_bytes, known_texts, IsMimeText, ReadsMime}
+use Rattle.headers_mime.specs.MimeText.{text_bytes, known_texts, is_known, IsMimeText, ReadsMime}
 use Rattle.headers_mime.specs.declared.mime.Text.TheVariants.{Known, Read}
 use Rattle.headers_mime.proofs.KnownLemmas.{known_texts-canonical}
 use Rattle.std.proofs.lemmas.Slice.Eq.{bytes_eq-Decides}
@@ -119,9 +119,19 @@ among-canonical (t ∷ texts) s all h =
           s (All-tail IsCanonical t texts all) later
     ]
 
+pub known-canonical : (text : List ℕ) → IsTrue (is_known text) → IsCanonical text
+known-canonical text h = among-canonical known_texts text known_texts-canonical h
+
+-- so the text of a constant reads as itself
+pub known-reads : (text mime : List ℕ) → mime ≡ text → IsTrue (is_known text)
+    → (m : MediaType) × IsMediaType text m × (mime ≡ canonical m)
+known-reads text mime same h =
+    let c = known-canonical text h in
+    (c.0, c.1, same ∙ sym c.2)
+
 -- what a media type holds is canonical, and so it is text
 pub kept-canonical : (text : Text) (t : List ℕ) → IsMimeText text → text_bytes text ≡ t → IsCanonical t
-kept-canonical (Known text) t h e = subst IsCanonical e (among-canonical known_texts text.now known_texts-canonical h)
+kept-canonical (Known text) t h e = subst IsCanonical e (known-canonical text.now h)
 kept-canonical (Read value) t h e = subst IsCanonical e h
 
 pub kept-text : (text : Text) (t : List ℕ) → IsMimeText text → text_bytes text ≡ t → is_text t ≡ true

@@ -1,5 +1,5 @@
 -- What a `Mime` holds.
-use Rattle.std.specs.Prelude.{◌≡◌, ⊤, ℕ, List, [], ◌∷◌, codes, IsTrue, bytes_eq, Result, Ok, Err}
+use Rattle.std.specs.Prelude.{◌≡◌, ⊤, ℕ, List, [], ◌∷◌, codes, Bool, IsTrue, bytes_eq, Result, Ok, Err}
 use Rattle.headers_syntax.specs.declared.error.Refused.{Refused}
 use Rattle.headers_syntax.specs.declared.error.Refused.TheVariants.{Invalid, Memory}
 use Rattle.headers_mime.specs.MediaType.{MediaType, IsMediaType, canonical, IsCanonical}
@@ -25,9 +25,13 @@ known_texts =
     codes "application/octet-stream" ∷
     []
 
+-- the text is that of a constant
+abbrev pub is_known : List ℕ → Bool
+is_known text = list_any (λ (known : List ℕ). bytes_eq known text) known_texts
+
 -- what a media type may hold: the text of a constant, or a canonical text
 abbrev pub IsMimeText : Text → Type 0
-IsMimeText (Known text) = IsTrue (list_any (λ (known : List ℕ). bytes_eq known text.now) known_texts)
+IsMimeText (Known text) = IsTrue (is_known text.now)
 IsMimeText (Read value) = IsCanonical value.bytes
 
 -- an answer of a reader of text: the canonical text of its reading, and `Invalid` only if it has none

@@ -1,8 +1,8 @@
 //! Media types.
-ghost use Rattle.std.specs.Prelude.{◌≡◌, List, ℕ, IfOk, Some};
+ghost use Rattle.std.specs.Prelude.{◌≡◌, List, ℕ, IsTrue, IfOk, IfSome, Some};
 ghost use Rattle.std.specs.Fmt.{padded};
 ghost use Rattle.headers_mime.specs.MediaType.{MediaType, IsMediaType, IsCanonical, canonical, canonical_parts};
-ghost use Rattle.headers_mime.specs.MimeText.{ReadsMime, known_texts};
+ghost use Rattle.headers_mime.specs.MimeText.{ReadsMime, is_known, known_texts};
 
 use crate::writing::canonical_text;
 use bytes::Bytes;
@@ -102,6 +102,25 @@ impl Mime {
         ]
     }
 
+    // The constant of a text, which takes no memory. `None` if there is none.
+    fn known(text: &str) -> Option<Mime>
+        ensures same { IfSome result (λ mime. mime ≡ text.now) }
+        ensures known { IfSome result (λ _. IsTrue (is_known text.now)) }
+    {
+        match text {
+            "application/json" => Some(Mime::APPLICATION_JSON),
+            "text/plain" => Some(Mime::TEXT_PLAIN),
+            "text/plain; charset=utf-8" => Some(Mime::TEXT_PLAIN_UTF_8),
+            "text/html" => Some(Mime::TEXT_HTML),
+            "text/xml" => Some(Mime::TEXT_XML),
+            "application/x-www-form-urlencoded" => Some(Mime::APPLICATION_WWW_FORM_URLENCODED),
+            "image/jpeg" => Some(Mime::IMAGE_JPEG),
+            "image/png" => Some(Mime::IMAGE_PNG),
+            "application/octet-stream" => Some(Mime::APPLICATION_OCTET_STREAM),
+            _ => None,
+        }
+    }
+
     // The media type of a canonical text.
     fn from_canonical(text: Vec<u8>) -> Result<Mime, AllocError>
         requires { IsCanonical text.items }
@@ -118,6 +137,9 @@ impl Mime {
     pub fn parse(alloc: Global, text: &str) -> Result<Mime, Refused<Error>>
         ensures { ReadsMime text.now result }
     {
+        if let Some(mime) = Mime::known(text) {
+            return Ok(mime);
+        }
         match canonical_text(alloc, text.as_bytes()) {
             Ok(text) => Ok(Mime::from_canonical(text)?),
             Err(refused) => Err(refused),

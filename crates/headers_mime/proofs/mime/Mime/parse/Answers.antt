@@ -2,7 +2,7 @@ use Rattle.std.proofs.Common.{vec_items, Global, List, ℕ, Err, ◌∙◌, subs
 use Rattle.headers_mime.specs.MediaType.{IsMediaType}
 use Rattle.headers_mime.specs.MimeText.{ReadsMime}
 use Rattle.headers_mime.proofs.CanonicalLemmas.{canonical-from_canonical_of}
-use Rattle.headers_mime.proofs.MimeLemmas.{reading-from_canonical_of, refused_reading}
+use Rattle.headers_mime.proofs.MimeLemmas.{known-reads, reading-from_canonical_of, refused_reading}
 use Rattle.headers_mime.proofs.mime.Mime.parse.Goals as goal
 
 pub from_canonical-requires : goal.from_canonical-requires
@@ -20,3 +20,6 @@ pub returns-in-Err : goal.returns-in-Err
 returns-in-Err c =
     subst (λ (s : List ℕ). ReadsMime s (Err c.in-Err.refused)) c.as_bytes.ensures.value
     (refused_reading (vec_items {Z = Global}) c.as_bytes.result.now c.in-Err.refused c.in-Err.ensures)
+
+pub returns-in-Some : goal.returns-in-Some
+returns-in-Some c = known-reads c.args.text.now c.in-Some.mime c.in-Some.ensures.same c.in-Some.ensures.known
