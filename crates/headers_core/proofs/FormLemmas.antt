@@ -5,6 +5,7 @@ use Rattle.http_header.specs.FieldValue.{FieldValue}
 use Rattle.headers_syntax.specs.Lines.{Line}
 use Rattle.headers_syntax.specs.DecodesTo.{DecodesTo}
 use Rattle.headers_syntax.specs.OfLines.{OfLines}
+use Rattle.headers_syntax.proofs.OfLinesLemmas.{OfLines-weaker}
 use Rattle.headers_syntax.specs.declared.error.Refused.{Refused}
 use Rattle.headers_syntax.specs.declared.error.Refused.TheVariants.{Invalid, Memory}
 
@@ -19,10 +20,4 @@ module _ {V F E : Type 0} (form : V → F) (reads : List Line → F → Type 0) 
       (r : Refused E)
       → OfLines shown steps s t (λ lines. DecodesTo {V = F} {E = E} reads lines (Err r))
       → OfLines shown steps s t (λ lines. DecodesTo {V = V} {E = E} (λ ls v. reads ls (form v)) lines (Err r))
-  of_lines_along r seen =
-      record {
-        items = seen.items;
-        ended = seen.ended;
-        calls = seen.calls;
-        holds = λ rest e. refused_along _ r (seen.holds rest e);
-      }
+  of_lines_along r seen = OfLines-weaker _ _ _ _ _ _ seen (λ lines. refused_along lines r)

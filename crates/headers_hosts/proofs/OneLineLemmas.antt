@@ -3,6 +3,7 @@ use Rattle.std.proofs.Common.{◌≡◌, List, Option, Some, None, Result, Ok, E
 use Rattle.http_header.specs.FieldValue.{FieldValue}
 use Rattle.headers_syntax.specs.Lines.{Line}
 use Rattle.headers_syntax.specs.OfLines.{OfLines}
+use Rattle.headers_syntax.proofs.OfLinesLemmas.{OfLines-weaker}
 use Rattle.headers_syntax.specs.DecodesTo.{DecodesTo}
 use Rattle.headers_syntax.specs.declared.error.Refused.{Refused}
 use Rattle.headers_syntax.specs.declared.error.Refused.TheVariants.{Invalid, Memory}
@@ -23,21 +24,12 @@ module _ {V E : Type 0} (pick : List Line → Option Line) (Reads : Line → V �
       → LineDecodesTo Reads bytes r
       → OfLines shown steps s t (λ lines. DecodesTo (ReadsLine pick Reads) lines r)
   decodes_line shown steps s t item bytes r of same h =
-      record {
-        items = of.items;
-        ended = of.ended;
-        calls = of.calls;
-        holds = λ rest e. by_line _ _ r (of.holds rest e) (subst (λ (l : Line). LineDecodesTo Reads l r) same h);
-      }
+      OfLines-weaker shown steps s t _ _ of
+      (λ lines picked. by_line lines _ r picked (subst (λ (l : Line). LineDecodesTo Reads l r) same h))
 
   -- without a picked line nothing is read
   pub decodes_none : {S A : Type 0} (shown : A → FieldValue) (steps : S → Option A → S → Type 0) (s t : S) (e : E)
       → OfLines shown steps s t (λ lines. pick lines ≡ None)
       → OfLines shown steps s t (λ lines. DecodesTo (ReadsLine pick Reads) lines (Err (Invalid e)))
   decodes_none shown steps s t e of =
-      record {
-        items = of.items;
-        ended = of.ended;
-        calls = of.calls;
-        holds = λ rest l v k. let some = k.1 in let none = of.holds rest l in cc (some, none);
-      }
+      OfLines-weaker shown steps s t _ _ of (λ lines none v k. let some = k.1 in cc (some, none))

@@ -27,19 +27,10 @@ merge_push sep x (z ∷ zs) y =
     ap (λ r. x ++ (sep ∷ 32 ∷ r)) (merge_push sep z zs y)
     ∙ sym (append_assoc x (sep ∷ 32 ∷ merge sep (z ∷ zs)) (sep ∷ 32 ∷ y))
 
--- what the buffer holds once some lines have come
-abbrev pub MergedSoFar : ℕ → List ℕ → List (List ℕ) → Type 0
-MergedSoFar sep buffer lines = (0 < length lines) × (buffer ≡ merge sep lines)
-
-pub merged_first : (sep : ℕ) (x y buffer : List ℕ) → buffer ≡ x ++ sep ∷ 32 ∷ y → (lines : List (List ℕ))
-    → lines ≡ x ∷ [] → MergedSoFar sep buffer (lines ++ y ∷ [])
-merged_first sep x y buffer e lines h = rw h (omega arith, e)
-
-pub merged_more : (sep : ℕ) (y before after : List ℕ) → after ≡ before ++ sep ∷ 32 ∷ y → (lines : List (List ℕ))
-    → MergedSoFar sep before lines → MergedSoFar sep after (lines ++ y ∷ [])
-merged_more sep y before after e [] h = absurd (omega (arith, h.0))
-merged_more sep y before after e (x ∷ xs) h =
-    (omega (arith, length-append xs (y ∷ [])), e ∙ ap (λ r. r ++ sep ∷ 32 ∷ y) h.1 ∙ sym (merge_push sep x xs y))
+-- what a buffer of merged lines holds once a line more has come
+pub merged_more : (sep : ℕ) (y before after x : List ℕ) (xs : List (List ℕ)) → after ≡ before ++ sep ∷ 32 ∷ y
+    → before ≡ merge sep (x ∷ xs) → after ≡ merge sep (x ∷ xs ++ y ∷ [])
+merged_more sep y before after x xs e h = e ∙ ap (λ r. r ++ sep ∷ 32 ∷ y) h ∙ sym (merge_push sep x xs y)
 
 -- a value stays a value
 pub IsFieldValue-more : (sep : ℕ) (a b c : List ℕ) → IsSeparator sep → IsFieldValue a → IsFieldValue b

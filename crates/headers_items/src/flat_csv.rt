@@ -15,7 +15,7 @@ ghost use Rattle.headers_items.specs.Merge.{merge};
 
 use crate::items::Items;
 use crate::separator::Separator;
-use bytes::{Bytes, BytesMut};
+use bytes::Bytes;
 use headers_syntax::{AsHeaderValue, read_text};
 use http_header::{HeaderName, HeaderValue};
 use std::alloc::{AllocError, Global};
@@ -41,12 +41,36 @@ impl<S: Separator> Model for FlatCsv<S> {
 }
 
 // Adds a line after the others.
-fn append(buffer: &mut BytesMut, separator: u8, line: &HeaderValue) -> Result<(), AllocError>
+fn append(buffer: &mut Vec<u8>, separator: u8, line: &HeaderValue) -> Result<(), AllocError>
     ensures items { OnOk result (buffer.new.items ≡ buffer.old.items ++ separator ∷ 32 ∷ line.now.bytes) }
     ensures valid { OnOk result (IsFieldValue line.now.bytes) }
 {
     buffer.extend_from_slice(&[separator, b' '])?;
     buffer.extend_from_slice(line.as_bytes())
+}
+
+// Two lines and all that follow, joined. Out of line, since most fields have one line, which is read
+// in 1.2 times the time if this code stands beside it.
+#[inline(never)]
+fn joined<S: Separator, I: Iterator>(
+    alloc: Global,
+    first: &HeaderValue,
+    second: &HeaderValue,
+    others: &mut I,
+) -> Result<HeaderValue, AllocError>
+where
+    I::Item: AsHeaderValue,
+    requires can { I.can_next others.old }
+    requires ends { IsFinite (I.remaining others.old) }
+    ensures { OfLines I.Item.shown I.next_gives others.old others.new
+        (λ ls. IfOk result (λ v. IsMerged S.BYTE (first.now.bytes ∷ second.now.bytes ∷ ls) v.bytes)) }
+{
+    let mut buffer = Vec::from_slice(alloc, first.as_bytes())?;
+    append(&mut buffer, S::separator_byte(), second)?;
+    while let Some(line) = others.next() {
+        append(&mut buffer, S::separator_byte(), line.as_header_value())?;
+    }
+    Ok(HeaderValue::from_known_valid(Bytes::from_vec(buffer)?))
 }
 
 // A part of a value.
@@ -99,12 +123,8 @@ impl<S: Separator> FlatCsv<S> {
         let Some(second) = lines.next() else {
             return Ok(FlatCsv::from_value(first.as_header_value().clone()?));
         };
-        let mut buffer = BytesMut::copy_from_slice(alloc, first.as_header_value().as_bytes())?;
-        append(&mut buffer, S::separator_byte(), second.as_header_value())?;
-        while let Some(line) = lines.next() {
-            append(&mut buffer, S::separator_byte(), line.as_header_value())?;
-        }
-        Ok(FlatCsv::from_value(HeaderValue::from_known_valid(buffer.freeze()?)))
+        let (first, second) = (first.as_header_value(), second.as_header_value());
+        Ok(FlatCsv::from_value(joined::<S, I>(alloc, first, second, lines)?))
     }
 
     /// Joins the values of an iterator as `from_lines` joins lines. Its size hint isn't read.

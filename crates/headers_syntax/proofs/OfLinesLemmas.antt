@@ -35,6 +35,11 @@ module _ {S A : Type 0} (shown : A → FieldValue) (steps : S → Option A → S
       by false calls holds =
           record { items = x ∷ g.items; ended = false; calls = (j, call, calls); holds = holds }
 
+  pub OfLines-weaker : (s t : S) (P Q : List Line → Type 0) → OfLines shown steps s t P
+      → ((lines : List Line) → P lines → Q lines) → OfLines shown steps s t Q
+  OfLines-weaker s t P Q g weaker =
+      record { items = g.items; ended = g.ended; calls = g.calls; holds = λ rest e. weaker _ (g.holds rest e) }
+
   -- one call was made, and P ties its answer to the lines
   pub OfLines-next : (P : Option A → List Line → Type 0) → P None []
       → ((x : A) (lines : List Line) → P (Some x) ((shown x).bytes ∷ lines))
