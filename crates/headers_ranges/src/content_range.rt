@@ -205,14 +205,15 @@ fn print_content(
 ) -> Result<String, AllocError>
     ensures { IfOk result (λ text. string_bytes text ≡ content_text (of_parts (range, complete_length))) }
 {
+    // The most that is printed: 8 bytes and three times 20 digits.
+    let mut text = String::with_capacity(alloc, 68)?;
     match (range, complete_length) {
-        (Some((first, last)), Some(length)) => {
-            format!(in alloc; "bytes {first}-{last}/{length}")
-        }
-        (Some((first, last)), None) => format!(in alloc; "bytes {first}-{last}/*"),
-        (None, Some(length)) => format!(in alloc; "bytes */{length}"),
-        (None, None) => format!(in alloc; "bytes */*"),
+        (Some((first, last)), Some(length)) => write!(text, "bytes {first}-{last}/{length}")?,
+        (Some((first, last)), None) => write!(text, "bytes {first}-{last}/*")?,
+        (None, Some(length)) => write!(text, "bytes */{length}")?,
+        (None, None) => write!(text, "bytes */*")?,
     }
+    Ok(text)
 }
 
 /// Every content range, built or read, is written as a line that reads as it if its first position

@@ -138,7 +138,8 @@ fn print_security(
         ≡ print_security (record { include_subdomains = include_subdomains; max_age = max_age })) }
     ensures valid { IfOk result (λ text. IsFieldValue (string_bytes text)) }
 {
-    let mut text = String::new(alloc);
+    // The most that is printed: 8 bytes, 20 digits and 19 bytes.
+    let mut text = String::with_capacity(alloc, 47)?;
     write!(text, "max-age={max_age}")?;
     if include_subdomains {
         text.push_str("; includeSubdomains")?;
