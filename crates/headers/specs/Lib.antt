@@ -5,12 +5,12 @@ pub use Rattle.headers_authorization.specs.Scheme
 pub use Rattle.headers_caching.specs.CacheControl
 pub use Rattle.headers_caching.specs.CacheControlGrammar
 pub use Rattle.headers_conditional.specs.ETag
-pub use Rattle.headers_conditional.specs.EntityTagRange
+pub use Rattle.headers_core.specs.EntityTagRange
 pub use Rattle.headers_conditional.specs.IfMatch
 pub use Rattle.headers_conditional.specs.IfNoneMatch
 pub use Rattle.headers_conditional.specs.IfRange
 pub use Rattle.headers_conditional.specs.Validator
-pub use Rattle.headers_conditional.specs.declared.entity_tag_range
+pub use Rattle.headers_core.specs.declared.entity_tag_range
 pub use Rattle.headers_connection.specs.Chunked
 pub use Rattle.headers_connection.specs.Connection
 pub use Rattle.headers_connection.specs.Expect

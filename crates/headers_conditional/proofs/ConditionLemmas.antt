@@ -4,8 +4,8 @@ use Rattle.headers_syntax.specs.EntityTag.{TagParts, IsTag, StronglyEqual, Weakl
 use Rattle.headers_syntax.specs.Text.{is_text}
 use Rattle.headers_conditional.specs.IfMatch.{MatchPasses}
 use Rattle.headers_conditional.specs.IfNoneMatch.{NoneMatchPasses}
-use Rattle.headers_conditional.specs.declared.entity_tag_range.EntityTagRange.TheVariants.{Tags}
-use Rattle.headers_conditional.proofs.EntityTagRangeLemmas.{HasItem-tags, HasItem-no_text}
+use Rattle.headers_core.specs.declared.entity_tag_range.EntityTagRange.TheVariants.{Tags}
+use Rattle.headers_core.proofs.EntityTagRangeLemmas.{HasItem-tags, HasItem-no_text}
 
 pub match_text : (bytes tag : List ℕ) (parts others : TagParts) → IsTag bytes parts → IsTag tag others
     → is_text bytes ≡ true

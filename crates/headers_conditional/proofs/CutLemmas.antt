@@ -15,9 +15,9 @@ use Rattle.headers_items.specs.Separator.{comma_is_separator}
 use Rattle.headers_items.proofs.AnswerLemmas.{same_answers}
 use Rattle.headers_items.proofs.CutLemmas.{items_cut_at}
 use Rattle.headers_items.proofs.PlacesLemmas.{counting_place_parts}
-use Rattle.headers_conditional.specs.EntityTagRange.{star, range_of}
-use Rattle.headers_conditional.specs.declared.entity_tag_range.EntityTagRange.{EntityTagRange}
-use Rattle.headers_conditional.specs.declared.entity_tag_range.EntityTagRange.TheVariants.{Tags}
+use Rattle.headers_core.specs.EntityTagRange.{star, range_of}
+use Rattle.headers_core.specs.declared.entity_tag_range.EntityTagRange.{EntityTagRange}
+use Rattle.headers_core.specs.declared.entity_tag_range.EntityTagRange.TheVariants.{Tags}
 
 -- a value that is not the star lists its tags
 range_of-tags : (value : List ℕ) → (value ≡ star → ⊥) → range_of value ≡ Tags value

@@ -1,4 +1,2 @@
 pub mod ConditionLemmas
 pub mod CutLemmas
-pub mod EntityTagRangeLemmas
-pub mod TagItemLemmas

@@ -1,8 +1,8 @@
 -- The header `if-none-match` (RFC 9110, section 13.1.2).
 use Rattle.std.specs.Prelude.{ℕ, List}
 use Rattle.headers_syntax.specs.EntityTag.{WeaklyEqual}
-use Rattle.headers_conditional.specs.EntityTagRange.{Matches}
-use Rattle.headers_conditional.specs.declared.entity_tag_range.EntityTagRange.{EntityTagRange}
+use Rattle.headers_core.specs.EntityTagRange.{Matches}
+use Rattle.headers_core.specs.declared.entity_tag_range.EntityTagRange.{EntityTagRange}
 
 -- the condition holds of a tag: it isn't any, and no item is a tag that is weakly equal
 abbrev pub NoneMatchPasses : EntityTagRange → List ℕ → Type 0

@@ -1,6 +1,4 @@
 pub mod ETag
-pub mod EntityTagRange
-pub mod EntityTagRangeLaws
 pub mod IfMatch
 pub mod IfNoneMatch
 pub mod IfRange

@@ -5,8 +5,8 @@ ghost use Rattle.headers_syntax.specs.Text.{is_text};
 ghost use Rattle.headers_items.specs.Answers.{GoesByItems, SurvivesCuts};
 ghost use Rattle.headers_items.specs.Merge.{merge};
 ghost use Rattle.headers_items.specs.Places.{comma};
-ghost use Rattle.headers_conditional.specs.EntityTagRange.{range_of};
-ghost use Rattle.headers_conditional.specs.declared.entity_tag_range.EntityTagRange.TheVariants.{Tags};
+ghost use Rattle.headers_core.specs.EntityTagRange.{range_of};
+ghost use Rattle.headers_core.specs.declared.entity_tag_range.EntityTagRange.TheVariants.{Tags};
 ghost use Rattle.headers_conditional.specs.IfMatch.{MatchPasses};
 
 use crate::etag::{ETag, tag_of};

@@ -1,7 +1,6 @@
 //! Validators and conditional requests (RFC 9110, sections 8.8 and 13.1).
 #![tactic(auto)]
 
-mod entity_tag_range;
 mod etag;
 mod if_match;
 mod if_modified_since;
@@ -11,7 +10,6 @@ mod if_unmodified_since;
 mod last_modified;
 mod tag_condition;
 
-pub use crate::entity_tag_range::{EntityTagRange, tag_ranges_read_back};
 pub use crate::etag::{ETag, InvalidETag, into_tag, tag_of};
 pub use crate::if_match::{IfMatch, IfMatchField, if_match_of_own_tag};
 pub use crate::if_modified_since::IfModifiedSince;

@@ -4,12 +4,11 @@ ghost use Rattle.headers_syntax.specs.HeaderLaws.{ReadsBy};
 ghost use Rattle.headers_syntax.specs.Lines.{Line};
 ghost use Rattle.headers_items.specs.Merge.{merge};
 ghost use Rattle.headers_items.specs.Places.{comma};
-ghost use Rattle.headers_conditional.specs.EntityTagRange.{range_of, tags_grammar};
-ghost use Rattle.headers_conditional.specs.declared.entity_tag_range.EntityTagRange.TheVariants.{Any};
+ghost use Rattle.headers_core.specs.EntityTagRange.{range_of, tags_grammar};
+ghost use Rattle.headers_core.specs.declared.entity_tag_range.EntityTagRange.TheVariants.{Any};
 
-use crate::entity_tag_range::EntityTagRange;
 use crate::etag::{ETag, into_tag};
-use headers_core::{FlatCsv, FormHeader, NamedField};
+use headers_core::{EntityTagRange, FlatCsv, FormHeader, NamedField};
 use http_header::HeaderName;
 use std::alloc::{AllocError, Global};
 use std::marker::{Model, PhantomData};
@@ -24,7 +23,7 @@ pub struct TagCondition<N: NamedField> {
 }
 
 impl<N: NamedField> Model for TagCondition<N> {
-    ghost use Rattle.headers_conditional.specs.declared.entity_tag_range.EntityTagRange.{EntityTagRange};
+    ghost use Rattle.headers_core.specs.declared.entity_tag_range.EntityTagRange.{EntityTagRange};
 
     ghost Value = { EntityTagRange };
 
@@ -58,7 +57,7 @@ impl<N: NamedField> TagCondition<N> {
 
 impl<N: NamedField> From<ETag> for TagCondition<N> {
     ghost use Rattle.std.specs.Prelude.{◌≡◌};
-    ghost use Rattle.headers_conditional.specs.declared.entity_tag_range.EntityTagRange.TheVariants.{Tags};
+    ghost use Rattle.headers_core.specs.declared.entity_tag_range.EntityTagRange.TheVariants.{Tags};
 
     ghost from_gives = { λ etag header. header ≡ Tags etag.bytes };
 

@@ -1,1 +1,3 @@
+pub mod EntityTagRangeLemmas
 pub mod FormLemmas
+pub mod TagItemLemmas

@@ -1,1 +1,3 @@
+pub mod EntityTagRange
+pub mod EntityTagRangeLaws
 pub mod FormLaws

@@ -1,9 +1,10 @@
-//! What every typed header is built on: the trait and the forms that headers keep. The crates of
-//! field syntax and of list items are passed on whole.
+//! What every typed header is built on: the trait `Header` and the encoding shapes that headers
+//! share. It exports field syntax, list items and media types as well.
 #![tactic(auto)]
 
 mod built;
 mod date_header;
+mod entity_tag_range;
 mod field_form;
 mod form_header;
 mod forms;
@@ -18,6 +19,7 @@ pub use crate::built::{
     words_read_back,
 };
 pub use crate::date_header::DateHeader;
+pub use crate::entity_tag_range::{EntityTagRange, tag_ranges_read_back};
 pub use crate::field_form::FieldForm;
 pub use crate::form_header::FormHeader;
 pub use crate::header::Header;
@@ -26,6 +28,7 @@ pub use crate::named_field::NamedField;
 pub use crate::seconds_header::SecondsHeader;
 pub use crate::value_header::ValueHeader;
 pub use headers_items::{Comma, Entries, FlatCsv, Items, Mark, Pairs, Scan, SemiColon, Separator};
+pub use headers_mime::Mime;
 pub use headers_syntax::{
     AsHeaderValue, Date1, EntityTag, EntityTagRef, Error, HeaderValueString, Refused, Seconds,
     date_reads_back, dates_by_the_calendar, first, first_word, just_one, numbers_read_back,

@@ -1,7 +1,6 @@
 pub mod AnswerLemmas
 pub mod CutAtLemmas
 pub mod CutLemmas
-pub mod FirstPlaceLemmas
 pub mod ItemsLemmas
 pub mod JoinedLemmas
 pub mod JumpLemmas

@@ -15,7 +15,7 @@ ghost use Rattle.headers_items.specs.Merge.{merge};
 
 use crate::items::Items;
 use crate::separator::Separator;
-use bytes::Bytes;
+use bytes::{Bytes, BytesMut};
 use headers_syntax::{AsHeaderValue, read_text};
 use http_header::{HeaderName, HeaderValue};
 use std::alloc::{AllocError, Global};
@@ -40,17 +40,20 @@ impl<S: Separator> Model for FlatCsv<S> {
     ghost view = { λ c. c.value.bytes };
 }
 
-// Adds a line after the others.
-fn append(buffer: &mut Vec<u8>, separator: u8, line: &HeaderValue) -> Result<(), AllocError>
+// Appends a field line after a separator and a space, whose room is asked for at once.
+fn append(buffer: &mut BytesMut, separator: u8, line: &HeaderValue) -> Result<(), AllocError>
     ensures items { OnOk result (buffer.new.items ≡ buffer.old.items ++ separator ∷ 32 ∷ line.now.bytes) }
     ensures valid { OnOk result (IsFieldValue line.now.bytes) }
 {
+    let line = line.as_bytes();
+    buffer.reserve(line.len().saturating_add(2))?;
     buffer.extend_from_slice(&[separator, b' '])?;
-    buffer.extend_from_slice(line.as_bytes())
+    buffer.extend_from_slice(line)
 }
 
-// Two lines and all that follow, joined. Out of line, since most fields have one line, which is read
-// in 1.2 times the time if this code stands beside it.
+// Two field lines and all that follow, joined in one buffer. It begins with room for the two, which
+// are all that is known to come. Out of line, since most fields have one line, whose decoding takes
+// 1.2 times as long with this code inlined.
 #[inline(never)]
 fn joined<S: Separator, I: Iterator>(
     alloc: Global,
@@ -65,12 +68,18 @@ where
     ensures { OfLines I.Item.shown I.next_gives others.old others.new
         (λ ls. IfOk result (λ v. IsMerged S.BYTE (first.now.bytes ∷ second.now.bytes ∷ ls) v.bytes)) }
 {
-    let mut buffer = Vec::from_slice(alloc, first.as_bytes())?;
+    let first = first.as_bytes();
+    let room = first
+        .len()
+        .saturating_add(second.as_bytes().len())
+        .saturating_add(2);
+    let mut buffer = BytesMut::with_capacity(alloc, room)?;
+    buffer.extend_from_slice(first)?;
     append(&mut buffer, S::separator_byte(), second)?;
     while let Some(line) = others.next() {
         append(&mut buffer, S::separator_byte(), line.as_header_value())?;
     }
-    Ok(HeaderValue::from_known_valid(Bytes::from_vec(buffer)?))
+    Ok(HeaderValue::from_known_valid(buffer.freeze()?))
 }
 
 // A part of a value.

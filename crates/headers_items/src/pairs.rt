@@ -9,9 +9,9 @@ ghost use Rattle.headers_items.specs.Pairs.{YieldsPairsInOrder};
 
 use crate::flat_csv::FlatCsv;
 use crate::items::Items;
-use crate::scan::search_byte;
 use crate::separator::SemiColon;
 use headers_syntax::trimmed;
+use memchr::memchr;
 use std::marker::Model;
 
 /// The pairs of a list by semicolon: for each item with an `=`, the trimmed halves on both sides of
@@ -35,7 +35,7 @@ fn halves(item: &str) -> Option<(&str, &str)>
     ensures { option_map pair_shown result ≡ pair_of item.now }
 {
     let bytes = item.as_bytes();
-    let equals = search_byte(b'=', bytes)?;
+    let equals = memchr(b'=', bytes)?;
     let (start, end) = trimmed(bytes, 0, equals);
     let (from, to) = trimmed(bytes, equals + 1, bytes.len());
     Some((&item[start..end], &item[from..to]))

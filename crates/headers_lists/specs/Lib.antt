@@ -1,6 +1,6 @@
 pub use Rattle.headers_caching.specs.CacheControl
 pub use Rattle.headers_caching.specs.CacheControlGrammar
-pub use Rattle.headers_conditional.specs.EntityTagRange
+pub use Rattle.headers_core.specs.EntityTagRange
 pub use Rattle.headers_conditional.specs.IfMatch
 pub use Rattle.headers_conditional.specs.IfNoneMatch
 pub use Rattle.headers_connection.specs.Chunked

@@ -1,6 +1,6 @@
 //! Calls of the parts of lines: entity tags and texts.
 use headers::{Error, HeaderValue, Refused};
-use headers_conditional::EntityTagRange;
+use headers_core::EntityTagRange;
 use headers_rows::{Answer, Arguments, Failure};
 use headers_syntax::{EntityTag, EntityTagRef, HeaderValueString, trim};
 use std::cmp::Ordering;

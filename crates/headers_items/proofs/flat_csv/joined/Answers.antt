@@ -1,4 +1,4 @@
-use Rattle.std.proofs.Common.{◌≡◌, ◌∷◌, ◌++◌, [], List, ℕ, refl, ◌∙◌, ap}
+use Rattle.std.proofs.Common.{◌≡◌, ◌∷◌, ◌++◌, refl, ◌∙◌, ap}
 use Rattle.std.proofs.lemmas.Result.{IfOk-from_err}
 use Rattle.http_header.specs.FieldValue.{FieldValue}
 use Rattle.headers_items.specs.Merge.{merge}
@@ -14,14 +14,16 @@ loop-line-init g c =
     let x = c.args.first.now.bytes in
     let y = c.args.second.now.bytes in
     let buffer = c.append.new.buffer.items in
+    let empty = ap (λ b. b ++ c.as_bytes-first.result.now) c.in_ok-buffer.ensures.items in
+    let once = c.in_ok-extend_from_slice.ensures.ok ∙ empty ∙ c.as_bytes-first.ensures.value in
     let start : buffer ≡ x ++ sep ∷ 32 ∷ y =
-    appended buffer c.in_ok-buffer.buffer.items y y c.separator_byte.result sep c.in_ok-append.ensures.items
+    appended buffer c.extend_from_slice.new.self.items y y c.separator_byte.result sep c.in_ok-append.ensures.items
     c.separator_byte.ensures refl
-    ∙ ap (λ r. r ++ sep ∷ 32 ∷ y) (c.in_ok-buffer.ensures.items ∙ c.as_bytes.ensures.value) in
+    ∙ ap (λ r. r ++ sep ∷ 32 ∷ y) once in
     record {
       can = c.requires.can;
       finite = c.requires.ends;
-      valid = IsFieldValue-more sep x y buffer g.S.Separator.lawful c.as_bytes.ensures.valid
+      valid = IsFieldValue-more sep x y buffer g.S.Separator.lawful c.as_bytes-first.ensures.valid
           c.in_ok-append.ensures.valid start;
       so_far = OfLinesSoFar-start g.I.Item.AsHeaderValue.shown g.I.Iterator.next_gives _
           (λ lines. buffer ≡ merge sep (x ∷ y ∷ lines)) start;
@@ -61,12 +63,18 @@ returns g c =
     c.loop-line.invariant.so_far c.in_default.ensures.steps
     (λ lines h.
     IsMerged-from sep (x ∷ y ∷ lines) _ g.S.Separator.lawful
-    (ap (λ (v : FieldValue). v.bytes) c.from_known_valid.ensures ∙ c.in_ok-from_vec.ensures.ok ∙ h))
+    (ap (λ (v : FieldValue). v.bytes) c.from_known_valid.ensures ∙ c.in_ok-freeze.ensures.ok ∙ h))
 
 pub returns-in_err-buffer : goal.returns-in_err-buffer
 returns-in_err-buffer g c =
     OfLines-stop g.I.Item.AsHeaderValue.shown g.I.Iterator.next_gives _ _
     (λ _. IfOk-from_err c.from_residual.result _ c.from_residual.ensures.0)
+
+pub returns-in_err-extend_from_slice : goal.returns-in_err-extend_from_slice
+returns-in_err-extend_from_slice g c =
+    OfLines-stop g.I.Item.AsHeaderValue.shown g.I.Iterator.next_gives _ _
+    (λ _. IfOk-from_err c.from_residual-in_err-extend_from_slice.result _
+    c.from_residual-in_err-extend_from_slice.ensures.0)
 
 pub returns-in_err-append : goal.returns-in_err-append
 returns-in_err-append g c =
@@ -81,10 +89,10 @@ returns-in_err-append-2 g c =
     c.loop-line.invariant.so_far c.in-Some.ensures.steps
     (λ _ _ _. IfOk-from_err c.from_residual-in_err-append-2.result _ c.from_residual-in_err-append-2.ensures.0)
 
-pub returns-in_err-from_vec : goal.returns-in_err-from_vec
-returns-in_err-from_vec g c =
+pub returns-in_err-freeze : goal.returns-in_err-freeze
+returns-in_err-freeze g c =
     OfLines-ended g.I.Item.AsHeaderValue.shown g.I.Iterator.next_gives _ _ _
     (λ lines. c.loop-line.buffer.items ≡ merge g.S.Separator.BYTE
     (c.args.first.now.bytes ∷ c.args.second.now.bytes ∷ lines)) _
     c.loop-line.invariant.so_far c.in_default.ensures.steps
-    (λ _ _. IfOk-from_err c.from_residual-in_err-from_vec.result _ c.from_residual-in_err-from_vec.ensures.0)
+    (λ _ _. IfOk-from_err c.from_residual-in_err-freeze.result _ c.from_residual-in_err-freeze.ensures.0)

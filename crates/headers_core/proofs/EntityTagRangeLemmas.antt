@@ -4,9 +4,9 @@ use Rattle.std.specs.Prelude.{Any}
 use Rattle.headers_syntax.specs.Text.{is_text}
 use Rattle.headers_items.specs.Places.{items}
 use Rattle.headers_syntax.specs.EntityTag.{TagParts, IsTag, AreTags}
-use Rattle.headers_conditional.specs.EntityTagRange.{HasItem}
+use Rattle.headers_core.specs.EntityTagRange.{HasItem}
 use Rattle.headers_syntax.proofs.EntityTagLemmas.{parts_unique}
-use Rattle.headers_conditional.proofs.TagItemLemmas.{items_tag}
+use Rattle.headers_core.proofs.TagItemLemmas.{items_tag}
 use Rattle.headers_items.proofs.PlacesLemmas.{items-no_text}
 
 -- what holds of some element of a list of one, holds of it

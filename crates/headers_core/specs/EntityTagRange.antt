@@ -4,8 +4,8 @@ use Rattle.headers_syntax.specs.EntityTag.{TagParts, AreTags}
 use Rattle.headers_items.specs.Places.{comma, items}
 use Rattle.headers_items.specs.Merge.{merge}
 use Rattle.headers_syntax.specs.HeaderLaws.{Grammar}
-use Rattle.headers_conditional.specs.declared.entity_tag_range.EntityTagRange.{EntityTagRange}
-use Rattle.headers_conditional.specs.declared.entity_tag_range.EntityTagRange.TheVariants as range
+use Rattle.headers_core.specs.declared.entity_tag_range.EntityTagRange.{EntityTagRange}
+use Rattle.headers_core.specs.declared.entity_tag_range.EntityTagRange.TheVariants as range
 
 -- the byte that stands for any tag
 abbrev pub star : List ℕ

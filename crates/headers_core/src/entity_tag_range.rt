@@ -6,11 +6,13 @@ ghost use Rattle.headers_syntax.specs.EntityTag.{AreTags, StronglyEqual, WeaklyE
 ghost use Rattle.headers_items.specs.Merge.{merge};
 ghost use Rattle.headers_items.specs.Places.{comma};
 ghost use Rattle.headers_syntax.specs.HeaderLaws.{ReadsBy, written_by};
-ghost use Rattle.headers_conditional.specs.EntityTagRange.{Matches, range_of, range_text, star, tags_grammar};
-ghost use Rattle.headers_conditional.specs.declared.entity_tag_range.EntityTagRange.{EntityTagRange as Range};
-ghost use Rattle.headers_conditional.specs.declared.entity_tag_range.EntityTagRange.TheVariants.{Tags};
+ghost use Rattle.headers_core.specs.EntityTagRange.{Matches, range_of, range_text, star, tags_grammar};
+ghost use Rattle.headers_core.specs.declared.entity_tag_range.EntityTagRange.{EntityTagRange as Range};
+ghost use Rattle.headers_core.specs.declared.entity_tag_range.EntityTagRange.TheVariants.{Tags};
 
-use headers_core::{AsHeaderValue, Comma, EntityTag, Error, FieldForm, FlatCsv, Refused};
+use crate::field_form::FieldForm;
+use headers_items::{Comma, FlatCsv};
+use headers_syntax::{AsHeaderValue, EntityTag, Error, Refused};
 use http_header::HeaderValue;
 use std::alloc::{AllocError, Global};
 
@@ -102,7 +104,7 @@ impl EntityTagRange {
 
 impl FieldForm for EntityTagRange {
     ghost use Rattle.std.specs.Prelude.{false};
-    ghost use Rattle.headers_conditional.specs.EntityTagRangeLaws.{range_back};
+    ghost use Rattle.headers_core.specs.EntityTagRangeLaws.{range_back};
 
     ghost free = { false };
 

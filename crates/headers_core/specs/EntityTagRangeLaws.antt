@@ -6,9 +6,9 @@ use Rattle.std.proofs.lemmas.Slice.Eq.{bytes_eq-Decides}
 use Rattle.headers_items.specs.Merge.{merge}
 use Rattle.headers_items.specs.Places.{comma}
 use Rattle.headers_syntax.specs.HeaderLaws.{ReadsBack, ReadsBy, written_by}
-use Rattle.headers_conditional.specs.declared.entity_tag_range.EntityTagRange.{EntityTagRange}
-use Rattle.headers_conditional.specs.declared.entity_tag_range.EntityTagRange.TheVariants.{Any, Tags}
-use Rattle.headers_conditional.specs.EntityTagRange.{star, range_of, range_text, tags_grammar}
+use Rattle.headers_core.specs.declared.entity_tag_range.EntityTagRange.{EntityTagRange}
+use Rattle.headers_core.specs.declared.entity_tag_range.EntityTagRange.TheVariants.{Any, Tags}
+use Rattle.headers_core.specs.EntityTagRange.{star, range_of, range_text, tags_grammar}
 
 range_of-text : (value : List ℕ) → range_of (range_text (range_of value)) ≡ range_of value
 range_of-text value = elim (cases_Bool (bytes_eq value star)) [ inl t ↦ rw t refl | inr f ↦ rw (f, f) refl ]
