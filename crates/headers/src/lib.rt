@@ -31,7 +31,7 @@ pub use headers_cors::{
 };
 pub use headers_hosts::{Host, InvalidOrigin, Origin};
 pub use headers_map::{
-    ApplyError, Encoded, HeaderMapExt, InsertError, Step, apply, canonical, encoding,
+    ApplyError, Encoded, HeaderMapExt, InsertError, Step, apply, canonical, encoding, set_all,
 };
 pub use headers_mime::Mime;
 pub use headers_names::{Methods, Names, SkipNames};

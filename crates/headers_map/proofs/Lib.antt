@@ -1,4 +1,5 @@
 pub mod InsertLemmas
 pub mod LastReadLemmas
+pub mod SetLemmas
 pub mod StepLemmas
 pub mod TypedLemmas

@@ -25,7 +25,7 @@ use Rattle.headers_map.specs.declared.steps.Step.{Step}
 use Rattle.headers_map.specs.declared.steps.Step.TheVariants.{Put, Remove}
 
 -- a step changes the lines at a name only if it touches it
-after_step-touches : (m : LineMap) (step : Step) (name : List ℕ)
+pub after_step-touches : (m : LineMap) (step : Step) (name : List ℕ)
     → after_step m step name ≡ (if touches name step then lines_left step else m name)
 after_step-touches m (Put e) name = by e.lines.items
   where

@@ -1,10 +1,11 @@
 -- A map gives each name a list of lines, and steps change it.
 use Rattle.std.specs.Prelude.{◌≢◌, ℕ, Bool, ◌&&◌, List, [], ◌∷◌, length, reverse, Option, if◌then◌else◌, bytes_eq}
-use Rattle.std.specs.Prelude.{nat_lt, find}
+use Rattle.std.specs.Prelude.{nat_lt, find, map}
 use Rattle.std.specs.Option.{option_map_or}
 use Rattle.http_header.specs.FieldValue.{FieldValue}
 use Rattle.http_header.specs.HeaderMap.{Entries, get_all}
 use Rattle.headers_syntax.specs.Lines.{Line, lines_of}
+use Rattle.headers_map.specs.declared.encoded.Encoded.{Encoded}
 use Rattle.headers_map.specs.declared.steps.Step.{Step}
 use Rattle.headers_map.specs.declared.steps.Step.TheVariants.{Put, Remove}
 
@@ -61,3 +62,34 @@ lines_left (Remove name) = []
 -- what the last step that touches the name left there, or what the map has there if none does
 abbrev pub last : LineMap → List Step → LineMap
 last m steps name = option_map_or lines_left (last_step steps name) (m name)
+
+-- a field: its name and its field lines; none means that the field is absent
+abbrev pub Field : Type 0
+Field = List ℕ × List Line
+
+abbrev pub field_of : Encoded → Field
+field_of e = (e.name, lines_of e.lines.items)
+
+abbrev pub fields_of : List Encoded → List Field
+fields_of fields = map field_of fields
+
+-- the map where the field's lines replace those under its name
+abbrev pub set : LineMap → Field → LineMap
+set m field other = if bytes_eq field.0 other then field.1 else m other
+
+-- the map after each field in order
+abbrev pub set_all : LineMap → List Field → LineMap
+set_all m [] = m
+set_all m (field ∷ fields) = set_all (set m field) fields
+
+-- the field is one of another name
+abbrev pub IsFieldOfOther : List ℕ → Encoded → Type 0
+IsFieldOfOther name e = e.name ≢ name
+
+-- the step that sets a field: it removes the name if there is no line
+abbrev pub setting : Encoded → Step
+setting e = if nat_lt 0 (length e.lines.items) then Put e else Remove e.name
+
+-- the steps that set these fields
+abbrev pub settings : List Encoded → List Step
+settings fields = map setting fields

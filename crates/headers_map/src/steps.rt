@@ -64,7 +64,7 @@ pub fn apply(map: &mut HeaderMap, steps: Vec<Step>) -> Result<(), ApplyError>
     Ok(())
 }
 
-fn apply_step(map: &mut HeaderMap, step: Step) -> Result<(), InsertError>
+pub(crate) fn apply_step(map: &mut HeaderMap, step: Step) -> Result<(), InsertError>
     ensures ok { OnOk result ((name : List ℕ)
         → lines_at map.new name ≡ after_step (lines_at map.old) step name) }
     ensures err { IfErr result (IsRefusedStep map.old map.new step) }
