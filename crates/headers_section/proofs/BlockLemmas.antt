@@ -1,15 +1,13 @@
 -- A text that is printed block by block.
-use Rattle.std.proofs.Common.{◌≡◌, ℕ, ◌||◌, Bool, false, List, [], ◌∷◌, ◌++◌, flat_map, Option, Some}
-use Rattle.std.proofs.Common.{None, is_none, option_map, refl, sym, ◌∙◌, ap, subst, append_assoc}
+use Rattle.std.proofs.Common.{◌≡◌, ℕ, ◌+◌, ◌<◌, ◌≤◌, ◌||◌, Bool, false, List, [], ◌∷◌, ◌++◌, length, take}
+use Rattle.std.proofs.Common.{get_or, flat_map, Option, Some, None, is_none, option_map, refl, sym, ◌∙◌, ap, subst}
 use Rattle.std.specs.List.{list_any}
 use Rattle.std.proofs.Math.Bool.{or-false}
-use Rattle.std.proofs.lemmas.List.{append-nil, map-append}
+use Rattle.std.proofs.lemmas.List.{append-nil, map-append, take_more, take_all}
 use Rattle.std.proofs.lemmas.List.Concat.{flat_map-append}
 use Rattle.std.proofs.lemmas.List.Folds.{list_any-append}
 use Rattle.std.proofs.lemmas.List.Elements.{All-nil, All-push, All-weaker}
-use Rattle.http_header.specs.FieldValue.{FieldValue}
-use Rattle.http_header.specs.HeaderMap.{Entries, keys, get_all}
-use Rattle.headers.specs.Lines.{Line, lines_of}
+use Rattle.headers.specs.Lines.{Line}
 use Rattle.headers_section.specs.CanonicalText.{Block, IsBlock, block_text, HasBlocks}
 
 HasBlocks-none : (lines : List ℕ → List Line) → HasBlocks lines [] [] false
@@ -53,41 +51,26 @@ HasBlocks-same lines others order text some_refused same has =
       refused_is = has.refused_is;
     }
 
--- of the names of a map, those before the ones that are left are printed
-pub record IsPrinted (map : Entries FieldValue) (left : List (List ℕ)) (text : List ℕ) (some_refused : Bool)
-    : Type 0 where
-  pub printed : List (List ℕ)
-  pub whole : printed ++ left ≡ keys map
-  pub has : HasBlocks (λ name. lines_of (get_all map name)) printed text some_refused
-
-pub IsPrinted-none : (map : Entries FieldValue) (text : List ℕ) → text ≡ [] → IsPrinted map (keys map) text false
-IsPrinted-none map text empty = record { printed = []; whole = refl; has = rw empty (HasBlocks-none _) }
-
 -- the block of the next name was printed
-pub IsPrinted-more : (map : Entries FieldValue) (left : List (List ℕ)) (text : List ℕ) (before : Bool)
-    → IsPrinted map left text before → (name : List ℕ) (rest : List (List ℕ)) → left ≡ name ∷ rest
-    → (block : Block) → IsBlock name (lines_of (get_all map name)) block
-    → (more : List ℕ) → more ≡ text ++ block_text name block
-    → (after : Bool) → after ≡ (before || is_none block) → IsPrinted map rest more after
-IsPrinted-more map left text before so_far name rest next block is more printed after marked =
-    record {
-      printed = so_far.printed ++ name ∷ [];
-      whole =
-          append_assoc so_far.printed (name ∷ []) rest
-          ∙ ap (λ (names : List (List ℕ)). so_far.printed ++ names) (sym next)
-          ∙ so_far.whole;
-      has = rw (printed, marked) (HasBlocks-push _ so_far.printed text before name block so_far.has is);
-    }
+pub HasBlocks-more : (lines : List ℕ → List Line) (order : List (List ℕ)) (place : ℕ) (name text more : List ℕ)
+    (before after : Bool) (block : Block) → place < length order → name ≡ get_or order place name
+    → HasBlocks lines (take place order) text before → IsBlock name (lines name) block
+    → more ≡ text ++ block_text name block → after ≡ (before || is_none block)
+    → HasBlocks lines (take (place + 1) order) more after
+HasBlocks-more lines order place name text more before after block within at has is printed marked =
+    let names : take (place + 1) order ≡ take place order ++ name ∷ [] =
+    take_more order place name within ∙ ap (λ (last : List ℕ). take place order ++ last ∷ []) (sym at) in
+    rw (names, printed, marked) (HasBlocks-push lines (take place order) text before name block has is)
 
-pub HasBlocks-from_printed : (map : Entries FieldValue) (left : List (List ℕ)) (text : List ℕ) (some_refused : Bool)
-    → IsPrinted map left text some_refused → left ≡ []
-    → HasBlocks (λ name. lines_of (get_all map name)) (keys map) text some_refused
-HasBlocks-from_printed map left text some_refused so_far none =
-    subst (λ (names : List (List ℕ)). HasBlocks (λ name. lines_of (get_all map name)) names text some_refused)
-    (sym (append-nil so_far.printed)
-    ∙ ap (λ (names : List (List ℕ)). so_far.printed ++ names) (sym none)
-    ∙ so_far.whole)
-    so_far.has
+pub HasBlocks-start : (lines : List ℕ → List Line) (order : List (List ℕ)) (text : List ℕ) → text ≡ []
+    → HasBlocks lines (take 0 order) text false
+HasBlocks-start lines order text empty = rw empty (HasBlocks-none lines)
+
+pub HasBlocks-all : (lines : List ℕ → List Line) (order : List (List ℕ)) (place : ℕ) (text : List ℕ)
+    (some_refused : Bool) → length order ≤ place → HasBlocks lines (take place order) text some_refused
+    → HasBlocks lines order text some_refused
+HasBlocks-all lines order place text some_refused all has =
+    subst (λ (names : List (List ℕ)). HasBlocks lines names text some_refused) (take_all place order all) has
 
 pub is_none-map : {A : Type 0} (f : A → List Line) (o : Option A) → is_none (option_map f o) ≡ is_none o
 is_none-map f None = refl

@@ -7,4 +7,3 @@ pub mod RoomLemmas
 pub mod RunLemmas
 pub mod SectionLemmas
 pub mod TextLemmas
-pub mod ValueLemmas

@@ -1,13 +1,14 @@
--- Fields that are read from the front of a section, and put into a map.
+-- Fields that are read from the front of a section, put into a map, and listed by name.
 use Rattle.std.proofs.Common.{◌≡◌, ℕ, List, [], ◌∷◌, ◌++◌, refl, sym, ◌∙◌, ap, subst, append_assoc, arith}
 use Rattle.std.proofs.lemmas.List.{append-nil}
 use Rattle.std.proofs.lemmas.List.Elements.{Contains-append_right}
 use Rattle.http_header.specs.FieldValue.{FieldValue}
-use Rattle.http_header.specs.HeaderMap.{Entries, append, append_all, RefusesAppend}
+use Rattle.http_header.specs.HeaderMap.{Entries, append, append_all, ContainsKey, RefusesAppend}
 use Rattle.headers.specs.Lines.{Line}
 use Rattle.headers_section.specs.Section.{Field, section, IsField, AreFields, IsNoField, HasOnlyFields, HasNoField}
 use Rattle.headers_section.specs.Section.{Holds, FillsMap, HasTooManyFields}
-use Rattle.headers_section.proofs.NameLemmas.{append_all-push, FillsMap-from_refusal}
+use Rattle.headers_section.specs.CanonicalText.{names, first_appearances, ListsNames}
+use Rattle.headers_section.proofs.NameLemmas.{append_all-push, in_order_more, FillsMap-from_refusal}
 use Rattle.headers_section.proofs.RoomLemmas.{AreFields-once, fits_none, fits_more}
 
 -- the fields are those of the input's lines before the rest
@@ -53,39 +54,44 @@ module _ (input rest : List ℕ) (fields : List Field) (read : IsRead input rest
               (none.0, Contains-append_right (line ∷ []) (section behind) none.0 none.1, none.2));
         }
 
--- the map has the fields of the input's lines before the rest
-pub record IsInMap (input rest : List ℕ) (map : Entries FieldValue) : Type 0 where
+-- the map has the fields of the input's lines before the rest, and the list their names
+pub record IsCollected (input rest : List ℕ) (map : Entries FieldValue) (list : List (List ℕ)) : Type 0 where
   pub fields : List Field
   pub read : IsRead input rest fields
   pub held : map ≡ append_all [] fields
+  pub in_order : list ≡ first_appearances (names fields)
   pub fits : ¬ (FillsMap fields)
 
-pub IsInMap-none : (input : List ℕ) (map : Entries FieldValue) → map ≡ [] → IsInMap input input map
-IsInMap-none input map none = record { fields = []; read = IsRead-none input; held = none; fits = fits_none }
+pub IsCollected-none : (input : List ℕ) (map : Entries FieldValue) (list : List (List ℕ)) → map ≡ [] → list ≡ []
+    → IsCollected input input map list
+IsCollected-none input map list no_entry no_name =
+    record { fields = []; read = IsRead-none input; held = no_entry; in_order = no_name; fits = fits_none }
 
--- all fields are in the map
-module _ (input rest : List ℕ) (map : Entries FieldValue) (so_far : IsInMap input rest map) (ended : section rest ≡ [])
-  where
-    pub Holds-from_map : Holds input map
-    Holds-from_map =
-        record {
-          fields = so_far.fields;
-          are_fields = AreFields-from_read input rest so_far.fields so_far.read ended;
-          held = so_far.held;
-        }
+-- all fields are collected
+module _ (input rest : List ℕ) (map : Entries FieldValue) (list : List (List ℕ))
+    (so_far : IsCollected input rest map list) (ended : section rest ≡ []) where
+  are_fields : AreFields (section input) so_far.fields
+  are_fields = AreFields-from_read input rest so_far.fields so_far.read ended
 
-    pub fits-from_map : ¬ (HasTooManyFields input)
-    fits-from_map many =
-        so_far.fits (subst FillsMap (AreFields-once (section input) many.0 so_far.fields many.1
-        (AreFields-from_read input rest so_far.fields so_far.read ended)) many.2)
+  pub Holds-from_collected : Holds input map
+  Holds-from_collected = record { fields = so_far.fields; are_fields = are_fields; held = so_far.held }
+
+  pub ListsNames-from_collected : ListsNames input list
+  ListsNames-from_collected = record { fields = so_far.fields; are_fields = are_fields; in_order = so_far.in_order }
+
+  pub fits-from_collected : ¬ (HasTooManyFields input)
+  fits-from_collected many =
+      so_far.fits (subst FillsMap (AreFields-once (section input) many.0 so_far.fields many.1 are_fields) many.2)
 
 -- a field is next
-module _ (input rest : List ℕ) (map : Entries FieldValue) (so_far : IsInMap input rest map) (line : Line)
-    (behind : List ℕ) (next : section rest ≡ line ∷ section behind) (field : Field) (is : IsField line field) where
-  -- the map takes it
-  pub IsInMap-more : (after : Entries FieldValue) → after ≡ append map field.0 field.1 → ¬ (RefusesAppend map field.0)
-      → IsInMap input behind after
-  IsInMap-more after appended room =
+module _ (input rest : List ℕ) (map : Entries FieldValue) (list : List (List ℕ))
+    (so_far : IsCollected input rest map list) (line : Line) (behind : List ℕ)
+    (next : section rest ≡ line ∷ section behind) (field : Field) (is : IsField line field) where
+  -- the map takes it, and the list its name if that is new
+  pub IsCollected-more : (after : Entries FieldValue) (listed : List (List ℕ)) → after ≡ append map field.0 field.1
+      → (ContainsKey map field.0 → listed ≡ list) → (¬ (ContainsKey map field.0) → listed ≡ list ++ field.0 ∷ [])
+      → ¬ (RefusesAppend map field.0) → IsCollected input behind after listed
+  IsCollected-more after listed appended again new room =
       record {
         fields = so_far.fields ++ field ∷ [];
         read = IsRead-more input rest so_far.fields so_far.read line behind next field is;
@@ -93,12 +99,14 @@ module _ (input rest : List ℕ) (map : Entries FieldValue) (so_far : IsInMap in
             appended
             ∙ ap (λ (m : Entries FieldValue). append m field.0 field.1) so_far.held
             ∙ sym (append_all-push [] so_far.fields field);
+        in_order = in_order_more so_far.fields field map list listed so_far.held so_far.in_order again new;
         fits = fits_more so_far.fields field map so_far.held room so_far.fits;
       }
 
   -- the map refuses it
-  pub HasTooManyFields-from_map : RefusesAppend map field.0 → HasOnlyFields (section behind) → HasTooManyFields input
-  HasTooManyFields-from_map full later = (
+  pub HasTooManyFields-from_collected : RefusesAppend map field.0 → HasOnlyFields (section behind)
+      → HasTooManyFields input
+  HasTooManyFields-from_collected full later = (
     so_far.fields ++ field ∷ later.0,
     AreFields-more input rest so_far.fields so_far.read line behind next field is later.0 later.1,
     FillsMap-from_refusal so_far.fields field later.0 map so_far.held full,

@@ -19,6 +19,12 @@ abbrev pub first_appearances : List (List ℕ) → List (List ℕ)
 first_appearances [] = []
 first_appearances (name ∷ rest) = name ∷ filter (λ other. not (bytes_eq other name)) (first_appearances rest)
 
+-- the list has the names of the input's fields, in the order of their first appearance
+pub record ListsNames (input : List ℕ) (list : List (List ℕ)) : Type 0 where
+  pub fields : List Field
+  pub are_fields : AreFields (section input) fields
+  pub in_order : list ≡ first_appearances (names fields)
+
 -- the lines that stand for those of a name, or `None` if the name's header refuses them
 abbrev pub Block : Type 0
 Block = Option (List Line)

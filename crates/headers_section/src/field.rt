@@ -1,8 +1,10 @@
 //! The fields of an input.
-ghost use Rattle.std.specs.Prelude.{◌≡◌, ◌<◌, ◌∷◌, [], length, Err, IfOk, IfSome, IfNone, MatchBool};
+ghost use Rattle.std.specs.Prelude.{◌≡◌, ◌<◌, ◌∷◌, ◌++◌, [], length, Err, OnOk, IfOk, IfSome, IfNone, MatchBool};
+ghost use Rattle.http_header.specs.HeaderMap.{append, ContainsKey, RefusesAppend};
 ghost use Rattle.headers.specs.Text.{trim};
 ghost use Rattle.headers_section.specs.Section.{without_return, input_lines, section, IsField, IsNoField};
 ghost use Rattle.headers_section.specs.Section.{HasOnlyFields, HasNoField, HasTooManyFields, Holds};
+ghost use Rattle.headers_section.specs.CanonicalText.{ListsNames};
 
 use bytes::Bytes;
 use headers::{HeaderMap, HeaderName, HeaderValue, trimmed};
@@ -113,6 +115,74 @@ fn empty_map(alloc: Global, keys: Option<RandomState>) -> HeaderMap
     }
 }
 
+/// The fields of a header section in one map, and their names in the order of their first
+/// appearance.
+#[derive(Drop)]
+pub struct Fields {
+    pub map: HeaderMap,
+    pub names: Vec<HeaderName>,
+}
+
+impl Fields {
+    // Appends a field to the map, and its name to the list if the map did not have it yet.
+    fn append(&mut self, name: HeaderName, value: HeaderValue) -> Result<(), HeaderMapError>
+        ensures held { OnOk result (self.new.map ≡ append self.old.map name value) }
+        ensures again { ContainsKey self.old.map name → OnOk result (self.new.names.items ≡ self.old.names.items) }
+        ensures new { ¬ (ContainsKey self.old.map name)
+            → OnOk result (self.new.names.items ≡ self.old.names.items ++ name ∷ []) }
+        ensures room { OnOk result (¬ (RefusesAppend self.old.map name)) }
+        ensures full { result ≡ Err HeaderMapError.MaxSizeReached → RefusesAppend self.old.map name }
+    {
+        let found = self.map.append(&name, value)?;
+        if found {
+            return Ok(());
+        }
+        match self.names.push(name) {
+            Ok(()) => Ok(()),
+            Err(_) => Err(HeaderMapError::OutOfMemory),
+        }
+    }
+}
+
+/// The fields before the first empty line (RFC 9112, sections 2.1 and 5). Their map hashes with the
+/// keys where names collide. `None` if a line before the empty one is no field,
+/// `MaxSizeReached` if all are fields and a map has no room for them. The fields share the bytes of
+/// the input.
+pub fn read_fields(
+    alloc: Global,
+    keys: Option<RandomState>,
+    input: Bytes,
+) -> Result<Option<Fields>, HeaderMapError>
+    ensures held { IfOk result (λ found. IfSome found (λ fields. Holds input fields.map)) }
+    ensures order { IfOk result (λ found. IfSome found (λ fields. ListsNames input fields.names.items)) }
+    ensures fits { IfOk result (λ found. IfSome found (λ _. ¬ (HasTooManyFields input))) }
+    ensures none { IfOk result (λ found. IfNone found (HasNoField (section input))) }
+    ensures full { result ≡ Err HeaderMapError.MaxSizeReached → HasTooManyFields input }
+{
+    let mut fields = Fields {
+        map: empty_map(alloc, keys),
+        names: Vec::new(alloc),
+    };
+    let mut rest = input;
+    while let Some((line, after)) = first_line(rest)? {
+        let Some((name, value)) = read_field(alloc, line)? else {
+            return Ok(None);
+        };
+        match fields.append(name, value) {
+            Ok(()) => rest = after,
+            Err(HeaderMapError::OutOfMemory) => return Err(HeaderMapError::OutOfMemory),
+            Err(HeaderMapError::MaxSizeReached) => {
+                // A line that is no field comes before a full map, wherever it stands.
+                if has_only_fields(alloc, after)? {
+                    return Err(HeaderMapError::MaxSizeReached);
+                }
+                return Ok(None);
+            }
+        }
+    }
+    Ok(Some(fields))
+}
+
 /// The fields before the first empty line (RFC 9112, sections 2.1 and 5) in one map, which hashes
 /// with the keys where names collide. `None` if a line before the empty one is no field,
 /// `MaxSizeReached` if all are fields and a map has no room for them. The map shares the bytes of
@@ -127,23 +197,8 @@ pub fn read_map(
     ensures none { IfOk result (λ found. IfNone found (HasNoField (section input))) }
     ensures full { result ≡ Err HeaderMapError.MaxSizeReached → HasTooManyFields input }
 {
-    let mut map = empty_map(alloc, keys);
-    let mut rest = input;
-    while let Some((line, after)) = first_line(rest)? {
-        let Some((name, value)) = read_field(alloc, line)? else {
-            return Ok(None);
-        };
-        match map.append(name, value) {
-            Ok(_) => rest = after,
-            Err(HeaderMapError::OutOfMemory) => return Err(HeaderMapError::OutOfMemory),
-            Err(HeaderMapError::MaxSizeReached) => {
-                // A line that is no field comes before a full map, wherever it stands.
-                if has_only_fields(alloc, after)? {
-                    return Err(HeaderMapError::MaxSizeReached);
-                }
-                return Ok(None);
-            }
-        }
+    match read_fields(alloc, keys, input)? {
+        Some(fields) => Ok(Some(fields.map)),
+        None => Ok(None),
     }
-    Ok(Some(map))
 }

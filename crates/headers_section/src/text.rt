@@ -1,12 +1,12 @@
 //! The canonical text of a header section.
-ghost use Rattle.std.specs.Prelude.{◌≡◌, ◌≢◌, ◌++◌, option_map, IfOk, IfSome, IfNone, OnOk, flat_map};
-ghost use Rattle.http_header.specs.HeaderMap.{keys, get_all};
+ghost use Rattle.std.specs.Prelude.{◌≡◌, ◌≢◌, ◌<◌, ◌++◌, length, option_map, IfOk, IfSome, IfNone, OnOk, All, flat_map};
+ghost use Rattle.http_header.specs.HeaderMap.{get_all};
 ghost use Rattle.headers.specs.Lines.{lines_of};
 ghost use Rattle.headers_section.specs.Section.{section, HasNoField, HasTooManyFields};
 ghost use Rattle.headers_section.specs.CanonicalText.{block_text, line_text, HasBlocks, IsCanonicalText};
 
 use crate::block::read_block;
-use crate::field::read_map;
+use crate::field::read_fields;
 use crate::status::RunError;
 use bytes::Bytes;
 use headers::{HeaderMap, HeaderName, HeaderValue};
@@ -74,15 +74,20 @@ fn print_block(
     }
 }
 
-// The block of each name, in the order of the map: that of their first appearance.
-fn print_blocks(alloc: Global, map: &HeaderMap) -> Result<CanonicalText, AllocError>
-    ensures { IfOk result (λ text. HasBlocks (λ name. lines_of (get_all map.now name)) (keys map.now)
+// The block of each name, in the order of the list. Each has a line in the map.
+fn print_blocks(
+    alloc: Global,
+    map: &HeaderMap,
+    names: &[HeaderName],
+) -> Result<CanonicalText, AllocError>
+    requires { All (λ name. 0 < length (get_all map.now name)) names.now }
+    ensures { IfOk result (λ text. HasBlocks (λ name. lines_of (get_all map.now name)) names.now
         text.bytes.items text.some_refused) }
 {
     let mut bytes = Vec::new(alloc);
     let mut some_refused = false;
-    for name in map.keys() {
-        let block = read_block(alloc, name, &map.get_all(name))?;
+    for name in names {
+        let block = read_block(alloc, map, name)?;
         if block.is_none() {
             some_refused = true;
         }
@@ -109,8 +114,11 @@ pub fn canonical_text(
         → HasTooManyFields input }
     ensures never_io { result ≢ Err RunError.Io }
 {
-    match read_map(alloc, keys, input)? {
-        Some(map) => Ok(Some(print_blocks(alloc, &map)?)),
+    match read_fields(alloc, keys, input)? {
+        Some(fields) => {
+            let text = print_blocks(alloc, &fields.map, fields.names.as_slice())?;
+            Ok(Some(text))
+        }
         None => Ok(None),
     }
 }

@@ -1,24 +1,20 @@
-use Rattle.std.proofs.Common.{◌≡◌, ◌∙◌, ◌||◌, not, List, ℕ, Vec, Global, option_map, is_none, ap, sym}
-use Rattle.std.proofs.Common.{false, subst}
+use Rattle.std.proofs.Common.{◌≡◌, ◌∙◌, ◌<◌, ◌||◌, not, List, ℕ, Vec, Global, option_map, is_none, length, ap, subst}
+use Rattle.std.proofs.Common.{sym}
 use Rattle.std.proofs.Math.Bool.{not-not, or-true, or-false}
 use Rattle.http_header.specs.FieldValue.{FieldValue}
+use Rattle.http_header.specs.HeaderMap.{get_all}
 use Rattle.headers.specs.Lines.{lines_of}
-use Rattle.headers_section.specs.CanonicalText.{Block, IsBlock}
-use Rattle.headers_section.proofs.BlockLemmas.{IsPrinted, IsPrinted-none, IsPrinted-more, HasBlocks-from_printed}
-use Rattle.headers_section.proofs.BlockLemmas.{is_none-map}
+use Rattle.headers_section.specs.CanonicalText.{Block}
+use Rattle.headers_section.proofs.BlockLemmas.{HasBlocks-start, HasBlocks-more, HasBlocks-all, is_none-map}
 use Rattle.headers_section.proofs.text.print_blocks.Goals as goal
-use Rattle.headers_section.proofs.text.print_blocks.Goals.{In_ok-print_block, then-is_none, else-is_none}
+use Rattle.headers_section.proofs.text.print_blocks.Goals.{then-is_none, else-is_none}
 
 pub loop-name-init : goal.loop-name-init
-loop-name-init c =
-    let order = c.into_iter-name-iterator.ensures.into_iter_gives ∙ c.keys-name-items.ensures.value in
-    subst (λ (left : List (List ℕ)). IsPrinted c.args.map.now left c.new-bytes.result.items false) (sym order)
-    (IsPrinted-none c.args.map.now _ c.new-bytes.ensures.items)
+loop-name-init c = HasBlocks-start _ c.args.names.now c.new-bytes.result.items c.new-bytes.ensures.items
 
--- the block of the name was printed
-printed : (c : In_ok-print_block)
-    → IsPrinted c.args.map.now c.next.new.self c.print_block.new.text.items c.if-is_none.some_refused
-printed c =
+pub loop-name-preserved : goal.loop-name-preserved
+loop-name-preserved c =
+    let name = c.name-item.result in
     let shown : Vec FieldValue Global → List (List ℕ) = λ values. lines_of values.items in
     let block : Block = option_map shown c.in_ok-block.block in
     let none : is_none block ≡ c.is_none.result =
@@ -29,17 +25,13 @@ printed c =
       | then-is_none way ↦ way.some_refused-is ∙ rw (none, way.if-is_none.true) (sym (or-true before))
       | else-is_none way ↦ way.some_refused-is ∙ rw (none, way.if-is_none.false) (sym (or-false before))
     ] in
-    let is = subst (λ (values : List FieldValue). IsBlock c.in-Some.name.now (lines_of values) block)
-    c.get_all.ensures.value c.in_ok-block.ensures in
-    IsPrinted-more _ _ _ before c.loop-name.invariant c.in-Some.name.now c.next.new.self c.in-Some.ensures.steps block
-    is _ c.in_ok-print_block.ensures _ marked
-
-pub loop-name-preserved : goal.loop-name-preserved
-loop-name-preserved c = printed (goal.at.loop-name-preserved c).In_ok-print_block
-
-pub loop-name-preserved-in_ok-print_block : goal.loop-name-preserved-in_ok-print_block
-loop-name-preserved-in_ok-print_block c =
-    printed (goal.at.loop-name-preserved-in_ok-print_block c).In_ok-print_block
+    let has : 0 < length (get_all c.args.map.now name) =
+    subst (λ (own : List ℕ). 0 < length (get_all c.args.map.now own)) (sym c.name-item.is)
+    (c.requires c.loop-name.name-index name c.loop-name-test.true) in
+    HasBlocks-more (λ own. lines_of (get_all c.args.map.now own)) c.args.names.now c.loop-name.name-index name
+    c.loop-name.bytes.items _ before c.if-is_none.some_refused block c.loop-name-test.true c.name-item.is
+    c.loop-name.invariant (c.in_ok-block.ensures has) c.in_ok-print_block.ensures marked
 
 pub returns : goal.returns
-returns c = HasBlocks-from_printed _ _ _ _ c.loop-name.invariant c.in-None.ensures.steps.0
+returns c =
+    HasBlocks-all _ c.args.names.now c.loop-name.name-index _ _ c.loop-name-test.false c.loop-name.invariant

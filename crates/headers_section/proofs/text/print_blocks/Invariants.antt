@@ -1,5 +1,9 @@
-use Rattle.headers_section.proofs.BlockLemmas.{IsPrinted}
+use Rattle.std.proofs.Common.{take}
+use Rattle.http_header.specs.HeaderMap.{get_all}
+use Rattle.headers.specs.Lines.{lines_of}
+use Rattle.headers_section.specs.CanonicalText.{HasBlocks}
 use Rattle.headers_section.proofs.text.print_blocks.Given as goal
 
 abbrev pub invariant-loop-name : goal.invariant-loop-name
-invariant-loop-name l = IsPrinted l.fn.map l.name-iterator l.bytes.items l.some_refused
+invariant-loop-name l =
+    HasBlocks (λ name. lines_of (get_all l.fn.map name)) (take l.name-index l.names) l.bytes.items l.some_refused
