@@ -14,7 +14,7 @@ METADATA = "Metadata-Version: 2.1\nName: typed-headers\nVersion: 1\nSummary: Pro
 def build_wheel(wheel_directory, config_settings=None, metadata_directory=None):
     """Writes the wheel, and returns its name."""
     if not (PACKAGE / "libtyped_headers.so").exists():
-        raise SystemExit(f"the library isn't there: run ./build_c {PACKAGE}")
+        raise SystemExit(f"the library isn't there: run tools/build_c {PACKAGE}")
     tag = "py3-none-" + sysconfig.get_platform().replace("-", "_").replace(".", "_")
     files = {f"typed_headers/{it.name}": it.read_bytes() for it in PACKAGE.iterdir() if it.suffix in (".py", ".so")}
     files["typed_headers/py.typed"] = b""

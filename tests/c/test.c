@@ -572,6 +572,7 @@ static size_t read_request(const struct row *row, struct request_call *call) {
 /* `TAG SECOND KIND` of a representation. */
 static void read_target(const struct word *words, struct request_call *call) {
     call->target.exists = true;
+    call->target.present = 1767225600;
     if (!is_word(words, "(none)")) {
         call->etag = put(second_area, words->bytes, words->length);
     }
@@ -632,18 +633,21 @@ static uint8_t call_cors(const void *arguments, uint64_t *number, uint8_t *room,
     return status;
 }
 
-/* Rules as the fields of a row. The place after them, or 0 if the only line of a list is a star, which is any here. */
+/*
+ * Rules as the fields of a row. The place after them, or 0 if C has no such rules: the only line of a list is a star,
+ * which is any here, or any name with `authorization` is allowed.
+ */
 static size_t read_rules(const struct row *row, struct typed_headers_cors_rules *rules) {
     static const char *names[] = {"origins", "methods", "names", "exposed"};
     static char any[AREA], list[AREA], number[64];
     struct typed_headers_text *texts[] = {&rules->origins, &rules->methods, &rules->headers, &rules->exposed};
-    bool has_star = false;
     field_lines(row, 0, "any", " %.*s ", any);
+    bool is_absent = strstr(any, " names-and-authorization ");
     for (int i = 0; i < 4; i++) {
         char name[32];
         size_t length = field_lines(row, 0, names[i], "%.*s\n", list);
         snprintf(name, sizeof name, " %s ", names[i]);
-        has_star |= strcmp(list, "*\n") == 0;
+        is_absent |= strcmp(list, "*\n") == 0;
         if (strstr(any, name)) {
             length = sprintf(list, "*\n");
         }
@@ -657,7 +661,7 @@ static size_t read_rules(const struct row *row, struct typed_headers_cors_rules 
     while (!is_word(&row->words[i], "(/)")) {
         i++;
     }
-    return has_star ? 0 : i + 1;
+    return is_absent ? 0 : i + 1;
 }
 
 /* `CorsPolicy.new RULES (/)` */
@@ -718,7 +722,7 @@ static void check_cors(const struct row *row) {
 
 /* What a cache may do with a response. */
 struct cache_call {
-    struct text method, stored, request, response;
+    struct text stored_method, stored, method, request, response;
     uint16_t status;
     bool is_shared;
     struct typed_headers_moments moments;
@@ -799,31 +803,31 @@ static uint8_t call_decide(const void *arguments, uint64_t *number, uint8_t *roo
     const struct cache_call *call = arguments;
     uint8_t decision = FILL;
     (void)room, (void)room_length, (void)written;
-    uint8_t status = typed_headers_decide(call->stored.bytes, call->stored.length, call->request.bytes,
-                                          call->request.length, call->response.bytes, call->response.length, &KEYS,
-                                          &call->moments, call->is_shared, &decision);
+    uint8_t status = typed_headers_decide(call->stored_method.bytes, call->stored_method.length, call->stored.bytes,
+                                          call->stored.length, call->method.bytes, call->method.length,
+                                          call->request.bytes, call->request.length, call->response.bytes,
+                                          call->response.length, &KEYS, &call->moments, call->is_shared, &decision);
     if (decision != FILL) {
         *number = decision;
     }
     return status;
 }
 
-/*
- * `decide KIND REQUESTED RECEIVED NOW STORED (/) REQUEST (/) RESPONSE`, or `decide_matched` without the stored request:
- * the request stands for it, which a response without Vary suits.
- */
+static struct text read_text(const struct row *row, size_t i) {
+    return (struct text){(const uint8_t *)row->words[i].bytes, row->words[i].length};
+}
+
+/* `decide KIND REQUESTED RECEIVED NOW METHOD STORED (/) METHOD REQUEST (/) RESPONSE` */
 static void check_decide(const struct row *row) {
     static const char *decisions[] = {"Serve",      "ServeAndRevalidate", "ServeStale", "Revalidate",
                                       "RevalidateOrServe", "Unavailable", "Fetch"};
     struct cache_call call = {.is_shared = read_kind(row)};
-    const bool has_stored = strcmp(row->call, "decide") == 0;
     read_moments(row, 1, &call.moments);
-    const size_t request = has_stored ? read_section(row, 4, third_area, &call.stored) : 4;
-    const size_t response = read_section(row, request, first_area, &call.request);
+    call.stored_method = read_text(row, 4);
+    const size_t method = read_section(row, 5, third_area, &call.stored);
+    call.method = read_text(row, method);
+    const size_t response = read_section(row, method + 1, first_area, &call.request);
     read_section(row, response, second_area, &call.response);
-    if (!has_stored) {
-        call.stored = call.request;
-    }
     for (uint64_t i = 0; i < 7; i++) {
         if (is_answer(row, decisions[i])) {
             check(row, call_decide, &call, TYPED_HEADERS_DONE, i, NO_TEXT);
@@ -889,7 +893,7 @@ static void make_row(struct row *row) {
         check_lifetime(row);
     } else if (strcmp(row->call, "current_age") == 0) {
         check_current_age(row);
-    } else if (strcmp(row->call, "decide") == 0 || strcmp(row->call, "decide_matched") == 0) {
+    } else if (strcmp(row->call, "decide") == 0) {
         check_decide(row);
     } else if (strcmp(row->call, "validation_steps") == 0) {
         check_validators(row);

@@ -161,11 +161,16 @@ def current_age(words, wanted):
     return headers.current_age(section(words[3:])[0], moments) == int(wanted[0])
 
 
-def decide(words, wanted, has_stored=True):
+def decide(words, wanted):
     moments = headers.Moments(*map(int, words[1:4]))
-    stored, left = section(words[4:])
-    sent, left = section(left) if has_stored else (stored, left)
-    decision = headers.decide(stored, sent, section(left)[0], moments, words[0] == "shared")
+    stored_method, *left = words[4:]
+    stored, left = section(left)
+    method, *left = left
+    sent, left = section(left)
+    methods = decode(stored_method), decode(method)
+    decision = headers.decide(
+        methods[0], stored, methods[1], sent, section(left)[0], moments, words[0] == "shared"
+    )
     return decision.name == re.sub(r"(?<!^)(?=[A-Z])", "_", wanted[0]).upper()
 
 
@@ -195,7 +200,6 @@ CALLS = {
     "lifetime": lifetime,
     "current_age": current_age,
     "decide": decide,
-    "decide_matched": lambda *row: decide(*row, has_stored=False),
     "validation_steps": validators,
 }
 
