@@ -1,4 +1,5 @@
 //! Iterators that hint wrongly at how much is left, and lines that mean harm.
+use crate::replay::{Getters, show};
 use crate::writing::written;
 use headers::{Error, Header, HeaderName, HeaderValue, Refused, decode_values};
 use headers_rows::{Answer, Arguments, Failure};
@@ -74,7 +75,7 @@ pub fn size_hint(arguments: &mut Arguments<'_>, answer: &mut Answer) -> Result<(
 }
 
 // The header of lines from an iterator with this hint.
-fn decode_hinted<H: Header>(
+fn decoded<H: Header>(
     alloc: Global,
     lines: &[HeaderValue],
     hint: Hint,
@@ -82,6 +83,17 @@ fn decode_hinted<H: Header>(
     let lines: Vec<&HeaderValue> = lines.iter().collect(alloc)?;
     let elements = lines.into_iter();
     Ok(H::decode(alloc, &mut Hinted { elements, hint }))
+}
+
+/// Adds the header of the lines after the first word, from an iterator with the hint of that word.
+pub fn decode_hinted<H: Header + Getters<P>, P>(
+    arguments: &mut Arguments<'_>,
+    answer: &mut Answer,
+) -> Result<(), Failure> {
+    let hint = read_hint(arguments)?;
+    let lines = arguments.lines()?;
+    let header: H = decoded(arguments.alloc(), &lines, hint)??;
+    show(&header, answer)
 }
 
 // The lines that are written of what was read, or none if it was refused.
@@ -119,8 +131,8 @@ pub fn harmless<H: Header>(
     let alloc = arguments.alloc();
     let lines = repeated(arguments)?;
     let wanted = rewritten::<H>(alloc, decode_values(alloc, &lines))?;
-    let unhinted = rewritten::<H>(alloc, decode_hinted(alloc, &lines, Hint::Unknown)?)?;
-    let overhinted = rewritten::<H>(alloc, decode_hinted(alloc, &lines, Hint::TooMuch)?)?;
+    let unhinted = rewritten::<H>(alloc, decoded(alloc, &lines, Hint::Unknown)?)?;
+    let overhinted = rewritten::<H>(alloc, decoded(alloc, &lines, Hint::TooMuch)?)?;
     let mut is_harmless = unhinted == wanted && overhinted == wanted;
     if let Some(written) = &wanted {
         let again = rewritten::<H>(alloc, decode_values(alloc, written))?;

@@ -2,7 +2,7 @@
 ghost use Rattle.std.specs.Iterator.{IsFinite};
 
 use crate::everywhere::everywhere;
-use crate::hinted::{harmless, lengths};
+use crate::hinted::{decode_hinted, harmless, lengths};
 use crate::writing::{add_with_copy, add_written, secret, written};
 use headers::{
     Header, HeaderMap, HeaderMapExt, HeaderName, HeaderValue, Methods, Refused, decode_values,
@@ -148,22 +148,28 @@ pub fn padded<H: Header + Display>(
     Ok(answer.bytes(text.as_bytes())?)
 }
 
-// The header of the lines under its name in a map that has other names before and after it.
-fn typed_try_get<H: Header + Getters<P>, P>(
-    arguments: &mut Arguments<'_>,
-    answer: &mut Answer,
-) -> Result<(), Failure> {
-    let alloc = arguments.alloc();
-    let mut map = HeaderMap::new(alloc);
+// A map that has the lines under the header's name, and other names before and after it.
+fn map_of_lines<H: Header>(arguments: &mut Arguments<'_>) -> Result<HeaderMap, Failure> {
+    let mut map = HeaderMap::new(arguments.alloc());
     map.append("x-before", HeaderValue::from_static("1"))?;
     for line in arguments.lines()? {
         map.append(H::name(), line)?;
     }
     map.append("x-after", HeaderValue::from_static("2"))?;
+    Ok(map)
+}
+
+// The header of the lines under its name in a map.
+fn typed_try_get<H: Header + Getters<P>, P>(
+    arguments: &mut Arguments<'_>,
+    answer: &mut Answer,
+) -> Result<(), Failure> {
+    let alloc = arguments.alloc();
+    let map = map_of_lines::<H>(arguments)?;
     let tried = map.typed_try_get::<H>(alloc);
     let has_header = matches!(tried, Ok(Some(_)));
     let is_given = map.typed_get::<H>(alloc).is_some();
-    // A call was refused memory; or `typed_get` hides a header, and does so again.
+    // An allocation failed; or `typed_get` hides a header, and does so again.
     if matches!(tried, Err(Refused::Memory(_))) || has_header && !is_given {
         return Err(Failure::Memory);
     }
@@ -173,6 +179,22 @@ fn typed_try_get<H: Header + Getters<P>, P>(
     match tried? {
         Some(header) => show(&header, answer),
         None => Ok(answer.none()?),
+    }
+}
+
+// The header that `typed_get` returns. `None` with a header in the map is a failed allocation.
+fn typed_get<H: Header + Getters<P>, P>(
+    arguments: &mut Arguments<'_>,
+    answer: &mut Answer,
+) -> Result<(), Failure> {
+    let alloc = arguments.alloc();
+    let map = map_of_lines::<H>(arguments)?;
+    if let Some(header) = map.typed_get::<H>(alloc) {
+        return show(&header, answer);
+    }
+    match map.typed_try_get::<H>(alloc) {
+        Ok(None) | Err(Refused::Invalid(_)) => Ok(answer.none()?),
+        Ok(Some(_)) | Err(Refused::Memory(_)) => Err(Failure::Memory),
     }
 }
 
@@ -220,7 +242,9 @@ pub fn call<H: Header + Getters<P> + Replay<P>, P>(
         "everywhere" => everywhere::<H, P>(arguments, answer),
         "harmless" => harmless::<H>(arguments, answer),
         "lengths" => lengths::<H>(arguments, answer),
+        "decode_hinted" => decode_hinted::<H, P>(arguments, answer),
         "typed_try_get" => typed_try_get::<H, P>(arguments, answer),
+        "typed_get" => typed_get::<H, P>(arguments, answer),
         "typed_insert" => typed_insert::<H>(arguments, answer),
         _ => H::call(call, arguments, answer),
     }

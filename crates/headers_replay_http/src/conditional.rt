@@ -93,6 +93,15 @@ impl Replay<Http> for IfNoneMatch {
     }
 }
 
+// The tag and the second that a header names.
+fn show_named(header: &IfRange, answer: &mut Answer) -> Result<(), Failure> {
+    match header.named_tag(answer.alloc())? {
+        Some(tag) => show(&tag, answer)?,
+        None => answer.none()?,
+    }
+    Ok(answer.option(header.named_date())?)
+}
+
 impl Getters<Http> for IfRange {
     fn copy(&self, alloc: Global) -> Result<IfRange, AllocError> {
         self.clone(alloc)
@@ -105,6 +114,7 @@ impl Replay<Http> for IfRange {
             "eq" => eq::<IfRange, _>(arguments, answer),
             "etag" => show(&IfRange::etag(arguments.tag()?), answer),
             "date" => show(&IfRange::date(arguments.date()?), answer),
+            "named" => show_named(&arguments.header()?, answer),
             "is_modified" => {
                 let header: IfRange = arguments.header()?;
                 let tag = arguments.optional_tag()?;

@@ -2,7 +2,7 @@
 use crate::items::show_each;
 use headers::{
     Age, ApplyError, Encoded, Header, HeaderMap, HeaderMapExt, HeaderName, HeaderValue,
-    InsertError, Location, SetCookie, Step, apply, canonical,
+    InsertError, Location, SetCookie, Step, apply, canonical, decode_values,
 };
 use headers_replay_each::{holds, holds_beginning, is_same};
 use headers_rows::{Answer, Arguments, Failure, append_lines};
@@ -83,6 +83,37 @@ fn show_applied(arguments: &mut Arguments<'_>, answer: &mut Answer) -> Result<()
         } else {
             answer.word("(left)")?;
         }
+    }
+    answer.map(&map)
+}
+
+// Puts the header that the lines encode into the map.
+fn insert<H: Header>(
+    alloc: Global,
+    map: &mut HeaderMap,
+    lines: &[HeaderValue],
+) -> Result<(), Failure> {
+    let header: H = decode_values(alloc, lines)?;
+    Ok(map.typed_insert(alloc, header)?)
+}
+
+fn insert_named(alloc: Global, map: &mut HeaderMap, encoded: &Encoded) -> Result<(), Failure> {
+    match encoded.name.as_str() {
+        "age" => insert::<Age>(alloc, map, &encoded.lines),
+        "location" => insert::<Location>(alloc, map, &encoded.lines),
+        "set-cookie" => insert::<SetCookie>(alloc, map, &encoded.lines),
+        _ => Err(Failure::NoCall),
+    }
+}
+
+// The map once the header of the lines of each `put` is inserted.
+fn show_inserted(arguments: &mut Arguments<'_>, answer: &mut Answer) -> Result<(), Failure> {
+    let (mut map, steps) = arguments.map_and_steps()?;
+    for step in steps {
+        let Step::Put(encoded) = step else {
+            return Err(Failure::NoCall);
+        };
+        insert_named(arguments.alloc(), &mut map, &encoded)?;
     }
     answer.map(&map)
 }
@@ -207,7 +238,8 @@ fn show_errors(arguments: &mut Arguments<'_>, answer: &mut Answer) -> Result<(),
 ///
 /// `apply FIELD.. STEP..`: the map that the steps leave, after `(full) DONE` if it has no room;
 /// `apply_full`: the same of a map that is filled with names `x-0`, `x-1` .. first, after their
-/// number; `insert_full N FIELD..`: a typed insert of an age in such a map; `canonical TYPE LINE..`;
+/// number; `insert_full N FIELD..`: a typed insert of an age in such a map; `typed_insert FIELD.. PUT..`:
+/// the map after a typed insert for each `(put:NAME) LINE..`; `canonical TYPE LINE..`;
 /// `errors CAUSE DONE`: how the errors of an insert and of steps are printed.
 pub fn call_map(
     call: &str,
@@ -217,6 +249,7 @@ pub fn call_map(
     match call {
         "apply" => show_applied(arguments, answer),
         "apply_full" => apply_full(arguments, answer),
+        "typed_insert" => show_inserted(arguments, answer),
         "insert_full" => insert_full(arguments, answer),
         "canonical" => show_canonical_of(arguments, answer),
         "errors" => show_errors(arguments, answer),

@@ -1,5 +1,4 @@
 //! Typed reads and inserts of two headers of the tests' own, through the bound.
-use headers::laws::{reads_the_inserted, reads_the_last_put};
 use headers::{Encoded, HeaderMap, HeaderMapExt, canonical, encoding};
 use headers_core::{FormHeader, Header, Seconds};
 use http_header::{AGE, HeaderName, HeaderValue, SET_COOKIE};
@@ -92,10 +91,4 @@ fn an_own_number(rt: HostRuntime) -> Result<(), Fail> {
 fn an_own_line(rt: HostRuntime) -> Result<(), Fail> {
     let line = HeaderValue::from_static("c=3");
     is_kept(&rt, FirstCookie { line }, "set-cookie", "c=3")
-}
-
-#[test]
-fn laws_of_a_map(_rt: HostRuntime) {
-    reads_the_last_put::<OwnAge>();
-    reads_the_inserted::<OwnAge>();
 }
