@@ -1,0 +1,5 @@
+pub mod CalendarLemmas
+pub mod DateLemmas
+pub mod FormatLemmas
+pub mod HttpDateLemmas
+pub mod YearLemmas

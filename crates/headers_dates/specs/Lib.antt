@@ -1,0 +1,4 @@
+pub mod Calendar
+pub mod Date
+pub mod Reader
+pub mod Text

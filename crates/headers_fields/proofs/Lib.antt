@@ -1,0 +1,12 @@
+mod DirectiveLemmas
+mod FieldLemmas
+mod GrammarLemmas
+mod JoinLemmas
+mod NumberLemmas
+mod PieceLemmas
+mod QuotedLemmas
+mod ReadingLemmas
+mod ScanLemmas
+mod ValueLemmas
+mod WeightLemmas
+mod WholeLemmas

@@ -1,0 +1,78 @@
+//! Directives: a name and maybe a value (RFC 9111, section 5.2).
+ghost use Rattle.std.specs.Prelude.{◌≡◌, ◌≤◌, length, MatchResult, Option, option_map};
+ghost use Rattle.std.specs.List.{prefix_len};
+ghost use Rattle.http_header.specs.Token.{is_token_byte};
+ghost use Rattle.headers_fields.specs.Directives.{DirectiveParts, IsArgument, IsDirective, directive_parts, is_named};
+ghost use Rattle.headers_fields.specs.Values.{ValueParts, value_parts};
+
+use crate::error::Malformed;
+use crate::values::{Value, read_value};
+use http_header::is_token_char;
+
+/// A name and maybe a value: `token [ "=" ( token / quoted-string ) ]`.
+///
+/// Cache-Control has such directives (RFC 9111, section 5.2), and so are the parameters of a
+/// WebSocket extension (RFC 6455, section 9.1). One that has an argument is a parameter (RFC 9110,
+/// section 5.6.6).
+#[derive(Clone, Copy, Debug)]
+pub struct Directive<'a> {
+    pub name: &'a [u8],
+    pub argument: Option<Value<'a>>,
+}
+
+// How many bytes of a token the bytes begin with.
+fn token_len(bytes: &[u8]) -> usize
+    ensures value { result ≡ prefix_len is_token_byte bytes.now }
+    ensures within { result ≤ length bytes.now }
+{
+    for (place, byte) in bytes.iter().enumerate() {
+        if !is_token_char(*byte) {
+            return place;
+        }
+    }
+    bytes.len()
+}
+
+// The argument that stands behind a name.
+fn read_argument(text: &[u8]) -> Result<Option<Value<'_>>, Malformed>
+    ensures { MatchResult result (λ argument. IsArgument text.now (option_map value_parts argument))
+        (λ _. (argument : Option ValueParts) → IsArgument text.now argument → ⊥) }
+{
+    if text.is_empty() {
+        return Ok(None);
+    }
+    if text[0] != b'=' {
+        return Err(Malformed);
+    }
+    match read_value(&text[1..]) {
+        Ok(value) => Ok(Some(value)),
+        Err(Malformed) => Err(Malformed),
+    }
+}
+
+/// The directive that a text is. No blank may stand beside the `=`.
+pub fn read_directive(text: &[u8]) -> Result<Directive<'_>, Malformed>
+    ensures { MatchResult result (λ directive. IsDirective text.now (directive_parts directive))
+        (λ _. (d : DirectiveParts) → IsDirective text.now d → ⊥) }
+{
+    let end = token_len(text);
+    if end == 0 {
+        return Err(Malformed);
+    }
+    match read_argument(&text[end..]) {
+        Ok(argument) => Ok(Directive {
+            name: &text[..end],
+            argument,
+        }),
+        Err(Malformed) => Err(Malformed),
+    }
+}
+
+impl<'a> Directive<'a> {
+    /// Whether it has that name. The case of ASCII letters is ignored.
+    pub fn is(&self, name: &[u8]) -> bool
+        ensures { result ≡ is_named name.now (directive_parts self.now) }
+    {
+        self.name.eq_ignore_ascii_case(name)
+    }
+}

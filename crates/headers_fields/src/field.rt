@@ -1,0 +1,127 @@
+//! What all lines of a field say together.
+ghost use Rattle.std.specs.Prelude.{◌≡◌, true, MatchResult};
+ghost use Rattle.std.specs.Bool.{MatchBool};
+ghost use Rattle.std.specs.Option.{option_map};
+ghost use Rattle.std.specs.List.{list_all, list_any};
+ghost use Rattle.headers_syntax.specs.Lines.{lines_of};
+ghost use Rattle.headers_fields.specs.Members.{field_members, member_of};
+ghost use Rattle.headers_fields.specs.Directives.{DirectiveParts, FindsDirective, HasOtherThanDirectives, IsClearOf};
+ghost use Rattle.headers_fields.specs.Directives.{IsMemberDirective, directive_parts, is_same_token, is_token_member};
+ghost use Rattle.headers_fields.specs.Directives.{or_named};
+
+use crate::directives::{Directive, read_directive};
+use crate::error::Malformed;
+use crate::members::FieldMembers;
+use crate::values::is_token;
+use http_header::{GetAll, HeaderValue};
+
+// The directive that a member is.
+fn member_directive(member: Result<&[u8], Malformed>) -> Result<Directive<'_>, Malformed>
+    ensures { MatchResult result (λ d. IsMemberDirective (member_of member.entry) (directive_parts d))
+        (λ _. (d : DirectiveParts) → IsMemberDirective (member_of member.entry) d → ⊥) }
+{
+    match member {
+        Ok(text) => read_directive(text),
+        Err(Malformed) => Err(Malformed),
+    }
+}
+
+// What was found before, or else the directive, if it has the name.
+fn or_named<'a>(
+    found: Option<Directive<'a>>,
+    directive: Directive<'a>,
+    name: &[u8],
+) -> Option<Directive<'a>>
+    ensures { option_map directive_parts result
+        ≡ or_named name.now (option_map directive_parts found.entry) (directive_parts directive.entry) }
+{
+    match found {
+        Some(first) => Some(first),
+        None => {
+            if directive.is(name) {
+                Some(directive)
+            } else {
+                None
+            }
+        }
+    }
+}
+
+/// The first directive of that name in all lines of a field. It is malformed if there is anything
+/// else than directives in it, also behind the one that is sought: such a field may have, by
+/// another reading, any directive.
+pub fn find_directive<'a>(
+    field: &GetAll<'a, HeaderValue>,
+    name: &[u8],
+) -> Result<Option<Directive<'a>>, Malformed>
+    ensures { MatchResult result
+        (λ found. FindsDirective (lines_of field.now) name.now (option_map directive_parts found))
+        (λ _. HasOtherThanDirectives (lines_of field.now)) }
+{
+    let mut members = FieldMembers::new(field);
+    let mut found = None;
+    while let Some(member) = members.next() {
+        match member_directive(member) {
+            Ok(directive) => found = or_named(found, directive, name),
+            Err(Malformed) => return Err(Malformed),
+        }
+    }
+    Ok(found)
+}
+
+/// Whether a field surely lacks the directive of that name: each of its lines is well formed, each
+/// member is a directive, and none has the name.
+pub fn is_clear_of(field: &GetAll<'_, HeaderValue>, name: &[u8]) -> bool
+    ensures { MatchBool result (IsClearOf (lines_of field.now) name.now)
+        (¬ (IsClearOf (lines_of field.now) name.now)) }
+{
+    match find_directive(field, name) {
+        Ok(None) => true,
+        Ok(Some(_)) => false,
+        Err(Malformed) => false,
+    }
+}
+
+fn is_token_member(member: Result<&[u8], Malformed>) -> bool
+    ensures { result ≡ is_token_member (member_of member.entry) }
+{
+    match member {
+        Ok(text) => is_token(text),
+        Err(Malformed) => false,
+    }
+}
+
+/// Whether each member of a field is a token.
+pub fn are_tokens(field: &GetAll<'_, HeaderValue>) -> bool
+    ensures { result ≡ list_all is_token_member (field_members true (lines_of field.now)) }
+{
+    let mut members = FieldMembers::new(field);
+    while let Some(member) = members.next() {
+        if !is_token_member(member) {
+            return false;
+        }
+    }
+    true
+}
+
+fn is_same_token(member: Result<&[u8], Malformed>, token: &[u8]) -> bool
+    ensures { result ≡ is_same_token token.now (member_of member.entry) }
+{
+    match member {
+        Ok(text) => text.eq_ignore_ascii_case(token),
+        Err(Malformed) => false,
+    }
+}
+
+/// Whether some member of a field is the token, in any case.
+pub fn contains_token(field: &GetAll<'_, HeaderValue>, token: &[u8]) -> bool
+    ensures { result ≡ list_any (is_same_token token.now) (field_members true (lines_of field.now)) }
+{
+    let mut members = FieldMembers::new(field);
+    while let Some(member) = members.next() {
+        if is_same_token(member, token) {
+            return true;
+        }
+    }
+    false
+}

@@ -1,0 +1,27 @@
+//! The grammar of field values: lists, quoted-strings, parameters, directives and numbers (RFC 9110,
+//! section 5.6).
+//!
+//! A member of a list is a slice of its field line, and nothing allocates. What the grammar doesn't
+//! have is malformed, and no reading of it is guessed: a caller takes it as the strictest answer.
+//! Comments (section 5.6.5) are not read, since no list that is parsed here has any.
+#![tactic(auto)]
+
+mod directives;
+mod error;
+mod field;
+pub mod laws;
+mod members;
+mod numbers;
+mod parameters;
+mod scan;
+mod values;
+mod weights;
+
+pub use crate::directives::{Directive, read_directive};
+pub use crate::error::Malformed;
+pub use crate::field::{are_tokens, contains_token, find_directive, is_clear_of};
+pub use crate::members::{FieldMembers, Members, is_well_formed};
+pub use crate::numbers::{delta_seconds, number};
+pub use crate::parameters::Parameterized;
+pub use crate::values::{Octets, Value, is_token, read_value};
+pub use crate::weights::weight;
