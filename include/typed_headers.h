@@ -61,6 +61,9 @@ struct typed_headers_keys {
 struct typed_headers_target {
     /* When its current representation was last modified, in seconds since the start of 1970. */
     uint64_t last_modified;
+    /* When the request is answered, in seconds since the start of 1970. A date with a year of two digits depends on it
+       (RFC 9110, section 5.6.7). */
+    uint64_t present;
     /* Whether it has a current representation. If not, nothing else of the target counts. */
     bool exists;
     /* Whether `last_modified` is known. It must lie before the year 10000 then. */
@@ -111,7 +114,8 @@ struct typed_headers_text {
  * `*` alone stands for any value, and the empty text for none.
  */
 struct typed_headers_cors_rules {
-    /* The origins, as `https://a.example`. One is compared byte for byte with what a browser sends. */
+    /* The origins, as `https://a.example`. One is compared byte for byte with what a browser sends. A text that no
+     * browser sends is rejected: upper-case letters, `*`, userinfo, a default port, or a port that is no number. */
     struct typed_headers_text origins;
     /* The methods besides GET, HEAD and POST, with case. */
     struct typed_headers_text methods;
@@ -119,7 +123,7 @@ struct typed_headers_cors_rules {
     struct typed_headers_text headers;
     /* The names of response fields that scripts may read besides those that are always readable. */
     struct typed_headers_text exposed;
-    /* For how many seconds the answer to a preflight may be cached. */
+    /* For how many seconds the answer to a preflight may be cached; 2^31 - 1 at most is written. */
     uint64_t max_age;
     /* Whether `max_age` counts. If not, browsers take five seconds. */
     bool has_max_age;
@@ -169,7 +173,7 @@ enum typed_headers_decision {
     TYPED_HEADERS_REVALIDATE_OR_SERVE = 4,
     /* The answer is 504: the request forbids to ask on (`only-if-cached`). */
     TYPED_HEADERS_UNAVAILABLE = 5,
-    /* The origin has to answer: the stored response doesn't suit the request. */
+    /* The origin has to answer: the stored response doesn't suit the request, or its method isn't safe. */
     TYPED_HEADERS_FETCH = 6
 };
 
@@ -261,8 +265,9 @@ uint8_t typed_headers_evaluate(const uint8_t *method, size_t method_length, cons
 
 /*
  * Which part of the target's representation, of `length` bytes, a request selects (RFC 9110, sections 13.2.2 and 14.2):
- * `*answer` is 200 if all of it, 206 if the ranges that are written, 416 if none. The ranges are in order, and at least
- * one position lies between two of them. Of the section the fields Range and If-Range count. The room and `*written`
+ * `*answer` is 200 if all of it, 206 if the ranges that are written, 416 if none. The ranges are in order, and more than
+ * 80 positions lie between two of them. Range is ignored if there are more than 100 ranges, or if 512 bytes for each of
+ * several are more than `length`: so no answer is longer than twice the representation. Of the section the fields Range and If-Range count. The room and `*written`
  * count ranges; `*answer` is given also if they don't fit. A server asks this once `typed_headers_evaluate` gave 0.
  *
  * Absent: the target has no representation. Refused and too large: as for `typed_headers_evaluate`.
@@ -333,13 +338,15 @@ uint8_t typed_headers_current_age(const uint8_t *response, size_t response_lengt
 
 /*
  * What a cache does with a request, by a response that it has stored to the same URI (RFC 9111, section 4, and RFC
- * 5861): `*decision` is one of `typed_headers_decision`. `stored` is the section of the request that the response
- * answered. Refused: a line of a section before its first empty one is no field.
+ * 5861): `*decision` is one of `typed_headers_decision`. `stored_method` and `stored` are the method and the section of
+ * the request that the response answered. A request whose method isn't safe is always to be fetched. Refused: a method
+ * is no token, or a line of a section before its first empty one is no field.
  */
-uint8_t typed_headers_decide(const uint8_t *stored, size_t stored_length, const uint8_t *request,
-                             size_t request_length, const uint8_t *response, size_t response_length,
-                             const struct typed_headers_keys *keys, const struct typed_headers_moments *moments,
-                             bool is_shared, uint8_t *decision);
+uint8_t typed_headers_decide(const uint8_t *stored_method, size_t stored_method_length, const uint8_t *stored,
+                             size_t stored_length, const uint8_t *method, size_t method_length,
+                             const uint8_t *request, size_t request_length, const uint8_t *response,
+                             size_t response_length, const struct typed_headers_keys *keys,
+                             const struct typed_headers_moments *moments, bool is_shared, uint8_t *decision);
 
 /*
  * The fields by which the origin is asked whether a stored response is still good (RFC 9111, section 4.3.1): its

@@ -8,6 +8,7 @@ The library is libtyped_headers.so beside this file, or what the environment var
 
 import ctypes
 import os
+import time
 from pathlib import Path
 from enum import IntEnum
 from typing import Callable, Iterable, List, NamedTuple, Optional, Tuple
@@ -181,6 +182,7 @@ class _Range(ctypes.Structure):
 class _Target(ctypes.Structure):
     _fields_ = [
         ("last_modified", ctypes.c_uint64),
+        ("present", ctypes.c_uint64),
         ("exists", ctypes.c_bool),
         ("has_last_modified", ctypes.c_bool),
         ("is_date_strong", ctypes.c_bool),
@@ -251,7 +253,15 @@ _may_store = _call(
 _lifetime = _call("lifetime", *_SECTION, ctypes.c_uint64, ctypes.c_bool, ctypes.POINTER(ctypes.c_uint64))
 _current_age = _call("current_age", *_SECTION, ctypes.POINTER(_Moments), ctypes.POINTER(ctypes.c_uint64))
 _decide = _call(
-    "decide", *_TEXT, *_TEXT, *_SECTION, ctypes.POINTER(_Moments), ctypes.c_bool, ctypes.POINTER(ctypes.c_uint8)
+    "decide",
+    *_TEXT,
+    *_TEXT,
+    *_TEXT,
+    *_TEXT,
+    *_SECTION,
+    ctypes.POINTER(_Moments),
+    ctypes.c_bool,
+    ctypes.POINTER(ctypes.c_uint8),
 )
 _validators = _call("validators", *_SECTION, *_ROOM)
 
@@ -384,16 +394,22 @@ def _request(method: bytes, section: bytes, etag: bytes, target: _Target) -> tup
     return (*texts, ctypes.byref(target))
 
 
+def _present(seconds: Optional[int]) -> int:
+    return int(time.time()) if seconds is None else seconds
+
+
 def evaluate(
     method: bytes,
     section: bytes,
     etag: bytes = b"",
     last_modified: Optional[int] = None,
     exists: bool = True,
+    present: Optional[int] = None,
 ) -> Precondition:
     """What the preconditions of a request come to (RFC 9110, section 13.2.2): its method and its header section, the
-    entity tag and the second of the last modification of its target, and whether that has a representation."""
-    target = _Target(last_modified or 0, exists, last_modified is not None, False)
+    entity tag and the second of the last modification of its target, and whether that has a representation. The
+    request is answered at the second `present`, which is now if it isn't given."""
+    target = _Target(last_modified or 0, _present(present), exists, last_modified is not None, False)
     answer = ctypes.c_uint16()
     _check(_evaluate(*_request(method, section, etag, target), ctypes.byref(answer)))
     return Precondition(answer.value)
@@ -406,10 +422,11 @@ def select(
     etag: bytes = b"",
     last_modified: Optional[int] = None,
     is_date_strong: bool = False,
+    present: Optional[int] = None,
 ) -> Tuple[int, List[Tuple[int, int]]]:
     """The status of the answer to a request for a representation of so many bytes, 200, 206 or 416, and the ranges
-    that a 206 sends (RFC 9110, section 14.2)."""
-    target = _Target(last_modified or 0, True, last_modified is not None, is_date_strong)
+    that a 206 sends (RFC 9110, section 14.2). It is answered at the second `present`, which is now if it isn't given."""
+    target = _Target(last_modified or 0, _present(present), True, last_modified is not None, is_date_strong)
     answer = ctypes.c_uint16()
     arguments = (*_request(method, section, etag, target), length, ctypes.byref(answer))
     _, found = _range_list(lambda *room: _select(*arguments, *room), section.count(b",") + 1)
@@ -481,11 +498,20 @@ def current_age(response: bytes, moments: Moments) -> int:
     return seconds.value
 
 
-def decide(stored: bytes, request: bytes, response: bytes, moments: Moments, is_shared: bool) -> Decision:
+def decide(
+    stored_method: bytes,
+    stored: bytes,
+    method: bytes,
+    request: bytes,
+    response: bytes,
+    moments: Moments,
+    is_shared: bool,
+) -> Decision:
     """What a cache does with a request, by a response that it has stored and the request that this answered (RFC 9111,
     section 4, and RFC 5861)."""
     decision = ctypes.c_uint8()
-    arguments = (stored, len(stored), request, len(request), *_section(response))
+    texts = [part for text in (stored_method, stored, method, request) for part in (text, len(text))]
+    arguments = (*texts, *_section(response))
     _check(_decide(*arguments, ctypes.byref(_Moments(*moments)), is_shared, ctypes.byref(decision)))
     return Decision(decision.value)
 

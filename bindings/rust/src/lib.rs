@@ -433,14 +433,17 @@ pub enum Decision {
     RevalidateOrServe,
     /// The answer is 504: the request forbids to ask on.
     Unavailable,
-    /// The origin has to answer: the stored response doesn't suit the request.
+    /// The origin has to answer: the stored response doesn't suit the request, or its method isn't safe.
     Fetch,
 }
 
 /// What a cache does with a request, by a response that it has stored and the request that this answered (RFC 9111,
 /// section 4, and RFC 5861).
+#[allow(clippy::too_many_arguments)]
 pub fn decide(
+    stored_method: &[u8],
     stored: &[u8],
+    method: &[u8],
     request: &[u8],
     response: &[u8],
     keys: Keys,
@@ -451,8 +454,12 @@ pub fn decide(
     // SAFETY: as above.
     check(unsafe {
         sys::typed_headers_decide(
+            stored_method.as_ptr(),
+            stored_method.len(),
             stored.as_ptr(),
             stored.len(),
+            method.as_ptr(),
+            method.len(),
             request.as_ptr(),
             request.len(),
             response.as_ptr(),
@@ -511,14 +518,20 @@ mod tests {
 
     #[test]
     fn conditions_and_ranges() {
-        let target = Target { last_modified: 0, exists: true, has_last_modified: false, is_date_strong: false };
+        let target = Target {
+            last_modified: 0,
+            present: 1_767_225_600,
+            exists: true,
+            has_last_modified: false,
+            is_date_strong: false,
+        };
         let ask = |section: &[u8]| evaluate(b"GET", section, KEYS, b"\"a\"", target);
         assert_eq!(ask(b"If-None-Match: \"a\"\n"), Ok(Precondition::NotModified));
         assert_eq!(ask(b"If-Match: \"b\"\n"), Ok(Precondition::Failed));
         assert_eq!(ask(b""), Ok(Precondition::Perform));
         let parts = vec![BytesRange { first: 0, last: 0 }, BytesRange { first: 5, last: 9 }];
         assert_eq!(ranges(b"bytes=0-0,5-", 10), Ok(parts.clone()));
-        assert_eq!(select(b"GET", b"Range: bytes=0-0,5-\n", KEYS, b"", target, 10), Ok((206, parts)));
+        assert_eq!(select(b"GET", b"Range: bytes=5-\n", KEYS, b"", target, 10), Ok((206, parts[1..].to_vec())));
         assert_eq!(select(b"GET", b"", KEYS, b"", target, 10), Ok((200, vec![])));
     }
 
@@ -544,8 +557,8 @@ mod tests {
         assert_eq!(lifetime(response, KEYS, 784_111_777, true), Ok(60));
         assert_eq!(lifetime(b"", KEYS, 784_111_777, true), Err(Error::Absent));
         assert_eq!(current_age(response, KEYS, at(784_111_787)), Ok(10));
-        assert_eq!(decide(b"", b"", response, KEYS, at(784_111_787), true), Ok(Decision::Serve));
-        assert_eq!(decide(b"", b"", response, KEYS, at(784_111_837), true), Ok(Decision::Revalidate));
+        assert_eq!(decide(b"GET", b"", b"GET", b"", response, KEYS, at(784_111_787), true), Ok(Decision::Serve));
+        assert_eq!(decide(b"GET", b"", b"GET", b"", response, KEYS, at(784_111_837), true), Ok(Decision::Revalidate));
         assert_eq!(validators(response, KEYS), Ok(b"if-none-match: \"a\"\n".to_vec()));
     }
 }

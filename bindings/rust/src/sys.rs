@@ -12,6 +12,7 @@ pub struct Keys {
 #[derive(Clone, Copy, Debug)]
 pub struct Target {
     pub last_modified: u64,
+    pub present: u64,
     pub exists: bool,
     pub has_last_modified: bool,
     pub is_date_strong: bool,
@@ -234,8 +235,12 @@ extern "C" {
         seconds: *mut u64,
     ) -> u8;
     pub fn typed_headers_decide(
+        stored_method: *const u8,
+        stored_method_length: usize,
         stored: *const u8,
         stored_length: usize,
+        method: *const u8,
+        method_length: usize,
         request: *const u8,
         request_length: usize,
         response: *const u8,

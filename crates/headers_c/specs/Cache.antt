@@ -9,9 +9,11 @@ use Rattle.http_header.specs.Token.{IsToken}
 use Rattle.headers.specs.LineMap.{LineMap, lines_at}
 use Rattle.headers_section.specs.CanonicalText.{line_text}
 use Rattle.headers_section.specs.Section.{Holds}
-use Rattle.headers_cache_policy.specs.Age.{age_at, capped}
-use Rattle.headers_cache_policy.specs.Decisions.{DecidesStored}
+use Rattle.headers_cache_policy.specs.Age.{age_at}
+use Rattle.headers_cache_policy.specs.Decisions as Decided_by
+use Rattle.headers_cache_policy.specs.Fields.{capped}
 use Rattle.headers_cache_policy.specs.Freshness.{HasLifetime}
+use Rattle.headers_cache_policy.specs.Requests.{Request}
 use Rattle.headers_cache_policy.specs.Storing.{MayStore}
 use Rattle.headers_cache_policy.specs.Validating.{conditional}
 use Rattle.headers_cache_policy.specs.declared.age.Times.{Times}
@@ -38,6 +40,10 @@ abbrev pub IsStatusOf : ℕ → Result ℕ Failure → Type 0
 IsStatusOf number (Ok status) = IsStatusCode number × (status ≡ number)
 IsStatusOf number (Err failure) = (failure ≡ Refused) × ¬ (IsStatusCode number)
 
+-- the request with the method and the fields
+abbrev pub request_with : List ℕ → Entries FieldValue → Request
+request_with method fields = record { method = method; fields = lines_at fields }
+
 -- the method, the status and the fields of both sections are those that were handed in, and the number tells whether
 -- the response may be stored
 pub record IsStored (method request : List ℕ) (status : ℕ) (response : List ℕ) (is_shared : Bool) (number : ℕ)
@@ -48,7 +54,7 @@ pub record IsStored (method request : List ℕ) (status : ℕ) (response : List 
   pub is_asked : Holds request asked
   pub told : Entries FieldValue
   pub is_told : Holds response told
-  pub tells : Tells (MayStore (kind_of is_shared) method (lines_at asked) status (lines_at told)) number
+  pub tells : Tells (MayStore (kind_of is_shared) (request_with method asked) status (lines_at told)) number
 
 -- the answer is the number, or the failure of reading what was handed in
 abbrev pub Stores : (method request : List ℕ) → ℕ → List ℕ → Bool → Result ℕ Failure → Type 0
@@ -87,9 +93,12 @@ decision_number Decided.RevalidateOrServe = 4
 decision_number Decided.Unavailable = 5
 decision_number Decided.Fetch = 6
 
--- the fields of the three sections are those that were handed in, and this is the number of their decision
-pub record IsDecided (stored request response : List ℕ) (moments : Moments) (is_shared : Bool) (number : ℕ)
-    : Type 0 where
+-- the methods and the fields of the three sections are those that were handed in, and this is the number of their
+-- decision
+pub record IsDecided (stored_method stored method request response : List ℕ) (moments : Moments) (is_shared : Bool)
+    (number : ℕ) : Type 0 where
+  pub is_stored_method : IsToken stored_method
+  pub is_method : IsToken method
   pub first : Entries FieldValue
   pub is_first : Holds stored first
   pub asked : Entries FieldValue
@@ -97,16 +106,19 @@ pub record IsDecided (stored request response : List ℕ) (moments : Moments) (i
   pub told : Entries FieldValue
   pub is_told : Holds response told
   pub decision : Decision
-  pub decides : DecidesStored (kind_of is_shared) (lines_at first) (lines_at asked) (lines_at told) (times_of moments)
-      decision
+  pub decides : Decided_by.Decides (kind_of is_shared) (request_with stored_method first) (request_with method asked)
+      (lines_at told) (times_of moments) decision
   pub number_is : number ≡ decision_number decision
 
--- the answer is the number, or the failure of reading a section
-abbrev pub Decides : (stored request response : List ℕ) → Moments → Bool → Result ℕ Failure → Type 0
-Decides stored request response moments is_shared (Ok number) =
-    IsDecided stored request response moments is_shared number
-Decides stored request response moments is_shared (Err failure) =
-    IsMapOf stored (Err failure) ⊎ (IsMapOf request (Err failure) ⊎ IsMapOf response (Err failure))
+-- the answer is the number, or the failure of reading a method or a section
+abbrev pub Decides : (stored_method stored method request response : List ℕ) → Moments → Bool
+    → Result ℕ Failure → Type 0
+Decides stored_method stored method request response moments is_shared (Ok number) =
+    IsDecided stored_method stored method request response moments is_shared number
+Decides stored_method stored method request response moments is_shared (Err failure) =
+    IsMethodOf stored_method (Err failure)
+    ⊎ (IsMethodOf method (Err failure)
+    ⊎ (IsMapOf stored (Err failure) ⊎ (IsMapOf request (Err failure) ⊎ IsMapOf response (Err failure))))
 
 -- each line of a request under a name, after the name
 abbrev pub field_text : LineMap → List ℕ → List ℕ

@@ -66,7 +66,7 @@ pub record IsEvaluated (method input etag : List ℕ) (target : Target) (code : 
   pub request : Entries FieldValue
   pub holds : Holds input request
   pub answer : Precondition
-  pub answers : Answers (lines_at request) resource method answer
+  pub answers : Answers target.present (lines_at request) resource method answer
   pub code_is : code ≡ code_of answer
 
 -- the answer is the code, or the failure of reading what was handed in

@@ -9,6 +9,7 @@ use Rattle.http_header.specs.Token.{IsToken, lowercase}
 use Rattle.headers.specs.Lines.{Line}
 use Rattle.headers.specs.Origin.{origin_reads}
 use Rattle.headers.specs.declared.Origin.{Origin}
+use Rattle.headers_cors_policy.specs.Allowed.{names_of}
 use Rattle.headers_cors_policy.specs.Browser.{star}
 use Rattle.headers_cors_policy.specs.Policy.{Policy}
 use Rattle.headers_cors_policy.specs.Rules.{IsLawful, IsPolicyOf, Refuses}
@@ -62,9 +63,11 @@ age_of given = if given.has_max_age then Some given.max_age else None
 
 -- the rules that were handed in
 pub record AreRulesOf (given : Rules) (rules : CorsRules) : Type 0 where
+  pub listed : Allowed Line
   pub origins : Allows reads_origin given.origins.now rules.origins
   pub methods : Allows reads_method given.methods.now rules.methods
-  pub names : Allows reads_name given.headers.now rules.names
+  pub names : Allows reads_name given.headers.now listed
+  pub same_names : rules.names ≡ names_of listed
   pub exposed : Allows reads_name given.exposed.now rules.exposed
   pub credentials : rules.credentials ≡ given.credentials
   pub max_age : rules.max_age ≡ age_of given
@@ -94,7 +97,7 @@ pub record AreUnlawful (given : Rules) : Type 0 where
   pub rules : CorsRules
   pub are_rules : AreRulesOf given rules
   pub error : RulesError
-  pub refuses : Refuses rules (Some error)
+  pub refuses : Refuses rules error
 
 -- the answer is the policy, or the failure of reading the rules; `Refused` also if they make no policy
 abbrev pub IsPolicyAnswer : Rules → Result Policy Failure → Type 0

@@ -5,6 +5,7 @@ use Rattle.http_header.specs.HeaderMap.{Entries}
 use Rattle.http_header.specs.Token.{IsToken}
 use Rattle.headers.specs.LineMap.{lines_at}
 use Rattle.headers_section.specs.Section.{Holds}
+use Rattle.headers_preconditions.specs.Limits.{usual_limits}
 use Rattle.headers_preconditions.specs.Selection.{Selects as SelectsOf}
 use Rattle.headers_preconditions.specs.declared.part.Part.{Part}
 use Rattle.headers_preconditions.specs.declared.resource.Resource.TheVariants.{Current}
@@ -37,7 +38,7 @@ pub record IsSelected (method input etag : List ℕ) (target : Target) (length :
   pub request : Entries FieldValue
   pub holds : Holds input request
   pub selection : Selection
-  pub selects : SelectsOf method (lines_at request) current length selection
+  pub selects : SelectsOf target.present method (lines_at request) current length usual_limits selection
   pub shown : IsShown selection selected.code selected.ranges.items
 
 -- the answer is the selection, or the failure of reading what was handed in; `Absent` only if the target has no

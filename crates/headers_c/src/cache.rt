@@ -10,7 +10,7 @@ use crate::preconditions::read_method;
 use headers::{HeaderMap, HeaderName, apply};
 use headers_c_parts::{DONE, Failure, HashKeys, copy_into, read_map};
 use headers_cache_policy::{
-    Decision, Kind, Times, current_age, decide, lifetime, may_store, validation_steps,
+    Decision, Kind, RequestHead, Times, current_age, decide, lifetime, may_store, validation_steps,
 };
 use headers_section::print_line;
 use http::StatusCode;
@@ -98,15 +98,15 @@ fn stores(
     let status = read_status(status)?;
     let request = read_map(alloc, request, keys)?;
     let response = read_map(alloc, response, keys)?;
-    let is_stored = may_store(
-        alloc,
-        &method,
-        &request,
-        status,
-        &response,
-        kind_of(is_shared),
-    )?;
-    if is_stored { Ok(1) } else { Ok(0) }
+    let request = RequestHead {
+        method: &method,
+        fields: &request,
+    };
+    if may_store(&request, status, &response, kind_of(is_shared)) {
+        Ok(1)
+    } else {
+        Ok(0)
+    }
 }
 
 /// For how many seconds a response is fresh by what its origin says (RFC 9111, section 4.2.1).
@@ -140,7 +140,7 @@ fn lives(
     ensures { Lives response.now received is_shared result }
 {
     let response = read_map(alloc, response, keys)?;
-    match lifetime(alloc, &response, received, kind_of(is_shared))? {
+    match lifetime(&response, received, kind_of(is_shared)) {
         Some(seconds) => Ok(seconds),
         None => Err(Failure::Absent),
     }
@@ -170,15 +170,18 @@ fn ages(alloc: Global, response: &[u8], keys: &HashKeys, moments: &Moments) -> R
     ensures { Ages response.now moments.entry.now result }
 {
     let response = read_map(alloc, response, keys)?;
-    Ok(current_age(alloc, &response, times_of(moments)))
+    Ok(current_age(&response, times_of(moments)))
 }
 
 /// What a cache does with a request, by a response that it has stored: the number of the decision
-/// (RFC 9111, section 4, and RFC 5861). `stored` is the request that the response answered.
+/// (RFC 9111, section 4, and RFC 5861). `stored` is the request that the response answered, and
+/// `stored_method` its method.
 #[unsafe(no_mangle)]
 pub extern "C" fn typed_headers_decide(
     alloc: Global,
+    stored_method: &[u8],
     stored: &[u8],
+    method: &[u8],
     request: &[u8],
     response: &[u8],
     keys: &HashKeys,
@@ -186,10 +189,20 @@ pub extern "C" fn typed_headers_decide(
     is_shared: bool,
     decision: &mut u8,
 ) -> u8
-    ensures { Gives (Decides stored.now request.now response.now moments.entry.now is_shared)
+    ensures { Gives (Decides stored_method.now stored.now method.now request.now response.now moments.entry.now is_shared)
         decision.old decision.new result }
 {
-    match decides(alloc, stored, request, response, keys, moments, is_shared) {
+    match decides(
+        alloc,
+        stored_method,
+        stored,
+        method,
+        request,
+        response,
+        keys,
+        moments,
+        is_shared,
+    ) {
         Ok(number) => {
             *decision = number;
             DONE
@@ -200,26 +213,38 @@ pub extern "C" fn typed_headers_decide(
 
 fn decides(
     alloc: Global,
+    stored_method: &[u8],
     stored: &[u8],
+    method: &[u8],
     request: &[u8],
     response: &[u8],
     keys: &HashKeys,
     moments: &Moments,
     is_shared: bool,
 ) -> Result<u8, Failure>
-    ensures { Decides stored.now request.now response.now moments.entry.now is_shared result }
+    ensures { Decides stored_method.now stored.now method.now request.now response.now moments.entry.now is_shared
+        result }
 {
+    let stored_method = read_method(alloc, stored_method)?;
+    let method = read_method(alloc, method)?;
     let stored = read_map(alloc, stored, keys)?;
     let request = read_map(alloc, request, keys)?;
     let response = read_map(alloc, response, keys)?;
+    let stored = RequestHead {
+        method: &stored_method,
+        fields: &stored,
+    };
+    let request = RequestHead {
+        method: &method,
+        fields: &request,
+    };
     let decision = decide(
-        alloc,
         &stored,
         &request,
         &response,
         times_of(moments),
         kind_of(is_shared),
-    )?;
+    );
     Ok(decision_number(decision))
 }
 

@@ -20,6 +20,9 @@ pub struct Target {
     /// When its current representation was last modified, in seconds since the start of 1970, if
     /// `has_last_modified`.
     pub last_modified: u64,
+    /// When the request is answered, in seconds since the start of 1970: a date with a year of two
+    /// digits depends on it (RFC 9110, section 5.6.7).
+    pub present: u64,
     /// Whether it has a current representation.
     pub exists: bool,
     /// Whether it is known when that was last modified.
@@ -64,10 +67,8 @@ fn evaluate_request(
     let method = read_method(alloc, method)?;
     let resource = read_resource(alloc, etag, target)?;
     let request = read_map(alloc, section, keys)?;
-    match evaluate(alloc, &method, &request, &resource) {
-        Ok(answer) => Ok(code_of(answer)),
-        Err(_) => Err(Failure::Memory),
-    }
+    let answer = evaluate(&method, &request, &resource, target.present);
+    Ok(code_of(answer))
 }
 
 fn code_of(answer: Precondition) -> u16

@@ -6,7 +6,7 @@ ghost use Rattle.headers_c.specs.Rules.{Allows, Finds, IsPolicyAnswer, IsRulesAn
 use crate::preconditions::read_method;
 use headers::{HeaderName, HeaderValue, Origin, Refused, decode_values};
 use headers_c_parts::{Failure, read_values};
-use headers_cors_policy::{Allowed, CorsPolicy, CorsRules, RulesError};
+use headers_cors_policy::{Allowed, AllowedNames, CorsPolicy, CorsRules, RulesError};
 use http::Method;
 use http_header::HeaderNameError;
 use std::alloc::Global;
@@ -133,14 +133,15 @@ fn read_rules(alloc: Global, rules: &Rules<'_>) -> Result<CorsRules, Failure>
     Ok(CorsRules {
         origins,
         methods,
-        names,
+        names: AllowedNames::from(names),
         exposed,
         credentials: rules.credentials,
         max_age: age_of(rules),
     })
 }
 
-/// The policy of these rules. They are refused also if no browser would read it as it is meant.
+/// The policy of these rules. They are rejected also if no browser would read it as it is meant, or
+/// if no browser sends one of the origins.
 pub fn read_policy(alloc: Global, rules: &Rules<'_>) -> Result<CorsPolicy, Failure>
     ensures { IsPolicyAnswer rules.now result }
 {

@@ -5,7 +5,7 @@ ghost use Rattle.headers_c.specs.Selection.{IsShown, Selects, WritesSelection, r
 use crate::preconditions::{Target, read_method, read_resource};
 use crate::ranges::BytesRange;
 use headers_c_parts::{DONE, Failure, HashKeys, copy_into, read_map};
-use headers_preconditions::{Part, Resource, Selection, select};
+use headers_preconditions::{Part, RangeLimits, Resource, Selection, select};
 use std::alloc::{AllocError, Global};
 
 /// The status of the answer, and the ranges that it sends of several or one.
@@ -58,7 +58,16 @@ fn select_ranges(
         return Err(Failure::Absent);
     };
     let request = read_map(alloc, section, keys)?;
-    let selection = select(alloc, &method, &request, &current, length)?;
+    let limits = RangeLimits::usual();
+    let selection = select(
+        alloc,
+        &method,
+        &request,
+        &current,
+        target.present,
+        length,
+        &limits,
+    )?;
     let selected = show(alloc, &selection)?;
     Ok(selected)
 }

@@ -2,12 +2,14 @@
 use Rattle.std.proofs.Common.{◌≡◌, ℕ, ◌+◌, ◌-◌, ◌<◌, ◌≤◌, min, Option, Some, None, refl, subst, arith, inl, inr}
 use Rattle.std.specs.Prelude.{◌⊎◌, IfSome, IsSomeAnd, unwrap_or}
 use Rattle.headers.specs.LineMap.{LineMap}
-use Rattle.headers_cache_policy.specs.Age.{age_at, capped, corrected_initial_age}
-use Rattle.headers_cache_policy.specs.Decisions.{Answers, Decides, IsFromStore, IsGoodEnough, IsServable}
+use Rattle.headers_cache_policy.specs.Age.{age_at, corrected_initial_age}
+use Rattle.headers_cache_policy.specs.Decisions.{Answers, AnswersUnstored, Decides, DecidesBy, DecidesMatched}
+use Rattle.headers_cache_policy.specs.Decisions.{IsFromStore, IsGoodEnough, IsServable}
 use Rattle.headers_cache_policy.specs.Decisions.{IsServedMeanwhile, IsTakenStale, MayServeMeanwhile, MustBeFresh}
 use Rattle.headers_cache_policy.specs.Decisions.{freshness_at}
 use Rattle.headers_cache_policy.specs.Directives.{directed}
-use Rattle.headers_cache_policy.specs.Fields.{greatest}
+use Rattle.headers_cache_policy.specs.Fields.{capped, greatest}
+use Rattle.headers_cache_policy.specs.Requests.{Request}
 use Rattle.headers_cache_policy.specs.declared.age.Times.{Times}
 use Rattle.headers_cache_policy.specs.declared.decision.Decision.{Decision}
 use Rattle.headers_cache_policy.specs.declared.decision.Decision.TheVariants.{Serve, ServeAndRevalidate, ServeStale}
@@ -134,15 +136,15 @@ Answers-at kind asks others tells more freshness a e f h =
 
 -- the answer by a lifetime that is stated, at any name of that lifetime
 by_stated : (kind : Kind) (request response : LineMap) (times : Times) (a : Decision) (stated : Option ℕ)
-    (d : Decides kind request response times a) → d.stated ≡ stated
+    (d : DecidesMatched kind request response times a) → d.stated ≡ stated
     → Answers kind (directed request) (directed response) (freshness_at stated times response) a
 by_stated kind request response times a stated d e =
     subst (λ (o : Option ℕ). Answers kind (directed request) (directed response) (freshness_at o times response) a) e
     d.answers
 
-pub one_decision : (kind : Kind) (request response : LineMap) (times : Times) (a b : Decision)
-    → Decides kind request response times a → Decides kind request response times b → a ≡ b
-one_decision kind request response times a b h k =
+one_matched : (kind : Kind) (request response : LineMap) (times : Times) (a b : Decision)
+    → DecidesMatched kind request response times a → DecidesMatched kind request response times b → a ≡ b
+one_matched kind request response times a b h k =
     let same : h.stated ≡ k.stated =
     one_lifetime kind times.response response h.stated k.stated h.lifetime k.lifetime in
     one_answer kind (directed request) (directed response) (freshness_at k.stated times response) a b
@@ -205,9 +207,9 @@ module _ (kind : Kind) (asks tells : Directives) (l a b : ℕ) (h : a ≤ b) whe
   )
 
 module _ (kind : Kind) (request response : LineMap) (times : Times) (later : ℕ) where
-  pub from_store_before : (a b : Decision) → times.now ≤ later → Decides kind request response times a
-      → Decides kind request response (record times { now = later }) b → IsFromStore b → IsFromStore a
-  from_store_before a b l h k s =
+  from_store_matched : (a b : Decision) → times.now ≤ later → DecidesMatched kind request response times a
+      → DecidesMatched kind request response (record times { now = later }) b → IsFromStore b → IsFromStore a
+  from_store_matched a b l h k s =
       let same : k.stated ≡ h.stated =
       one_lifetime kind times.response response k.stated h.stated k.lifetime h.lifetime in
       let after = by_stated kind request response (record times { now = later }) b h.stated k same in
@@ -218,9 +220,9 @@ module _ (kind : Kind) (request response : LineMap) (times : Times) (later : ℕ
       (capped (age_at times response)) (capped (age_at (record times { now = later }) response))
       (age_grows times later response l) good)
 
-  pub fresh_before : (a : Decision) → times.now ≤ later → Decides kind request response times a
-      → Decides kind request response (record times { now = later }) Serve → a ≡ Serve
-  fresh_before a l h k =
+  fresh_matched : (a : Decision) → times.now ≤ later → DecidesMatched kind request response times a
+      → DecidesMatched kind request response (record times { now = later }) Serve → a ≡ Serve
+  fresh_matched a l h k =
       let same : k.stated ≡ h.stated =
       one_lifetime kind times.response response k.stated h.stated k.lifetime h.lifetime in
       let after = by_stated kind request response (record times { now = later }) Serve h.stated k same in
@@ -234,3 +236,69 @@ module _ (kind : Kind) (request response : LineMap) (times : Times) (later : ℕ
       ) in
       one_answer kind (directed request) (directed response) (freshness_at h.stated times response) a Serve h.answers
       before
+
+-- ---- with the request that the response answered
+
+pub one_unstored_answer : (request : Request) (a b : Decision) → AnswersUnstored request a → AnswersUnstored request b
+    → a ≡ b
+one_unstored_answer request Fetch Fetch h k = refl
+one_unstored_answer request Fetch Unavailable h k = let no = h k.0 in let yes = k.1 in absurd (cc (no, yes))
+one_unstored_answer request Unavailable Fetch h k = let no = k h.0 in let yes = h.1 in absurd (cc (no, yes))
+one_unstored_answer request Unavailable Unavailable h k = refl
+one_unstored_answer request Serve b h k = absurd h
+one_unstored_answer request ServeAndRevalidate b h k = absurd h
+one_unstored_answer request ServeStale b h k = absurd h
+one_unstored_answer request RevalidateOrServe b h k = absurd h
+one_unstored_answer request Revalidate b h k = absurd h
+one_unstored_answer request Fetch Serve h k = absurd k
+one_unstored_answer request Fetch ServeAndRevalidate h k = absurd k
+one_unstored_answer request Fetch ServeStale h k = absurd k
+one_unstored_answer request Fetch RevalidateOrServe h k = absurd k
+one_unstored_answer request Fetch Revalidate h k = absurd k
+one_unstored_answer request Unavailable Serve h k = absurd k
+one_unstored_answer request Unavailable ServeAndRevalidate h k = absurd k
+one_unstored_answer request Unavailable ServeStale h k = absurd k
+one_unstored_answer request Unavailable RevalidateOrServe h k = absurd k
+one_unstored_answer request Unavailable Revalidate h k = absurd k
+
+unstored_not_from_store : (request : Request) (a : Decision) → AnswersUnstored request a → ¬ (IsFromStore a)
+unstored_not_from_store request Serve h s = h
+unstored_not_from_store request ServeAndRevalidate h s = h
+unstored_not_from_store request ServeStale h s = h
+unstored_not_from_store request RevalidateOrServe h s = s
+unstored_not_from_store request Revalidate h s = s
+unstored_not_from_store request Unavailable h s = s
+unstored_not_from_store request Fetch h s = s
+
+module _ (kind : Kind) (stored request : Request) (response : LineMap) where
+  pub one_decision : (times : Times) (a b : Decision) → Decides kind stored request response times a
+      → Decides kind stored request response times b → a ≡ b
+  one_decision times a b (inl h) (inl k) = one_matched kind request.fields response times a b h.1 k.1
+  one_decision times a b (inl h) (inr k) = absurd (k.0 h.0)
+  one_decision times a b (inr h) (inl k) = absurd (h.0 k.0)
+  one_decision times a b (inr h) (inr k) = one_unstored_answer request a b h.1 k.1
+
+  pub one_decision_by : (freshness : Freshness) (a b : Decision)
+      → DecidesBy kind stored request response freshness a → DecidesBy kind stored request response freshness b
+      → a ≡ b
+  one_decision_by freshness a b (inl h) (inl k) =
+      one_answer kind (directed request.fields) (directed response) freshness a b h.1 k.1
+  one_decision_by freshness a b (inl h) (inr k) = absurd (k.0 h.0)
+  one_decision_by freshness a b (inr h) (inl k) = absurd (h.0 k.0)
+  one_decision_by freshness a b (inr h) (inr k) = one_unstored_answer request a b h.1 k.1
+
+  pub from_store_before : (times : Times) (later : ℕ) (a b : Decision) → times.now ≤ later
+      → Decides kind stored request response times a
+      → Decides kind stored request response (record times { now = later }) b → IsFromStore b → IsFromStore a
+  from_store_before times later a b l (inl h) (inl k) s =
+      from_store_matched kind request.fields response times later a b l h.1 k.1 s
+  from_store_before times later a b l (inr h) (inl k) s = absurd (h.0 k.0)
+  from_store_before times later a b l h (inr k) s = absurd (unstored_not_from_store request b k.1 s)
+
+  pub fresh_before : (times : Times) (later : ℕ) (a : Decision) → times.now ≤ later
+      → Decides kind stored request response times a
+      → Decides kind stored request response (record times { now = later }) Serve → a ≡ Serve
+  fresh_before times later a l (inl h) (inl k) =
+      fresh_matched kind request.fields response times later a l h.1 k.1
+  fresh_before times later a l (inr h) (inl k) = absurd (h.0 k.0)
+  fresh_before times later a l h (inr k) = absurd k.1

@@ -1,45 +1,16 @@
 -- What the steps of an update leave, field by field.
 use Rattle.std.proofs.Common.{◌≡◌, ◌∙◌, ℕ, Bool, true, false, List, [], ◌∷◌, ◌++◌, length, refl, sym, ap, subst}
 use Rattle.std.proofs.Common.{arith, inl, inr}
-use Rattle.std.specs.Prelude.{IsTrue, ◌↔◌, ◌⊎◌, ◌&&◌, not, nat_lt, bytes_eq, codes, Option, if◌then◌else◌}
+use Rattle.std.specs.Prelude.{◌⊎◌, ◌&&◌, not, nat_lt, bytes_eq, if◌then◌else◌}
 use Rattle.std.specs.List.{list_any}
 use Rattle.std.proofs.lemmas.Bool.{cases_Bool, lt-ltb}
-use Rattle.std.proofs.lemmas.List.Folds.{Any-from_list_any, list_any-from_Any}
 use Rattle.std.proofs.lemmas.Slice.Eq.{bytes_eq-Decides}
 use Rattle.http_header.specs.FieldValue.{FieldValue}
 use Rattle.http_header.specs.HeaderMap.{Entries, keys}
-use Rattle.http_header.specs.Token.{lowercase}
-use Rattle.headers.specs.Connection.{HasOption}
 use Rattle.headers.specs.LineMap.{LineMap, after_step, lines_at, put, run}
 use Rattle.headers.specs.Lines.{Line, lines_of}
 use Rattle.headers.specs.declared.Step.{Step}
 use Rattle.headers_cache_policy.specs.Freshening.{AddsField, AddsPut, PutsLines, freshened, is_kept}
-use Rattle.headers_cache_policy.specs.Freshening.{is_kept_by, list_in}
-
--- the test that Connection makes of its options
-abbrev pub is_option : List ℕ → List ℕ → Bool
-is_option name option = bytes_eq (lowercase option) (lowercase name)
-
-has_option : (options : List (List ℕ)) (name : List ℕ) → list_any (is_option name) options ≡ true
-    → HasOption options name
-has_option options name found =
-    let a = Any-from_list_any (is_option name) options found in
-    (a.0, a.1, a.2, a.3, (bytes_eq-Decides (lowercase a.1) (lowercase name)).0 a.4)
-
-any_option : (options : List (List ℕ)) (name : List ℕ) → HasOption options name
-    → list_any (is_option name) options ≡ true
-any_option options name a =
-    list_any-from_Any (is_option name) options
-    (a.0, a.1, a.2, a.3, (bytes_eq-Decides (lowercase a.1) (lowercase name)).1 a.4)
-
-pub test_of_options : (r : Bool) (options : List (List ℕ)) (name : List ℕ) → (IsTrue r ↔ HasOption options name)
-    → r ≡ list_any (is_option name) options
-test_of_options true options name h = sym (any_option options name (h.0 refl))
-test_of_options false options name h =
-    elim (cases_Bool (list_any (is_option name) options)) [
-      | inl found ↦ let wrong : false ≡ true = h.1 (has_option options name found) in absurd (cc wrong)
-      | inr none ↦ sym none
-    ]
 
 run-append : (map : LineMap) (steps : List Step) (step : Step) (name : List ℕ)
     → run map (steps ++ step ∷ []) name ≡ after_step (run map steps) step name
@@ -161,20 +132,17 @@ module _ (update : LineMap) (steps : List Step) (k : List ℕ) (left : List (Lis
             ];
       }
 
--- one more field, by what Connection names
-pub updates_more : (update : LineMap) (options : Option Line) (old new : List Step) (k : List ℕ) (left : List (List ℕ))
-    → options ≡ list_in (update (codes "connection")) → UpdatesSoFar update old (k ∷ left)
-    → AddsField (is_kept_by options k) k (update k) old new → UpdatesSoFar update new left
-updates_more update options old new k left o h a =
+-- one more field
+pub updates_more : (update : LineMap) (old new : List Step) (k : List ℕ) (left : List (List ℕ))
+    → UpdatesSoFar update old (k ∷ left) → AddsField (is_kept update k) k (update k) old new
+    → UpdatesSoFar update new left
+updates_more update old new k left h a =
     elim (cases_Bool (is_kept update k)) [
       | inl stays ↦
-          let same : new ≡ old = rw stays at at_update in
+          let same : new ≡ old = rw stays at a in
           subst (λ (ss : List Step). UpdatesSoFar update ss left) (sym same) (kept update old k left h stays)
       | inr changes ↦
-          let added : AddsPut k (update k) old new = rw changes at at_update in
+          let added : AddsPut k (update k) old new = rw changes at a in
           subst (λ (ss : List Step). UpdatesSoFar update ss left) (sym added.2)
           (put_more update old k left h added.0 changes added.1)
     ]
-  where
-    at_update : AddsField (is_kept update k) k (update k) old new
-    at_update = subst (λ (p : Option Line). AddsField (is_kept_by p k) k (update k) old new) o a

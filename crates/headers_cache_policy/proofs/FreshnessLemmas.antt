@@ -2,7 +2,7 @@
 use Rattle.std.proofs.Common.{◌≡◌, ℕ, ◌-◌, ◌/◌, Option, Some, None, MatchOption, refl, ap, inl, inr, codes}
 use Rattle.headers.specs.LineMap.{LineMap}
 use Rattle.headers_cache_policy.specs.Directives.{directed}
-use Rattle.headers_cache_policy.specs.Fields.{date_in, dated}
+use Rattle.headers_cache_policy.specs.Fields.{capped, date_in, dated}
 use Rattle.headers_cache_policy.specs.Freshness.{HasHeuristic, HasLifetime, StatesAge, StatesNoAge}
 use Rattle.headers_cache_policy.specs.declared.directives.Directives.{Directives}
 use Rattle.headers_cache_policy.specs.declared.kind.Kind.{Kind}
@@ -29,7 +29,7 @@ module _ (kind : Kind) (received : ℕ) (response : LineMap) where
   seconds_once n m (inl h) (inr k) = absurd (stated_or_not kind (directed response) n h k.0)
   seconds_once n m (inr h) (inl k) = absurd (stated_or_not kind (directed response) m k h.0)
   seconds_once n m (inr h) (inr k) =
-      expires_once (date_in (codes "expires") response) (dated received response) n m h.2 k.2
+      expires_once (date_in received (codes "expires") response) (dated received response) n m h.2 k.2
 
   some_or_none : (n : ℕ) → HasLifetime kind received response (Some n) → ¬ (HasLifetime kind received response None)
   some_or_none n (inl h) k = stated_or_not kind (directed response) n h k.0
@@ -51,6 +51,6 @@ module _ (kind : Kind) (status received : ℕ) (response : LineMap) where
   one_heuristic (Some n) (Some m) h k =
       let found : Some h.1.0 ≡ Some k.1.0 = cc (h.1.1, k.1.1) in
       let same : h.1.0 ≡ k.1.0 = cc found in
-      let tenth : (dated received response - h.1.0) / 10 ≡ (dated received response - k.1.0) / 10 =
-      ap (λ (modified : ℕ). (dated received response - modified) / 10) same in
+      let tenth : capped (dated received response - h.1.0) / 10 ≡ capped (dated received response - k.1.0) / 10 =
+      ap (λ (modified : ℕ). capped (dated received response - modified) / 10) same in
       let seconds : n ≡ m = cc (h.1.2, k.1.2, tenth) in ap (λ (x : ℕ). Some x) seconds

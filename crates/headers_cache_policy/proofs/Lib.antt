@@ -1,9 +1,11 @@
+pub mod DecidableLemmas
 pub mod DecisionLemmas
 pub mod DirectiveLemmas
+pub mod ExistenceLemmas
 pub mod FieldLemmas
 pub mod FresheningLemmas
 pub mod FreshnessLemmas
-pub mod NumberLemmas
-pub mod StoringLemmas
+pub mod ReadingLemmas
+pub mod StrictLemmas
 pub mod ValidatingLemmas
 pub mod VaryLemmas

@@ -2,9 +2,11 @@
 use Rattle.std.specs.Prelude.{◌≡◌, ◌⊎◌, ⊤, ℕ, ◌+◌, ◌-◌, ◌<◌, ◌≤◌, true, false, Option, IfSome, IsSome}
 use Rattle.std.specs.Prelude.{IsSomeAnd, unwrap_or}
 use Rattle.headers.specs.LineMap.{LineMap}
-use Rattle.headers_cache_policy.specs.Age.{age_at, capped}
+use Rattle.headers_cache_policy.specs.Age.{age_at}
 use Rattle.headers_cache_policy.specs.Directives.{directed}
+use Rattle.headers_cache_policy.specs.Fields.{capped}
 use Rattle.headers_cache_policy.specs.Freshness.{HasLifetime}
+use Rattle.headers_cache_policy.specs.Requests.{IsSafe, Request}
 use Rattle.headers_cache_policy.specs.Varying.{Suits}
 use Rattle.headers_cache_policy.specs.declared.age.Times.{Times}
 use Rattle.headers_cache_policy.specs.declared.directives.Directives.{Directives}
@@ -104,27 +106,36 @@ abbrev pub freshness_at : Option ℕ → Times → LineMap → Freshness
 freshness_at stated times response =
     record { lifetime = unwrap_or stated 0; age = capped (age_at times response) }
 
--- the answer by the lifetime that is stated
-pub record Decides (kind : Kind) (request response : LineMap) (times : Times) (decision : Decision) : Type 0 where
+-- the answer by the lifetime that is stated, if the response suits the request
+pub record DecidesMatched (kind : Kind) (request response : LineMap) (times : Times) (decision : Decision)
+    : Type 0 where
   pub stated : Option ℕ
   pub lifetime : HasLifetime kind times.response response stated
   pub answers : Answers kind (directed request) (directed response) (freshness_at stated times response) decision
 
--- Which facts give each answer if no stored response suits the request (section 5.2.1.7).
-abbrev pub AnswersUnstored : Directives → Decision → Type 0
-AnswersUnstored asks Fetch = asks.only_if_cached ≡ false
-AnswersUnstored asks Unavailable = asks.only_if_cached ≡ true
-AnswersUnstored asks Serve = ⊥
-AnswersUnstored asks ServeAndRevalidate = ⊥
-AnswersUnstored asks ServeStale = ⊥
-AnswersUnstored asks RevalidateOrServe = ⊥
-AnswersUnstored asks Revalidate = ⊥
+-- Which facts give each answer if no stored response suits the request: the origin answers, unless the request says
+-- `only-if-cached` (section 5.2.1.7). A request whose method isn't safe is written through to the origin in any case
+-- (section 4).
+abbrev pub AnswersUnstored : Request → Decision → Type 0
+AnswersUnstored request Fetch = IsSafe request.method → (directed request.fields).only_if_cached ≡ false
+AnswersUnstored request Unavailable = IsSafe request.method × ((directed request.fields).only_if_cached ≡ true)
+AnswersUnstored request Serve = ⊥
+AnswersUnstored request ServeAndRevalidate = ⊥
+AnswersUnstored request ServeStale = ⊥
+AnswersUnstored request RevalidateOrServe = ⊥
+AnswersUnstored request Revalidate = ⊥
 
--- the answer by a stored response, which suits the request or doesn't
-abbrev pub DecidesStored : Kind → LineMap → LineMap → LineMap → Times → Decision → Type 0
-DecidesStored kind stored request response times decision =
-    (Suits stored request response × Decides kind request response times decision)
-    ⊎ ((¬ (Suits stored request response)) × AnswersUnstored (directed request) decision)
+-- the answer by a response that answered the stored request, which suits the new one or doesn't
+abbrev pub Decides : Kind → Request → Request → LineMap → Times → Decision → Type 0
+Decides kind stored request response times decision =
+    (Suits stored request response × DecidesMatched kind request.fields response times decision)
+    ⊎ ((¬ (Suits stored request response)) × AnswersUnstored request decision)
+
+-- the same by a lifetime and an age
+abbrev pub DecidesBy : Kind → Request → Request → LineMap → Freshness → Decision → Type 0
+DecidesBy kind stored request response freshness decision =
+    (Suits stored request response × Answers kind (directed request.fields) (directed response) freshness decision)
+    ⊎ ((¬ (Suits stored request response)) × AnswersUnstored request decision)
 
 -- the answer is the stored response, without waiting
 abbrev pub IsFromStore : Decision → Type 0
@@ -135,3 +146,7 @@ IsFromStore RevalidateOrServe = ⊥
 IsFromStore Revalidate = ⊥
 IsFromStore Unavailable = ⊥
 IsFromStore Fetch = ⊥
+
+-- the answer is the stored response, without waiting or if the origin fails
+abbrev pub MayComeFromStore : Decision → Type 0
+MayComeFromStore decision = IsFromStore decision ⊎ (decision ≡ RevalidateOrServe)

@@ -1,55 +1,60 @@
 -- What Cache-Control directs (RFC 9111, section 5.2, and RFC 5861).
-use Rattle.std.specs.Prelude.{ℕ, ◌-◌, Bool, true, false, ◌&&◌, ◌==◌, nat_lt, List, [], ◌∷◌, length, find, Option}
-use Rattle.std.specs.Prelude.{None, option_map, unwrap_or, bytes_eq, slice_index, codes, if◌then◌else◌}
-use Rattle.std.specs.List.{before_first, after_first, list_any, position_or_len, slice_range}
-use Rattle.http_header.specs.Token.{lowercase}
+use Rattle.std.specs.Prelude.{◌≡◌, ℕ, ◌-◌, true, false, ◌&&◌, ◌||◌, List, [], ◌∷◌, length, take, drop, Any}
+use Rattle.std.specs.Prelude.{Option, Some, None, IsSomeAnd, IsTrue, option_and_then, option_map, unwrap_or, bytes_eq}
+use Rattle.std.specs.Prelude.{codes, if◌then◌else◌}
+use Rattle.std.specs.Option.{option_map_or, option_or}
+use Rattle.std.specs.List.{prefix_len}
+use Rattle.http_header.specs.Token.{is_token_byte}
 use Rattle.headers.specs.LineMap.{LineMap}
-use Rattle.headers.specs.Lines.{Line}
-use Rattle.headers.specs.Merge.{merge}
-use Rattle.headers.specs.Places.{comma, items}
-use Rattle.headers.specs.Text.{quote}
-use Rattle.headers_cache_policy.specs.Fields.{delta_seconds, greatest}
+use Rattle.headers_fields.specs.Directives.{DirectiveParts, directive_text, is_directive, is_named}
+use Rattle.headers_fields.specs.Members.{field_members}
+use Rattle.headers_fields.specs.Numbers.{number_within}
+use Rattle.headers_fields.specs.Scan.{Member}
+use Rattle.headers_fields.specs.Scan.Member.{Whole, Malformed}
+use Rattle.headers_fields.specs.Values.{ValueParts, is_token, octets_of}
+use Rattle.headers_fields.specs.Values.ValueParts.{TokenText, QuotedText}
+use Rattle.headers_cache_policy.specs.Fields.{greatest}
 use Rattle.headers_cache_policy.specs.declared.directives.Directives.{Directives}
 
--- the members of a list by comma: its lines are joined (RFC 9110, section 5.3)
-abbrev pub members : List Line → List (List ℕ)
-members lines = items comma (merge comma lines)
+-- the members of the field in all its lines, each line by itself
+abbrev pub members : LineMap → List Member
+members message = field_members true (message (codes "cache-control"))
 
-abbrev pub is_equals : ℕ → Bool
-is_equals b = b == 61
+-- the value that a text is, if it is one at all: a token, or what is between the quotes at its ends
+abbrev pub value_of : List ℕ → ValueParts
+value_of text = if is_token text then TokenText text else QuotedText (take (length text - 2) (drop 1 text))
 
--- the name of a directive: all that stands before its first `=`
-abbrev pub name_in : List ℕ → List ℕ
-name_in member = before_first is_equals member
+abbrev pub argument_of : List ℕ → Option ValueParts
+argument_of [] = None
+argument_of (b ∷ text) = Some (value_of text)
 
--- an `=` stands in the member, and an argument after it
-abbrev pub has_argument : List ℕ → Bool
-has_argument member = nat_lt (position_or_len is_equals member) (length member)
+-- the directive that a text is, if it is one at all: the token that it begins with, and what follows the next byte
+abbrev pub parts_of : List ℕ → DirectiveParts
+parts_of text =
+    record {
+      name = take (prefix_len is_token_byte text) text;
+      argument = argument_of (drop (prefix_len is_token_byte text) text);
+    }
 
--- what stands between the quotes at both ends, else all of it
-abbrev pub unquoted : List ℕ → List ℕ
-unquoted argument =
-    if nat_lt 1 (length argument)
-    && (slice_index argument 0 == quote && slice_index argument (length argument - 1) == quote)
-    then slice_range argument 1 (length argument - 1) else argument
+-- the directive that a text is, if it is one: then it is written as these parts are (section 5.2)
+unfoldable pub directive_in : List ℕ → Option DirectiveParts
+directive_in text =
+    if is_directive (parts_of text) && bytes_eq text (directive_text (parts_of text)) then Some (parts_of text) else None
 
--- the member is the directive of this name; names ignore case
-abbrev pub is_directive : List ℕ → List ℕ → Bool
-is_directive name member = bytes_eq (lowercase (name_in member)) (lowercase name)
+-- the directive that a member is
+abbrev pub said_in : Member → Option DirectiveParts
+said_in (Whole text) = directive_in text
+said_in Malformed = None
 
--- The directive is given, with an argument or without one. So `private` and `no-cache` that name fields count as if
--- they named none, which a cache may do (sections 5.2.2.4 and 5.2.2.7).
-abbrev pub is_given : List ℕ → List (List ℕ) → Bool
-is_given name all = list_any (is_directive name) all
+-- The seconds of a directive: those of its argument, `bad` if that is no number, and `bare` without one. A token and a
+-- quoted-string mean the same octets (section 5.2).
+abbrev pub seconds_in : ℕ → ℕ → DirectiveParts → ℕ
+seconds_in bare bad directive =
+    option_map_or (λ value. unwrap_or (number_within greatest (octets_of value)) bad) directive.argument bare
 
--- the seconds of a member: those of its argument, `bad` if that is no number, and `bare` without one
-abbrev pub seconds_in : ℕ → ℕ → List ℕ → ℕ
-seconds_in bare bad member =
-    if has_argument member then unwrap_or (delta_seconds (unquoted (after_first is_equals member))) bad else bare
-
--- the seconds of the first member that is the directive (section 4.2.1)
-abbrev pub seconds_given : List ℕ → ℕ → ℕ → List (List ℕ) → Option ℕ
-seconds_given name bare bad all = option_map (seconds_in bare bad) (find (is_directive name) all)
+-- the seconds of the directive if it has that name
+abbrev pub seconds_if : List ℕ → ℕ → ℕ → DirectiveParts → Option ℕ
+seconds_if name bare bad directive = if is_named name directive then Some (seconds_in bare bad directive) else None
 
 -- nothing is directed
 abbrev pub nothing : Directives
@@ -71,42 +76,79 @@ nothing =
       stale_if_error = None;
     }
 
--- What members direct. A number that is missing or can't be read is the strictest: the response is stale at once, and
--- the request takes no other (section 4.2.1). Only `max-stale` may stand without a number (section 5.2.1.2): any
--- staleness will do.
-abbrev pub directed_by : List (List ℕ) → Directives
-directed_by all =
+-- `no-cache, no-store, private, must-revalidate, max-age=0`: nothing is stored, and nothing is served that the origin
+-- wasn't asked about
+abbrev pub strictest : Directives
+strictest =
+    record nothing { no_cache = true; no_store = true; must_revalidate = true; private = true; max_age = Some 0 }
+
+-- What one directive directs. `private` and `no-cache` that name fields count as if they named none, which a cache may
+-- do (sections 5.2.2.4 and 5.2.2.7). A number that is missing or isn't one is the strictest: the response is stale at
+-- once, and the request takes no other (section 4.2.1). Only `max-stale` may stand without a number (section 5.2.1.2):
+-- any staleness will do.
+abbrev pub directs : DirectiveParts → Directives
+directs directive =
     record {
-      no_cache = is_given (codes "no-cache") all;
-      no_store = is_given (codes "no-store") all;
-      only_if_cached = is_given (codes "only-if-cached") all;
-      must_revalidate = is_given (codes "must-revalidate") all;
-      proxy_revalidate = is_given (codes "proxy-revalidate") all;
-      must_understand = is_given (codes "must-understand") all;
-      public = is_given (codes "public") all;
-      private = is_given (codes "private") all;
-      max_age = seconds_given (codes "max-age") 0 0 all;
-      s_max_age = seconds_given (codes "s-maxage") 0 0 all;
-      max_stale = seconds_given (codes "max-stale") greatest 0 all;
-      min_fresh = seconds_given (codes "min-fresh") greatest greatest all;
-      stale_while_revalidate = seconds_given (codes "stale-while-revalidate") 0 0 all;
-      stale_if_error = seconds_given (codes "stale-if-error") 0 0 all;
+      no_cache = is_named (codes "no-cache") directive;
+      no_store = is_named (codes "no-store") directive;
+      only_if_cached = is_named (codes "only-if-cached") directive;
+      must_revalidate = is_named (codes "must-revalidate") directive;
+      proxy_revalidate = is_named (codes "proxy-revalidate") directive;
+      must_understand = is_named (codes "must-understand") directive;
+      public = is_named (codes "public") directive;
+      private = is_named (codes "private") directive;
+      max_age = seconds_if (codes "max-age") 0 0 directive;
+      s_max_age = seconds_if (codes "s-maxage") 0 0 directive;
+      max_stale = seconds_if (codes "max-stale") greatest 0 directive;
+      min_fresh = seconds_if (codes "min-fresh") greatest greatest directive;
+      stale_while_revalidate = seconds_if (codes "stale-while-revalidate") 0 0 directive;
+      stale_if_error = seconds_if (codes "stale-if-error") 0 0 directive;
     }
 
--- `no-cache` and `no-store`
-abbrev pub strictest : Directives
-strictest = record nothing { no_cache = true; no_store = true }
+-- what both direct; of two numbers the first counts (section 4.2.1)
+abbrev pub with_later : Directives → Directives → Directives
+with_later first later =
+    record {
+      no_cache = first.no_cache || later.no_cache;
+      no_store = first.no_store || later.no_store;
+      only_if_cached = first.only_if_cached || later.only_if_cached;
+      must_revalidate = first.must_revalidate || later.must_revalidate;
+      proxy_revalidate = first.proxy_revalidate || later.proxy_revalidate;
+      must_understand = first.must_understand || later.must_understand;
+      public = first.public || later.public;
+      private = first.private || later.private;
+      max_age = option_or first.max_age later.max_age;
+      s_max_age = option_or first.s_max_age later.s_max_age;
+      max_stale = option_or first.max_stale later.max_stale;
+      min_fresh = option_or first.min_fresh later.min_fresh;
+      stale_while_revalidate = option_or first.stale_while_revalidate later.stale_while_revalidate;
+      stale_if_error = option_or first.stale_if_error later.stale_if_error;
+    }
 
--- A list that isn't text has no member, and directs as strictly as it can.
-abbrev pub directed_by_list : List (List ℕ) → Directives
-directed_by_list [] = strictest
-directed_by_list (member ∷ others) = directed_by (member ∷ others)
+-- what some directives direct
+abbrev pub directed_by : List DirectiveParts → Directives
+directed_by [] = nothing
+directed_by (directive ∷ others) = with_later (directs directive) (directed_by others)
 
--- without the field nothing is directed
-abbrev pub directed_by_lines : List Line → Directives
-directed_by_lines [] = nothing
-directed_by_lines (line ∷ lines) = directed_by_list (members (line ∷ lines))
+-- the directives that the members are, if each of them is one
+abbrev pub all_said : List Member → Option (List DirectiveParts)
+all_said [] = Some []
+all_said (member ∷ others) =
+    option_and_then (λ directive. option_map (λ rest. directive ∷ rest) (all_said others)) (said_in member)
 
--- what the field of a message directs
+-- If some member is no directive, the field directs as strictly as it can.
+abbrev pub directed_by_members : List Member → Directives
+directed_by_members all = option_map_or directed_by (all_said all) strictest
+
+-- what the field of a message directs; without a line nothing is directed
 abbrev pub directed : LineMap → Directives
-directed message = directed_by_lines (message (codes "cache-control"))
+directed message = directed_by_members (members message)
+
+-- some member of the field is no directive: a line is malformed, or what stands between two commas is
+abbrev pub IsMalformed : LineMap → Type 0
+IsMalformed message = Any (λ member. said_in member ≡ None) (members message)
+
+-- some member of the field is the directive of this name
+abbrev pub Says : List ℕ → LineMap → Type 0
+Says name message =
+    Any (λ member. IsSomeAnd (said_in member) (λ directive. IsTrue (is_named name directive))) (members message)

@@ -1,17 +1,19 @@
 -- What a 304 changes of a stored response (RFC 9111, sections 3.2 and 4.3.4).
-use Rattle.std.specs.Prelude.{◌≡◌, ℕ, Bool, false, ◌&&◌, ◌||◌, not, nat_lt, List, [], ◌∷◌, ◌++◌, length, Option}
-use Rattle.std.specs.Prelude.{Some, None}
+use Rattle.std.specs.Prelude.{◌≡◌, ℕ, Bool, true, false, ◌&&◌, ◌||◌, not, nat_lt, List, [], ◌∷◌, ◌++◌, length}
+use Rattle.std.specs.Prelude.{Option, MatchOption}
 use Rattle.std.specs.Prelude.{bytes_eq, codes, if◌then◌else◌}
 use Rattle.std.specs.Bool.{MatchBool}
 use Rattle.std.specs.List.{list_any}
 use Rattle.http_header.specs.Token.{lowercase}
 use Rattle.headers.specs.LineMap.{LineMap, run}
 use Rattle.headers.specs.Lines.{Line, lines_of}
-use Rattle.headers.specs.Merge.{merge}
-use Rattle.headers.specs.Places.{comma, items}
 use Rattle.headers.specs.declared.Encoded.{Encoded}
 use Rattle.headers.specs.declared.Step.{Step}
 use Rattle.headers.specs.declared.Step.TheVariants.{Put}
+use Rattle.headers_fields.specs.Members.{field_members}
+use Rattle.headers_fields.specs.Scan.{Member}
+use Rattle.headers_fields.specs.Scan.Member.{Whole, Malformed}
+use Rattle.headers_cache_policy.specs.Updating.{IsUpdated}
 
 -- The fields that no update changes: those of a connection (RFC 9110, section 7.6.1), those of a proxy (section 3.1),
 -- and those that speak of the stored content: its length, what was undone of it, and which part it is (section 3.2).
@@ -34,23 +36,18 @@ kept_names =
 unfoldable pub is_kept_name : List ℕ → Bool
 is_kept_name name = list_any (λ kept. bytes_eq name kept) kept_names
 
--- the lines as one list, if there are any
-abbrev pub list_in : List Line → Option Line
-list_in [] = None
-list_in (line ∷ lines) = Some (merge comma (line ∷ lines))
+-- the member is the option of this name; case is ignored
+abbrev pub is_option_of : List ℕ → Member → Bool
+is_option_of name (Whole option) = bytes_eq (lowercase option) (lowercase name)
+is_option_of name Malformed = false
 
--- some member of the list is the name; case is ignored
-abbrev pub is_member : Option Line → List ℕ → Bool
-is_member None name = false
-is_member (Some list) name = list_any (λ option. bytes_eq (lowercase option) (lowercase name)) (items comma list)
+-- Connection names the field
+abbrev pub is_named : LineMap → List ℕ → Bool
+is_named update name = list_any (is_option_of name) (field_members true (update (codes "connection")))
 
--- the field is one of those above, or is named by the options of Connection
-abbrev pub is_kept_by : Option Line → List ℕ → Bool
-is_kept_by options name = is_kept_name name || is_member options name
-
--- the update doesn't change the field of this name
+-- the update doesn't change the field of this name: it is one of those above, or Connection names it
 abbrev pub is_kept : LineMap → List ℕ → Bool
-is_kept update name = is_kept_by (list_in (update (codes "connection"))) name
+is_kept update name = is_kept_name name || is_named update name
 
 -- the stored fields, with those of the update in place of their own lines
 abbrev pub freshened : LineMap → LineMap → LineMap
@@ -60,6 +57,11 @@ freshened stored update name =
 -- the steps update every stored map so
 abbrev pub Freshens : LineMap → List Step → Type 0
 Freshens update steps = (stored : LineMap) (name : List ℕ) → run stored steps name ≡ freshened stored update name
+
+-- the steps by which an update freshens a stored response, if it is about that one
+abbrev pub FreshensIf : LineMap → LineMap → Option (List Step) → Type 0
+FreshensIf stored update found =
+    MatchOption found (¬ (IsUpdated stored update)) (λ steps. IsUpdated stored update × Freshens update steps)
 
 -- the step puts these lines under the name
 abbrev pub PutsLines : List ℕ → List Line → Step → Type 0

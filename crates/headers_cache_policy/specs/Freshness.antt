@@ -4,7 +4,7 @@ use Rattle.std.specs.Prelude.{None, MatchOption, codes}
 use Rattle.std.specs.List.{list_any}
 use Rattle.headers.specs.LineMap.{LineMap}
 use Rattle.headers_cache_policy.specs.Directives.{directed}
-use Rattle.headers_cache_policy.specs.Fields.{IsPresent, date_in, dated}
+use Rattle.headers_cache_policy.specs.Fields.{IsPresent, capped, date_in, dated}
 use Rattle.headers_cache_policy.specs.declared.directives.Directives.{Directives}
 use Rattle.headers_cache_policy.specs.declared.kind.Kind.{Kind}
 use Rattle.headers_cache_policy.specs.declared.kind.Kind.TheVariants.{Shared, Private}
@@ -24,13 +24,13 @@ StatesAge kind directives seconds = (shared_age kind directives ≡ Some seconds
 abbrev pub StatesNoAge : Kind → Directives → Type 0
 StatesNoAge kind directives = (shared_age kind directives ≡ None) × (directives.max_age ≡ None)
 
--- Expires lies so many seconds after Date: 0 if it isn't later, or if it is no valid date (section 5.3)
+-- Expires lies so many seconds after Date: 0 if it isn't later, or if it isn't one valid date (section 5.3)
 abbrev pub ExpiresAfter : ℕ → LineMap → ℕ → Type 0
 ExpiresAfter received response seconds =
-    MatchOption (date_in (codes "expires") response) (seconds ≡ 0)
+    MatchOption (date_in received (codes "expires") response) (seconds ≡ 0)
     (λ expires. seconds ≡ expires - dated received response)
 
--- Which facts give each lifetime (section 4.2.1), for a response that came at a moment: so many seconds by
+-- Which facts give each lifetime (section 4.2.1), for a response that came at that time: so many seconds by
 -- Cache-Control, or by Expires if Cache-Control says nothing; or none is stated.
 abbrev pub HasLifetime : Kind → ℕ → LineMap → Option ℕ → Type 0
 HasLifetime kind received response (Some seconds) =
@@ -61,7 +61,7 @@ MayGuess kind status received response = HasLifetime kind received response None
 abbrev pub HasHeuristic : Kind → ℕ → ℕ → LineMap → Option ℕ → Type 0
 HasHeuristic kind status received response (Some seconds) =
     MayGuess kind status received response
-    × ((modified : ℕ) × (date_in (codes "last-modified") response ≡ Some modified)
-    × (seconds ≡ (dated received response - modified) / 10))
+    × ((modified : ℕ) × (date_in received (codes "last-modified") response ≡ Some modified)
+    × (seconds ≡ capped (dated received response - modified) / 10))
 HasHeuristic kind status received response None =
-    MayGuess kind status received response → date_in (codes "last-modified") response ≡ None
+    MayGuess kind status received response → date_in received (codes "last-modified") response ≡ None

@@ -4,6 +4,8 @@ pub mod Directives
 pub mod Fields
 pub mod Freshening
 pub mod Freshness
+pub mod Requests
 pub mod Storing
+pub mod Updating
 pub mod Validating
 pub mod Varying

@@ -1,16 +1,13 @@
 -- What a cache may store (RFC 9111, section 3).
-use Rattle.std.specs.Prelude.{◌≡◌, ◌≢◌, ◌⊎◌, ⊤, ℕ, ◌≤◌, true, false, List, IsSome, codes}
+use Rattle.std.specs.Prelude.{◌≡◌, ◌≢◌, ◌⊎◌, ⊤, ℕ, ◌≤◌, true, false, IsSome, codes}
 use Rattle.headers.specs.LineMap.{LineMap}
 use Rattle.headers_cache_policy.specs.Directives.{directed}
 use Rattle.headers_cache_policy.specs.Fields.{IsPresent}
 use Rattle.headers_cache_policy.specs.Freshness.{IsHeuristic}
+use Rattle.headers_cache_policy.specs.Requests.{IsGetOrHead, Request}
 use Rattle.headers_cache_policy.specs.declared.directives.Directives.{Directives}
 use Rattle.headers_cache_policy.specs.declared.kind.Kind.{Kind}
 use Rattle.headers_cache_policy.specs.declared.kind.Kind.TheVariants.{Shared, Private}
-
--- the methods that the cache understands
-abbrev pub IsGetOrHead : List ℕ → Type 0
-IsGetOrHead method = (method ≡ codes "GET") ⊎ (method ≡ codes "HEAD")
 
 -- The status is final, the response is no part of another one, and the cache understands the status if
 -- `must-understand` is there. It understands those that are heuristically cacheable.
@@ -46,16 +43,16 @@ IsSuited kind status response tells =
     ⊎ IsHeuristic status
 
 -- All of section 3 holds of a response to a request, by what they direct.
-pub record StoresBy (kind : Kind) (method : List ℕ) (request : LineMap) (status : ℕ) (response : LineMap)
-    (asks tells : Directives) : Type 0 where
-  pub understood : IsGetOrHead method
+pub record StoresBy (kind : Kind) (request : Request) (status : ℕ) (response : LineMap) (asks tells : Directives)
+    : Type 0 where
+  pub understood : IsGetOrHead request.method
   pub stored : IsStatusStored status tells
   pub request_lets : asks.no_store ≡ false
   pub response_lets : IsStorable tells
-  pub shareable : IsShareable kind request tells
+  pub shareable : IsShareable kind request.fields tells
   pub suited : IsSuited kind status response tells
 
 -- the response may be stored
-abbrev pub MayStore : Kind → List ℕ → LineMap → ℕ → LineMap → Type 0
-MayStore kind method request status response =
-    StoresBy kind method request status response (directed request) (directed response)
+abbrev pub MayStore : Kind → Request → ℕ → LineMap → Type 0
+MayStore kind request status response =
+    StoresBy kind request status response (directed request.fields) (directed response)

@@ -3,9 +3,8 @@ use Rattle.std.specs.Prelude.{◌≡◌, ℕ, List, [], ◌∷◌, Option, Some,
 use Rattle.headers.specs.Date.{fixdate}
 use Rattle.headers.specs.LineMap.{LineMap, after_step, run}
 use Rattle.headers.specs.Lines.{Line}
-use Rattle.headers.specs.Shapes.{only_tag}
+use Rattle.headers.specs.Shapes.{only_date, only_tag}
 use Rattle.headers.specs.declared.Step.{Step}
-use Rattle.headers_cache_policy.specs.Fields.{date_in}
 
 -- the map with these lines under a name, in place of others
 abbrev pub with_lines : LineMap → List ℕ → List Line → LineMap
@@ -28,9 +27,9 @@ abbrev pub date_line : Option ℕ → List Line
 date_line None = []
 date_line (Some seconds) = fixdate seconds ∷ []
 
--- the date of its last modification, if Last-Modified is one
+-- the date of its last modification, if Last-Modified is one from 1970 on
 abbrev pub date_lines : LineMap → List Line
-date_lines response = date_line (date_in (codes "last-modified") response)
+date_lines response = date_line ((only_date {V = ℕ} (λ seconds. seconds)).value_of (response (codes "last-modified")))
 
 -- The request that validates a response: If-None-Match has its entity tag, and If-Modified-Since the date of its last
 -- modification. A validator that the response doesn't have isn't sent, and a field of the request's own neither.

@@ -1,20 +1,20 @@
 //! What a cache does with a request that a stored response could answer.
-ghost use Rattle.std.specs.Prelude.{◌≡◌, ◌≤◌, IfOk, IfSome};
+ghost use Rattle.std.specs.Prelude.{◌≡◌, ◌≤◌, IfSome};
 ghost use Rattle.std.specs.Bool.{MatchBool};
 ghost use Rattle.headers.specs.LineMap.{lines_at};
-ghost use Rattle.headers_cache_policy.specs.Directives.{directed};
-ghost use Rattle.headers_cache_policy.specs.Decisions.{Answers, AnswersUnstored, Decides, DecidesStored};
+ghost use Rattle.headers_cache_policy.specs.Decisions.{Answers, AnswersUnstored, Decides, DecidesBy, DecidesMatched};
 ghost use Rattle.headers_cache_policy.specs.Decisions.{IsNotRefused, IsServable};
 ghost use Rattle.headers_cache_policy.specs.Decisions.{IsGoodEnough, IsUsable, IsWanted, staleness};
 ghost use Rattle.headers_cache_policy.specs.Decisions.{MayServeMeanwhile, MayServeOnError, MayServeStale, MustBeFresh};
+ghost use Rattle.headers_cache_policy.specs.Requests.{request_of};
 
 use crate::age::{Times, current_age};
 use crate::directives::{Directives, read_directives};
 use crate::freshness::lifetime_by;
 use crate::kind::Kind;
+use crate::request::{RequestHead, is_safe};
 use crate::vary::matches;
 use headers::HeaderMap;
-use std::alloc::{AllocError, Global};
 
 /// What a cache does with a request that a stored response could answer.
 #[derive(Clone, Copy, Debug, PartialEq, Eq)]
@@ -34,7 +34,7 @@ pub enum Decision {
     /// The answer is 504: the stored response isn't good enough, and the request forbids to ask on
     /// (`only-if-cached`).
     Unavailable,
-    /// The origin has to answer: no stored response suits the request.
+    /// The origin has to answer: no stored response suits the request, or its method isn't safe.
     Fetch,
 }
 
@@ -47,78 +47,73 @@ pub struct Freshness {
     pub age: u64,
 }
 
-/// What a cache does with a request, by a response that it has stored under the same URI, with a
-/// method that allows it (RFC 9111, section 4). `stored` is the request that the response answered:
-/// if Vary says that it doesn't suit the new one, the answer is that of `decide_unstored`.
+/// What a cache does with a request, by a response that it has stored under the same URI (RFC 9111,
+/// section 4), with the lifetime that its origin states. `stored` is the request that the response
+/// answered: if its method or Vary keeps the response from answering the new one, the answer is that
+/// of `decide_unstored`.
+///
+/// Without a stated lifetime the response isn't fresh: to guess one, see `heuristic_lifetime` and
+/// `decide_by`.
 pub fn decide(
-    alloc: Global,
-    stored: &HeaderMap,
-    request: &HeaderMap,
+    stored: &RequestHead<'_>,
+    request: &RequestHead<'_>,
     response: &HeaderMap,
     times: Times,
     kind: Kind,
-) -> Result<Decision, AllocError>
-    ensures { IfOk result (DecidesStored kind (lines_at stored.now) (lines_at request.now)
-        (lines_at response.now) times) }
+) -> Decision
+    ensures { Decides kind (request_of stored.now) (request_of request.now) (lines_at response.now) times result }
 {
-    if matches(alloc, stored, request, response)? {
-        let decision = decide_matched(alloc, request, response, times, kind)?;
-        Ok(decision)
+    if matches(stored, request, response) {
+        decide_matched(request.fields, response, times, kind)
     } else {
-        let decision = decide_unstored(alloc, request)?;
-        Ok(decision)
+        decide_unstored(request)
+    }
+}
+
+/// The same as `decide`, by a lifetime and an age of the caller's.
+pub fn decide_by(
+    stored: &RequestHead<'_>,
+    request: &RequestHead<'_>,
+    response: &HeaderMap,
+    freshness: Freshness,
+    kind: Kind,
+) -> Decision
+    ensures { DecidesBy kind (request_of stored.now) (request_of request.now) (lines_at response.now) freshness result }
+{
+    if matches(stored, request, response) {
+        let asks = read_directives(request.fields);
+        let tells = read_directives(response);
+        answer(&asks, &tells, freshness, kind)
+    } else {
+        decide_unstored(request)
     }
 }
 
 /// What a cache does with a request that no stored response suits: `Fetch`, or `Unavailable` if the
-/// request says `only-if-cached` (RFC 9111, section 5.2.1.7).
-pub fn decide_unstored(alloc: Global, request: &HeaderMap) -> Result<Decision, AllocError>
-    ensures { IfOk result (AnswersUnstored (directed (lines_at request.now))) }
+/// request says `only-if-cached` (RFC 9111, section 5.2.1.7). A request whose method isn't safe is
+/// written through to the origin in any case (section 4).
+pub fn decide_unstored(request: &RequestHead<'_>) -> Decision
+    ensures { AnswersUnstored (request_of request.now) result }
 {
-    let asks = read_directives(alloc, request)?;
-    if asks.only_if_cached {
-        Ok(Decision::Unavailable)
+    if is_safe(request.method) && read_directives(request.fields).only_if_cached {
+        Decision::Unavailable
     } else {
-        Ok(Decision::Fetch)
+        Decision::Fetch
     }
 }
 
-/// What a cache does with a request that a stored response suits, by the lifetime that its origin
-/// states. Without one the response isn't fresh: to guess one, see `heuristic_lifetime` and
-/// `decide_by`. It is never `Fetch`.
-pub fn decide_matched(
-    alloc: Global,
-    request: &HeaderMap,
-    response: &HeaderMap,
-    times: Times,
-    kind: Kind,
-) -> Result<Decision, AllocError>
-    ensures { IfOk result (Decides kind (lines_at request.now) (lines_at response.now) times) }
+// What is done with a request that the response suits.
+fn decide_matched(request: &HeaderMap, response: &HeaderMap, times: Times, kind: Kind) -> Decision
+    ensures { DecidesMatched kind (lines_at request.now) (lines_at response.now) times result }
 {
-    let asks = read_directives(alloc, request)?;
-    let tells = read_directives(alloc, response)?;
-    let stated = lifetime_by(alloc, &tells, response, times.response, kind);
+    let asks = read_directives(request);
+    let tells = read_directives(response);
+    let stated = lifetime_by(&tells, response, times.response, kind);
     let freshness = Freshness {
         lifetime: stated.unwrap_or(0),
-        age: current_age(alloc, response, times),
+        age: current_age(response, times),
     };
-    Ok(answer(&asks, &tells, freshness, kind))
-}
-
-/// The same as `decide_matched`, by a lifetime and an age of the caller's.
-pub fn decide_by(
-    alloc: Global,
-    request: &HeaderMap,
-    response: &HeaderMap,
-    freshness: Freshness,
-    kind: Kind,
-) -> Result<Decision, AllocError>
-    ensures { IfOk result
-        (Answers kind (directed (lines_at request.now)) (directed (lines_at response.now)) freshness) }
-{
-    let asks = read_directives(alloc, request)?;
-    let tells = read_directives(alloc, response)?;
-    Ok(answer(&asks, &tells, freshness, kind))
+    answer(&asks, &tells, freshness, kind)
 }
 
 fn answer(asks: &Directives, tells: &Directives, freshness: Freshness, kind: Kind) -> Decision

@@ -1,22 +1,23 @@
 //! What Cache-Control directs a cache.
-ghost use Rattle.std.specs.Prelude.{◌≡◌, ℕ, IfOk};
-ghost use Rattle.std.specs.List.{after_first, list_any};
-ghost use Rattle.std.specs.Option.{option_copied};
+ghost use Rattle.std.specs.Prelude.{◌≡◌, ◌||◌, option_map};
 ghost use Rattle.headers.specs.LineMap.{lines_at};
-ghost use Rattle.headers.specs.Places.{comma, items};
-ghost use Rattle.headers_cache_policy.specs.Directives.{directed, directed_by, directed_by_list, has_argument};
-ghost use Rattle.headers_cache_policy.specs.Directives.{is_directive, is_equals, is_given, name_in, nothing};
-ghost use Rattle.headers_cache_policy.specs.Directives.{seconds_given, seconds_in, strictest, unquoted};
+ghost use Rattle.headers_fields.specs.Directives.{directive_parts};
+ghost use Rattle.headers_fields.specs.Members.{member_of};
+ghost use Rattle.headers_fields.specs.Numbers.{number_within};
+ghost use Rattle.headers_fields.specs.Values.{octets_of, value_parts};
+ghost use Rattle.headers_cache_policy.specs.Directives.{directed, directive_in, directs, nothing, said_in, seconds_if};
+ghost use Rattle.headers_cache_policy.specs.Fields.{greatest};
+ghost use Rattle.headers_cache_policy.specs.Directives.{strictest, with_later};
 
-use crate::directive_list::DirectiveList;
-use crate::fields::delta_seconds;
-use headers::{HeaderMap, HeaderMapExt, Refused, Vary};
-use std::alloc::{AllocError, Global};
+use headers::HeaderMap;
+use headers_fields::{Directive, FieldMembers, Malformed, read_directive};
+use http_header::CACHE_CONTROL;
 
 /// What Cache-Control directs a cache (RFC 9111, section 5.2, and RFC 5861). Numbers are seconds.
 ///
-/// The names of directives ignore case. Of a directive that stands twice the first counts. An
-/// argument may be quoted. `no-cache` and `private` that name fields count as if they named none.
+/// The names of directives ignore case. Of a directive that is given twice the first counts. An
+/// argument is a token or a quoted-string, which mean the same. `no-cache` and `private` that name
+/// fields count as if they named none.
 #[derive(Clone, Copy, Debug, PartialEq, Eq)]
 pub struct Directives {
     /// `no-cache`: no answer without asking the origin.
@@ -35,30 +36,55 @@ pub struct Directives {
     pub public: bool,
     /// `private`: stored by no shared cache.
     pub private: bool,
-    /// `max-age`: 0 if its number can't be read.
+    /// `max-age`: 0 without a valid number.
     pub max_age: Option<u64>,
-    /// `s-maxage`: 0 if its number can't be read.
+    /// `s-maxage`: 0 without a valid number.
     pub s_max_age: Option<u64>,
-    /// `max-stale`: the greatest number without an argument, 0 if its number can't be read.
+    /// `max-stale`: the greatest number without an argument, 0 if that is no number.
     pub max_stale: Option<u64>,
-    /// `min-fresh`: the greatest number if its number can't be read.
+    /// `min-fresh`: the greatest number without a valid number.
     pub min_fresh: Option<u64>,
-    /// `stale-while-revalidate`: 0 if its number can't be read.
+    /// `stale-while-revalidate`: 0 without a valid number.
     pub stale_while_revalidate: Option<u64>,
-    /// `stale-if-error`: 0 if its number can't be read.
+    /// `stale-if-error`: 0 without a valid number.
     pub stale_if_error: Option<u64>,
 }
 
-/// What Cache-Control of a message directs. All its lines are read as one list. A list that isn't
-/// text directs `no-cache` and `no-store`, and no field directs nothing.
-pub fn read_directives(alloc: Global, message: &HeaderMap) -> Result<Directives, AllocError>
-    ensures { IfOk result (λ directives. directives ≡ directed (lines_at message.now)) }
+/// What Cache-Control of a message directs, by all its field lines. Without one nothing is directed.
+///
+/// If a line is malformed, or a member is no directive, the field directs `no-cache`, `no-store`,
+/// `private`, `must-revalidate` and `max-age=0`, and nothing else. A directive that isn't known is
+/// ignored (RFC 9111, section 5.2.3).
+pub fn read_directives(message: &HeaderMap) -> Directives
+    ensures { result ≡ directed (lines_at message.now) }
 {
-    match message.typed_try_get::<DirectiveList>(alloc) {
-        Ok(Some(list)) => Ok(directed_by_list(list.as_list())),
-        Ok(None) => Ok(nothing()),
-        Err(Refused::Invalid(_)) => unreachable!(),
-        Err(Refused::Memory(refused)) => Err(refused),
+    let mut directives = nothing();
+    for member in FieldMembers::new(&message.get_all(CACHE_CONTROL)) {
+        match said_in(member) {
+            Some(directive) => directives = with_later(directives, directs(&directive)),
+            None => return strictest(),
+        }
+    }
+    directives
+}
+
+// The directive that a member is.
+fn said_in<'a>(member: Result<&'a [u8], Malformed>) -> Option<Directive<'a>>
+    ensures { option_map directive_parts result ≡ said_in (member_of member.entry) }
+{
+    match member {
+        Ok(text) => directive_in(text),
+        Err(Malformed) => None,
+    }
+}
+
+// The directive that a text is.
+fn directive_in(text: &[u8]) -> Option<Directive<'_>>
+    ensures { option_map directive_parts result ≡ directive_in text.now }
+{
+    match read_directive(text) {
+        Ok(directive) => Some(directive),
+        Err(Malformed) => None,
     }
 }
 
@@ -83,94 +109,82 @@ fn nothing() -> Directives
     }
 }
 
-// What a list directs.
-fn directed_by_list(list: &Vary) -> Directives
-    ensures { result ≡ directed_by_list (items comma list.now) }
-{
-    // A list that isn't text has no member.
-    if list.iter_strs().next().is_some() {
-        directed_by(list)
-    } else {
-        Directives {
-            no_cache: true,
-            no_store: true,
-            ..nothing()
-        }
-    }
-}
-
-// What the members of a list direct.
-fn directed_by(list: &Vary) -> Directives
-    ensures { result ≡ directed_by (items comma list.now) }
+// What a field directs that isn't well formed.
+fn strictest() -> Directives
+    ensures { result ≡ strictest }
 {
     Directives {
-        no_cache: is_given(list, "no-cache"),
-        no_store: is_given(list, "no-store"),
-        only_if_cached: is_given(list, "only-if-cached"),
-        must_revalidate: is_given(list, "must-revalidate"),
-        proxy_revalidate: is_given(list, "proxy-revalidate"),
-        must_understand: is_given(list, "must-understand"),
-        public: is_given(list, "public"),
-        private: is_given(list, "private"),
-        max_age: seconds_given(list, "max-age", 0, 0),
-        s_max_age: seconds_given(list, "s-maxage", 0, 0),
-        max_stale: seconds_given(list, "max-stale", u64::MAX, 0),
-        min_fresh: seconds_given(list, "min-fresh", u64::MAX, u64::MAX),
-        stale_while_revalidate: seconds_given(list, "stale-while-revalidate", 0, 0),
-        stale_if_error: seconds_given(list, "stale-if-error", 0, 0),
+        no_cache: true,
+        no_store: true,
+        must_revalidate: true,
+        private: true,
+        max_age: Some(0),
+        ..nothing()
     }
 }
 
-// Whether some member is the directive of this name.
-fn is_given(list: &Vary, name: &str) -> bool
-    ensures { result ≡ is_given name.now (items comma list.now) }
+// What one directive directs.
+fn directs(directive: &Directive<'_>) -> Directives
+    ensures { result ≡ directs (directive_parts directive.now) }
 {
-    list.iter_strs().any(|member| is_directive(member, name))
-}
-
-// The seconds of the first member that is the directive of this name.
-fn seconds_given(list: &Vary, name: &str, bare: u64, bad: u64) -> Option<u64>
-    ensures { result ≡ seconds_given name.now bare bad (items comma list.now) }
-{
-    match list.iter_strs().find(|member| is_directive(member, name)) {
-        Some(member) => Some(seconds_in(member, bare, bad)),
-        None => None,
+    Directives {
+        no_cache: directive.is(b"no-cache"),
+        no_store: directive.is(b"no-store"),
+        only_if_cached: directive.is(b"only-if-cached"),
+        must_revalidate: directive.is(b"must-revalidate"),
+        proxy_revalidate: directive.is(b"proxy-revalidate"),
+        must_understand: directive.is(b"must-understand"),
+        public: directive.is(b"public"),
+        private: directive.is(b"private"),
+        max_age: seconds_if(directive, b"max-age", 0, 0),
+        s_max_age: seconds_if(directive, b"s-maxage", 0, 0),
+        max_stale: seconds_if(directive, b"max-stale", u64::MAX, 0),
+        min_fresh: seconds_if(directive, b"min-fresh", u64::MAX, u64::MAX),
+        stale_while_revalidate: seconds_if(directive, b"stale-while-revalidate", 0, 0),
+        stale_if_error: seconds_if(directive, b"stale-if-error", 0, 0),
     }
 }
 
-// The name of a directive: all that stands before its first `=`.
-fn name_in(member: &str) -> &str
-    ensures { result.now ≡ name_in member.now }
+// The seconds of a directive, if it has this name: `bad` if its argument is no number, `bare` if it
+// has none.
+fn seconds_if(directive: &Directive<'_>, name: &[u8], bare: u64, bad: u64) -> Option<u64>
+    ensures { result ≡ seconds_if name.now bare bad (directive_parts directive.now) }
 {
-    match member.split_once('=') {
-        Some((name, _)) => name,
-        None => member,
+    if !directive.is(name) {
+        return None;
+    }
+    match directive.argument {
+        Some(value) => Some(value.number().unwrap_or(bad)),
+        None => Some(bare),
     }
 }
 
-// Whether a member is the directive of this name. Names ignore case.
-fn is_directive(member: &str, name: &str) -> bool
-    ensures { result ≡ is_directive name.now member.now }
+// What both direct. Of two numbers the first counts.
+fn with_later(first: Directives, later: Directives) -> Directives
+    ensures { result ≡ with_later first later }
 {
-    name_in(member).eq_ignore_ascii_case(name)
-}
-
-// The seconds of a member: `bad` if its argument is no number, `bare` if it has none.
-fn seconds_in(member: &str, bare: u64, bad: u64) -> u64
-    ensures { result ≡ seconds_in bare bad member.now }
-{
-    match member.split_once('=') {
-        Some((_, argument)) => delta_seconds(unquoted(argument.as_bytes())).unwrap_or(bad),
-        None => bare,
+    Directives {
+        no_cache: either(first.no_cache, later.no_cache),
+        no_store: either(first.no_store, later.no_store),
+        only_if_cached: either(first.only_if_cached, later.only_if_cached),
+        must_revalidate: either(first.must_revalidate, later.must_revalidate),
+        proxy_revalidate: either(first.proxy_revalidate, later.proxy_revalidate),
+        must_understand: either(first.must_understand, later.must_understand),
+        public: either(first.public, later.public),
+        private: either(first.private, later.private),
+        max_age: first.max_age.or(later.max_age),
+        s_max_age: first.s_max_age.or(later.s_max_age),
+        max_stale: first.max_stale.or(later.max_stale),
+        min_fresh: first.min_fresh.or(later.min_fresh),
+        stale_while_revalidate: first
+            .stale_while_revalidate
+            .or(later.stale_while_revalidate),
+        stale_if_error: first.stale_if_error.or(later.stale_if_error),
     }
 }
 
-// What stands between the quotes at both ends, else all of it.
-fn unquoted(argument: &[u8]) -> &[u8]
-    ensures { result.now ≡ unquoted argument.now }
+fn either(first: bool, later: bool) -> bool
+    ensures { result ≡ (first || later) }
 {
-    match argument {
-        [b'"', inner @ .., b'"'] => inner,
-        _ => argument,
-    }
+    first || later
 }

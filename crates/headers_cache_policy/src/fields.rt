@@ -1,61 +1,54 @@
 //! The fields that a cache reads.
-ghost use Rattle.std.specs.Prelude.{◌≡◌, ◌∷◌, [], IfOk, codes};
+ghost use Rattle.std.specs.Prelude.{◌≡◌, ◌≢◌, ◌∷◌, [], IfOk, codes, option_map};
 ghost use Rattle.std.specs.Bool.{MatchBool};
 ghost use Rattle.http_header.specs.HeaderMap.{get_all};
 ghost use Rattle.headers.specs.LineMap.{lines_at};
-ghost use Rattle.headers_cache_policy.specs.Fields.{IsPresent, age_of, age_value, date_in, dated, delta_seconds};
+ghost use Rattle.headers.specs.Lines.{lines_of, only_line};
+ghost use Rattle.headers_cache_policy.specs.Fields.{IsPresent, age_of, age_value, date_in};
 
-use headers::{Date, HeaderMap, HeaderMapExt, HeaderValue, LastModified, trim};
-use http_header::{AGE, AUTHORIZATION, AsHeaderName, EXPIRES};
+use headers::{HeaderMap, HeaderName, HeaderValue, trim};
+use headers_dates::{Timestamp, read_date};
+use headers_fields::number;
+use http_header::{AGE, AsHeaderName, GetAll};
 use std::alloc::{AllocError, Global};
 
-// The number of seconds that a text writes. One past the greatest counts as that.
-pub(crate) fn delta_seconds(text: &[u8]) -> Option<u64>
-    ensures { result ≡ delta_seconds text.now }
+// Whether the message has a field of this name.
+pub(crate) fn has_field(message: &HeaderMap, name: HeaderName) -> bool
+    ensures { MatchBool result (IsPresent name (lines_at message.now))
+        (¬ (IsPresent name (lines_at message.now))) }
 {
-    if text.is_empty() {
-        return None;
-    }
-    let mut seconds: u64 = 0;
-    for byte in text {
-        if !byte.is_ascii_digit() {
-            return None;
-        }
-        seconds = seconds
-            .saturating_mul(10)
-            .saturating_add(u64::from(*byte - b'0'));
-    }
-    Some(seconds)
+    message.get_all(name).iter().next().is_some()
 }
 
-// The dates of two fields, each if it is one valid date.
-
-fn date(alloc: Global, message: &HeaderMap) -> Option<u64>
-    ensures { result ≡ date_in (codes "date") (lines_at message.now) }
+// The line of a field that has no other line.
+pub(crate) fn only_line(message: &HeaderMap, name: HeaderName) -> Option<&[u8]>
+    ensures { option_map (λ line. line.now) result ≡ only_line (lines_at message.now name) }
 {
-    match message.typed_get::<Date>(alloc) {
-        Some(date) => Some(date.unix_secs()),
-        None => None,
+    let mut lines = message.get_all(name).iter();
+    match (lines.next(), lines.next()) {
+        (Some(line), None) => Some(line.as_bytes()),
+        _ => None,
     }
 }
 
-pub(crate) fn last_modified(alloc: Global, message: &HeaderMap) -> Option<u64>
-    ensures { result ≡ date_in (codes "last-modified") (lines_at message.now) }
+// Whether both have the same field lines.
+pub(crate) fn have_same_lines(
+    lines: &GetAll<'_, HeaderValue>,
+    others: &GetAll<'_, HeaderValue>,
+) -> bool
+    ensures { MatchBool result (lines_of lines.now ≡ lines_of others.now) (lines_of lines.now ≢ lines_of others.now) }
 {
-    match message.typed_get::<LastModified>(alloc) {
-        Some(date) => Some(date.unix_secs()),
-        None => None,
-    }
+    lines.eq_values(others)
 }
 
-// When the response was made: its Date, else when it came.
-pub(crate) fn dated(alloc: Global, response: &HeaderMap, received: u64) -> u64
-    ensures { result ≡ dated received (lines_at response.now) }
+// The date of a field, if its only line is one. `now` resolves a year of two digits.
+pub(crate) fn date(message: &HeaderMap, name: HeaderName, now: u64) -> Option<Timestamp>
+    ensures { result ≡ date_in now name (lines_at message.now) }
 {
-    date(alloc, response).unwrap_or(received)
+    read_date(trim(only_line(message, name)?), now)
 }
 
-// The number of Age: 0 without the field, or if it can't be read.
+// The number of Age: 0 without the field, or if it is no number.
 pub(crate) fn age_value(message: &HeaderMap) -> u64
     ensures { result ≡ age_value (lines_at message.now) }
 {
@@ -74,23 +67,7 @@ fn age_in(line: &HeaderValue) -> u64
         .iter()
         .position(|byte| *byte == b',')
         .unwrap_or(line.len());
-    delta_seconds(trim(&line[..end])).unwrap_or(0)
-}
-
-// Whether the request has credentials.
-pub(crate) fn has_authorization(request: &HeaderMap) -> bool
-    ensures { MatchBool result (IsPresent (codes "authorization") (lines_at request.now))
-        (¬ (IsPresent (codes "authorization") (lines_at request.now))) }
-{
-    request.get_all(AUTHORIZATION).iter().next().is_some()
-}
-
-// Whether the response has Expires, valid or not.
-pub(crate) fn has_expires(response: &HeaderMap) -> bool
-    ensures { MatchBool result (IsPresent (codes "expires") (lines_at response.now))
-        (¬ (IsPresent (codes "expires") (lines_at response.now))) }
-{
-    response.get_all(EXPIRES).iter().next().is_some()
+    number(trim(&line[..end])).unwrap_or(0)
 }
 
 // Copies of the values under a name.

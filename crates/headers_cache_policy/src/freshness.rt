@@ -1,58 +1,52 @@
 //! How long a response is fresh.
-ghost use Rattle.std.specs.Prelude.{◌≡◌, IfOk, MatchOption, codes};
+ghost use Rattle.std.specs.Prelude.{◌≡◌, ◌-◌, MatchOption, codes};
 ghost use Rattle.headers.specs.LineMap.{lines_at};
 ghost use Rattle.headers_cache_policy.specs.Directives.{directed};
-ghost use Rattle.headers_cache_policy.specs.Fields.{IsPresent};
+ghost use Rattle.headers_cache_policy.specs.Fields.{IsPresent, capped, dated};
 ghost use Rattle.headers_cache_policy.specs.Freshness.{ExpiresAfter, HasHeuristic, HasLifetime, StatesAge, StatesNoAge};
 ghost use Rattle.headers_cache_policy.specs.Freshness.{is_heuristic};
 
 use crate::directives::{Directives, read_directives};
-use crate::fields::{dated, last_modified};
+use crate::fields::{date, has_field};
 use crate::kind::Kind;
-use headers::{Expires, HeaderMap, HeaderMapExt, Refused};
+use headers::HeaderMap;
+use headers_dates::Timestamp;
 use http::StatusCode;
-use std::alloc::{AllocError, Global};
+use http_header::{DATE, EXPIRES, LAST_MODIFIED};
 
 /// How many seconds a response is fresh, if its origin says so (RFC 9111, section 4.2.1): `s-maxage`
-/// in a shared cache, else `max-age`, else Expires less Date. Expires that is no one valid date has
-/// passed.
+/// in a shared cache, else `max-age`, else Expires less Date. An Expires that isn't one valid date
+/// has passed.
 ///
-/// `received` is when the response came, in seconds since 1970: it stands for a Date that is missing
-/// or can't be read.
-pub fn lifetime(
-    alloc: Global,
-    response: &HeaderMap,
-    received: u64,
-    kind: Kind,
-) -> Result<Option<u64>, AllocError>
-    ensures { IfOk result (HasLifetime kind received (lines_at response.now)) }
+/// `received` is when the response came, in seconds since 1970: it replaces a Date that is missing
+/// or invalid, and dates with years of two digits are near it.
+pub fn lifetime(response: &HeaderMap, received: u64, kind: Kind) -> Option<u64>
+    ensures { HasLifetime kind received (lines_at response.now) result }
 {
-    let tells = read_directives(alloc, response)?;
-    Ok(lifetime_by(alloc, &tells, response, received, kind))
+    lifetime_by(&read_directives(response), response, received, kind)
 }
 
 /// How many seconds a response may be taken as fresh if its origin doesn't say so: a tenth of the
 /// time from its last modification to its Date (RFC 9111, section 4.2.2). `None` if the origin says
 /// so, if the status and Cache-Control let no cache guess, or if no last modification is known.
 pub fn heuristic_lifetime(
-    alloc: Global,
     status: StatusCode,
     response: &HeaderMap,
     received: u64,
     kind: Kind,
-) -> Result<Option<u64>, AllocError>
-    ensures { IfOk result (HasHeuristic kind status received (lines_at response.now)) }
+) -> Option<u64>
+    ensures { HasHeuristic kind status received (lines_at response.now) result }
 {
-    let tells = read_directives(alloc, response)?;
-    if lifetime_by(alloc, &tells, response, received, kind).is_some() {
-        return Ok(None);
+    let tells = read_directives(response);
+    if lifetime_by(&tells, response, received, kind).is_some() {
+        return None;
     }
     if !is_heuristic(status) && !tells.public {
-        return Ok(None);
+        return None;
     }
-    match last_modified(alloc, response) {
-        Some(modified) => Ok(Some(dated(alloc, response, received).saturating_sub(modified) / 10)),
-        None => Ok(None),
+    match date(response, LAST_MODIFIED, received) {
+        Some(modified) => Some(time_to_date(modified, response, received) / 10),
+        None => None,
     }
 }
 
@@ -67,7 +61,6 @@ pub(crate) fn is_heuristic(status: StatusCode) -> bool
 
 // The lifetime that the origin states, by what Cache-Control directs.
 pub(crate) fn lifetime_by(
-    alloc: Global,
     tells: &Directives,
     response: &HeaderMap,
     received: u64,
@@ -78,7 +71,7 @@ pub(crate) fn lifetime_by(
 {
     match stated_age(tells, kind) {
         Some(seconds) => Some(seconds),
-        None => lifetime_by_expires(alloc, response, received),
+        None => lifetime_by_expires(response, received),
     }
 }
 
@@ -93,19 +86,36 @@ fn stated_age(tells: &Directives, kind: Kind) -> Option<u64>
 }
 
 // Expires less Date, if Expires is there.
-fn lifetime_by_expires(alloc: Global, response: &HeaderMap, received: u64) -> Option<u64>
+fn lifetime_by_expires(response: &HeaderMap, received: u64) -> Option<u64>
     ensures { MatchOption result (¬ (IsPresent (codes "expires") (lines_at response.now)))
         (λ seconds. IsPresent (codes "expires") (lines_at response.now)
         × ExpiresAfter received (lines_at response.now) seconds) }
 {
-    match response.typed_try_get::<Expires>(alloc) {
-        Ok(Some(expires)) => Some(
-            expires
-                .unix_secs()
-                .saturating_sub(dated(alloc, response, received)),
-        ),
-        Ok(None) => None,
-        Err(Refused::Invalid(_)) => Some(0),
-        Err(Refused::Memory(_)) => unreachable!(),
+    if !has_field(response, EXPIRES) {
+        return None;
+    }
+    match date(response, EXPIRES, received) {
+        Some(expires) => Some(time_from_date(expires, response, received)),
+        None => Some(0),
+    }
+}
+
+// The seconds from the Date of a response to a later time.
+fn time_from_date(later: Timestamp, response: &HeaderMap, received: u64) -> u64
+    ensures { result ≡ later - dated received (lines_at response.now) }
+{
+    match date(response, DATE, received) {
+        Some(made) => later.seconds_after(made),
+        None => later.remaining_at(received),
+    }
+}
+
+// The seconds from an earlier time to the Date of a response.
+fn time_to_date(earlier: Timestamp, response: &HeaderMap, received: u64) -> u64
+    ensures { result ≡ capped (dated received (lines_at response.now) - earlier) }
+{
+    match date(response, DATE, received) {
+        Some(made) => made.seconds_after(earlier),
+        None => earlier.age_at(received),
     }
 }

@@ -1,42 +1,120 @@
 //! What follows from the definitions alone. A proof cites a law by calling it.
-ghost use Rattle.std.specs.Prelude.{◌≡◌, ◌⊎◌, ◌≤◌, ℕ, Option};
+ghost use Rattle.std.specs.Prelude.{◌≡◌, ◌⊎◌, ◌↔◌, ◌≤◌, ℕ, List, Option, Some, None, codes};
 ghost use Rattle.headers.specs.LineMap.{LineMap};
-ghost use Rattle.headers_cache_policy.specs.Age.{age_at, capped};
-ghost use Rattle.headers_cache_policy.specs.Decisions.{Answers, Decides, IsFromStore, IsServedMeanwhile};
-ghost use Rattle.headers_cache_policy.specs.Decisions.{IsTakenStale, MustBeFresh};
-ghost use Rattle.headers_cache_policy.specs.Fields.{greatest};
+ghost use Rattle.headers_fields.specs.Directives.{DirectiveParts, IsDirective};
+ghost use Rattle.headers_cache_policy.specs.Age.{age_at};
+ghost use Rattle.headers_cache_policy.specs.Decisions.{Answers, AnswersUnstored, Decides, DecidesBy, IsFromStore};
+ghost use Rattle.headers_cache_policy.specs.Decisions.{IsServedMeanwhile, IsTakenStale, MayComeFromStore, MustBeFresh};
+ghost use Rattle.headers_cache_policy.specs.Directives.{IsMalformed, Says, directive_in};
+ghost use Rattle.headers_cache_policy.specs.Fields.{capped, greatest};
 ghost use Rattle.headers_cache_policy.specs.Freshness.{HasHeuristic, HasLifetime};
+ghost use Rattle.headers_cache_policy.specs.Requests.{IsSafe, Request};
+ghost use Rattle.headers_cache_policy.specs.Storing.{MayStore};
 ghost use Rattle.headers_cache_policy.specs.declared.age.Times.{Times};
 ghost use Rattle.headers_cache_policy.specs.declared.decision.Decision.{Decision};
-ghost use Rattle.headers_cache_policy.specs.declared.decision.Decision.TheVariants.{Serve};
+ghost use Rattle.headers_cache_policy.specs.declared.decision.Decision.TheVariants.{Fetch, Serve};
 ghost use Rattle.headers_cache_policy.specs.declared.decision.Freshness.{Freshness};
 ghost use Rattle.headers_cache_policy.specs.declared.directives.Directives.{Directives};
 ghost use Rattle.headers_cache_policy.specs.declared.kind.Kind.{Kind};
+ghost use Rattle.headers_cache_policy.specs.declared.kind.Kind.TheVariants.{Shared};
 
-/// A response has one lifetime at most: the rows of `HasLifetime` exclude each other. `lifetime`
-/// gives one.
-#[tactic(auto, using(crate::proofs::FreshnessLemmas::one_lifetime))]
+/// A text is the directive that the grammar parses, and no other (RFC 9111, section 5.2): where the
+/// definitions of this crate speak of directives, they mean those of `headers_fields`.
+pub fn directives_follow_the_grammar()
+    ensures { (text : List ℕ) (directive : DirectiveParts) → directive_in text ≡ Some directive
+        ↔ IsDirective text directive }
+{}
+
+/// Each response has exactly one lifetime, or none by exactly one reading: the cases of
+/// `HasLifetime` cover each response and exclude each other. `lifetime` returns it.
 pub fn response_has_one_lifetime()
-    ensures { (kind : Kind) (received : ℕ) (response : LineMap) (a b : Option ℕ)
+    ensures some { (kind : Kind) (received : ℕ) (response : LineMap)
+        → (stated : Option ℕ) × HasLifetime kind received response stated }
+    ensures one { (kind : Kind) (received : ℕ) (response : LineMap) (a b : Option ℕ)
         → HasLifetime kind received response a → HasLifetime kind received response b → a ≡ b }
 {}
 
-/// A response has one guessed lifetime at most. `heuristic_lifetime` gives one.
-#[tactic(auto, using(crate::proofs::FreshnessLemmas::one_heuristic))]
+/// Each response has exactly one guess of its lifetime, or none. `heuristic_lifetime` returns it.
 pub fn response_has_one_heuristic()
-    ensures { (kind : Kind) (status received : ℕ) (response : LineMap) (a b : Option ℕ)
+    ensures some { (kind : Kind) (status received : ℕ) (response : LineMap)
+        → (guess : Option ℕ) × HasHeuristic kind status received response guess }
+    ensures one { (kind : Kind) (status received : ℕ) (response : LineMap) (a b : Option ℕ)
         → HasHeuristic kind status received response a → HasHeuristic kind status received response b → a ≡ b }
 {}
 
-/// A request has one answer at most: the rows of `Answers` exclude each other. `decide` gives one.
-#[tactic(auto, using(crate::proofs::DecisionLemmas::one_decision))]
+/// Each request has exactly one decision: the cases of the definitions cover each request and exclude
+/// each other. `decide`, `decide_by` and `decide_unstored` return it.
 pub fn request_has_one_decision()
-    ensures { (kind : Kind) (request response : LineMap) (times : Times) (a b : Decision)
-        → Decides kind request response times a → Decides kind request response times b → a ≡ b }
+    ensures some { (kind : Kind) (stored request : Request) (response : LineMap) (times : Times)
+        → (decision : Decision) × Decides kind stored request response times decision }
+    ensures one { (kind : Kind) (stored request : Request) (response : LineMap) (times : Times) (a b : Decision)
+        → Decides kind stored request response times a → Decides kind stored request response times b → a ≡ b }
+    ensures some_by { (kind : Kind) (stored request : Request) (response : LineMap) (freshness : Freshness)
+        → (decision : Decision) × DecidesBy kind stored request response freshness decision }
+    ensures one_by { (kind : Kind) (stored request : Request) (response : LineMap) (freshness : Freshness)
+        (a b : Decision) → DecidesBy kind stored request response freshness a
+        → DecidesBy kind stored request response freshness b → a ≡ b }
+    ensures some_unstored { (request : Request) → (decision : Decision) × AnswersUnstored request decision }
+    ensures one_unstored { (request : Request) (a b : Decision)
+        → AnswersUnstored request a → AnswersUnstored request b → a ≡ b }
+{}
+
+/// A request whose method isn't safe is written through to the origin, whatever is stored. The stored
+/// response to a HEAD is never the answer to a GET.
+pub fn methods_bound_reuse()
+    ensures written { (kind : Kind) (stored request : Request) (response : LineMap) (freshness : Freshness)
+        (decision : Decision) → ¬ (IsSafe request.method)
+        → DecidesBy kind stored request response freshness decision → decision ≡ Fetch }
+    ensures written_unstored { (request : Request) (decision : Decision) → ¬ (IsSafe request.method)
+        → AnswersUnstored request decision → decision ≡ Fetch }
+    ensures head { (kind : Kind) (stored request : Request) (response : LineMap) (freshness : Freshness)
+        (decision : Decision) → stored.method ≡ codes "HEAD" → request.method ≡ codes "GET"
+        → DecidesBy kind stored request response freshness decision → AnswersUnstored request decision }
+{}
+
+/// A response whose Cache-Control is malformed is stored by no cache, is stale from the start, has no
+/// guessed lifetime, and is never an answer without the origin's word, also if the origin fails.
+pub fn malformed_response_is_strict()
+    ensures stored { (kind : Kind) (request : Request) (status : ℕ) (response : LineMap) → IsMalformed response
+        → ¬ (MayStore kind request status response) }
+    ensures lifetime { (kind : Kind) (received : ℕ) (response : LineMap) (stated : Option ℕ) → IsMalformed response
+        → HasLifetime kind received response stated → stated ≡ Some 0 }
+    ensures guess { (kind : Kind) (status received : ℕ) (response : LineMap) (guess : Option ℕ)
+        → IsMalformed response → HasHeuristic kind status received response guess → guess ≡ None }
+    ensures validated { (kind : Kind) (stored request : Request) (response : LineMap) (freshness : Freshness)
+        (decision : Decision) → IsMalformed response
+        → DecidesBy kind stored request response freshness decision → ¬ (MayComeFromStore decision) }
+{}
+
+/// The response to a request whose Cache-Control is malformed is stored by no cache, and such a
+/// request gets no stored response without the origin's word, also if the origin fails.
+pub fn malformed_request_is_strict()
+    ensures stored { (kind : Kind) (request : Request) (status : ℕ) (response : LineMap)
+        → IsMalformed request.fields → ¬ (MayStore kind request status response) }
+    ensures validated { (kind : Kind) (stored request : Request) (response : LineMap) (freshness : Freshness)
+        (decision : Decision) → IsMalformed request.fields
+        → DecidesBy kind stored request response freshness decision → ¬ (MayComeFromStore decision) }
+{}
+
+/// Nothing beside a directive hides it, be it well formed or not: where `no-store` is among the
+/// members of Cache-Control, nothing is stored, unless `must-understand` is one of them too; where
+/// `private` is, no shared cache stores the response; and where `no-cache` is, the origin has its
+/// word.
+pub fn no_directive_is_hidden()
+    ensures request_no_store { (kind : Kind) (request : Request) (status : ℕ) (response : LineMap)
+        → Says (codes "no-store") request.fields → ¬ (MayStore kind request status response) }
+    ensures no_store { (kind : Kind) (request : Request) (status : ℕ) (response : LineMap)
+        → Says (codes "no-store") response → ¬ (Says (codes "must-understand") response)
+        → ¬ (MayStore kind request status response) }
+    ensures private { (request : Request) (status : ℕ) (response : LineMap) → Says (codes "private") response
+        → ¬ (MayStore Shared request status response) }
+    ensures no_cache { (kind : Kind) (stored request : Request) (response : LineMap) (freshness : Freshness)
+        (decision : Decision) → Says (codes "no-cache") request.fields ⊎ Says (codes "no-cache") response
+        → DecidesBy kind stored request response freshness decision → ¬ (MayComeFromStore decision) }
 {}
 
 /// A response that isn't fresh is an answer only where the response doesn't forbid it, and
-/// `max-stale` of the request or `stale-while-revalidate` of the response lets it.
+/// `max-stale` of the request or `stale-while-revalidate` of the response allows it.
 #[tactic(auto, using(crate::proofs::DecisionLemmas::stale_where_let))]
 pub fn stale_only_where_let()
     ensures { (kind : Kind) (asks tells : Directives) (freshness : Freshness) (decision : Decision)
@@ -46,15 +124,14 @@ pub fn stale_only_where_let()
 {}
 
 /// As time goes on, no answer gets better: what is an answer later was one before, and what is
-/// fresh later was fresh before. So no later moment turns `Revalidate` into `Serve`.
-#[tactic(auto, using(crate::proofs::DecisionLemmas::from_store_before, crate::proofs::DecisionLemmas::fresh_before))]
+/// fresh later was fresh before. So at no later time `Revalidate` turns into `Serve`.
 pub fn no_answer_gets_better()
-    ensures stored { (kind : Kind) (request response : LineMap) (times : Times) (later : ℕ) (a b : Decision)
-        → times.now ≤ later → Decides kind request response times a
-        → Decides kind request response (record times { now = later }) b → IsFromStore b → IsFromStore a }
-    ensures fresh { (kind : Kind) (request response : LineMap) (times : Times) (later : ℕ) (a : Decision)
-        → times.now ≤ later → Decides kind request response times a
-        → Decides kind request response (record times { now = later }) Serve → a ≡ Serve }
+    ensures stored { (kind : Kind) (stored request : Request) (response : LineMap) (times : Times) (later : ℕ)
+        (a b : Decision) → times.now ≤ later → Decides kind stored request response times a
+        → Decides kind stored request response (record times { now = later }) b → IsFromStore b → IsFromStore a }
+    ensures fresh { (kind : Kind) (stored request : Request) (response : LineMap) (times : Times) (later : ℕ)
+        (a : Decision) → times.now ≤ later → Decides kind stored request response times a
+        → Decides kind stored request response (record times { now = later }) Serve → a ≡ Serve }
 {}
 
 /// No sum of an age wraps: it is exact up to 2^64 - 1, where it stays. As time goes on it never

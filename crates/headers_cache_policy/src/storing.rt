@@ -1,65 +1,42 @@
 //! What a cache may store.
-ghost use Rattle.std.specs.Prelude.{◌≡◌, IfOk};
+ghost use Rattle.std.specs.Prelude.{◌≡◌, codes};
 ghost use Rattle.std.specs.Bool.{MatchBool};
 ghost use Rattle.headers.specs.LineMap.{lines_at};
-ghost use Rattle.headers_cache_policy.specs.Storing.{IsGetOrHead, IsShareable, IsStatusStored, IsStorable, IsSuited};
-ghost use Rattle.headers_cache_policy.specs.Storing.{MayStore, StoresBy};
+ghost use Rattle.headers_cache_policy.specs.Storing.{IsShareable, IsStatusStored, IsStorable, IsSuited};
+ghost use Rattle.headers_cache_policy.specs.Storing.{MayStore};
+ghost use Rattle.headers_cache_policy.specs.Requests.{request_of};
 
 use crate::directives::{Directives, read_directives};
-use crate::fields::{has_authorization, has_expires};
+use crate::fields::has_field;
 use crate::freshness::is_heuristic;
 use crate::kind::Kind;
+use crate::request::{RequestHead, is_get_or_head};
 use headers::HeaderMap;
-use http::{Method, StatusCode};
-use std::alloc::{AllocError, Global};
+use http::StatusCode;
+use http_header::{AUTHORIZATION, EXPIRES};
 
 /// Whether a cache may store the response to a request (RFC 9111, sections 3 and 3.5).
 ///
 /// Only responses to GET and HEAD are stored, and no 206 or 304, which are parts of others. Under
-/// `must-understand` the statuses that are heuristically cacheable are stored.
+/// `must-understand` the statuses that are heuristically cacheable are stored. If Cache-Control of
+/// one of the messages is malformed, the response isn't stored.
 pub fn may_store(
-    alloc: Global,
-    method: &Method,
-    request: &HeaderMap,
+    request: &RequestHead<'_>,
     status: StatusCode,
     response: &HeaderMap,
-    kind: Kind,
-) -> Result<bool, AllocError>
-    ensures { IfOk result (λ stores.
-        MatchBool stores (MayStore kind method.now (lines_at request.now) status (lines_at response.now))
-        (¬ (MayStore kind method.now (lines_at request.now) status (lines_at response.now)))) }
-{
-    let asks = read_directives(alloc, request)?;
-    let tells = read_directives(alloc, response)?;
-    Ok(stores_by(method, request, status, response, &asks, &tells, kind))
-}
-
-// The same by what request and response direct.
-fn stores_by(
-    method: &Method,
-    request: &HeaderMap,
-    status: StatusCode,
-    response: &HeaderMap,
-    asks: &Directives,
-    tells: &Directives,
     kind: Kind,
 ) -> bool
-    ensures { MatchBool result
-        (StoresBy kind method.now (lines_at request.now) status (lines_at response.now) asks.now tells.now)
-        (¬ (StoresBy kind method.now (lines_at request.now) status (lines_at response.now) asks.now tells.now)) }
+    ensures { MatchBool result (MayStore kind (request_of request.now) status (lines_at response.now))
+        (¬ (MayStore kind (request_of request.now) status (lines_at response.now))) }
 {
-    is_get_or_head(method)
-        && is_status_stored(status, tells)
+    let asks = read_directives(request.fields);
+    let tells = read_directives(response);
+    is_get_or_head(request.method)
+        && is_status_stored(status, &tells)
         && !asks.no_store
-        && is_storable(tells)
-        && is_shareable(request, tells, kind)
-        && is_suited(status, response, tells, kind)
-}
-
-fn is_get_or_head(method: &Method) -> bool
-    ensures { MatchBool result (IsGetOrHead method.now) (¬ (IsGetOrHead method.now)) }
-{
-    *method == Method::GET || *method == Method::HEAD
+        && is_storable(&tells)
+        && is_shareable(request.fields, &tells, kind)
+        && is_suited(status, response, &tells, kind)
 }
 
 // Whether responses of this status are stored: it is final and whole, and the cache understands it
@@ -86,7 +63,7 @@ fn is_shareable(request: &HeaderMap, tells: &Directives, kind: Kind) -> bool
     match kind {
         Kind::Shared => {
             !tells.private
-                && (!has_authorization(request)
+                && (!has_field(request, AUTHORIZATION)
                     || tells.must_revalidate
                     || tells.public
                     || tells.s_max_age.is_some())
@@ -102,7 +79,7 @@ fn is_suited(status: StatusCode, response: &HeaderMap, tells: &Directives, kind:
 {
     tells.public
         || (tells.private && kind == Kind::Private)
-        || has_expires(response)
+        || has_field(response, EXPIRES)
         || tells.max_age.is_some()
         || (tells.s_max_age.is_some() && kind == Kind::Shared)
         || is_heuristic(status)

@@ -1,7 +1,7 @@
 //! The calls of the cache policy.
 use headers::apply;
 use headers_cache_policy::{
-    Freshness, Kind, Times, current_age, decide, decide_by, decide_matched, decide_unstored,
+    Freshness, Kind, RequestHead, Times, current_age, decide, decide_by, decide_unstored,
     freshening_steps, heuristic_lifetime, lifetime, matches, may_store, validation_steps,
 };
 use headers_rows::{Answer, Arguments, Calls, Failure};
@@ -22,6 +22,11 @@ fn status(arguments: &mut Arguments<'_>) -> Result<StatusCode, Failure> {
     StatusCode::from_u16(code).map_err(|_| Failure::NoCall)
 }
 
+// The next word, as a method.
+fn method(arguments: &mut Arguments<'_>) -> Result<Method, Failure> {
+    Ok(Method::from_bytes(arguments.alloc(), &arguments.bytes()?)?)
+}
+
 // The next three words, as the times of a request and of its response, and the present.
 fn times(arguments: &mut Arguments<'_>) -> Result<Times, Failure> {
     Ok(Times {
@@ -33,73 +38,82 @@ fn times(arguments: &mut Arguments<'_>) -> Result<Times, Failure> {
 
 // KIND METHOD STATUS REQUEST RESPONSE: whether it may be stored.
 fn call_may_store(arguments: &mut Arguments<'_>, answer: &mut Answer) -> Result<(), Failure> {
-    let alloc = arguments.alloc();
     let kind = kind(arguments)?;
-    let method = Method::from_bytes(alloc, &arguments.bytes()?)?;
+    let method = method(arguments)?;
     let status = status(arguments)?;
     let (request, response) = (arguments.map()?, arguments.map()?);
-    Ok(answer.word(may_store(alloc, &method, &request, status, &response, kind)?)?)
+    let request = RequestHead {
+        method: &method,
+        fields: &request,
+    };
+    Ok(answer.word(may_store(&request, status, &response, kind))?)
 }
 
 // KIND RECEIVED RESPONSE: for how long it is fresh.
 fn call_lifetime(arguments: &mut Arguments<'_>, answer: &mut Answer) -> Result<(), Failure> {
-    let alloc = arguments.alloc();
     let kind = kind(arguments)?;
     let received = arguments.number()?;
     let response = arguments.map()?;
-    Ok(answer.option(lifetime(alloc, &response, received, kind)?)?)
+    Ok(answer.option(lifetime(&response, received, kind))?)
 }
 
 // KIND STATUS RECEIVED RESPONSE: for how long it may be taken as fresh.
 fn call_heuristic(arguments: &mut Arguments<'_>, answer: &mut Answer) -> Result<(), Failure> {
-    let alloc = arguments.alloc();
     let kind = kind(arguments)?;
     let status = status(arguments)?;
     let received = arguments.number()?;
     let response = arguments.map()?;
-    Ok(answer.option(heuristic_lifetime(alloc, status, &response, received, kind)?)?)
+    Ok(answer.option(heuristic_lifetime(status, &response, received, kind))?)
 }
 
 // REQUESTED RECEIVED NOW RESPONSE: how old it is.
 fn call_age(arguments: &mut Arguments<'_>, answer: &mut Answer) -> Result<(), Failure> {
     let times = times(arguments)?;
     let response = arguments.map()?;
-    Ok(answer.word(current_age(arguments.alloc(), &response, times))?)
+    Ok(answer.word(current_age(&response, times))?)
 }
 
-// STORED REQUEST RESPONSE: whether the response to the stored request may answer the other one.
+// STORED REQUEST RESPONSE: whether the response to the stored GET may answer the other one.
 fn call_matches(arguments: &mut Arguments<'_>, answer: &mut Answer) -> Result<(), Failure> {
-    let alloc = arguments.alloc();
     let (stored, request) = (arguments.map()?, arguments.map()?);
     let response = arguments.map()?;
-    Ok(answer.word(matches(alloc, &stored, &request, &response)?)?)
+    let stored = RequestHead {
+        method: &Method::GET,
+        fields: &stored,
+    };
+    let request = RequestHead {
+        method: &Method::GET,
+        fields: &request,
+    };
+    Ok(answer.word(matches(&stored, &request, &response))?)
 }
 
-// KIND REQUESTED RECEIVED NOW REQUEST RESPONSE: what is done.
-fn call_decide_matched(arguments: &mut Arguments<'_>, answer: &mut Answer) -> Result<(), Failure> {
-    let alloc = arguments.alloc();
-    let kind = kind(arguments)?;
-    let times = times(arguments)?;
-    let (request, response) = (arguments.map()?, arguments.map()?);
-    let decision = decide_matched(alloc, &request, &response, times, kind)?;
-    Ok(answer.word(format_args!("{decision:?}"))?)
-}
-
-// KIND REQUESTED RECEIVED NOW STORED REQUEST RESPONSE: what is done.
+// KIND REQUESTED RECEIVED NOW METHOD STORED METHOD REQUEST RESPONSE: what is done.
 fn call_decide(arguments: &mut Arguments<'_>, answer: &mut Answer) -> Result<(), Failure> {
-    let alloc = arguments.alloc();
     let kind = kind(arguments)?;
     let times = times(arguments)?;
-    let (stored, request) = (arguments.map()?, arguments.map()?);
+    let (stored_method, stored) = (method(arguments)?, arguments.map()?);
+    let (method, request) = (method(arguments)?, arguments.map()?);
     let response = arguments.map()?;
-    let decision = decide(alloc, &stored, &request, &response, times, kind)?;
+    let stored = RequestHead {
+        method: &stored_method,
+        fields: &stored,
+    };
+    let request = RequestHead {
+        method: &method,
+        fields: &request,
+    };
+    let decision = decide(&stored, &request, &response, times, kind);
     Ok(answer.word(format_args!("{decision:?}"))?)
 }
 
-// REQUEST: what is done if nothing is stored.
+// METHOD REQUEST: what is done if nothing is stored.
 fn call_unstored(arguments: &mut Arguments<'_>, answer: &mut Answer) -> Result<(), Failure> {
-    let request = arguments.map()?;
-    let decision = decide_unstored(arguments.alloc(), &request)?;
+    let (method, request) = (method(arguments)?, arguments.map()?);
+    let decision = decide_unstored(&RequestHead {
+        method: &method,
+        fields: &request,
+    });
     Ok(answer.word(format_args!("{decision:?}"))?)
 }
 
@@ -114,23 +128,31 @@ fn call_validation(arguments: &mut Arguments<'_>, answer: &mut Answer) -> Result
     answer.map(&request)
 }
 
-// STORED UPDATE: the stored fields after the update.
+// STORED UPDATE: the stored fields after the update, if it is about them.
 fn call_freshening(arguments: &mut Arguments<'_>, answer: &mut Answer) -> Result<(), Failure> {
     let (mut stored, update) = (arguments.map()?, arguments.map()?);
-    apply(&mut stored, freshening_steps(arguments.alloc(), &update)?).map_err(|_| Failure::Memory)?;
-    answer.map(&stored)
+    match freshening_steps(arguments.alloc(), &stored, &update)? {
+        Some(steps) => {
+            apply(&mut stored, steps).map_err(|_| Failure::Memory)?;
+            answer.map(&stored)
+        }
+        None => Ok(answer.word("not_updated")?),
+    }
 }
 
-// KIND LIFETIME AGE REQUEST RESPONSE: what is done.
+// KIND LIFETIME AGE REQUEST RESPONSE: what is done with the GET, by a response to the same.
 fn call_decide_by(arguments: &mut Arguments<'_>, answer: &mut Answer) -> Result<(), Failure> {
-    let alloc = arguments.alloc();
     let kind = kind(arguments)?;
     let freshness = Freshness {
         lifetime: arguments.number()?,
         age: arguments.number()?,
     };
     let (request, response) = (arguments.map()?, arguments.map()?);
-    let decision = decide_by(alloc, &request, &response, freshness, kind)?;
+    let request = RequestHead {
+        method: &Method::GET,
+        fields: &request,
+    };
+    let decision = decide_by(&request, &request, &response, freshness, kind);
     Ok(answer.word(format_args!("{decision:?}"))?)
 }
 
@@ -146,7 +168,6 @@ impl Calls for CachePolicy {
             "current_age" => call_age(arguments, answer),
             "matches" => call_matches(arguments, answer),
             "decide" => call_decide(arguments, answer),
-            "decide_matched" => call_decide_matched(arguments, answer),
             "decide_unstored" => call_unstored(arguments, answer),
             "validation_steps" => call_validation(arguments, answer),
             "freshening_steps" => call_freshening(arguments, answer),

@@ -4,6 +4,7 @@ use Rattle.std.proofs.Common.{None, refl, ap, sym, ◌∙◌, subst, inl, inr, a
 use Rattle.std.specs.Prelude.{◌&&◌, if◌then◌else◌, bytes_eq, codes, is_some, Contains, IfSome, IsTrue, IsSomeAnd}
 use Rattle.std.specs.List.{list_any}
 use Rattle.std.specs.Cmp.{IsEquivalence}
+use Rattle.std.proofs.lemmas.Bool.{cases_Bool}
 use Rattle.std.proofs.lemmas.Bool.Decides.{nat_tests}
 use Rattle.std.proofs.lemmas.Cmp.{nat_list_eq_equiv}
 use Rattle.std.proofs.lemmas.Map.Views.{Contains-from_any, list_any-from_Contains}
@@ -14,7 +15,7 @@ use Rattle.headers.specs.Lines.{Line}
 use Rattle.headers.specs.ListItem.{method_of, name_of}
 use Rattle.headers.specs.Typed.{HasLine}
 use Rattle.headers.specs.declared.Origin.{Origin}
-use Rattle.headers_cors_policy.specs.Allowed.{Admits, IsAny, Lists}
+use Rattle.headers_cors_policy.specs.Allowed.{Admits, IsAny, IsAnyName, Lists, ListsName}
 use Rattle.headers_cors_policy.specs.Answer.{IsAnswer, allows}
 use Rattle.headers_cors_policy.specs.Browser.{Request, IsPreflightFor, IsSentFor, Checks, CorsCheck, Excludes}
 use Rattle.headers_cors_policy.specs.Browser.{GrantsMethod, GrantsName, IsExposed, IsForbidden, IsOkStatus}
@@ -24,7 +25,8 @@ use Rattle.headers_cors_policy.specs.Elements.{elements, is_filled}
 use Rattle.headers_cors_policy.specs.Kinds.{IsKindOf, is_preflight}
 use Rattle.headers_cors_policy.specs.Policy.{Policy}
 use Rattle.headers_cors_policy.specs.Rules.{AdmitsName, AllowsCredentials, AllowsMethod, AllowsName, AllowsOrigin}
-use Rattle.headers_cors_policy.specs.Rules.{AllowsRequest, Exposes, IsLawful, IsListLine, IsPolicyOf, ShowsListed}
+use Rattle.headers_cors_policy.specs.Rules.{AllowsRequest, Exposes, IsLawful, IsListLine, IsNamesLine}
+use Rattle.headers_cors_policy.specs.Rules.{IsPolicyOf, ShowsListed}
 use Rattle.headers_cors_policy.specs.Rules.{texts}
 use Rattle.headers_cors_policy.specs.Settings.{filled_line, grant, grant_settings, granted, lines_if, set_all, settings}
 use Rattle.headers_cors_policy.specs.declared.kind.CorsKind.{CorsKind}
@@ -32,8 +34,10 @@ use Rattle.headers_cors_policy.specs.declared.kind.CorsKind.TheVariants.{Preflig
 use Rattle.headers_cors_policy.specs.declared.policy.CorsAnswer.{CorsAnswer}
 use Rattle.headers_cors_policy.specs.declared.rules.Allowed.{Allowed}
 use Rattle.headers_cors_policy.specs.declared.rules.Allowed.TheVariants.{Any, Listed}
+use Rattle.headers_cors_policy.specs.declared.rules.AllowedNames.{AllowedNames}
+use Rattle.headers_cors_policy.specs.declared.rules.AllowedNames.TheVariants as Names
 use Rattle.headers_cors_policy.specs.declared.rules.CorsRules.{CorsRules}
-use Rattle.headers_cors_policy.proofs.ElementLemmas.{methods_extracted, names_extracted, star_extracted}
+use Rattle.headers_cors_policy.proofs.ElementLemmas.{all_extracted, methods_extracted, names_extracted, star_extracted}
 use Rattle.headers_cors_policy.proofs.SettingLemmas.{run_sets}
 
 bytes_equiv : IsEquivalence bytes_eq
@@ -176,10 +180,21 @@ methods_read : (allowed : Allowed Line) (line : Line) → IsListLine method_of a
 methods_read Any line h = star_extracted line h
 methods_read (Listed values) line h = methods_extracted values.items line h
 
-names_read : (allowed : Allowed Line) (line : Line) → IsListLine name_of allowed line
+exposed_read : (allowed : Allowed Line) (line : Line) → IsListLine name_of allowed line
     → extracted (Some line) ≡ Some (listed_of allowed)
-names_read Any line h = star_extracted line h
-names_read (Listed values) line h = names_extracted values.items line h
+exposed_read Any line h = star_extracted line h
+exposed_read (Listed values) line h = names_extracted values.items line h
+
+abbrev listed_names : AllowedNames → List Line
+listed_names Names.Any = star ∷ []
+listed_names Names.AnyAndAuthorization = star ∷ codes "authorization" ∷ []
+listed_names (Names.Listed names) = names.items
+
+names_read : (allowed : AllowedNames) (line : Line) → IsNamesLine allowed line
+    → extracted (Some line) ≡ Some (listed_names allowed)
+names_read Names.Any line h = star_extracted line h
+names_read Names.AnyAndAuthorization line h = all_extracted line h
+names_read (Names.Listed names) line h = names_extracted names.items line h
 
 -- a line that is left out if it is empty lists as much
 filled_read : (line : Line) → extracted (filled_line line) ≡ extracted (Some line)
@@ -215,17 +230,32 @@ method_by (Listed methods) request no_star excludes = (
   λ k. elim k [ inl s ↦ inl s | inr l ↦ inr (inl l) ],
 )
 
--- a name that is granted is listed, or any name is and it isn't `authorization`
-name_by : (names : Allowed Line) (request : Request) → ¬ (Lists names star) → ExcludesAny names request → (name : Line)
-    → GrantsName request (listed_of names) name ↔ AdmitsName names name
-name_by Any request no_star excludes name = (
+-- any name is granted by a star, or is `authorization`
+any_name : (request : Request) (name : Line) → Excludes request
+    → GrantsName request (star ∷ codes "authorization" ∷ []) name
+any_name request name excludes =
+    elim (cases_Bool (bytes_eq (lowercase name) (codes "authorization"))) [
+      | inl t ↦ inl (1, omega arith, sym ((bytes_eq-Decides _ _).0 t))
+      | inr f ↦ inr (
+        (0, omega arith, refl),
+        excludes,
+        λ e. let t = (bytes_eq-Decides (lowercase name) (codes "authorization")).1 e in cc (t, f),
+      )
+    ]
+
+-- a name that is granted is listed, or any name is and it isn't `authorization`, or that is allowed too
+name_by : (names : AllowedNames) (request : Request) → ¬ (ListsName names star)
+    → (IsAnyName names → Excludes request) → (name : Line)
+    → GrantsName request (listed_names names) name ↔ AdmitsName names name
+name_by Names.AnyAndAuthorization request no_star excludes name = (λ h. tt, λ k. any_name request name (excludes tt))
+name_by Names.Any request no_star excludes name = (
   λ h. elim h [
     | inl s ↦ λ e. let same = single star (lowercase name) s in absurd (cc (same, e))
     | inr t ↦ t.2
   ],
   λ k. inr (itself star, excludes tt, k),
 )
-name_by (Listed names) request no_star excludes name = (
+name_by (Names.Listed names) request no_star excludes name = (
   λ h. elim h [ inl s ↦ s | inr t ↦ absurd (no_star t.0) ],
   λ k. inl k,
 )
@@ -266,21 +296,22 @@ module _ (request : Request) (value : Option Line) (line : Line) (allowed : Allo
       ↔ (IsSafeMethod request.method ⊎ Admits allowed request.method)
   method_at same h = rw same (rw (methods_read allowed line h) (method_by allowed request no_star excludes))
 
-  names_at : value ≡ filled_line line → IsListLine name_of allowed line
-      → IsSomeAnd (extracted value)
-      (λ listed. (name : Line) → Contains request.unsafe name → GrantsName request listed name)
-      ↔ ((name : Line) → Contains request.unsafe name → AdmitsName allowed name)
-  names_at same h =
-      rw same (rw (filled_read line ∙ names_read allowed line h) (
-        (λ g name c. (name_by allowed request no_star excludes name).0 (g name c)),
-        (λ k name c. (name_by allowed request no_star excludes name).1 (k name c)),
-      ))
-
   shown_at : value ≡ filled_line line → IsListLine name_of allowed line → (name : Line)
       → IsSomeAnd (extracted value) (λ listed. ShowsName request listed name)
       ↔ (¬ (IsForbidden name) × ShowsListed allowed name)
   shown_at same h name =
-      rw same (rw (filled_read line ∙ names_read allowed line h) (shown_by allowed request no_star excludes name))
+      rw same (rw (filled_read line ∙ exposed_read allowed line h) (shown_by allowed request no_star excludes name))
+
+names_at : (request : Request) (value : Option Line) (line : Line) (allowed : AllowedNames)
+    → ¬ (ListsName allowed star) → (IsAnyName allowed → Excludes request) → value ≡ filled_line line
+    → IsNamesLine allowed line → IsSomeAnd (extracted value)
+    (λ listed. (name : Line) → Contains request.unsafe name → GrantsName request listed name)
+    ↔ ((name : Line) → Contains request.unsafe name → AdmitsName allowed name)
+names_at request value line allowed no_star excludes same h =
+    rw same (rw (filled_read line ∙ names_read allowed line h) (
+      (λ g name c. (name_by allowed request no_star excludes name).0 (g name c)),
+      (λ k name c. (name_by allowed request no_star excludes name).1 (k name c)),
+    ))
 
 -- the value of a line that is put, if there is one
 combined_if : (line : Option Line) → combined (lines_if true line) ≡ line
@@ -298,7 +329,7 @@ module _ (rules : CorsRules) (request : Request) (lawful : IsLawful rules)
   methods_exclude : ExcludesAny rules.methods request
   methods_exclude any i = (lawful.lists (allows i)).methods any
 
-  names_exclude : ExcludesAny rules.names request
+  names_exclude : IsAnyName rules.names → Excludes request
   names_exclude any i = (lawful.lists (allows i)).names any
 
   exposed_exclude : ExcludesAny rules.exposed request

@@ -1,7 +1,7 @@
 -- The elements of what is written of a list.
 use Rattle.std.proofs.Common.{◌≡◌, ℕ, ◌-◌, true, false, List, [], ◌∷◌, length, map, Some}
 use Rattle.std.proofs.Common.{IsTrue, refl, ap, subst, ◌∙◌, inl, inr, arith, leb}
-use Rattle.std.specs.Prelude.{filter, nat_lt, ◌==◌}
+use Rattle.std.specs.Prelude.{codes, filter, nat_lt, ◌==◌}
 use Rattle.std.specs.List.{list_all, prefix_len, slice_split, suffix_len}
 use Rattle.std.proofs.Math.Seq.{take-length}
 use Rattle.std.proofs.lemmas.Bool.{and_from, and_parts, cases_Bool, leb-true, ltb-true, ne_eqb}
@@ -141,3 +141,9 @@ names_extracted xs line h =
 pub star_extracted : (line : Line) → line ≡ star → extracted (Some line) ≡ Some (star ∷ [])
 unfolding elements is_token_byte
 star_extracted line e = rw e refl
+
+-- and one beside `authorization`
+pub all_extracted : (line : Line) → line ≡ codes "*, authorization"
+    → extracted (Some line) ≡ Some (star ∷ codes "authorization" ∷ [])
+unfolding elements is_token_byte
+all_extracted line e = rw e refl

@@ -1,12 +1,13 @@
 -- Which requests get the same lines.
-use Rattle.std.proofs.Common.{◌≡◌, ◌≢◌, ℕ, Bool, false, List, ◌++◌, Option, None, refl, ap, sym}
-use Rattle.std.proofs.Common.{◌∙◌, subst}
-use Rattle.std.specs.Prelude.{codes}
+use Rattle.std.proofs.Common.{◌≡◌, ◌≢◌, ◌⊎◌, ℕ, Bool, true, false, List, [], ◌∷◌, ◌++◌, Option, None, refl, ap, sym}
+use Rattle.std.proofs.Common.{◌∙◌, subst, inl, inr, arith}
+use Rattle.std.specs.Prelude.{bytes_eq, codes}
+use Rattle.std.proofs.lemmas.Slice.Eq.{bytes_eq-Decides}
 use Rattle.headers.specs.LineMap.{LineMap, run}
 use Rattle.headers.specs.Lines.{Line}
 use Rattle.headers.specs.Typed.{HasLine}
 use Rattle.headers.specs.declared.Step.{Step}
-use Rattle.headers_cors_policy.specs.Answer.{IsAnswer}
+use Rattle.headers_cors_policy.specs.Answer.{AreSame, IsAnswer, allows}
 use Rattle.headers_cors_policy.specs.Kinds.{IsKindOf, is_preflight}
 use Rattle.headers_cors_policy.specs.Policy.{Policy}
 use Rattle.headers_cors_policy.specs.Settings.{Setting, SetAll, granted, grant_settings, set_all, settings, vary}
@@ -70,3 +71,55 @@ pub any_lines_same : (policy : Policy) (m n : List ℕ) (r s response before : L
     → (name : List ℕ) → run before a.steps.items name ≡ run before b.steps.items name
 any_lines_same policy m n r s response before a b h k any kinds =
     same_by policy m n r s response before a b h k (ap is_preflight kinds) (rw any refl)
+
+-- a request is of one kind
+kind_once : (method : List ℕ) (r : LineMap) (k l : CorsKind) → IsKindOf method r k → IsKindOf method r l → k ≡ l
+kind_once method r Preflight Preflight h i = refl
+kind_once method r Preflight Plain h i = absurd (i.1 h.1)
+kind_once method r Preflight NoOrigin h i = absurd (i h.0)
+kind_once method r Plain Preflight h i = absurd (h.1 i.1)
+kind_once method r Plain Plain h i = refl
+kind_once method r Plain NoOrigin h i = absurd (i h.0)
+kind_once method r NoOrigin Preflight h i = absurd (h i.0)
+kind_once method r NoOrigin Plain h i = absurd (h i.0)
+kind_once method r NoOrigin NoOrigin h i = refl
+
+-- and so has one answer
+pub answer_once : (policy : Policy) (method : List ℕ) (sent response : LineMap) (a b : CorsAnswer)
+    → IsAnswer policy method sent response a → IsAnswer policy method sent response b → AreSame a b
+answer_once policy method sent response a b h k =
+    let kinds = kind_once method sent a.kind b.kind h.kind k.kind in
+    record {
+      kind = kinds;
+      allowed = h.allowed ∙ ap (λ (kind : CorsKind). allows kind (granted policy (sent (codes "origin")))) kinds
+          ∙ sym k.allowed;
+      steps = λ before name. same_lines policy method sent sent response before a b h k refl refl name;
+    }
+
+-- lines, or none
+line_or_none : (lines : List Line) → HasLine lines ⊎ (¬ (HasLine lines))
+line_or_none [] = inr (λ h. absurd (omega (arith, h)))
+line_or_none (line ∷ lines) = inl (omega arith)
+
+-- a request with Origin is a preflight or plain
+some_kind_with : (method : List ℕ) (sent : LineMap) → HasLine (sent (codes "origin"))
+    → HasLine (sent (codes "access-control-request-method"))
+    ⊎ (¬ (HasLine (sent (codes "access-control-request-method")))) → (b : Bool)
+    → bytes_eq method (codes "OPTIONS") ≡ b → (kind : CorsKind) × IsKindOf method sent kind
+some_kind_with method sent origin (inr absent) b e = (Plain, (origin, λ asks. absent asks.1))
+some_kind_with method sent origin (inl asked) true e =
+    (Preflight, (origin, ((bytes_eq-Decides method (codes "OPTIONS")).0 e, asked)))
+some_kind_with method sent origin (inl asked) false e =
+    (Plain, (origin, λ asks. let t = (bytes_eq-Decides method (codes "OPTIONS")).1 asks.0 in cc (t, e)))
+
+some_kind_by : (method : List ℕ) (sent : LineMap)
+    → HasLine (sent (codes "origin")) ⊎ (¬ (HasLine (sent (codes "origin"))))
+    → (kind : CorsKind) × IsKindOf method sent kind
+some_kind_by method sent (inr absent) = (NoOrigin, absent)
+some_kind_by method sent (inl origin) =
+    some_kind_with method sent origin (line_or_none (sent (codes "access-control-request-method")))
+    (bytes_eq method (codes "OPTIONS")) refl
+
+-- each request is of some kind
+pub some_kind : (method : List ℕ) (sent : LineMap) → (kind : CorsKind) × IsKindOf method sent kind
+some_kind method sent = some_kind_by method sent (line_or_none (sent (codes "origin")))

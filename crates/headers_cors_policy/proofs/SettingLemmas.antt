@@ -3,12 +3,13 @@ use Rattle.std.proofs.Common.{◌≡◌, ℕ, ◌<◌, length, Bool, Option, Som
 use Rattle.std.proofs.Common.{arith}
 use Rattle.std.proofs.lemmas.List.{append_assoc}
 use Rattle.std.specs.Prelude.{if◌then◌else◌, bytes_eq}
-use Rattle.std.specs.List.{list_any}
+use Rattle.std.specs.List.{list_all, list_any}
 use Rattle.http_header.specs.FieldValue.{FieldValue}
 use Rattle.headers.specs.LineMap.{LineMap, after_step, run}
 use Rattle.headers.specs.Lines.{Line, lines_of}
 use Rattle.headers.specs.declared.Step.{Step}
 use Rattle.headers.specs.declared.Step.TheVariants.{Put, Remove}
+use Rattle.headers_cors_policy.specs.SentOrigins.{are_sent, is_sent}
 use Rattle.headers_cors_policy.specs.Settings.{Setting, Sets, SetAll, set, set_all, Extends, grant}
 
 -- one more step makes one more setting
@@ -35,6 +36,11 @@ any_lines : (p : Line → Bool) (values : List FieldValue)
     → list_any (λ value. p value.bytes) values ≡ list_any p (lines_of values)
 any_lines p [] = refl
 any_lines p (value ∷ values) = grind (arith, any_lines p values)
+
+pub all_lines : (p : Line → Bool) (values : List FieldValue)
+    → list_all (λ value. p value.bytes) values ≡ list_all p (lines_of values)
+all_lines p [] = refl
+all_lines p (value ∷ values) = grind (arith, all_lines p values)
 
 -- a step changes the lines of a response as its setting does
 after_sets : (step : Step) (setting : Setting) (m n : LineMap) → ((name : List ℕ) → m name ≡ n name)
@@ -63,3 +69,8 @@ granted_by origins sent listed text b e f r =
     rw e (rw f (rw r
     (ap (λ (any : Bool). let line : Option Line = if any then Some text else None in line)
     (any_lines (bytes_eq text) listed))))
+
+-- what is told of the lines of listed origins is told of their texts
+pub sent_by : (origins : Option (List Line)) (listed : List FieldValue) → origins ≡ Some (lines_of listed)
+    → list_all (λ line. is_sent line.bytes) listed ≡ are_sent origins
+sent_by origins listed e = rw e (all_lines is_sent listed)

@@ -1,8 +1,10 @@
 -- What is allowed of values.
-use Rattle.std.specs.Prelude.{Contains, ⊤}
+use Rattle.std.specs.Prelude.{◌≡◌, Contains, [], ⊤}
 use Rattle.headers.specs.Lines.{Line}
 use Rattle.headers_cors_policy.specs.declared.rules.Allowed.{Allowed}
 use Rattle.headers_cors_policy.specs.declared.rules.Allowed.TheVariants.{Any, Listed}
+use Rattle.headers_cors_policy.specs.declared.rules.AllowedNames.{AllowedNames}
+use Rattle.headers_cors_policy.specs.declared.rules.AllowedNames.TheVariants as Names
 
 abbrev pub IsAny : {X : Type 0} → Allowed X → Type 0
 IsAny Any = ⊤
@@ -17,3 +19,29 @@ Lists (Listed values) value = Contains values.items value
 abbrev pub Admits : Allowed Line → Line → Type 0
 Admits Any value = ⊤
 Admits (Listed values) value = Contains values.items value
+
+-- no value is
+abbrev pub ListsNone : {X : Type 0} → Allowed X → Type 0
+ListsNone Any = ⊥
+ListsNone (Listed values) = values.items ≡ []
+
+-- any name, with `authorization` or without
+abbrev pub IsAnyName : AllowedNames → Type 0
+IsAnyName Names.Any = ⊤
+IsAnyName Names.AnyAndAuthorization = ⊤
+IsAnyName (Names.Listed names) = ⊥
+
+abbrev pub ListsName : AllowedNames → Line → Type 0
+ListsName Names.Any name = ⊥
+ListsName Names.AnyAndAuthorization name = ⊥
+ListsName (Names.Listed names) name = Contains names.items name
+
+abbrev pub ListsNoName : AllowedNames → Type 0
+ListsNoName Names.Any = ⊥
+ListsNoName Names.AnyAndAuthorization = ⊥
+ListsNoName (Names.Listed names) = names.items ≡ []
+
+-- the same names, which leave out `authorization` if they are any
+abbrev pub names_of : Allowed Line → AllowedNames
+names_of Any = Names.Any
+names_of (Listed names) = Names.Listed names

@@ -1,6 +1,6 @@
 -- What a policy answers a request.
 use Rattle.std.specs.Prelude.{◌≡◌, ℕ, Bool, true, List, Option, is_some, codes}
-use Rattle.headers.specs.LineMap.{LineMap}
+use Rattle.headers.specs.LineMap.{LineMap, run}
 use Rattle.headers.specs.Lines.{Line}
 use Rattle.headers_cors_policy.specs.Kinds.{IsKindOf, is_preflight}
 use Rattle.headers_cors_policy.specs.Policy.{Policy}
@@ -22,3 +22,9 @@ pub record IsAnswer (policy : Policy) (method : List ℕ) (request response : Li
   pub allowed : answer.is_allowed ≡ allows answer.kind (granted policy (request (codes "origin")))
   pub steps : SetAll answer.steps.items
       (settings policy (is_preflight answer.kind) (request (codes "origin")) (response (codes "vary")))
+
+-- answers that say the same, and after whose steps each name has the same lines, whatever it had before
+pub record AreSame (a b : CorsAnswer) : Type 0 where
+  pub kind : a.kind ≡ b.kind
+  pub allowed : a.is_allowed ≡ b.is_allowed
+  pub steps : (before : LineMap) (name : List ℕ) → run before a.steps.items name ≡ run before b.steps.items name

@@ -9,4 +9,5 @@ rules_error_text Error.AnyMethodWithCredentials = codes "any method with credent
 rules_error_text Error.AnyNameWithCredentials = codes "any request field with credentials"
 rules_error_text Error.AnyExposedWithCredentials = codes "any response field with credentials"
 rules_error_text Error.Star = codes "a star in a list"
+rules_error_text Error.UnsentOrigin = codes "an origin that no browser sends"
 rules_error_text Error.Memory = codes "out of memory"

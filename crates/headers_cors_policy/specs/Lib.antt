@@ -8,4 +8,5 @@ pub mod Inside
 pub mod Kinds
 pub mod Policy
 pub mod Rules
+pub mod SentOrigins
 pub mod Settings

@@ -1,18 +1,21 @@
 -- What rules allow, which rules make a policy, and which one.
-use Rattle.std.specs.Prelude.{◌≡◌, ◌≢◌, ◌⊎◌, Bool, List, map, Option, Some, None, Contains, IsTrue, ⊤, codes, decimal}
-use Rattle.std.specs.Prelude.{option_map, IfSome}
+use Rattle.std.specs.Prelude.{◌≡◌, ◌≢◌, ◌⊎◌, ℕ, Bool, true, false, List, map, Option, Some, None, Contains, IsTrue, ⊤}
+use Rattle.std.specs.Prelude.{codes, decimal, min, option_map, IfSome}
 use Rattle.http_header.specs.Token.{lowercase}
 use Rattle.headers.specs.Lines.{Line}
 use Rattle.headers.specs.ListItem.{Reading, IsListOf, method_of, name_of}
 use Rattle.headers.specs.Origin.{origin_text}
 use Rattle.headers.specs.declared.Origin.{Origin}
-use Rattle.headers_cors_policy.specs.Allowed.{Admits, IsAny, Lists}
+use Rattle.headers_cors_policy.specs.Allowed.{Admits, IsAny, IsAnyName, Lists, ListsName, ListsNone, ListsNoName}
 use Rattle.headers_cors_policy.specs.Browser.{Request, IsForbidden, IsSafeMethod, safe_fields, star}
 use Rattle.headers_cors_policy.specs.Policy.{Policy}
+use Rattle.headers_cors_policy.specs.SentOrigins.{are_sent}
 use Rattle.headers_cors_policy.specs.declared.error.RulesError.{RulesError}
 use Rattle.headers_cors_policy.specs.declared.error.RulesError.TheVariants as Error
 use Rattle.headers_cors_policy.specs.declared.rules.Allowed.{Allowed}
 use Rattle.headers_cors_policy.specs.declared.rules.Allowed.TheVariants.{Any, Listed}
+use Rattle.headers_cors_policy.specs.declared.rules.AllowedNames.{AllowedNames}
+use Rattle.headers_cors_policy.specs.declared.rules.AllowedNames.TheVariants as Names
 use Rattle.headers_cors_policy.specs.declared.rules.CorsRules.{CorsRules}
 
 -- the texts of listed origins, or `None` for any
@@ -31,10 +34,11 @@ AllowsCredentials rules included = IsTrue included → IsTrue rules.credentials
 abbrev pub AllowsMethod : CorsRules → Line → Type 0
 AllowsMethod rules method = IsSafeMethod method ⊎ Admits rules.methods method
 
--- ASCII case is ignored; any name is all but `authorization`
-abbrev pub AdmitsName : Allowed Line → Line → Type 0
-AdmitsName Any name = lowercase name ≢ codes "authorization"
-AdmitsName (Listed names) name = Contains (map lowercase names.items) (lowercase name)
+-- ASCII case is ignored; any name is all but `authorization`, unless that is allowed too
+abbrev pub AdmitsName : AllowedNames → Line → Type 0
+AdmitsName Names.Any name = lowercase name ≢ codes "authorization"
+AdmitsName Names.AnyAndAuthorization name = ⊤
+AdmitsName (Names.Listed names) name = Contains (map lowercase names.items) (lowercase name)
 
 abbrev pub AllowsName : CorsRules → Line → Type 0
 AllowsName rules name = AdmitsName rules.names name
@@ -57,44 +61,87 @@ Exposes rules name = Contains safe_fields (lowercase name) ⊎ (¬ (IsForbidden 
 pub record ListsAll (rules : CorsRules) : Type 0 where
   pub origins : ¬ (IsAny rules.origins)
   pub methods : ¬ (IsAny rules.methods)
-  pub names : ¬ (IsAny rules.names)
+  pub names : ¬ (IsAnyName rules.names)
   pub exposed : ¬ (IsAny rules.exposed)
 
 -- a star is listed
 abbrev pub HasStar : CorsRules → Type 0
-HasStar rules = Lists rules.methods star ⊎ Lists rules.names star ⊎ Lists rules.exposed star
+HasStar rules = Lists rules.methods star ⊎ ListsName rules.names star ⊎ Lists rules.exposed star
 
--- with credentials nothing is any, and a star isn't listed
+-- what browsers read as it is meant: with credentials nothing is any, and a star isn't listed
+pub record IsReadable (rules : CorsRules) : Type 0 where
+  pub lists : IsTrue rules.credentials → ListsAll rules
+  pub no_star : ¬ (HasStar rules)
+
+-- and some browser may send each of the listed origins
 pub record IsLawful (rules : CorsRules) : Type 0 where
   pub lists : IsTrue rules.credentials → ListsAll rules
   pub no_star : ¬ (HasStar rules)
+  pub sent : are_sent (texts rules.origins) ≡ true
+
+abbrev pub HasUnsent : CorsRules → Type 0
+HasUnsent rules = are_sent (texts rules.origins) ≡ false
 
 -- what is any although there are credentials
 abbrev pub RefusesAny : CorsRules → Option RulesError → Type 0
 RefusesAny rules None = IsTrue rules.credentials → ListsAll rules
 RefusesAny rules (Some Error.AnyOriginWithCredentials) = IsTrue rules.credentials × IsAny rules.origins
 RefusesAny rules (Some Error.AnyMethodWithCredentials) = IsTrue rules.credentials × IsAny rules.methods
-RefusesAny rules (Some Error.AnyNameWithCredentials) = IsTrue rules.credentials × IsAny rules.names
+RefusesAny rules (Some Error.AnyNameWithCredentials) = IsTrue rules.credentials × IsAnyName rules.names
 RefusesAny rules (Some Error.AnyExposedWithCredentials) = IsTrue rules.credentials × IsAny rules.exposed
 RefusesAny rules (Some Error.Star) = ⊥
+RefusesAny rules (Some Error.UnsentOrigin) = ⊥
 RefusesAny rules (Some Error.Memory) = ⊥
 
+-- why browsers don't read rules as they are meant
+abbrev pub RefusesReading : CorsRules → Option RulesError → Type 0
+RefusesReading rules None = IsReadable rules
+RefusesReading rules (Some Error.Star) = HasStar rules
+RefusesReading rules (Some error) = RefusesAny rules (Some error)
+
 -- why rules are no policy
-abbrev pub Refuses : CorsRules → Option RulesError → Type 0
-Refuses rules None = IsLawful rules
-Refuses rules (Some Error.Star) = HasStar rules
-Refuses rules (Some error) = RefusesAny rules (Some error)
+abbrev pub Refuses : CorsRules → RulesError → Type 0
+Refuses rules Error.UnsentOrigin = HasUnsent rules
+Refuses rules error = RefusesReading rules (Some error)
+
+-- What an error says. Memory runs out only once all is known but whether the listed origins are sent.
+abbrev pub IsErrorOf : CorsRules → RulesError → Type 0
+IsErrorOf rules Error.Memory = IsReadable rules
+IsErrorOf rules error = Refuses rules error
 
 -- a star for any value; else the values, joined by a comma and a space, which its items are
 abbrev pub IsListLine : Reading → Allowed Line → Line → Type 0
 IsListLine reading Any line = line ≡ star
 IsListLine reading (Listed values) line = IsListOf reading values.items line
 
+-- a star for any name, and `authorization` for itself, since a star doesn't stand for it; else the names
+abbrev pub IsNamesLine : AllowedNames → Line → Type 0
+IsNamesLine Names.Any line = line ≡ star
+IsNamesLine Names.AnyAndAuthorization line = line ≡ codes "*, authorization"
+IsNamesLine (Names.Listed names) line = IsListOf name_of names.items line
+
+-- 2^31 - 1, some 68 years
+abbrev pub greatest_age : ℕ
+greatest_age = 2147483647
+
+-- the seconds as they are written: browsers cap them far lower, and read a number past 2^63 as none
+abbrev pub age_line : ℕ → Line
+age_line seconds = decimal (min seconds greatest_age)
+
 -- the policy of the rules
 pub record IsPolicyOf (rules : CorsRules) (policy : Policy) : Type 0 where
   pub origins : policy.origins ≡ texts rules.origins
   pub credentials : policy.credentials ≡ rules.credentials
   pub methods : IsListLine method_of rules.methods policy.methods
-  pub names : IsListLine name_of rules.names policy.names
+  pub names : IsNamesLine rules.names policy.names
   pub exposed : IsListLine name_of rules.exposed policy.exposed
-  pub max_age : policy.max_age ≡ option_map decimal rules.max_age
+  pub max_age : policy.max_age ≡ option_map age_line rules.max_age
+
+-- rules that allow these origins, and nothing else
+pub record AllowsOriginsAlone (origins : Allowed Origin) (rules : CorsRules) : Type 0 where
+  pub same : rules.origins ≡ origins
+  pub methods : ListsNone rules.methods
+  pub names : ListsNoName rules.names
+  pub exposed : ListsNone rules.exposed
+  pub credentials : rules.credentials ≡ false
+  pub max_age : rules.max_age ≡ None

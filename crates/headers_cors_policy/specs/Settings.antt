@@ -2,14 +2,13 @@
 use Rattle.std.specs.Prelude.{◌≡◌, ℕ, Bool, not, ◌&&◌, ◌||◌, List, [], ◌∷◌, ◌++◌, Option, Some, None, if◌then◌else◌}
 use Rattle.std.specs.Prelude.{bytes_eq, is_some, codes, ⊤}
 use Rattle.std.specs.List.{list_any}
-use Rattle.http_header.specs.Token.{lowercase}
 use Rattle.headers.specs.LineMap.{LineMap}
 use Rattle.headers.specs.Lines.{Line, lines_of, only_line}
-use Rattle.headers.specs.Text.{trim}
 use Rattle.headers.specs.Typed.{HasLine}
 use Rattle.headers.specs.declared.Step.{Step}
 use Rattle.headers.specs.declared.Step.TheVariants.{Put, Remove}
-use Rattle.headers_cors_policy.specs.Elements.{is_filled, pieces}
+use Rattle.headers_cors_policy.specs.Cache.{nominates}
+use Rattle.headers_cors_policy.specs.Elements.{is_filled}
 use Rattle.headers_cors_policy.specs.Policy.{Policy}
 
 abbrev pub Setting : Type 0
@@ -73,17 +72,14 @@ grant_settings policy is_preflight line =
     ∷ (codes "access-control-expose-headers", lines_if (is_some line && not is_preflight) (filled_line policy.exposed))
     ∷ leave_settings policy (is_some line && is_preflight)
 
--- a name in Vary is a star, or `origin` in any case
-abbrev pub covers_origin : Line → Bool
-covers_origin name = bytes_eq name (codes "*") || bytes_eq (lowercase name) (codes "origin")
-
-abbrev pub line_covers_origin : Line → Bool
-line_covers_origin line = list_any (λ piece. covers_origin (trim piece)) (pieces line)
+-- Vary has a star, or `origin` in any case
+abbrev pub covers_origin : List Line → Bool
+covers_origin lines = nominates lines (codes "*") || nominates lines (codes "origin")
 
 -- `origin` after the response's lines of Vary, if it isn't there
 abbrev pub vary_settings : List Line → List Setting
 vary_settings lines =
-    if list_any line_covers_origin lines then [] else (codes "vary", lines ++ codes "origin" ∷ []) ∷ []
+    if covers_origin lines then [] else (codes "vary", lines ++ codes "origin" ∷ []) ∷ []
 
 -- Vary is set if the policy lists its origins
 abbrev pub vary : Policy → List Line → List Setting

@@ -16,6 +16,10 @@ pub enum RulesError {
     AnyExposedWithCredentials,
     /// A listed method or field name is `*`, which browsers read as any.
     Star,
+    /// The text of a listed origin isn't as browsers send it, so no request would match it: it has an
+    /// upper-case letter, a star or userinfo, or its port is the scheme's default, is past 65,535, is
+    /// empty or begins with a zero.
+    UnsentOrigin,
     /// The allocator had no memory.
     Memory,
 }
@@ -33,6 +37,7 @@ impl fmt::Display for RulesError {
             RulesError::AnyNameWithCredentials => "any request field with credentials",
             RulesError::AnyExposedWithCredentials => "any response field with credentials",
             RulesError::Star => "a star in a list",
+            RulesError::UnsentOrigin => "an origin that no browser sends",
             RulesError::Memory => "out of memory",
         })
     }

@@ -2,15 +2,29 @@
 ghost use Rattle.std.specs.Prelude.{◌≡◌, ◌≢◌, ◌↔◌, ◌⊎◌, ◌∷◌, [], ◌++◌, ℕ, List, None, IsTrue, codes};
 ghost use Rattle.headers.specs.LineMap.{LineMap, run};
 ghost use Rattle.headers.specs.Lines.{Line};
-ghost use Rattle.headers_cors_policy.specs.Answer.{IsAnswer};
+ghost use Rattle.headers_cors_policy.specs.Answer.{AreSame, IsAnswer};
 ghost use Rattle.headers_cors_policy.specs.Browser.{CorsCheck, IsExposed, IsOkStatus, IsPreflightFor, IsSentFor};
 ghost use Rattle.headers_cors_policy.specs.Browser.{PreflightPasses, Request};
 ghost use Rattle.headers_cors_policy.specs.Cache.{Serves};
+ghost use Rattle.headers_cors_policy.specs.Kinds.{IsKindOf};
 ghost use Rattle.headers_cors_policy.specs.Policy.{Policy};
 ghost use Rattle.headers_cors_policy.specs.Rules.{AllowsCredentials, AllowsOrigin, AllowsRequest, Exposes};
 ghost use Rattle.headers_cors_policy.specs.Rules.{IsLawful, IsPolicyOf};
+ghost use Rattle.headers_cors_policy.specs.declared.kind.CorsKind.{CorsKind};
 ghost use Rattle.headers_cors_policy.specs.declared.policy.CorsAnswer.{CorsAnswer};
 ghost use Rattle.headers_cors_policy.specs.declared.rules.CorsRules.{CorsRules};
+
+/// Each request is of some kind. The rest of its answer is computed from the kind, so each request
+/// has an answer.
+pub fn request_has_a_kind()
+    ensures { (method : List ℕ) (sent : LineMap) → (kind : CorsKind) × IsKindOf method sent kind }
+{}
+
+/// A request has at most one answer: two have one kind, allow the same, and set the same lines.
+pub fn request_has_one_answer()
+    ensures { (policy : Policy) (method : List ℕ) (sent response : LineMap) (a b : CorsAnswer)
+        → IsAnswer policy method sent response a → IsAnswer policy method sent response b → AreSame a b }
+{}
 
 /// After the steps of an answer, whatever lines the response had before, a browser's CORS check
 /// holds exactly if the rules allow the origin and the credentials.

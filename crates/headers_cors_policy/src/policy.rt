@@ -1,9 +1,10 @@
 //! A server's policy, and what it answers.
-ghost use Rattle.std.specs.Prelude.{◌≡◌, ◌&&◌, ◌⊎◌, IfErr, IfOk, OnOk, Some, option_map, is_some, codes};
+ghost use Rattle.std.specs.Prelude.{◌≡◌, ◌&&◌, ◌⊎◌, true, IfErr, IfOk, OnOk, option_map, is_some, codes};
 ghost use Rattle.headers.specs.LineMap.{lines_at};
 ghost use Rattle.headers_cors_policy.specs.Answer.{allows, IsAnswer};
 ghost use Rattle.headers_cors_policy.specs.Policy.{Policy};
-ghost use Rattle.headers_cors_policy.specs.Rules.{IsLawful, IsPolicyOf, Refuses};
+ghost use Rattle.headers_cors_policy.specs.Rules.{HasUnsent, IsErrorOf, IsLawful, IsPolicyOf, texts};
+ghost use Rattle.headers_cors_policy.specs.SentOrigins.{are_sent};
 ghost use Rattle.headers_cors_policy.specs.Settings.{granted, grant_settings, leave_settings, vary, Extends, SetAll};
 
 use crate::error::RulesError;
@@ -11,9 +12,10 @@ use crate::kind::{CorsKind, kind_of};
 use crate::origin::granted;
 use crate::refusal::refusal;
 use crate::rules::CorsRules;
+use crate::sent::are_sent;
 use crate::steps::{filled, push_line, push_word};
 use crate::vary::push_vary;
-use crate::written::{line_of_age, line_of_methods, line_of_names, texts_of};
+use crate::written::{line_of_age, line_of_exposed, line_of_methods, line_of_names, texts_of};
 use headers::{HeaderMap, HeaderValue, Step};
 use http::Method;
 use http_header::{
@@ -56,22 +58,23 @@ impl Model for CorsPolicy {
 }
 
 impl CorsPolicy {
-    /// The policy of these rules. What no browser would read as it is meant is refused: any origin,
-    /// method or name with credentials, and a listed method or name `*`.
+    /// The policy of these rules. What no browser would read as it is meant is rejected: any origin,
+    /// method or name with credentials, and a listed method or name `*`; and so is a listed origin that
+    /// no browser sends. It is out of memory only for rules of which the first two don't hold.
     pub fn new(alloc: Global, rules: CorsRules) -> Result<CorsPolicy, RulesError>
         ensures ok { IfOk result (λ policy. IsLawful rules × IsPolicyOf rules policy) }
-        ensures err { IfErr result (λ error. (error ≡ RulesError.Memory) ⊎ Refuses rules (Some error)) }
+        ensures err { IfErr result (IsErrorOf rules) }
     {
         if let Some(error) = refusal(&rules) {
             return Err(error);
         }
-        let policy = written_of(alloc, rules)?;
-        Ok(policy)
+        written_of(alloc, rules)
     }
 
     /// Answers a request, by its method and its fields. The steps make the response's lines the
     /// policy's, whatever stood there before, and add `origin` to its `Vary` if the policy lists its
-    /// origins and `Vary` has neither `origin` nor `*`.
+    /// origins and `Vary` has neither `origin` nor `*`. The list of steps is never empty, so a call for
+    /// any request may run out of memory.
     pub fn answer(
         &self,
         alloc: Global,
@@ -193,9 +196,11 @@ impl CorsPolicy {
     }
 }
 
-// The policy that the rules write.
-fn written_of(alloc: Global, rules: CorsRules) -> Result<CorsPolicy, AllocError>
-    ensures { IfOk result (IsPolicyOf rules) }
+// The policy that the rules write, if browsers send each of the listed origins.
+fn written_of(alloc: Global, rules: CorsRules) -> Result<CorsPolicy, RulesError>
+    ensures ok { IfOk result (λ policy. (are_sent (texts rules.origins) ≡ true) × IsPolicyOf rules policy) }
+    ensures err { IfErr result (λ error. (error ≡ RulesError.Memory)
+        ⊎ ((error ≡ RulesError.UnsentOrigin) × HasUnsent rules)) }
 {
     let CorsRules {
         origins,
@@ -206,9 +211,12 @@ fn written_of(alloc: Global, rules: CorsRules) -> Result<CorsPolicy, AllocError>
         max_age,
     } = rules;
     let origins = texts_of(alloc, &origins)?;
+    if !are_sent(&origins) {
+        return Err(RulesError::UnsentOrigin);
+    }
     let methods = line_of_methods(alloc, methods)?;
     let names = line_of_names(alloc, names)?;
-    let exposed = line_of_names(alloc, exposed)?;
+    let exposed = line_of_exposed(alloc, exposed)?;
     let max_age = line_of_age(alloc, max_age)?;
     Ok(CorsPolicy {
         origins,

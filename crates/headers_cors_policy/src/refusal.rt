@@ -1,18 +1,18 @@
-//! Which rules make no policy.
+//! Which rules browsers don't read as they are meant.
 ghost use Rattle.std.specs.Prelude.{Contains};
 ghost use Rattle.std.specs.Bool.{MatchBool};
-ghost use Rattle.headers_cors_policy.specs.Allowed.{Lists};
+ghost use Rattle.headers_cors_policy.specs.Allowed.{Lists, ListsName};
 ghost use Rattle.headers_cors_policy.specs.Browser.{star};
-ghost use Rattle.headers_cors_policy.specs.Rules.{HasStar, Refuses, RefusesAny};
+ghost use Rattle.headers_cors_policy.specs.Rules.{HasStar, RefusesAny, RefusesReading};
 
 use crate::error::RulesError;
-use crate::rules::{Allowed, CorsRules};
+use crate::rules::{Allowed, AllowedNames, CorsRules};
 use headers::HeaderName;
 use http::Method;
 
-// Why the rules are no policy, if they are none.
+// Why browsers don't read the rules as they are meant, if they don't.
 pub(crate) fn refusal(rules: &CorsRules) -> Option<RulesError>
-    ensures { Refuses rules.now result }
+    ensures { RefusesReading rules.now result }
 {
     match any_with_credentials(rules) {
         Some(error) => Some(error),
@@ -47,7 +47,7 @@ fn has_star(rules: &CorsRules) -> bool
 {
     lists_star_method(&rules.methods)
         || lists_star_name(&rules.names)
-        || lists_star_name(&rules.exposed)
+        || lists_star_exposed(&rules.exposed)
 }
 
 fn lists_star_method(methods: &Allowed<Method>) -> bool
@@ -59,7 +59,16 @@ fn lists_star_method(methods: &Allowed<Method>) -> bool
     }
 }
 
-fn lists_star_name(names: &Allowed<HeaderName>) -> bool
+fn lists_star_name(names: &AllowedNames) -> bool
+    ensures { MatchBool result (ListsName names.now star) (¬ (ListsName names.now star)) }
+{
+    match names {
+        AllowedNames::Any | AllowedNames::AnyAndAuthorization => false,
+        AllowedNames::Listed(names) => has_star_name(names),
+    }
+}
+
+fn lists_star_exposed(names: &Allowed<HeaderName>) -> bool
     ensures { MatchBool result (Lists names.now star) (¬ (Lists names.now star)) }
 {
     match names {

@@ -1,38 +1,20 @@
 //! What a response's `Vary` says, and `origin` added to it.
-ghost use Rattle.std.specs.Prelude.{◌≡◌, ◌∷◌, [], ◌++◌, IfOk, OnOk, codes, map};
-ghost use Rattle.std.specs.List.{list_any};
+ghost use Rattle.std.specs.Prelude.{◌≡◌, ◌∷◌, [], ◌++◌, IfOk, OnOk, codes};
 ghost use Rattle.headers.specs.LineMap.{lines_at};
 ghost use Rattle.headers.specs.Lines.{lines_of};
-ghost use Rattle.headers_cors_policy.specs.Settings.{covers_origin, line_covers_origin, vary_settings, Extends};
+ghost use Rattle.headers_cors_policy.specs.Settings.{covers_origin, vary_settings, Extends};
 
-use headers::{Encoded, HeaderMap, HeaderValue, Step, trim};
+use headers::{Encoded, HeaderMap, HeaderValue, Step};
+use headers_fields::contains_token;
 use http_header::VARY;
 use std::alloc::{AllocError, Global};
 
-// Whether `Vary` names all requests that differ in their origin.
-fn covers_origin(name: &[u8]) -> bool
-    ensures { result ≡ covers_origin name.now }
-{
-    name == b"*".as_slice() || name.eq_ignore_ascii_case(b"origin")
-}
-
-fn line_covers_origin(line: &HeaderValue) -> bool
-    ensures { result ≡ line_covers_origin line.now.bytes }
-{
-    line.as_bytes()
-        .split(|byte| *byte == b',')
-        .any(|piece| covers_origin(trim(piece)))
-}
-
+// Whether `Vary` tells apart all requests that differ in their origin.
 fn response_covers_origin(response: &HeaderMap) -> bool
-    ensures { result ≡ list_any line_covers_origin (lines_at response.now (codes "vary")) }
+    ensures { result ≡ covers_origin (lines_at response.now (codes "vary")) }
 {
-    for line in response.get_all(VARY) {
-        if line_covers_origin(line) {
-            return true;
-        }
-    }
-    false
+    let lines = response.get_all(VARY);
+    contains_token(&lines, b"*") || contains_token(&lines, b"origin")
 }
 
 // The response's lines of `Vary`, and `origin` after them.

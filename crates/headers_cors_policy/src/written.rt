@@ -3,15 +3,18 @@ ghost use Rattle.std.specs.Prelude.{◌≡◌, ◌∷◌, [], decimal, length, m
 ghost use Rattle.headers.specs.Lines.{lines_of};
 ghost use Rattle.headers.specs.ListItem.{method_of, name_of, IsListOf};
 ghost use Rattle.headers.specs.Origin.{origin_text};
-ghost use Rattle.headers_cors_policy.specs.Rules.{IsListLine, texts};
+ghost use Rattle.headers_cors_policy.specs.Rules.{IsListLine, IsNamesLine, age_line, greatest_age, texts};
 
-use crate::rules::Allowed;
+use crate::rules::{Allowed, AllowedNames};
 use headers::{
     AccessControlAllowHeaders, AccessControlAllowMethods, AccessControlMaxAge, Header, HeaderName,
     HeaderValue, Origin,
 };
 use http::Method;
 use std::alloc::{AllocError, Global};
+
+// 2^31 - 1.
+const GREATEST_AGE: u64 = 2147483647;
 
 // The line that is written of a header that writes one.
 fn line_of<H: Header>(alloc: Global, header: &H) -> Result<HeaderValue, AllocError>
@@ -70,8 +73,19 @@ fn line_of_listed_methods(alloc: Global, methods: Vec<Method>) -> Result<HeaderV
     Ok(line)
 }
 
+// A star, with `authorization` or without, or the names.
+pub(crate) fn line_of_names(alloc: Global, names: AllowedNames) -> Result<HeaderValue, AllocError>
+    ensures { IfOk result (λ line. IsNamesLine names line.bytes) }
+{
+    match names {
+        AllowedNames::Any => Ok(HeaderValue::from_static("*")),
+        AllowedNames::AnyAndAuthorization => Ok(HeaderValue::from_static("*, authorization")),
+        AllowedNames::Listed(names) => line_of_listed_names(alloc, names),
+    }
+}
+
 // A star, or the names.
-pub(crate) fn line_of_names(
+pub(crate) fn line_of_exposed(
     alloc: Global,
     names: Allowed<HeaderName>,
 ) -> Result<HeaderValue, AllocError>
@@ -95,11 +109,12 @@ pub(crate) fn line_of_age(
     alloc: Global,
     max_age: Option<u64>,
 ) -> Result<Option<HeaderValue>, AllocError>
-    ensures { IfOk result (λ line. option_map (λ value. value.bytes) line ≡ option_map decimal max_age) }
+    ensures { IfOk result (λ line. option_map (λ value. value.bytes) line ≡ option_map age_line max_age) }
 {
     match max_age {
         Some(seconds) => {
-            let line = line_of(alloc, &AccessControlMaxAge::from_secs(seconds))?;
+            let written = seconds.min(GREATEST_AGE);
+            let line = line_of(alloc, &AccessControlMaxAge::from_secs(written))?;
             Ok(Some(line))
         }
         None => Ok(None),

@@ -4,8 +4,8 @@
 //! `CorsPolicy.new RULES` answers `made`, or why the rules are no policy. `CorsPolicy.answer RULES
 //! (/) METHOD REQUEST (/) RESPONSE` answers what the request is, whether it is allowed, and the
 //! response's fields after the steps. Rules are fields: `(origins)`, `(methods)`, `(names)` and
-//! `(exposed)` list values, `(any)` names those of the four that are any, and `(credentials)` is
-//! `true` or left out. `(max-age)` is a number.
+//! `(exposed)` list values, `(any)` names those of the four that are any, or
+//! `names-and-authorization`, and `(credentials)` is `true` or left out. `(max-age)` is a number.
 #![tactic(auto)]
 
 mod calls;

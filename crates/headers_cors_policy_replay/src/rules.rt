@@ -1,6 +1,6 @@
 //! Rules that are read from the fields of a row.
 use headers::{HeaderMap, HeaderName, HeaderValue, Origin, decode_values};
-use headers_cors_policy::{Allowed, CorsRules};
+use headers_cors_policy::{Allowed, AllowedNames, CorsRules};
 use headers_rows::{Arguments, Failure};
 use http::Method;
 use std::alloc::Global;
@@ -29,17 +29,32 @@ impl Listed for HeaderName {
     }
 }
 
-fn allowed<T: Listed>(alloc: Global, rules: &HeaderMap, name: &str) -> Result<Allowed<T>, Failure> {
+fn is_any(rules: &HeaderMap, name: &str) -> bool {
     for any in rules.get_all("any") {
         if any.as_bytes() == name.as_bytes() {
-            return Ok(Allowed::Any);
+            return true;
         }
+    }
+    false
+}
+
+fn allowed<T: Listed>(alloc: Global, rules: &HeaderMap, name: &str) -> Result<Allowed<T>, Failure> {
+    if is_any(rules, name) {
+        return Ok(Allowed::Any);
     }
     let mut values = Vec::new(alloc);
     for line in rules.get_all(name) {
         values.push(T::read(alloc, line)?)?;
     }
     Ok(Allowed::Listed(values))
+}
+
+fn allowed_names(alloc: Global, rules: &HeaderMap) -> Result<AllowedNames, Failure> {
+    if is_any(rules, "names-and-authorization") {
+        return Ok(AllowedNames::AnyAndAuthorization);
+    }
+    let names = allowed::<HeaderName>(alloc, rules, "names")?;
+    Ok(AllowedNames::from(names))
 }
 
 fn max_age(alloc: Global, rules: &HeaderMap) -> Result<Option<u64>, Failure> {
@@ -57,7 +72,7 @@ pub fn read_rules(arguments: &mut Arguments<'_>) -> Result<CorsRules, Failure> {
     Ok(CorsRules {
         origins: allowed(alloc, &rules, "origins")?,
         methods: allowed(alloc, &rules, "methods")?,
-        names: allowed(alloc, &rules, "names")?,
+        names: allowed_names(alloc, &rules)?,
         exposed: allowed(alloc, &rules, "exposed")?,
         credentials: rules.contains_key("credentials"),
         max_age: max_age(alloc, &rules)?,

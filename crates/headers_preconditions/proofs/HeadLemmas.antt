@@ -1,11 +1,11 @@
 -- A HEAD is answered as a GET without Range.
-use Rattle.std.proofs.Common.{◌≡◌, ◌↔◌, ◌⊎◌, ℕ, Option, Some, None, inl, inr, refl}
+use Rattle.std.proofs.Common.{◌≡◌, ◌↔◌, ◌⊎◌, ℕ, List, Option, Some, None, inl, inr, refl}
 use Rattle.std.specs.Prelude.{codes}
 use Rattle.headers.specs.LineMap.{LineMap, remove}
-use Rattle.headers.specs.Lines.{Line}
 use Rattle.headers_preconditions.specs.Plans.{IsPlan, IsPlanned, Reads}
-use Rattle.headers_preconditions.specs.Preconditions.{Answers, IsGetOrHead, IsUnconditional, StepsAnswer}
+use Rattle.headers_preconditions.specs.Preconditions.{Answers, IsGetOrHead, IsRead, IsUnconditional, StepsAnswer}
 use Rattle.headers_preconditions.specs.Selection.{Applies}
+use Rattle.headers_preconditions.specs.declared.limits.RangeLimits.{RangeLimits}
 use Rattle.headers_preconditions.specs.declared.plan.Plan.{Plan}
 use Rattle.headers_preconditions.specs.declared.plan.Plan.TheVariants.{NotModified, Failed, Full, Single}
 use Rattle.headers_preconditions.specs.declared.plan.Plan.TheVariants.{Multiple, Unsatisfiable}
@@ -35,52 +35,52 @@ head_is_conditional (inr (inl same)) = cc same
 head_is_conditional (inr (inr same)) = cc same
 
 -- Range applies to no HEAD, and to no request without it
-none_of_head : (request : LineMap) (current : Validators) (len : ℕ) (line : Line)
-    → ¬ (Applies (codes "HEAD") request current len line)
-none_of_head request current len line h = let same = h.is_get in absurd (cc same)
+none_of_head : (present : ℕ) (request : LineMap) (current : Validators) (len : ℕ) (set : List ℕ)
+    → ¬ (Applies present (codes "HEAD") request current len set)
+none_of_head present request current len set h = let same = h.is_get in absurd (cc same)
 
-none_without : (request : LineMap) (current : Validators) (len : ℕ) (line : Line)
-    → ¬ (Applies (codes "GET") (without_range request) current len line)
-none_without request current len line h = let asked = h.asked in absurd (cc asked)
+none_without : (present : ℕ) (request : LineMap) (current : Validators) (len : ℕ) (set : List ℕ)
+    → ¬ (Applies present (codes "GET") (without_range request) current len set)
+none_without present request current len set h = let asked = h.asked in absurd (cc asked)
 
-module _ (request : LineMap) (resource : Resource) where
-  steps_of_get : (answer : Precondition) → StepsAnswer request resource (codes "HEAD") answer
-      → StepsAnswer (without_range request) resource (codes "GET") answer
-  steps_of_get precondition.Perform h = (h.0, h.1, λ read. h.2 head_is_read)
+module _ (present : ℕ) (request : LineMap) (resource : Resource) where
+  read_as_get : IsRead present request resource → IsRead present (without_range request) resource
+  read_as_get h = record { by_tag = h.by_tag; by_date = h.by_date }
+
+  read_as_head : IsRead present (without_range request) resource → IsRead present request resource
+  read_as_head h = record { by_tag = h.by_tag; by_date = h.by_date }
+
+  steps_of_get : (answer : Precondition) → StepsAnswer present request resource (codes "HEAD") answer
+      → StepsAnswer present (without_range request) resource (codes "GET") answer
+  steps_of_get precondition.Perform h =
+      (h.0, (λ read. read_as_get (h.1 head_is_read)), (λ other. absurd (other get_is_read)))
   steps_of_get precondition.NotModified h = (h.0, get_is_read, h.2)
   steps_of_get precondition.Failed (inl lost) = inl lost
   steps_of_get precondition.Failed (inr other) = absurd (other.1 head_is_read)
 
-  steps_of_head : (answer : Precondition) → StepsAnswer (without_range request) resource (codes "GET") answer
-      → StepsAnswer request resource (codes "HEAD") answer
-  steps_of_head precondition.Perform h = (h.0, h.1, λ read. h.2 get_is_read)
+  steps_of_head : (answer : Precondition) → StepsAnswer present (without_range request) resource (codes "GET") answer
+      → StepsAnswer present request resource (codes "HEAD") answer
+  steps_of_head precondition.Perform h =
+      (h.0, (λ read. read_as_head (h.1 get_is_read)), (λ other. absurd (other head_is_read)))
   steps_of_head precondition.NotModified h = (h.0, head_is_read, h.2)
   steps_of_head precondition.Failed (inl lost) = inl lost
   steps_of_head precondition.Failed (inr other) = absurd (other.1 get_is_read)
 
-  answer_of_get : (answer : Precondition) → Answers request resource (codes "HEAD") answer
-      → Answers (without_range request) resource (codes "GET") answer
+  answer_of_get : (answer : Precondition) → Answers present request resource (codes "HEAD") answer
+      → Answers present (without_range request) resource (codes "GET") answer
   answer_of_get answer h =
       record {
         unconditional = λ i. absurd (get_is_conditional i);
         conditional = λ counts. steps_of_get answer (h.conditional head_is_conditional);
       }
 
-  answer_of_head : (answer : Precondition) → Answers (without_range request) resource (codes "GET") answer
-      → Answers request resource (codes "HEAD") answer
+  answer_of_head : (answer : Precondition) → Answers present (without_range request) resource (codes "GET") answer
+      → Answers present request resource (codes "HEAD") answer
   answer_of_head answer h =
       record {
         unconditional = λ i. absurd (head_is_conditional i);
         conditional = λ counts. steps_of_head answer (h.conditional get_is_conditional);
       }
-
-  performs_as_get : Answers request resource (codes "HEAD") precondition.Perform
-      → Answers (without_range request) resource (codes "GET") precondition.Perform
-  performs_as_get h = answer_of_get precondition.Perform h
-
-  performs_as_head : Answers (without_range request) resource (codes "GET") precondition.Perform
-      → Answers request resource (codes "HEAD") precondition.Perform
-  performs_as_head h = answer_of_head precondition.Perform h
 
   -- what is no read of a current representation
   served_as_get : (resource ≡ Missing) ⊎ (¬ (IsGetOrHead (codes "HEAD")))
@@ -93,40 +93,48 @@ module _ (request : LineMap) (resource : Resource) where
   served_as_head (inl missing) = inl missing
   served_as_head (inr other) = absurd (other get_is_read)
 
-  module _ (len : ℕ) where
-    reads_as_get : (current : Validators) → Reads (codes "HEAD") request resource len current
-        → Reads (codes "GET") (without_range request) resource len current
-    reads_as_get current h =
-        record { performs = performs_as_get h.performs; is_read = get_is_read; is_current = h.is_current }
+  reads_as_get : (current : Validators) → Reads present (codes "HEAD") request resource current
+      → Reads present (codes "GET") (without_range request) resource current
+  reads_as_get current h =
+      record {
+        performs = answer_of_get precondition.Perform h.performs;
+        is_read = get_is_read;
+        is_current = h.is_current;
+      }
 
-    reads_as_head : (current : Validators) → Reads (codes "GET") (without_range request) resource len current
-        → Reads (codes "HEAD") request resource len current
-    reads_as_head current h =
-        record { performs = performs_as_head h.performs; is_read = head_is_read; is_current = h.is_current }
+  reads_as_head : (current : Validators) → Reads present (codes "GET") (without_range request) resource current
+      → Reads present (codes "HEAD") request resource current
+  reads_as_head current h =
+      record {
+        performs = answer_of_head precondition.Perform h.performs;
+        is_read = head_is_read;
+        is_current = h.is_current;
+      }
 
-    plan_of_get : (plan : Plan) → IsPlan (codes "HEAD") request resource len plan
-        → IsPlan (codes "GET") (without_range request) resource len plan
+  module _ (len : ℕ) (limits : RangeLimits) where
+    plan_of_get : (plan : Plan) → IsPlan present (codes "HEAD") request resource len limits plan
+        → IsPlan present (codes "GET") (without_range request) resource len limits plan
     plan_of_get Failed h = answer_of_get precondition.Failed h
     plan_of_get NotModified h = answer_of_get precondition.NotModified h
-    plan_of_get Full h = (h.0, reads_as_get h.0 h.1, none_without request h.0 len)
-    plan_of_get (Single part) h = absurd (none_of_head request h.0 len h.2.0 h.2.1)
-    plan_of_get (Multiple parts) h = absurd (none_of_head request h.0 len h.2.0 h.2.1)
-    plan_of_get Unsatisfiable h = absurd (none_of_head request h.0 len h.2.0 h.2.1)
+    plan_of_get Full h = (h.0, reads_as_get h.0 h.1, inl (none_without present request h.0 len))
+    plan_of_get (Single part) h = absurd (none_of_head present request h.0 len h.2.set h.2.asks.applies)
+    plan_of_get (Multiple parts) h = absurd (none_of_head present request h.0 len h.2.set h.2.asks.applies)
+    plan_of_get Unsatisfiable h = absurd (none_of_head present request h.0 len h.2.0 h.2.1)
 
-    plan_of_head : (plan : Plan) → IsPlan (codes "GET") (without_range request) resource len plan
-        → IsPlan (codes "HEAD") request resource len plan
+    plan_of_head : (plan : Plan) → IsPlan present (codes "GET") (without_range request) resource len limits plan
+        → IsPlan present (codes "HEAD") request resource len limits plan
     plan_of_head Failed h = answer_of_head precondition.Failed h
     plan_of_head NotModified h = answer_of_head precondition.NotModified h
-    plan_of_head Full h = (h.0, reads_as_head h.0 h.1, none_of_head request h.0 len)
-    plan_of_head (Single part) h = absurd (none_without request h.0 len h.2.0 h.2.1)
-    plan_of_head (Multiple parts) h = absurd (none_without request h.0 len h.2.0 h.2.1)
-    plan_of_head Unsatisfiable h = absurd (none_without request h.0 len h.2.0 h.2.1)
+    plan_of_head Full h = (h.0, reads_as_head h.0 h.1, inl (none_of_head present request h.0 len))
+    plan_of_head (Single part) h = absurd (none_without present request h.0 len h.2.set h.2.asks.applies)
+    plan_of_head (Multiple parts) h = absurd (none_without present request h.0 len h.2.set h.2.asks.applies)
+    plan_of_head Unsatisfiable h = absurd (none_without present request h.0 len h.2.0 h.2.1)
 
     pub head_as_get : (plan : Option Plan)
-        → IsPlanned (codes "HEAD") request resource len plan
-        ↔ IsPlanned (codes "GET") (remove request (codes "range")) resource len plan
+        → IsPlanned present (codes "HEAD") request resource len limits plan
+        ↔ IsPlanned present (codes "GET") (remove request (codes "range")) resource len limits plan
     head_as_get (Some plan) = (plan_of_get plan, plan_of_head plan)
     head_as_get None = (
-      (λ h. (performs_as_get h.0, served_as_get h.1)),
-      (λ h. (performs_as_head h.0, served_as_head h.1)),
+      (λ h. (answer_of_get precondition.Perform h.0, served_as_get h.1)),
+      (λ h. (answer_of_head precondition.Perform h.0, served_as_head h.1)),
     )

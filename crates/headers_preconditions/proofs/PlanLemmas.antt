@@ -5,17 +5,20 @@ use Rattle.headers.specs.LineMap.{LineMap}
 use Rattle.headers_preconditions.specs.Fields.{IsSized}
 use Rattle.headers_preconditions.specs.Parts.{IsPartOf}
 use Rattle.headers_preconditions.specs.Plans.{IsPlan}
+use Rattle.headers_preconditions.specs.declared.limits.RangeLimits.{RangeLimits}
 use Rattle.headers_preconditions.specs.declared.plan.Plan.{Plan}
 use Rattle.headers_preconditions.specs.declared.plan.Plan.TheVariants.{NotModified, Failed, Full, Single}
 use Rattle.headers_preconditions.specs.declared.plan.Plan.TheVariants.{Multiple, Unsatisfiable}
 use Rattle.headers_preconditions.specs.declared.resource.Resource.{Resource}
 
-module _ (method : List ℕ) (request : LineMap) (resource : Resource) (len : ℕ) where
+module _ (present : ℕ) (method : List ℕ) (request : LineMap) (resource : Resource) (len : ℕ)
+    (limits : RangeLimits) where
   -- a single part lies in the representation
-  pub sized-from_plan : (plan : Plan) → IsPlan method request resource len plan → len < 2 ^ 64 → IsSized plan
+  pub sized-from_plan : (plan : Plan) → IsPlan present method request resource len limits plan → len < 2 ^ 64
+      → IsSized plan
   sized-from_plan Full h fits = tt
   sized-from_plan (Single part) h fits =
-      let within = All-head (IsPartOf len) part [] h.2.2.coalesced.within in
+      let within = All-head (IsPartOf len) part [] h.2.asks.asked.coalesced.within in
       let ordered = within.0 in
       let below = within.1 in (ordered, omega arith)
   sized-from_plan (Multiple parts) h fits = tt

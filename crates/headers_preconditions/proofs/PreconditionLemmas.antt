@@ -1,54 +1,220 @@
 -- What follows from the rows of `Answers`.
-use Rattle.std.proofs.Common.{◌≡◌, ℕ, ◌<◌, ◌≤◌, List, [], Option, Some, None, refl, arith, inl, inr, IfSome}
-use Rattle.std.specs.Prelude.{IsSomeAnd, MatchOption, ◌≢◌, codes}
-use Rattle.http_header.specs.FieldValue.{FieldValue}
-use Rattle.headers.specs.EntityTagRange.{star, range_of}
-use Rattle.headers.specs.IfMatch.{MatchPasses}
-use Rattle.headers.specs.IfNoneMatch.{NoneMatchPasses}
+use Rattle.std.proofs.Common.{◌≡◌, ℕ, ◌+◌, ◌<◌, ◌≤◌, ◌⊎◌, List, [], ◌∷◌, Option, Some, None, refl, arith, inl, inr}
+use Rattle.std.proofs.Common.{IfSome, IsTrue}
+use Rattle.std.proofs.Common.{Bool, true, false}
+use Rattle.std.specs.Prelude.{IsSomeAnd, bytes_eq, codes}
+use Rattle.std.proofs.lemmas.Bool.{cases_Bool, both_ways, cases_lt}
+use Rattle.std.proofs.lemmas.Slice.Eq.{bytes_eq-Decides}
+use Rattle.headers_dates.specs.Calendar.{unix_epoch}
 use Rattle.headers.specs.LineMap.{LineMap}
-use Rattle.headers_preconditions.specs.Conditions.{NamesCurrent, NamesNone, dates}
-use Rattle.headers_preconditions.specs.Preconditions.{Answers, IsUnconditional, StateIsLost, StateIsKept, StepsAnswer}
+use Rattle.headers.specs.Lines.{Line}
+use Rattle.headers.specs.Typed.{HasLine}
+use Rattle.headers_preconditions.specs.Conditions.{ModifiedSinceLets, UnmodifiedSinceLets, dates}
+use Rattle.headers_preconditions.specs.Preconditions.{Answers, IsGetOrHead, IsRead, IsUnconditional, MayBeThere}
+use Rattle.headers_preconditions.specs.Preconditions.{IsStoredByDate, IsStoredByTag, StateIsLost, StateIsKept}
+use Rattle.headers_preconditions.specs.Preconditions.{StepsAnswer}
+use Rattle.headers_preconditions.specs.Tags.{may_name, names}
 use Rattle.headers_preconditions.specs.declared.precondition.Precondition.{Precondition}
 use Rattle.headers_preconditions.specs.declared.precondition.Precondition.TheVariants.{Perform, NotModified, Failed}
 use Rattle.headers_preconditions.specs.declared.resource.Resource.{Resource}
+use Rattle.headers_preconditions.specs.declared.tags.Comparison.{Comparison}
+use Rattle.headers_preconditions.specs.declared.tags.Comparison.TheVariants.{Strong, Weak}
 use Rattle.headers_preconditions.specs.declared.resource.Resource.TheVariants.{Current}
 use Rattle.headers_preconditions.specs.declared.resource.Validators.{Validators}
+use Rattle.headers.specs.EntityTagRange.{star}
 
-later_or_not : (both : Option (ℕ × ℕ)) → IsSomeAnd both (λ d. d.0 < d.1) → ¬ (IfSome both (λ d. d.1 ≤ d.0))
+later_or_not : (both : Option (ℕ × ℕ)) → IsSomeAnd both (λ d. d.0 < unix_epoch + d.1)
+    → ¬ (IfSome both (λ d. unix_epoch + d.1 ≤ d.0))
 later_or_not None h k = h
 later_or_not (Some d) h k = omega (arith, h, k)
 
-earlier_or_not : (both : Option (ℕ × ℕ)) → IsSomeAnd both (λ d. d.1 ≤ d.0) → ¬ (IfSome both (λ d. d.0 < d.1))
+earlier_or_not : (both : Option (ℕ × ℕ)) → IsSomeAnd both (λ d. unix_epoch + d.1 ≤ d.0)
+    → ¬ (IfSome both (λ d. d.0 < unix_epoch + d.1))
 earlier_or_not None h k = h
 earlier_or_not (Some d) h k = omega (arith, h, k)
 
-lost_or_kept : (request : LineMap) (resource : Resource) → StateIsLost request resource
-    → ¬ (StateIsKept request resource)
-lost_or_kept request resource (inl h) k = h.1 (k.0 h.0)
-lost_or_kept request resource (inr h) k =
-    later_or_not (dates (codes "if-unmodified-since") request resource) h.1 (k.1 h.0)
+lost_or_kept : (present : ℕ) (request : LineMap) (resource : Resource) → StateIsLost present request resource
+    → ¬ (StateIsKept present request resource)
+lost_or_kept present request resource (inl h) k = h.1 (k.0 h.0)
+lost_or_kept present request resource (inr h) k =
+    later_or_not (dates present (codes "if-unmodified-since") request resource) h.1 (k.1 h.0)
 
-module _ (request : LineMap) (resource : Resource) (method : List ℕ) where
-  failed_or_not_modified : StepsAnswer request resource method Failed
-      → ¬ (StepsAnswer request resource method NotModified)
-  failed_or_not_modified (inl h) k = lost_or_kept request resource h k.0
-  failed_or_not_modified (inr h) k = h.1 k.1
+-- ---- each fact holds or doesn't
 
-  failed_or_performed : StepsAnswer request resource method Failed → ¬ (StepsAnswer request resource method Perform)
-  failed_or_performed (inl h) k = lost_or_kept request resource h k.0
-  failed_or_performed (inr h) k = h.2.1 (k.1 h.2.0)
+has_or_not : (lines : List Line) → HasLine lines ⊎ ¬ (HasLine lines)
+has_or_not [] = inr (λ h. omega (arith, h))
+has_or_not (line ∷ lines) = inl (omega arith)
 
-  stored_or_performed : StepsAnswer request resource method NotModified
-      → ¬ (StepsAnswer request resource method Perform)
-  stored_or_performed h k =
-      elim h.2 [
-        | inl tag ↦ tag.1 (k.1 tag.0)
-        | inr date ↦
-            earlier_or_not (dates (codes "if-modified-since") request resource) date.1 (k.2 h.1 date.0)
+lacks : (lines : List Line) → lines ≡ [] → ¬ (HasLine lines)
+lacks [] e h = omega (arith, h)
+lacks (line ∷ lines) e h = absurd (cc e)
+
+true_or_not : (b : Bool) → IsTrue b ⊎ ¬ (IsTrue b)
+true_or_not true = inl refl
+true_or_not false = inr (λ h. cc h)
+
+later_or_lets : (both : Option (ℕ × ℕ)) → IsSomeAnd both (λ d. d.0 < unix_epoch + d.1)
+    ⊎ IfSome both (λ d. unix_epoch + d.1 ≤ d.0)
+later_or_lets None = inr tt
+later_or_lets (Some d) =
+    elim (cases_lt d.0 (unix_epoch + d.1)) [
+      | inl l ↦ inl l
+      | inr l ↦ inr l
+    ]
+
+earlier_or_lets : (both : Option (ℕ × ℕ)) → IsSomeAnd both (λ d. unix_epoch + d.1 ≤ d.0)
+    ⊎ IfSome both (λ d. d.0 < unix_epoch + d.1)
+earlier_or_lets None = inr tt
+earlier_or_lets (Some d) =
+    elim (cases_lt d.0 (unix_epoch + d.1)) [
+      | inl l ↦ inr l
+      | inr l ↦ inl l
+    ]
+
+pub same_or_not : (a b : List ℕ) → (a ≡ b) ⊎ ¬ (a ≡ b)
+same_or_not a b =
+    elim (cases_Bool (bytes_eq a b)) [
+      | inl y ↦ inl ((bytes_eq-Decides a b).0 y)
+      | inr n ↦ inr (λ e. both_ways (bytes_eq a b) n ((bytes_eq-Decides a b).1 e))
+    ]
+
+pub read_or_not : (method : List ℕ) → IsGetOrHead method ⊎ ¬ (IsGetOrHead method)
+read_or_not method =
+    elim (same_or_not method (codes "GET")) [
+      | inl y ↦ inl (inl y)
+      | inr n ↦
+          elim (same_or_not method (codes "HEAD")) [
+            | inl y ↦ inl (inr y)
+            | inr m ↦
+                inr (λ h. elim h [
+                  | inl e ↦ n e
+                  | inr e ↦ m e
+                ])
+          ]
+    ]
+
+unconditional_or_not : (method : List ℕ) → IsUnconditional method ⊎ ¬ (IsUnconditional method)
+unconditional_or_not method =
+    elim (same_or_not method (codes "CONNECT")) [
+      | inl y ↦ inl (inl y)
+      | inr n ↦
+          elim (same_or_not method (codes "OPTIONS")) [
+            | inl y ↦ inl (inr (inl y))
+            | inr m ↦
+                elim (same_or_not method (codes "TRACE")) [
+                  | inl y ↦ inl (inr (inr y))
+                  | inr o ↦
+                      inr (λ h. elim h [
+                        | inl e ↦ n e
+                        | inr k ↦
+                            elim k [
+                              | inl e ↦ m e
+                              | inr e ↦ o e
+                            ]
+                      ])
+                ]
+          ]
+    ]
+
+module _ (present : ℕ) (request : LineMap) (resource : Resource) where
+  kept_or_lost : StateIsKept present request resource ⊎ StateIsLost present request resource
+  kept_or_lost =
+      elim (has_or_not (request (codes "if-match"))) [
+        | inl has ↦
+            elim (true_or_not (names Strong (request (codes "if-match")) resource)) [
+              | inl y ↦ inl ((λ h. y), (λ lacks. absurd (lacks has)))
+              | inr n ↦ inr (inl (has, n))
+            ]
+        | inr lacks ↦
+            elim (later_or_lets (dates present (codes "if-unmodified-since") request resource)) [
+              | inl lost ↦ inr (inr (lacks, lost))
+              | inr lets ↦ inl ((λ has. absurd (lacks has)), (λ h. lets))
+            ]
       ]
 
-  one_step_answer : (a b : Precondition) → StepsAnswer request resource method a → StepsAnswer request resource method b
-      → a ≡ b
+  stored_or_read : (IsStoredByTag request resource ⊎ IsStoredByDate present request resource)
+      ⊎ IsRead present request resource
+  stored_or_read =
+      elim (has_or_not (request (codes "if-none-match"))) [
+        | inl has ↦
+            elim (true_or_not (names Weak (request (codes "if-none-match")) resource)) [
+              | inl y ↦ inl (inl (has, y))
+              | inr n ↦ inr (record { by_tag = λ h. n; by_date = λ lacks. absurd (lacks has) })
+            ]
+        | inr lacks ↦
+            elim (earlier_or_lets (dates present (codes "if-modified-since") request resource)) [
+              | inl stored ↦ inl (inr (lacks, stored))
+              | inr lets ↦ inr (record { by_tag = λ has. absurd (lacks has); by_date = λ h. lets })
+            ]
+      ]
+
+  there_or_not : MayBeThere request resource ⊎ ¬ (MayBeThere request resource)
+  there_or_not =
+      elim (has_or_not (request (codes "if-none-match"))) [
+        | inl has ↦
+            elim (true_or_not (may_name Weak (request (codes "if-none-match")) resource)) [
+              | inl y ↦ inl (has, y)
+              | inr n ↦ inr (λ h. n h.1)
+            ]
+        | inr lacks ↦ inr (λ h. lacks h.0)
+      ]
+
+  some_step_answer : (method : List ℕ)
+      → (answer : Precondition) × StepsAnswer present request resource method answer
+  some_step_answer method =
+      elim kept_or_lost [
+        | inr lost ↦ (Failed, inl lost)
+        | inl kept ↦
+            elim (read_or_not method) [
+              | inl read ↦
+                  elim stored_or_read [
+                    | inl stored ↦ (NotModified, (kept, read, stored))
+                    | inr lets ↦ (Perform, (kept, (λ h. lets), (λ other. absurd (other read))))
+                  ]
+              | inr other ↦
+                  elim there_or_not [
+                    | inl there ↦ (Failed, inr (kept, other, there))
+                    | inr free ↦ (Perform, (kept, (λ read. absurd (other read)), (λ h. free)))
+                  ]
+            ]
+      ]
+
+  pub some_answer : (method : List ℕ) → (answer : Precondition) × Answers present request resource method answer
+  some_answer method =
+      elim (unconditional_or_not method) [
+        | inl is ↦ (Perform, record { unconditional = λ i. refl; conditional = λ counts. absurd (counts is) })
+        | inr counts ↦
+            let step = some_step_answer method in (
+              step.0,
+              record { unconditional = λ i. absurd (counts i); conditional = λ c. step.1 },
+            )
+      ]
+
+-- ---- at most one
+
+module _ (present : ℕ) (request : LineMap) (resource : Resource) (method : List ℕ) where
+  failed_or_not_modified : StepsAnswer present request resource method Failed
+      → ¬ (StepsAnswer present request resource method NotModified)
+  failed_or_not_modified (inl h) k = lost_or_kept present request resource h k.0
+  failed_or_not_modified (inr h) k = h.1 k.1
+
+  failed_or_performed : StepsAnswer present request resource method Failed
+      → ¬ (StepsAnswer present request resource method Perform)
+  failed_or_performed (inl h) k = lost_or_kept present request resource h k.0
+  failed_or_performed (inr h) k = k.2 h.1 h.2
+
+  stored_or_performed : StepsAnswer present request resource method NotModified
+      → ¬ (StepsAnswer present request resource method Perform)
+  stored_or_performed h k =
+      let read = k.1 h.1 in
+      elim h.2 [
+        | inl tag ↦ read.by_tag tag.0 tag.1
+        | inr date ↦
+            earlier_or_not (dates present (codes "if-modified-since") request resource) date.1 (read.by_date date.0)
+      ]
+
+  one_step_answer : (a b : Precondition) → StepsAnswer present request resource method a
+      → StepsAnswer present request resource method b → a ≡ b
   one_step_answer Perform Perform h k = refl
   one_step_answer Perform NotModified h k = absurd (stored_or_performed k h)
   one_step_answer Perform Failed h k = absurd (failed_or_performed k h)
@@ -60,52 +226,48 @@ module _ (request : LineMap) (resource : Resource) (method : List ℕ) where
   one_step_answer Failed Failed h k = refl
 
   -- what isn't performed is answered by the steps
-  stored_by_steps : Answers request resource method NotModified → ¬ (IsUnconditional method)
+  stored_by_steps : Answers present request resource method NotModified → ¬ (IsUnconditional method)
   stored_by_steps h i = let e = h.unconditional i in cc e
 
-  failed_by_steps : Answers request resource method Failed → ¬ (IsUnconditional method)
+  failed_by_steps : Answers present request resource method Failed → ¬ (IsUnconditional method)
   failed_by_steps h i = let e = h.unconditional i in cc e
 
-  by_steps : (a b : Precondition) → (¬ (IsUnconditional method)) → Answers request resource method a
-      → Answers request resource method b → a ≡ b
+  by_steps : (a b : Precondition) → (¬ (IsUnconditional method)) → Answers present request resource method a
+      → Answers present request resource method b → a ≡ b
   by_steps a b counts h k = one_step_answer a b (h.conditional counts) (k.conditional counts)
 
-  pub one_answer : (a b : Precondition) → Answers request resource method a → Answers request resource method b
-      → a ≡ b
+  pub one_answer : (a b : Precondition) → Answers present request resource method a
+      → Answers present request resource method b → a ≡ b
   one_answer Perform Perform h k = refl
   one_answer Perform NotModified h k = by_steps Perform NotModified (stored_by_steps k) h k
   one_answer Perform Failed h k = by_steps Perform Failed (failed_by_steps k) h k
   one_answer NotModified b h k = by_steps NotModified b (stored_by_steps h) h k
   one_answer Failed b h k = by_steps Failed b (failed_by_steps h) h k
 
+  modified_lets : request (codes "if-modified-since") ≡ [] → ModifiedSinceLets present request resource
+  modified_lets c = rw c tt
+
+  unmodified_lets : request (codes "if-unmodified-since") ≡ [] → UnmodifiedSinceLets present request resource
+  unmodified_lets d = rw d tt
+
   performed : request (codes "if-match") ≡ [] → request (codes "if-none-match") ≡ []
       → request (codes "if-modified-since") ≡ [] → request (codes "if-unmodified-since") ≡ []
-      → StepsAnswer request resource method Perform
-  performed a b c d =
-      rw (a, b, c, d) (
-        ((λ h. absurd (omega (arith, h))), (λ h. tt)),
-        (λ h. absurd (omega (arith, h))),
-        (λ h k. tt),
-      )
+      → StepsAnswer present request resource method Perform
+  performed a b c d = (
+    ((λ h. absurd (lacks (request (codes "if-match")) a h)), (λ h. unmodified_lets d)),
+    (λ read.
+        record { by_tag = λ h. absurd (lacks (request (codes "if-none-match")) b h); by_date = λ h. modified_lets c }),
+    (λ other h. lacks (request (codes "if-none-match")) b h.0),
+  )
 
   pub unconditional : request (codes "if-match") ≡ [] → request (codes "if-none-match") ≡ []
       → request (codes "if-modified-since") ≡ [] → request (codes "if-unmodified-since") ≡ []
-      → Answers request resource method Perform
+      → Answers present request resource method Perform
   unconditional a b c d =
       record { unconditional = λ i. refl; conditional = λ counts. performed a b c d }
 
-names_current_tag : (etag : Option FieldValue)
-    → MatchOption etag (star ≡ star) (λ tag. MatchPasses (range_of star) tag.bytes)
-names_current_tag None = refl
-names_current_tag (Some tag) = tt
+-- ---- the star
 
-pub star_names_current : (validators : Validators) → NamesCurrent star (Current validators)
-star_names_current validators = names_current_tag validators.etag
-
-names_no_tag : (etag : Option FieldValue)
-    → ¬ (MatchOption etag (star ≢ star) (λ tag. NoneMatchPasses (range_of star) tag.bytes))
-names_no_tag None h = h refl
-names_no_tag (Some tag) h = h tt
-
-pub star_names_none : (validators : Validators) → ¬ (NamesNone star (Current validators))
-star_names_none validators = names_no_tag validators.etag
+pub star_names : (comparison : Comparison) (validators : Validators)
+    → names comparison (star ∷ []) (Current validators) ≡ true
+star_names comparison validators = rw ((bytes_eq-Decides star star).1 refl) refl

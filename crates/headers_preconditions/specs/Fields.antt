@@ -1,6 +1,6 @@
 -- The status and the header lines of an answer (RFC 9110).
 use Rattle.std.specs.Prelude.{◌≡◌, ◌≢◌, ℕ, ◌+◌, ◌^◌, ◌<◌, ◌≤◌, ⊤, Bool, nat_lt, List, [], ◌∷◌, length, All, Option}
-use Rattle.std.specs.Prelude.{Some, None, codes, decimal, bytes_eq}
+use Rattle.std.specs.Prelude.{Some, None, codes, decimal, bytes_eq, option_map, true, false, not}
 use Rattle.std.specs.Prelude.{if◌then◌else◌}
 use Rattle.http_header.specs.FieldValue.{FieldValue}
 use Rattle.headers.specs.ContentBytes.{ContentBytes, content_text}
@@ -9,8 +9,10 @@ use Rattle.headers.specs.LineMap.{LineMap, after_step}
 use Rattle.headers.specs.Lines.{Line}
 use Rattle.headers.specs.declared.Step.{Step}
 use Rattle.headers_preconditions.specs.Conditions.{modified_of}
+use Rattle.headers_preconditions.specs.Contents.{is_divisible}
 use Rattle.headers_preconditions.specs.Parts.{part_size}
 use Rattle.headers_preconditions.specs.declared.content.Content.{Content}
+use Rattle.headers_preconditions.specs.declared.part.Part.{Part}
 use Rattle.headers_preconditions.specs.declared.plan.Plan.{Plan}
 use Rattle.headers_preconditions.specs.declared.plan.Plan.TheVariants.{NotModified, Failed, Full, Single, Multiple}
 use Rattle.headers_preconditions.specs.declared.plan.Plan.TheVariants.{Unsatisfiable}
@@ -65,34 +67,52 @@ modified_sent NotModified is_known etag modified = modified_without etag modifie
 modified_sent Failed is_known etag modified = None
 modified_sent Unsatisfiable is_known etag modified = None
 
--- Accept-Ranges (section 14.3): of the answers that a range could have changed
-abbrev pub units_sent : Plan → Option Line
-units_sent Full = Some (codes "bytes")
-units_sent (Single part) = Some (codes "bytes")
-units_sent (Multiple parts) = Some (codes "bytes")
-units_sent NotModified = None
-units_sent Failed = None
-units_sent Unsatisfiable = Some (codes "bytes")
+-- Accept-Ranges (section 14.3): of the answers that a range could have changed, if the server sends ranges
+abbrev pub units_sent : Plan → Bool → Option Line
+units_sent Full divisible = if divisible then Some (codes "bytes") else None
+units_sent (Single part) divisible = if divisible then Some (codes "bytes") else None
+units_sent (Multiple parts) divisible = if divisible then Some (codes "bytes") else None
+units_sent NotModified divisible = None
+units_sent Failed divisible = None
+units_sent Unsatisfiable divisible = if divisible then Some (codes "bytes") else None
+
+-- what Content-Range says of a part, and that none is sent, in a whole of this length
+abbrev pub range_of : Part → ℕ → ContentBytes
+range_of part len = record { range = Some (part.first, part.last); length = Some len }
+
+abbrev pub no_range : ℕ → ContentBytes
+no_range len = record { range = None; length = Some len }
 
 -- Content-Range (section 14.4): of 206 with one part, which it names, and of 416, where it has the length alone. There
 -- is none beside several parts (section 15.3.7.2).
-abbrev pub range_sent : Plan → ℕ → Option ContentBytes
+abbrev pub range_sent : Plan → Option ℕ → Option ContentBytes
 range_sent Full len = None
-range_sent (Single part) len = Some (record { range = Some (part.first, part.last); length = Some len })
+range_sent (Single part) len = option_map (range_of part) len
 range_sent (Multiple parts) len = None
 range_sent NotModified len = None
 range_sent Failed len = None
-range_sent Unsatisfiable len = Some (record { range = None; length = Some len })
+range_sent Unsatisfiable len = option_map no_range len
 
--- Content-Length (section 8.6): of 200 and of 206 with one part; 412 and 416 have no content here. The length of
--- several parts is that of their encoding, and 304 has none.
-abbrev pub length_sent : Plan → ℕ → Option ℕ
-length_sent Full len = Some len
+-- Content-Length (section 8.6): of 200, if it is known, and of 206 with one part; 412 and 416 have no content here. The
+-- length of several parts is that of their encoding, and 304 has none.
+abbrev pub length_sent : Plan → Option ℕ → Option ℕ
+length_sent Full len = len
 length_sent (Single part) len = Some (part_size part)
 length_sent (Multiple parts) len = None
 length_sent NotModified len = None
 length_sent Failed len = Some 0
 length_sent Unsatisfiable len = Some 0
+
+-- Content-Encoding stays as the server set it where the answer has the header fields of the representation: in a 200,
+-- and in a 206 unless the client knows them (section 15.3.7). A 304 has those fields alone by which a cache is updated
+-- (section 15.4.5), and in a 412 and a 416 nothing is encoded (section 8.4).
+abbrev pub keeps_encoding : Plan → Bool → Bool
+keeps_encoding Full is_known = true
+keeps_encoding (Single part) is_known = not is_known
+keeps_encoding (Multiple parts) is_known = not is_known
+keeps_encoding NotModified is_known = false
+keeps_encoding Failed is_known = false
+keeps_encoding Unsatisfiable is_known = false
 
 -- Content-Type (section 8.3): that of the representation for 200, and for 206 with one part unless the client knows it
 -- (section 15.3.7), and `multipart/byteranges` with the boundary for several parts (section 15.3.7.2)
@@ -112,23 +132,44 @@ lines_sent text None = []
 lines_sent text (Some value) = text value ∷ []
 
 -- the names whose lines an answer sets
-abbrev pub sent_names : List (List ℕ)
-sent_names =
+abbrev pub own_names : List (List ℕ)
+own_names =
     codes "etag" ∷ codes "last-modified" ∷ codes "accept-ranges" ∷ codes "content-range" ∷ codes "content-length"
     ∷ codes "content-type" ∷ []
 
--- The lines of an answer with this plan, made of what the map had before. `multipart` is the type of several parts. The
--- client knows the representation if it names it in If-Range.
+-- the names whose lines an answer sets or removes
+abbrev pub sent_names : List (List ℕ)
+sent_names = codes "content-encoding" ∷ own_names
+
+-- The lines of an answer with this plan, made of what the map had before, under the names that it sets. `multipart` is
+-- the type of several parts. The client knows the representation if it names it in If-Range.
+pub record SetsFields (plan : Plan) (is_known : Bool) (resource : Resource) (content : Content)
+    (multipart : FieldValue) (before after : LineMap) : Type 0 where
+  pub etag : after (codes "etag") ≡ lines_sent (λ (tag : FieldValue). tag.bytes) (etag_sent plan (etag_of resource))
+  pub last_modified : after (codes "last-modified")
+      ≡ lines_sent fixdate (modified_sent plan is_known (etag_of resource) (modified_of resource))
+  pub accept_ranges : after (codes "accept-ranges")
+      ≡ lines_sent (λ (units : Line). units) (units_sent plan (is_divisible content))
+  pub content_range : after (codes "content-range") ≡ lines_sent content_text (range_sent plan content.len)
+  pub content_length : after (codes "content-length") ≡ lines_sent decimal (length_sent plan content.len)
+  pub content_type : after (codes "content-type")
+      ≡ lines_sent (λ (line : FieldValue). line.bytes) (type_sent plan is_known content.media_type multipart)
+  pub others : (name : List ℕ) → All (λ own. own ≢ name) own_names → after name ≡ before name
+
+-- the same, with the Content-Encoding that the answer keeps, and each other name as it was
 pub record SendsFields (plan : Plan) (is_known : Bool) (resource : Resource) (content : Content)
     (multipart : FieldValue) (before after : LineMap) : Type 0 where
   pub etag : after (codes "etag") ≡ lines_sent (λ (tag : FieldValue). tag.bytes) (etag_sent plan (etag_of resource))
   pub last_modified : after (codes "last-modified")
       ≡ lines_sent fixdate (modified_sent plan is_known (etag_of resource) (modified_of resource))
-  pub accept_ranges : after (codes "accept-ranges") ≡ lines_sent (λ (units : Line). units) (units_sent plan)
+  pub accept_ranges : after (codes "accept-ranges")
+      ≡ lines_sent (λ (units : Line). units) (units_sent plan (is_divisible content))
   pub content_range : after (codes "content-range") ≡ lines_sent content_text (range_sent plan content.len)
   pub content_length : after (codes "content-length") ≡ lines_sent decimal (length_sent plan content.len)
   pub content_type : after (codes "content-type")
       ≡ lines_sent (λ (line : FieldValue). line.bytes) (type_sent plan is_known content.media_type multipart)
+  pub content_encoding : after (codes "content-encoding")
+      ≡ (if keeps_encoding plan is_known then before (codes "content-encoding") else [])
   pub others : (name : List ℕ) → All (λ own. own ≢ name) sent_names → after name ≡ before name
 
 -- the positions of one part are in order, and their number fits a length

@@ -1,9 +1,14 @@
 pub mod Boundaries
 pub mod Conditions
+pub mod Contents
 pub mod Fields
+pub mod Limits
 pub mod Merged
+pub mod NumeralOrder
 pub mod Parts
 pub mod Plans
 pub mod Preconditions
+pub mod RangeSets
 pub mod Responses
 pub mod Selection
+pub mod Tags

@@ -1,10 +1,11 @@
 -- How a request for a representation is answered (RFC 9110, sections 13.2.2, 14.2 and 15).
-use Rattle.std.specs.Prelude.{◌≡◌, ◌≢◌, ◌⊎◌, ⊤, ℕ, ◌<◌, List, [], ◌∷◌, length, Option, Some, None}
+use Rattle.std.specs.Prelude.{◌≡◌, ◌≢◌, ◌⊎◌, ⊤, ℕ, ◌<◌, false, List, [], ◌∷◌, length, Option, Some, None}
 use Rattle.headers.specs.LineMap.{LineMap}
-use Rattle.headers.specs.Lines.{Line}
 use Rattle.headers_preconditions.specs.Fields.{status_of}
+use Rattle.headers_preconditions.specs.Limits.{are_too_many}
 use Rattle.headers_preconditions.specs.Preconditions.{Answers, IsGetOrHead}
-use Rattle.headers_preconditions.specs.Selection.{Applies, ArePartsAsked, Selects}
+use Rattle.headers_preconditions.specs.Selection.{AsksFor, AsksForSome, HasSelection, Selects}
+use Rattle.headers_preconditions.specs.declared.limits.RangeLimits.{RangeLimits}
 use Rattle.headers_preconditions.specs.declared.part.Part.{Part}
 use Rattle.headers_preconditions.specs.declared.plan.Plan.{Plan}
 use Rattle.headers_preconditions.specs.declared.plan.Plan.TheVariants.{NotModified, Failed, Full, Single}
@@ -16,37 +17,51 @@ use Rattle.headers_preconditions.specs.declared.resource.Validators.{Validators}
 use Rattle.headers_preconditions.specs.declared.selection.Selection.{Selection}
 use Rattle.headers_preconditions.specs.declared.selection.Selection.TheVariants as selection
 
-module _ (method : List ℕ) (request : LineMap) (resource : Resource) (len : ℕ) where
+module _ (present : ℕ) (method : List ℕ) (request : LineMap) (resource : Resource) where
   -- the preconditions let the method go on, and it reads this current representation
   pub record Reads (current : Validators) : Type 0 where
-    pub performs : Answers request resource method precondition.Perform
+    pub performs : Answers present request resource method precondition.Perform
     pub is_read : IsGetOrHead method
     pub is_current : resource ≡ Current current
 
-  -- Range asks for these parts of a representation
-  abbrev pub AsksFor : Validators → List Part → Type 0
-  AsksFor current parts =
-      (line : Line) × Applies method request current len line × ArePartsAsked len line parts
+  module _ (len : ℕ) (limits : RangeLimits) where
+    -- Range asks for these parts, and they aren't too many
+    pub record SendsParts (current : Validators) (parts : List Part) : Type 0 where
+      pub set : List ℕ
+      pub asks : AsksFor present method request current len limits set parts
+      pub few : are_too_many limits len parts ≡ false
 
-  -- Which facts give each answer: 412, 304, and of a read that goes on 200, 206 of one part, 206 of more than one, and
-  -- 416.
-  abbrev pub IsPlan : Plan → Type 0
-  IsPlan Failed = Answers request resource method precondition.Failed
-  IsPlan NotModified = Answers request resource method precondition.NotModified
-  IsPlan Full =
-      (current : Validators) × Reads current × Selects method request current len selection.Whole
-  IsPlan (Single part) = (current : Validators) × Reads current × AsksFor current (part ∷ [])
-  IsPlan (Multiple parts) =
-      (current : Validators) × Reads current × AsksFor current parts.items × (1 < length parts.items)
-  IsPlan Unsatisfiable =
-      (current : Validators) × Reads current × Selects method request current len selection.Unsatisfiable
+    -- Which facts give each answer: 412, 304, and of a read that goes on 200, 206 of one part, 206 of more than one,
+    -- and 416.
+    abbrev pub IsPlan : Plan → Type 0
+    IsPlan Failed = Answers present request resource method precondition.Failed
+    IsPlan NotModified = Answers present request resource method precondition.NotModified
+    IsPlan Full =
+        (current : Validators) × Reads current × Selects present method request current len limits selection.Whole
+    IsPlan (Single part) = (current : Validators) × Reads current × SendsParts current (part ∷ [])
+    IsPlan (Multiple parts) =
+        (current : Validators) × Reads current × SendsParts current parts.items × (1 < length parts.items)
+    IsPlan Unsatisfiable =
+        (current : Validators) × Reads current
+        × Selects present method request current len limits selection.Unsatisfiable
 
-  -- there is no plan exactly for what the server performs and answers by itself: a method that is no read, or a read of
-  -- what is missing, whose preconditions let it
-  abbrev pub IsPlanned : Option Plan → Type 0
-  IsPlanned None =
-      Answers request resource method precondition.Perform × ((resource ≡ Missing) ⊎ ¬ (IsGetOrHead method))
-  IsPlanned (Some plan) = IsPlan plan
+    -- there is no plan exactly for what the server performs and answers by itself: a method that is no read, or a read
+    -- of what is missing, whose preconditions let it
+    abbrev pub IsPlanned : Option Plan → Type 0
+    IsPlanned None =
+        Answers present request resource method precondition.Perform
+        × ((resource ≡ Missing) ⊎ ¬ (IsGetOrHead method))
+    IsPlanned (Some plan) = IsPlan plan
+
+    -- the request has a plan, or none; a read that goes on has one by its selection
+    abbrev pub HasPlan : Type 0
+    HasPlan = IsPlan Failed ⊎ (IsPlan NotModified ⊎ (IsPlanned None
+        ⊎ ((current : Validators) × Reads current × HasSelection present method request current len limits)))
+
+    -- the request reads a current representation, and Range asks for a position of it
+    abbrev pub ReadsSome : Type 0
+    ReadsSome =
+        (current : Validators) × Reads current × AsksForSome present method request current len limits
 
 -- how a selection is sent: as all, as one part, as several, or not at all
 abbrev pub IsSentAs : Selection → Plan → Type 0

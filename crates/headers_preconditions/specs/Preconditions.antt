@@ -1,8 +1,8 @@
 -- What the preconditions of a request come to (RFC 9110, section 13.2.2).
-use Rattle.std.specs.Prelude.{◌≡◌, ◌⊎◌, ℕ, Bool, true, false, List, Option, Some, None, codes}
+use Rattle.std.specs.Prelude.{◌≡◌, ◌⊎◌, ℕ, List, codes}
 use Rattle.headers.specs.LineMap.{LineMap}
-use Rattle.headers_preconditions.specs.Conditions.{IsPresent, IfMatchIsTrue, IfNoneMatchIsTrue}
-use Rattle.headers_preconditions.specs.Conditions.{ModifiedSinceIsFalse, ModifiedSinceLets}
+use Rattle.headers_preconditions.specs.Conditions.{IsPresent, IfMatchIsTrue, IfNoneMatchIsFalse}
+use Rattle.headers_preconditions.specs.Conditions.{IfNoneMatchMayBeFalse, ModifiedSinceIsFalse, ModifiedSinceLets}
 use Rattle.headers_preconditions.specs.Conditions.{UnmodifiedSinceIsFalse, UnmodifiedSinceLets}
 use Rattle.headers_preconditions.specs.declared.resource.Resource.{Resource}
 use Rattle.headers_preconditions.specs.declared.precondition.Precondition.{Precondition}
@@ -17,45 +17,49 @@ IsUnconditional method =
 abbrev pub IsGetOrHead : List ℕ → Type 0
 IsGetOrHead method = (method ≡ codes "GET") ⊎ (method ≡ codes "HEAD")
 
-module _ (request : LineMap) (resource : Resource) where
-  abbrev pub HasIfMatch : Type 0
-  HasIfMatch = IsPresent (codes "if-match") request
+abbrev pub HasIfMatch : LineMap → Type 0
+HasIfMatch request = IsPresent (codes "if-match") request
 
-  abbrev pub HasIfNoneMatch : Type 0
-  HasIfNoneMatch = IsPresent (codes "if-none-match") request
+abbrev pub HasIfNoneMatch : LineMap → Type 0
+HasIfNoneMatch request = IsPresent (codes "if-none-match") request
 
+-- step 3 of GET and HEAD: If-None-Match is there and false
+abbrev pub IsStoredByTag : LineMap → Resource → Type 0
+IsStoredByTag request resource = HasIfNoneMatch request × IfNoneMatchIsFalse request resource
+
+-- step 3 of other methods: If-None-Match is there, and it is false or may be
+abbrev pub MayBeThere : LineMap → Resource → Type 0
+MayBeThere request resource = HasIfNoneMatch request × IfNoneMatchMayBeFalse request resource
+
+module _ (present : ℕ) (request : LineMap) (resource : Resource) where
   -- Steps 1 and 2 answer 412: If-Match is there and false; or it is absent, and If-Unmodified-Since is false.
   abbrev pub StateIsLost : Type 0
-  StateIsLost = (HasIfMatch × ¬ (IfMatchIsTrue request resource))
-      ⊎ ((¬ HasIfMatch) × UnmodifiedSinceIsFalse request resource)
+  StateIsLost = (HasIfMatch request × ¬ (IfMatchIsTrue request resource))
+      ⊎ ((¬ (HasIfMatch request)) × UnmodifiedSinceIsFalse present request resource)
 
   -- they let the request go on to step 3
   abbrev pub StateIsKept : Type 0
-  StateIsKept = (HasIfMatch → IfMatchIsTrue request resource)
-      × ((¬ HasIfMatch) → UnmodifiedSinceLets request resource)
-
-  -- step 3: If-None-Match is there and false
-  abbrev pub IsStoredByTag : Type 0
-  IsStoredByTag = HasIfNoneMatch × ¬ (IfNoneMatchIsTrue request resource)
+  StateIsKept = (HasIfMatch request → IfMatchIsTrue request resource)
+      × ((¬ (HasIfMatch request)) → UnmodifiedSinceLets present request resource)
 
   -- step 4, which only GET and HEAD take: If-None-Match is absent, and If-Modified-Since is false
   abbrev pub IsStoredByDate : Type 0
-  IsStoredByDate = (¬ HasIfNoneMatch) × ModifiedSinceIsFalse request resource
+  IsStoredByDate = (¬ (HasIfNoneMatch request)) × ModifiedSinceIsFalse present request resource
 
-  -- Which facts give each answer: 412, 304, or the method is performed, by steps 5 and 6.
+  -- what lets a GET or a HEAD be performed in steps 3 and 4
+  pub record IsRead : Type 0 where
+    pub by_tag : HasIfNoneMatch request → ¬ (IfNoneMatchIsFalse request resource)
+    pub by_date : (¬ (HasIfNoneMatch request)) → ModifiedSinceLets present request resource
+
+  -- Which facts give each answer: 412, 304, or the method is performed, by steps 5 and 6. A malformed If-None-Match
+  -- makes neither a 304 of a read nor a write of what is there.
   abbrev pub StepsAnswer : List ℕ → Precondition → Type 0
-  StepsAnswer method Failed = StateIsLost ⊎ (StateIsKept × (¬ (IsGetOrHead method)) × IsStoredByTag)
-  StepsAnswer method NotModified = StateIsKept × IsGetOrHead method × (IsStoredByTag ⊎ IsStoredByDate)
-  StepsAnswer method Perform = StateIsKept × (HasIfNoneMatch → IfNoneMatchIsTrue request resource)
-      × (IsGetOrHead method → (¬ HasIfNoneMatch) → ModifiedSinceLets request resource)
+  StepsAnswer method Failed = StateIsLost ⊎ (StateIsKept × (¬ (IsGetOrHead method)) × MayBeThere request resource)
+  StepsAnswer method NotModified = StateIsKept × IsGetOrHead method × (IsStoredByTag request resource ⊎ IsStoredByDate)
+  StepsAnswer method Perform = StateIsKept × (IsGetOrHead method → IsRead)
+      × ((¬ (IsGetOrHead method)) → ¬ (MayBeThere request resource))
 
   -- the answer of a request: preconditions don't count, or the steps give it
   pub record Answers (method : List ℕ) (answer : Precondition) : Type 0 where
     pub unconditional : IsUnconditional method → answer ≡ Perform
     pub conditional : (¬ (IsUnconditional method)) → StepsAnswer method answer
-
--- what was found of a condition that may be absent: `None` if it is, else whether it is true
-abbrev pub IsFound : Type 0 → Type 0 → Option Bool → Type 0
-IsFound present condition None = ¬ present
-IsFound present condition (Some true) = present × condition
-IsFound present condition (Some false) = present × ¬ condition

@@ -1,13 +1,18 @@
 //! What follows from the definitions alone. A proof cites a law by calling it.
-ghost use Rattle.std.specs.Prelude.{◌≡◌, ◌≤◌, ◌↔◌, ℕ, List, Option, [], codes, sum_by};
+ghost use Rattle.std.specs.Prelude.{◌≡◌, ◌+◌, ◌*◌, ◌<◌, ◌≤◌, ◌↔◌, ℕ, List, Option, [], ◌∷◌, IsTrue, codes, false};
+ghost use Rattle.std.specs.Prelude.{length, sum_by, true};
+ghost use Rattle.headers.specs.EntityTag.{AreTags, StronglyEqual, WeaklyEqual};
 ghost use Rattle.headers.specs.EntityTagRange.{star};
 ghost use Rattle.headers.specs.LineMap.{LineMap, remove};
-ghost use Rattle.headers_preconditions.specs.Conditions.{NamesCurrent, NamesNone};
+ghost use Rattle.headers.specs.Lines.{Line};
 ghost use Rattle.headers_preconditions.specs.Parts.{AreCoalesced, part_size};
-ghost use Rattle.headers_preconditions.specs.Plans.{IsPlanned, IsSamePlan};
+ghost use Rattle.headers_preconditions.specs.Plans.{HasPlan, IsPlanned, IsSamePlan};
 ghost use Rattle.headers_preconditions.specs.Preconditions.{Answers};
-ghost use Rattle.headers_preconditions.specs.Selection.{IsSameSelection, Selects};
+ghost use Rattle.headers_preconditions.specs.Selection.{AsksFor, HasSelection, IsSameSelection, Selects};
+ghost use Rattle.headers_preconditions.specs.Limits.{are_too_many};
+ghost use Rattle.headers_preconditions.specs.Tags.{are_equal, names};
 ghost use Rattle.headers_preconditions.specs.declared.selection.Selection.{Selection};
+ghost use Rattle.headers_preconditions.specs.declared.limits.RangeLimits.{RangeLimits};
 ghost use Rattle.headers_preconditions.specs.declared.part.Part.{Part};
 ghost use Rattle.headers_preconditions.specs.declared.plan.Plan.{Plan};
 ghost use Rattle.headers_preconditions.specs.declared.precondition.Precondition.{Precondition};
@@ -15,60 +20,85 @@ ghost use Rattle.headers_preconditions.specs.declared.precondition.Precondition.
 ghost use Rattle.headers_preconditions.specs.declared.resource.Resource.{Resource};
 ghost use Rattle.headers_preconditions.specs.declared.resource.Resource.TheVariants.{Missing, Current};
 ghost use Rattle.headers_preconditions.specs.declared.resource.Validators.{Validators};
+ghost use Rattle.headers_preconditions.specs.declared.tags.Comparison.{Comparison};
+ghost use Rattle.headers_preconditions.specs.declared.tags.Comparison.TheVariants.{Strong, Weak};
 
-/// A request has one answer at most: the rows of `Answers` exclude each other. `evaluate` gives
-/// one, unless it runs out of memory.
-#[tactic(auto, using(crate::proofs::PreconditionLemmas::one_answer))]
+/// Every request has an answer, and no other: the rows of `Answers` exclude each other. `evaluate`
+/// gives it.
 pub fn request_has_one_answer()
-    ensures { (request : LineMap) (resource : Resource) (method : List ℕ) (a b : Precondition)
-        → Answers request resource method a → Answers request resource method b → a ≡ b }
+    ensures some { (present : ℕ) (request : LineMap) (resource : Resource) (method : List ℕ)
+        → (answer : Precondition) × Answers present request resource method answer }
+    ensures one { (present : ℕ) (request : LineMap) (resource : Resource) (method : List ℕ) (a b : Precondition)
+        → Answers present request resource method a → Answers present request resource method b → a ≡ b }
 {}
 
 /// A request without the four fields is performed.
 #[tactic(auto, using(crate::proofs::PreconditionLemmas::unconditional))]
 pub fn unconditional_is_performed()
-    ensures { (request : LineMap) (resource : Resource) (method : List ℕ)
+    ensures { (present : ℕ) (request : LineMap) (resource : Resource) (method : List ℕ)
         → request (codes "if-match") ≡ [] → request (codes "if-none-match") ≡ []
         → request (codes "if-modified-since") ≡ [] → request (codes "if-unmodified-since") ≡ []
-        → Answers request resource method Perform }
+        → Answers present request resource method Perform }
 {}
 
 /// `If-Match: *` is true exactly if there is a current representation, and `If-None-Match: *`
 /// exactly if there is none.
-#[tactic(auto, using(crate::proofs::PreconditionLemmas::star_names_current, crate::proofs::PreconditionLemmas::star_names_none))]
+#[tactic(auto, using(crate::proofs::PreconditionLemmas::star_names))]
 pub fn star_goes_by_existence()
-    ensures missing { (¬ (NamesCurrent star Missing)) × NamesNone star Missing }
-    ensures current { (validators : Validators) → NamesCurrent star (Current validators)
-        × ¬ (NamesNone star (Current validators)) }
+    ensures missing { (comparison : Comparison) (lines : List Line) → names comparison lines Missing ≡ false }
+    ensures current { (comparison : Comparison) (validators : Validators)
+        → names comparison (star ∷ []) (Current validators) ≡ true }
+{}
+
+/// Tags are compared as RFC 9110 says (section 8.8.3.2): strongly, neither is weak and their opaque
+/// parts are equal; weakly, their opaque parts are equal.
+pub fn tags_are_compared_by_their_parts()
+    ensures strong { (a b : Line) → IsTrue (are_equal Strong a b) ↔ AreTags StronglyEqual a b }
+    ensures weak { (a b : Line) → IsTrue (are_equal Weak a b) ↔ AreTags WeaklyEqual a b }
 {}
 
 /// Coalesced parts together have no more bytes than the whole, however many ranges were asked for.
-#[tactic(auto, using(crate::proofs::PartLemmas::sizes_of_coalesced))]
 pub fn parts_fit_the_whole()
-    ensures { (len : ℕ) (parts : List Part) → AreCoalesced len parts → sum_by part_size parts ≤ len }
+    ensures { (len gap : ℕ) (parts : List Part) → AreCoalesced len gap parts → sum_by part_size parts ≤ len }
 {}
 
-/// A request selects one answer at most, and one list of parts: the parts are the only ones that
-/// are coalesced and cover the positions that are asked for.
-#[tactic(auto, using(crate::proofs::SelectionLemmas::one_selection))]
+/// No answer is longer than twice the representation, however many ranges are asked for: several
+/// parts, each with as many bytes beside its own as the limits say, aren't longer.
+pub fn parts_fit_twice_the_whole()
+    ensures { (present : ℕ) (method : List ℕ) (request : LineMap) (current : Validators) (len : ℕ)
+        (limits : RangeLimits) (set : List ℕ) (parts : List Part)
+        → AsksFor present method request current len limits set parts → are_too_many limits len parts ≡ false
+        → 1 < length parts → sum_by part_size parts + length parts * limits.head ≤ len + len }
+{}
+
+/// Every request has a selection, and no other: the parts are the only ones that are coalesced and
+/// hold the positions that are asked for, and those of small gaps.
 pub fn request_has_one_selection()
-    ensures { (request : LineMap) (current : Validators) (method : List ℕ) (len : ℕ) (s t : Selection)
-        → Selects method request current len s → Selects method request current len t → IsSameSelection s t }
+    ensures some { (present : ℕ) (method : List ℕ) (request : LineMap) (current : Validators) (len : ℕ)
+        (limits : RangeLimits) → HasSelection present method request current len limits }
+    ensures one { (present : ℕ) (method : List ℕ) (request : LineMap) (current : Validators) (len : ℕ)
+        (limits : RangeLimits) (s t : Selection)
+        → Selects present method request current len limits s → Selects present method request current len limits t
+        → IsSameSelection s t }
 {}
 
-/// A request has one plan at most: two plans have the same status and the same parts.
-#[tactic(auto, using(crate::proofs::OnePlanLemmas::one_plan))]
+/// Every request has a plan, or goes on to its method, and it has no two plans of other statuses or
+/// parts.
 pub fn request_has_one_plan()
-    ensures { (request : LineMap) (resource : Resource) (method : List ℕ) (len : ℕ) (p q : Option Plan)
-        → IsPlanned method request resource len p → IsPlanned method request resource len q
-        → IsSamePlan p q }
+    ensures some { (present : ℕ) (method : List ℕ) (request : LineMap) (resource : Resource) (len : ℕ)
+        (limits : RangeLimits) → HasPlan present method request resource len limits }
+    ensures one { (present : ℕ) (method : List ℕ) (request : LineMap) (resource : Resource) (len : ℕ)
+        (limits : RangeLimits) (p q : Option Plan)
+        → IsPlanned present method request resource len limits p
+        → IsPlanned present method request resource len limits q → IsSamePlan p q }
 {}
 
 /// A HEAD has the plan that a GET of the same request without Range has, and no other. So it has the
 /// same status and header lines, which go by the plan.
 #[tactic(auto, using(crate::proofs::HeadLemmas::head_as_get))]
 pub fn head_is_planned_as_get()
-    ensures { (request : LineMap) (resource : Resource) (len : ℕ) (plan : Option Plan)
-        → IsPlanned (codes "HEAD") request resource len plan
-        ↔ IsPlanned (codes "GET") (remove request (codes "range")) resource len plan }
+    ensures { (present : ℕ) (request : LineMap) (resource : Resource) (len : ℕ) (limits : RangeLimits)
+        (plan : Option Plan)
+        → IsPlanned present (codes "HEAD") request resource len limits plan
+        ↔ IsPlanned present (codes "GET") (remove request (codes "range")) resource len limits plan }
 {}

@@ -5,16 +5,20 @@
 mod boundary;
 mod content;
 pub mod laws;
+mod limits;
 mod part;
 mod plan;
 mod precondition;
+mod range_set;
 mod resource;
 mod response;
 mod selection;
 mod steps;
+mod tags;
 
 pub use crate::boundary::{Boundary, InvalidBoundary};
 pub use crate::content::Content;
+pub use crate::limits::RangeLimits;
 pub use crate::part::Part;
 pub use crate::plan::{Plan, plan_answer};
 pub use crate::precondition::{Precondition, evaluate};

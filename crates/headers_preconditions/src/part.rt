@@ -1,8 +1,8 @@
 //! Parts of a representation.
-ghost use Rattle.std.specs.Prelude.{◌≡◌, ◌↔◌, ◌+◌, ◌^◌, ◌<◌, ◌≤◌, ℕ, All, Any, IfOk, Some};
+ghost use Rattle.std.specs.Prelude.{◌≡◌, ◌↔◌, ◌+◌, ◌^◌, ◌<◌, ◌≤◌, ℕ, All, Any, IfOk, Some, nat_le};
 ghost use Rattle.std.specs.List.Sorted.{IsNonDecreasingBy, IsPermutation};
 ghost use Rattle.headers_preconditions.specs.Merged.{merged, merged_from};
-ghost use Rattle.headers_preconditions.specs.Parts.{AreCoalesced, Holds, IsPartOf, part_between, part_size};
+ghost use Rattle.headers_preconditions.specs.Parts.{AreCoalesced, Holds, IsJoined, IsPartOf, part_size};
 
 use headers::ContentRange;
 use std::alloc::{AllocError, Global};
@@ -39,29 +39,21 @@ impl Part {
     }
 }
 
-// The part between two bounds, if both are included.
-pub(crate) fn part_between(bounds: (Bound<u64>, Bound<u64>)) -> Option<Part>
-    ensures { result ≡ part_between bounds }
-{
-    match bounds {
-        (Bound::Included(first), Bound::Included(last)) => Some(Part { first, last }),
-        _ => None,
-    }
-}
-
-// The parts in order, with those joined that overlap or touch. This takes the time of a sort, and
-// the memory of a copy.
+// The parts in order, with those joined between which at most `gap` positions lie. This takes the
+// time of a sort, and the memory of a copy.
 pub(crate) fn coalesce(
     alloc: Global,
     len: u64,
+    gap: u64,
     mut parts: Vec<Part>,
 ) -> Result<Vec<Part>, AllocError>
     requires { All (IsPartOf len) parts.items }
-    ensures coalesced { IfOk result (λ joined. AreCoalesced len joined.items) }
-    ensures same { IfOk result (λ joined. (p : ℕ) → Any (Holds p) joined.items ↔ Any (Holds p) parts.items) }
+    ensures coalesced { IfOk result (λ joined. AreCoalesced len gap joined.items) }
+    ensures same { IfOk result (λ joined. (p : ℕ) → Any (Holds p) joined.items
+        ↔ IsJoined gap (λ q. Any (Holds q) parts.items) p) }
 {
     sort(&mut parts);
-    let joined = merge(alloc, parts.as_slice())?;
+    let joined = merge(alloc, gap, parts.as_slice())?;
     Ok(joined)
 }
 
@@ -74,23 +66,30 @@ fn sort(parts: &mut Vec<Part>)
 }
 
 // Joins parts that are in order.
-fn merge(alloc: Global, parts: &[Part]) -> Result<Vec<Part>, AllocError>
-    ensures { IfOk result (λ joined. joined.items ≡ merged parts.now) }
+fn merge(alloc: Global, gap: u64, parts: &[Part]) -> Result<Vec<Part>, AllocError>
+    ensures { IfOk result (λ joined. joined.items ≡ merged gap parts.now) }
 {
     let Some((first, rest)) = parts.split_first() else {
         return Ok(Vec::new(alloc));
     };
-    merge_from(alloc, *first, rest)
+    merge_from(alloc, gap, *first, rest)
+}
+
+// Whether at most `gap` positions lie between the parts, the second of which doesn't begin first.
+fn are_close(gap: u64, part: &Part, next: &Part) -> bool
+    ensures { result ≡ nat_le next.now.first (part.now.last + gap + 1) }
+{
+    next.first <= part.last.saturating_add(gap).saturating_add(1)
 }
 
 // Joins a part and those after it.
-fn merge_from(alloc: Global, first: Part, rest: &[Part]) -> Result<Vec<Part>, AllocError>
-    ensures { IfOk result (λ joined. joined.items ≡ merged_from first rest.now) }
+fn merge_from(alloc: Global, gap: u64, first: Part, rest: &[Part]) -> Result<Vec<Part>, AllocError>
+    ensures { IfOk result (λ joined. joined.items ≡ merged_from gap first rest.now) }
 {
     let mut joined = Vec::new(alloc);
     let mut open = first;
     for part in rest {
-        if part.first.saturating_sub(1) <= open.last {
+        if are_close(gap, &open, part) {
             open.last = open.last.max(part.last);
         } else {
             joined.push(open)?;

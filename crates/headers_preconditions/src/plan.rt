@@ -1,9 +1,10 @@
 //! How a request for a representation is answered.
-ghost use Rattle.std.specs.Prelude.{◌≡◌, IfOk, Some, codes};
+ghost use Rattle.std.specs.Prelude.{◌≡◌, IfOk, OnErr};
 ghost use Rattle.headers.specs.LineMap.{lines_at};
-ghost use Rattle.headers_preconditions.specs.Plans.{IsPlanned, IsSentAs};
+ghost use Rattle.headers_preconditions.specs.Plans.{IsPlanned, IsSentAs, ReadsSome};
 ghost use Rattle.headers_preconditions.specs.Fields.{status_of};
 
+use crate::limits::RangeLimits;
 use crate::part::Part;
 use crate::precondition::{Precondition, evaluate, is_get_or_head};
 use crate::resource::Resource;
@@ -20,7 +21,7 @@ pub enum Plan {
     /// 206, with this part.
     Single(Part),
     /// 206, with these parts as `multipart/byteranges`. There are two at least, in order, and no
-    /// two of them overlap or touch.
+    /// two of them overlap or are close.
     Multiple(Vec<Part>),
     /// 304, without content.
     NotModified,
@@ -46,25 +47,30 @@ impl Plan {
 }
 
 /// How a request is answered by its preconditions and its ranges (RFC 9110, sections 13.2.2 and
-/// 14.2). The current representation has `len` bytes; `len` isn't read if there is none.
+/// 14.2). `present` is the time, in seconds since the start of 1970. Ranges are sent of `len` bytes:
+/// the length of the current representation, or 0 if the server sends no ranges of it.
 ///
 /// `None` if the preconditions let a request go on that isn't a GET or a HEAD of a current
 /// representation: the server performs its method, and answers it as it does without preconditions.
+/// A call can run out of memory only if Range asks for some byte.
 pub fn plan_answer(
     alloc: Global,
     method: &Method,
     request: &HeaderMap,
     resource: &Resource,
+    present: u64,
     len: u64,
+    limits: &RangeLimits,
 ) -> Result<Option<Plan>, AllocError>
-    ensures { IfOk result (IsPlanned method.now (lines_at request.now) resource.now len) }
+    ensures plan { IfOk result (IsPlanned present method.now (lines_at request.now) resource.now len limits.now) }
+    ensures memory { OnErr result (ReadsSome present method.now (lines_at request.now) resource.now len limits.now) }
 {
-    match evaluate(alloc, method, request, resource)? {
+    match evaluate(method, request, resource, present) {
         Precondition::Failed => Ok(Some(Plan::Failed)),
         Precondition::NotModified => Ok(Some(Plan::NotModified)),
         Precondition::Perform => match resource {
             Resource::Current(current) if is_get_or_head(method) => {
-                let selection = select(alloc, method, request, current, len)?;
+                let selection = select(alloc, method, request, current, present, len, limits)?;
                 Ok(Some(sent_as(selection)))
             }
             _ => Ok(None),

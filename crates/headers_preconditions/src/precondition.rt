@@ -1,23 +1,22 @@
 //! Preconditions (RFC 9110, section 13).
-ghost use Rattle.std.specs.Prelude.{◌≡◌, IfOk, codes};
+ghost use Rattle.std.specs.Prelude.{◌≡◌, ◌⊎◌};
 ghost use Rattle.std.specs.Bool.{MatchBool};
-ghost use Rattle.headers.specs.EntityTagRange.{range_of};
 ghost use Rattle.headers.specs.LineMap.{lines_at};
-ghost use Rattle.headers.specs.Lines.{Line};
-ghost use Rattle.headers_preconditions.specs.Conditions.{date_in, modified_of, IsPresent, NamesCurrent, NamesNone};
-ghost use Rattle.headers_preconditions.specs.Conditions.{IfMatchIsTrue, IfNoneMatchIsTrue};
+ghost use Rattle.headers.specs.Lines.{lines_of};
+ghost use Rattle.headers.specs.Typed.{HasLine};
+ghost use Rattle.headers_preconditions.specs.Conditions.{date_in, modified_of};
 ghost use Rattle.headers_preconditions.specs.Conditions.{ModifiedSinceIsFalse, ModifiedSinceLets};
 ghost use Rattle.headers_preconditions.specs.Conditions.{UnmodifiedSinceIsFalse, UnmodifiedSinceLets};
-ghost use Rattle.headers_preconditions.specs.Preconditions.{Answers, IsFound, IsGetOrHead, IsUnconditional};
-ghost use Rattle.headers_preconditions.specs.Preconditions.{StateIsKept};
+ghost use Rattle.headers_preconditions.specs.Preconditions.{Answers, IsGetOrHead, IsRead, IsStoredByDate};
+ghost use Rattle.headers_preconditions.specs.Preconditions.{IsStoredByTag, IsUnconditional, MayBeThere, StateIsKept};
 ghost use Rattle.headers_preconditions.specs.Preconditions.{StateIsLost, StepsAnswer};
 
 use crate::resource::Resource;
-use headers::{
-    HeaderMap, HeaderMapExt, IfMatch, IfModifiedSince, IfNoneMatch, IfUnmodifiedSince, Refused,
-};
+use crate::tags::{Comparison, may_name, names, only_text};
+use headers::{HeaderMap, HeaderValue};
+use headers_dates::{Timestamp, read_date};
 use http::Method;
-use std::alloc::{AllocError, Global};
+use http_header::{GetAll, IF_MATCH, IF_MODIFIED_SINCE, IF_NONE_MATCH, IF_UNMODIFIED_SINCE};
 
 /// What the preconditions of a request come to.
 #[derive(Clone, Copy, Debug, PartialEq, Eq)]
@@ -32,23 +31,25 @@ pub enum Precondition {
 
 /// Evaluates the preconditions of a request on a resource, in their order of precedence (RFC 9110,
 /// section 13.2.2). A server calls this once it knows that it would otherwise answer with success,
-/// and before it performs the method (section 13.2.1).
+/// and before it performs the method (section 13.2.1). `present` is the time, in seconds since the
+/// start of 1970: a year of two digits depends on it (section 5.6.7).
 ///
 /// Fields that the method doesn't use, dates that aren't valid, and dates of a resource without
-/// modification date are ignored; so are all four fields for CONNECT, OPTIONS and TRACE.
+/// modification date are ignored; so are all four fields for CONNECT, OPTIONS and TRACE. A malformed
+/// If-Match is false. A malformed If-None-Match is true for GET and HEAD, which are answered with
+/// the representation, and false for other methods if there is a representation.
 pub fn evaluate(
-    alloc: Global,
     method: &Method,
     request: &HeaderMap,
     resource: &Resource,
-) -> Result<Precondition, AllocError>
-    ensures { IfOk result (Answers (lines_at request.now) resource.now method.now) }
+    present: u64,
+) -> Precondition
+    ensures { Answers present (lines_at request.now) resource.now method.now result }
 {
     if is_unconditional(method) {
-        return Ok(Precondition::Perform);
+        return Precondition::Perform;
     }
-    let answer = evaluate_steps(alloc, method, request, resource)?;
-    Ok(answer)
+    evaluate_steps(method, request, resource, present)
 }
 
 // Whether preconditions don't count for a method.
@@ -60,26 +61,26 @@ fn is_unconditional(method: &Method) -> bool
 
 // What the steps come to.
 fn evaluate_steps(
-    alloc: Global,
     method: &Method,
     request: &HeaderMap,
     resource: &Resource,
-) -> Result<Precondition, AllocError>
-    ensures { IfOk result (StepsAnswer (lines_at request.now) resource.now method.now) }
+    present: u64,
+) -> Precondition
+    ensures { StepsAnswer present (lines_at request.now) resource.now method.now result }
 {
-    if !is_state_kept(alloc, request, resource)? {
-        return Ok(Precondition::Failed);
+    if !is_state_kept(request, resource, present) {
+        return Precondition::Failed;
     }
-    let is_get_or_head = is_get_or_head(method);
-    match if_none_match(alloc, request, resource)? {
-        Some(true) => Ok(Precondition::Perform),
-        Some(false) if is_get_or_head => Ok(Precondition::NotModified),
-        Some(false) => Ok(Precondition::Failed),
-        None if is_get_or_head && !is_modified_since(alloc, request, resource) => {
-            Ok(Precondition::NotModified)
+    if is_get_or_head(method) {
+        if is_stored(request, resource, present) {
+            return Precondition::NotModified;
         }
-        None => Ok(Precondition::Perform),
+        return Precondition::Perform;
     }
+    if may_be_there(request, resource) {
+        return Precondition::Failed;
+    }
+    Precondition::Perform
 }
 
 pub(crate) fn is_get_or_head(method: &Method) -> bool
@@ -88,81 +89,44 @@ pub(crate) fn is_get_or_head(method: &Method) -> bool
     *method == Method::GET || *method == Method::HEAD
 }
 
+fn is_present(field: &GetAll<'_, HeaderValue>) -> bool
+    ensures { MatchBool result (HasLine (lines_of field.now)) (¬ (HasLine (lines_of field.now))) }
+{
+    field.iter().next().is_some()
+}
+
 // Steps 1 and 2: whether the state that the client knows is there.
-fn is_state_kept(
-    alloc: Global,
-    request: &HeaderMap,
-    resource: &Resource,
-) -> Result<bool, AllocError>
-    ensures { IfOk result (λ kept. MatchBool kept (StateIsKept (lines_at request.now) resource.now)
-        (StateIsLost (lines_at request.now) resource.now)) }
+fn is_state_kept(request: &HeaderMap, resource: &Resource, present: u64) -> bool
+    ensures { MatchBool result (StateIsKept present (lines_at request.now) resource.now)
+        (StateIsLost present (lines_at request.now) resource.now) }
 {
-    match if_match(alloc, request, resource)? {
-        Some(holds) => Ok(holds),
-        None => Ok(is_unmodified_since(alloc, request, resource)),
+    let field = request.get_all(IF_MATCH);
+    if is_present(&field) {
+        return names(Comparison::Strong, &field, resource);
     }
+    is_unmodified_since(request, resource, present)
 }
 
-// The condition of If-Match, if the field is present.
-fn if_match(
-    alloc: Global,
-    request: &HeaderMap,
-    resource: &Resource,
-) -> Result<Option<bool>, AllocError>
-    ensures { IfOk result (IsFound (IsPresent (codes "if-match") (lines_at request.now))
-        (IfMatchIsTrue (lines_at request.now) resource.now)) }
+// Steps 3 and 4 of GET and HEAD: whether the client's stored representation is still current.
+fn is_stored(request: &HeaderMap, resource: &Resource, present: u64) -> bool
+    ensures { MatchBool result
+        (IsStoredByTag (lines_at request.now) resource.now ⊎ IsStoredByDate present (lines_at request.now) resource.now)
+        (IsRead present (lines_at request.now) resource.now) }
 {
-    match request.typed_try_get::<IfMatch>(alloc) {
-        Ok(Some(tags)) => Ok(Some(name_current(&tags, resource))),
-        Ok(None) => Ok(None),
-        Err(Refused::Invalid(_)) => unreachable!(),
-        Err(Refused::Memory(refused)) => Err(refused),
+    let field = request.get_all(IF_NONE_MATCH);
+    if is_present(&field) {
+        return names(Comparison::Weak, &field, resource);
     }
+    !is_modified_since(request, resource, present)
 }
 
-// The condition of If-None-Match, if the field is present.
-fn if_none_match(
-    alloc: Global,
-    request: &HeaderMap,
-    resource: &Resource,
-) -> Result<Option<bool>, AllocError>
-    ensures { IfOk result (IsFound (IsPresent (codes "if-none-match") (lines_at request.now))
-        (IfNoneMatchIsTrue (lines_at request.now) resource.now)) }
+// Step 3 of other methods: whether there is, or may be, the representation that they exclude.
+fn may_be_there(request: &HeaderMap, resource: &Resource) -> bool
+    ensures { MatchBool result (MayBeThere (lines_at request.now) resource.now)
+        (¬ (MayBeThere (lines_at request.now) resource.now)) }
 {
-    match request.typed_try_get::<IfNoneMatch>(alloc) {
-        Ok(Some(tags)) => Ok(Some(name_none(&tags, resource))),
-        Ok(None) => Ok(None),
-        Err(Refused::Invalid(_)) => unreachable!(),
-        Err(Refused::Memory(refused)) => Err(refused),
-    }
-}
-
-// Whether the tags name the current representation.
-fn name_current(tags: &IfMatch, resource: &Resource) -> bool
-    ensures { (value : Line) → tags.now ≡ range_of value
-        → MatchBool result (NamesCurrent value resource.now) (¬ (NamesCurrent value resource.now)) }
-{
-    match resource {
-        Resource::Missing => false,
-        Resource::Current(validators) => match &validators.etag {
-            Some(etag) => tags.precondition_passes(etag),
-            None => tags.is_any(),
-        },
-    }
-}
-
-// Whether the tags don't name the current representation.
-fn name_none(tags: &IfNoneMatch, resource: &Resource) -> bool
-    ensures { (value : Line) → tags.now ≡ range_of value
-        → MatchBool result (NamesNone value resource.now) (¬ (NamesNone value resource.now)) }
-{
-    match resource {
-        Resource::Missing => true,
-        Resource::Current(validators) => match &validators.etag {
-            Some(etag) => tags.precondition_passes(etag),
-            None => !tags.is_any(),
-        },
-    }
+    let field = request.get_all(IF_NONE_MATCH);
+    is_present(&field) && may_name(Comparison::Weak, &field, resource)
 }
 
 // When the current representation was last modified.
@@ -178,30 +142,36 @@ fn modified_of(resource: &Resource) -> Option<u64>
     }
 }
 
-// Whether If-Modified-Since is true, or doesn't count.
-fn is_modified_since(alloc: Global, request: &HeaderMap, resource: &Resource) -> bool
-    ensures { MatchBool result (ModifiedSinceLets (lines_at request.now) resource.now)
-        (ModifiedSinceIsFalse (lines_at request.now) resource.now) }
+// The date of a field, if it is one.
+fn date_in(field: &GetAll<'_, HeaderValue>, present: u64) -> Option<Timestamp>
+    ensures { result ≡ date_in present (lines_of field.now) }
 {
-    match request
-        .typed_get::<IfModifiedSince>(alloc)
-        .zip(modified_of(resource))
-    {
-        Some((since, modified)) => since.is_modified(modified),
+    match only_text(field) {
+        Some(text) => read_date(text, present),
+        None => None,
+    }
+}
+
+// Whether If-Modified-Since is true, or doesn't count.
+fn is_modified_since(request: &HeaderMap, resource: &Resource, present: u64) -> bool
+    ensures { MatchBool result (ModifiedSinceLets present (lines_at request.now) resource.now)
+        (ModifiedSinceIsFalse present (lines_at request.now) resource.now) }
+{
+    let field = request.get_all(IF_MODIFIED_SINCE);
+    match date_in(&field, present).zip(modified_of(resource)) {
+        Some((since, modified)) => since.is_before(modified),
         None => true,
     }
 }
 
 // Whether If-Unmodified-Since is true, or doesn't count.
-fn is_unmodified_since(alloc: Global, request: &HeaderMap, resource: &Resource) -> bool
-    ensures { MatchBool result (UnmodifiedSinceLets (lines_at request.now) resource.now)
-        (UnmodifiedSinceIsFalse (lines_at request.now) resource.now) }
+fn is_unmodified_since(request: &HeaderMap, resource: &Resource, present: u64) -> bool
+    ensures { MatchBool result (UnmodifiedSinceLets present (lines_at request.now) resource.now)
+        (UnmodifiedSinceIsFalse present (lines_at request.now) resource.now) }
 {
-    match request
-        .typed_get::<IfUnmodifiedSince>(alloc)
-        .zip(modified_of(resource))
-    {
-        Some((since, modified)) => since.precondition_passes(modified),
+    let field = request.get_all(IF_UNMODIFIED_SINCE);
+    match date_in(&field, present).zip(modified_of(resource)) {
+        Some((since, modified)) => !since.is_before(modified),
         None => true,
     }
 }

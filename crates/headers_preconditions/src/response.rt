@@ -1,8 +1,8 @@
 //! Answers to requests for a representation.
-ghost use Rattle.std.specs.Prelude.{◌≡◌, IfOk};
+ghost use Rattle.std.specs.Prelude.{◌≡◌, IfOk, OnErr};
 ghost use Rattle.headers.specs.LineMap.{lines_at};
 ghost use Rattle.headers_preconditions.specs.Fields.{is_known_by};
-ghost use Rattle.headers_preconditions.specs.Responses.{IsAnswered};
+ghost use Rattle.headers_preconditions.specs.Responses.{IsAnswered, IsPlannedAtAll};
 
 use crate::boundary::Boundary;
 use crate::content::Content;
@@ -27,25 +27,32 @@ pub struct Response {
 
 /// Answers a GET or a HEAD of a current representation, by its preconditions and its ranges (RFC
 /// 9110, sections 13.2.2 and 14.2), and any request whose preconditions are false. A HEAD is
-/// answered as a GET without `Range`, but for the content.
+/// answered as a GET without `Range`, but for the content. `present` is the time, in seconds since
+/// the start of 1970.
 ///
 /// After the steps each of the six names has the lines that RFC 9110 wants of it (sections 14.3,
-/// 14.4, 15.3.7, 15.4.5 and 15.5.17), and no other, whatever the map had. Other names stay.
+/// 14.4, 15.3.7, 15.4.5 and 15.5.17), and no other, whatever the map had. Content-Encoding stays
+/// where the answer carries the representation, and goes where it doesn't. Other names stay.
 ///
 /// `None` if the preconditions let a request go on that isn't a GET or a HEAD of a current
 /// representation: the server performs its method, and answers it as it does without preconditions.
+/// A call that answers `None` never runs out of memory.
 pub fn respond(
     alloc: Global,
     method: &Method,
     request: &HeaderMap,
     resource: &Resource,
+    present: u64,
     content: &Content,
     boundary: &Boundary,
 ) -> Result<Option<Response>, AllocError>
-    ensures { IfOk result
-        (IsAnswered method.now (lines_at request.now) resource.now content.now boundary.now) }
+    ensures answer { IfOk result
+        (IsAnswered present method.now (lines_at request.now) resource.now content.now boundary.now) }
+    ensures memory { OnErr result (IsPlannedAtAll present method.now (lines_at request.now) resource.now content.now) }
 {
-    let Some(plan) = plan_answer(alloc, method, request, resource, content.len)? else {
+    let len = content.divisible_len();
+    let limits = content.limits();
+    let Some(plan) = plan_answer(alloc, method, request, resource, present, len, &limits)? else {
         return Ok(None);
     };
     let steps = plan.steps(alloc, is_known_by(request), resource, content, boundary)?;

@@ -1,17 +1,24 @@
 //! Which part of a representation a request selects.
-ghost use Rattle.std.specs.Prelude.{◌≡◌, ◌↔◌, ℕ, All, Any, IfOk, MatchOption, None, option_copied, option_map};
-ghost use Rattle.std.specs.Prelude.{if◌then◌else◌};
-ghost use Rattle.std.specs.Bool.{MatchBool};
-ghost use Rattle.std.specs.List.{filter_map};
+ghost use Rattle.std.specs.Prelude.{◌≡◌, ◌↔◌, ◌+◌, ◌*◌, ℕ, List, All, Any, IfOk, MatchOption, OnErr};
+ghost use Rattle.std.specs.Prelude.{bytes_eq, codes, map, nat_eq, nat_lt, option_map};
+ghost use Rattle.std.specs.Char.{to_ascii_lowercase};
+ghost use Rattle.headers_dates.specs.Calendar.{unix_epoch};
 ghost use Rattle.headers.specs.LineMap.{lines_at};
-ghost use Rattle.headers.specs.Lines.{Line};
-ghost use Rattle.headers_preconditions.specs.Parts.{AreCoalesced, Holds, IsPartOf, part_between};
-ghost use Rattle.headers_preconditions.specs.Selection.{range_asked, Applies, IfRangeLets, IsAsked, IsExactly, Selects};
+ghost use Rattle.headers_preconditions.specs.Limits.{are_too_many};
+ghost use Rattle.headers_preconditions.specs.Parts.{AreCoalesced, Holds, IsJoined, IsPartOf};
+ghost use Rattle.headers_preconditions.specs.Selection.{has_bytes_unit, if_range_lets, is_exactly, is_modified_at};
+ghost use Rattle.headers_preconditions.specs.Selection.{range_set_of, set_asked, Applies, AsksForSome, IsAsked};
+ghost use Rattle.headers_preconditions.specs.Selection.{Selects};
 
-use crate::part::{Part, coalesce, part_between};
+use crate::limits::RangeLimits;
+use crate::part::{Part, coalesce};
+use crate::range_set::{is_range_set, is_unsatisfiable, parts_in};
 use crate::resource::Validators;
-use headers::{HeaderMap, HeaderMapExt, IfRange, LastModified, Range, Refused, Satisfiable};
+use crate::tags::{Comparison, is_tag, is_tag_of, only_text};
+use headers::HeaderMap;
+use headers_dates::{Timestamp, read_date};
 use http::Method;
+use http_header::{IF_RANGE, RANGE};
 use std::alloc::{AllocError, Global};
 
 /// Which part of the current representation a request selects.
@@ -19,7 +26,7 @@ use std::alloc::{AllocError, Global};
 pub enum Selection {
     /// All of it: the answer is 200.
     Whole,
-    /// These parts, in order, no two of which overlap or touch: the answer is 206.
+    /// These parts, in order, no two of which overlap or are close: the answer is 206.
     Parts(Vec<Part>),
     /// None of it: the answer is 416, with `ContentRange::unsatisfied_bytes`.
     Unsatisfiable,
@@ -27,120 +34,161 @@ pub enum Selection {
 
 /// Selects a part of the current representation, of `len` bytes, by `Range` and `If-Range` (RFC
 /// 9110, sections 13.2.2, step 5, and 14.2). A server calls this once `evaluate` says `Perform`.
+/// `present` is the time, in seconds since the start of 1970.
 ///
-/// `Range` is ignored unless the method is GET, the unit is bytes, some part of it is a range, the
-/// representation has content, and `If-Range` is absent or true. Parts that are no range are
-/// skipped.
+/// `Range` is ignored unless the method is GET, the field has one line, its unit is bytes, each of
+/// its ranges is valid, the representation has content, `If-Range` is absent or true, and the parts
+/// keep to the limits. A call can run out of memory only if Range asks for some byte.
 pub fn select(
     alloc: Global,
     method: &Method,
     request: &HeaderMap,
     current: &Validators,
+    present: u64,
     len: u64,
+    limits: &RangeLimits,
 ) -> Result<Selection, AllocError>
-    ensures { IfOk result (Selects method.now (lines_at request.now) current.now len) }
+    ensures selects { IfOk result (Selects present method.now (lines_at request.now) current.now len limits.now) }
+    ensures memory { OnErr result (AsksForSome present method.now (lines_at request.now) current.now len limits.now) }
 {
-    let Some(range) = applying_range(alloc, method, request, current, len)? else {
+    let Some(set) = applying_set(method, request, current, present, len) else {
         return Ok(Selection::Whole);
     };
-    let parts = parts_asked(alloc, &range, len)?;
-    if parts.is_empty() {
+    if is_unsatisfiable(len, set) {
         return Ok(Selection::Unsatisfiable);
+    }
+    let parts = parts_asked(alloc, set, len, limits.gap)?;
+    if are_too_many(limits, len, parts.as_slice()) {
+        return Ok(Selection::Whole);
     }
     Ok(Selection::Parts(parts))
 }
 
-// The field Range, if it applies to the request.
-fn applying_range(
-    alloc: Global,
+fn are_too_many(limits: &RangeLimits, len: u64, parts: &[Part]) -> bool
+    ensures { result ≡ are_too_many limits.now len parts.now }
+{
+    let count = parts.len() as u64;
+    count > 1 && (count > limits.parts || is_product_above(len, count, limits.head))
+}
+
+fn is_product_above(limit: u64, count: u64, size: u64) -> bool
+    ensures { result ≡ nat_lt limit (count * size) }
+{
+    match count.checked_mul(size) {
+        Some(product) => product > limit,
+        None => true,
+    }
+}
+
+// The range-set of Range, if it applies to the request.
+fn applying_set<'a>(
     method: &Method,
-    request: &HeaderMap,
+    request: &'a HeaderMap,
     current: &Validators,
+    present: u64,
     len: u64,
-) -> Result<Option<Range>, AllocError>
-    ensures { IfOk result (λ found. MatchOption found
-        ((line : Line) → ¬ (Applies method.now (lines_at request.now) current.now len line))
-        (λ range. Applies method.now (lines_at request.now) current.now len range.bytes)) }
+) -> Option<&'a [u8]>
+    ensures { MatchOption result
+        ((set : List ℕ) → ¬ (Applies present method.now (lines_at request.now) current.now len set))
+        (λ set. Applies present method.now (lines_at request.now) current.now len set.now) }
 {
-    if *method != Method::GET || len == 0 {
-        return Ok(None);
+    if *method != Method::GET || len == 0 || !if_range_lets(request, current, present) {
+        return None;
     }
-    let Some(range) = asked_range(alloc, request)? else {
-        return Ok(None);
-    };
-    if !range.has_valid_spec() || !is_range_let(alloc, request, current)? {
-        return Ok(None);
-    }
-    Ok(Some(range))
+    let set = set_asked(request)?;
+    Some(set)
 }
 
-// The field Range, if it is there and its unit is bytes.
-fn asked_range(alloc: Global, request: &HeaderMap) -> Result<Option<Range>, AllocError>
-    ensures { IfOk result (λ range. option_map (λ value. value.bytes) range ≡ range_asked (lines_at request.now)) }
+// The range-set of the only line of Range, if its unit is bytes and it is valid.
+fn set_asked(request: &HeaderMap) -> Option<&[u8]>
+    ensures { option_map (λ set. set.now) result ≡ set_asked (lines_at request.now) }
 {
-    match request.typed_try_get::<Range>(alloc) {
-        Ok(range) => Ok(range),
-        Err(Refused::Invalid(_)) => Ok(None),
-        Err(Refused::Memory(refused)) => Err(refused),
+    match only_text(&request.get_all(RANGE)) {
+        Some(text) => range_set_of(text),
+        None => None,
     }
 }
 
-// Whether If-Range is absent or true.
-fn is_range_let(
-    alloc: Global,
-    request: &HeaderMap,
-    current: &Validators,
-) -> Result<bool, AllocError>
-    ensures { IfOk result (λ lets. MatchBool lets (IfRangeLets (lines_at request.now) current.now)
-        (¬ (IfRangeLets (lines_at request.now) current.now))) }
+fn range_set_of(text: &[u8]) -> Option<&[u8]>
+    ensures { option_map (λ set. set.now) result ≡ range_set_of text.now }
 {
-    match request.typed_try_get::<IfRange>(alloc) {
-        Ok(Some(named)) => Ok(is_exactly(current, &named)),
-        Ok(None) => Ok(true),
-        Err(Refused::Invalid(_)) => Ok(false),
-        Err(Refused::Memory(refused)) => Err(refused),
+    if text.len() < 6 || !has_bytes_unit(text) {
+        return None;
+    }
+    let set = &text[6..];
+    if is_range_set(set) { Some(set) } else { None }
+}
+
+fn has_bytes_unit(text: &[u8]) -> bool
+    ensures { result ≡ has_bytes_unit text.now }
+{
+    text.len() >= 6 && is_bytes_unit(&text[..6])
+}
+
+fn is_bytes_unit(text: &[u8]) -> bool
+    ensures { result ≡ bytes_eq (map to_ascii_lowercase text.now) (codes "bytes=") }
+{
+    text.eq_ignore_ascii_case(b"bytes=")
+}
+
+// Whether If-Range is absent, or its only line is true.
+fn if_range_lets(request: &HeaderMap, current: &Validators, present: u64) -> bool
+    ensures { result ≡ if_range_lets present (lines_at request.now) current.now }
+{
+    let field = request.get_all(IF_RANGE);
+    if field.iter().next().is_none() {
+        return true;
+    }
+    match only_text(&field) {
+        Some(text) => is_exactly(current, text, present),
+        None => false,
     }
 }
 
 // Whether the representation is exactly the one that is named.
-fn is_exactly(current: &Validators, named: &IfRange) -> bool
-    ensures { MatchBool result (IsExactly current.now named.now) (¬ (IsExactly current.now named.now)) }
+fn is_exactly(current: &Validators, text: &[u8], present: u64) -> bool
+    ensures { result ≡ is_exactly present current.now text.now }
 {
-    named.matches(current.etag.as_ref(), strong_date(current))
+    if is_tag(text) {
+        return is_tag_of(Comparison::Strong, current.etag.as_ref(), text);
+    }
+    current.is_date_strong && is_modified_at(read_date(text, present), current)
 }
 
-// The modification date, if it is a strong validator.
-fn strong_date(current: &Validators) -> Option<&LastModified>
-    ensures { option_copied result ≡ (if current.now.is_date_strong then current.now.last_modified else None) }
+fn is_modified_at(date: Option<Timestamp>, current: &Validators) -> bool
+    ensures { result ≡ is_modified_at date current.now.last_modified }
 {
+    let Some(date) = date else {
+        return false;
+    };
     match &current.last_modified {
-        Some(modified) if current.is_date_strong => Some(modified),
-        _ => None,
+        Some(modified) => is_second(date, modified.unix_secs()),
+        None => false,
     }
 }
 
-// The positions that the specs of a field ask for, as coalesced parts.
-fn parts_asked(alloc: Global, range: &Range, len: u64) -> Result<Vec<Part>, AllocError>
-    ensures coalesced { IfOk result (λ parts. AreCoalesced len parts.items) }
-    ensures covers { IfOk result (λ parts. (p : ℕ) → Any (Holds p) parts.items ↔ IsAsked len range.now.bytes p) }
+fn is_second(date: Timestamp, seconds: u64) -> bool
+    ensures { result ≡ nat_eq date (unix_epoch + seconds) }
 {
-    let asked = parts_as_asked(alloc, range, len)?;
-    let parts = coalesce(alloc, len, asked)?;
+    !date.is_before(seconds) && !date.is_after(seconds)
+}
+
+// The positions that a range-set asks for, as coalesced parts.
+fn parts_asked(alloc: Global, set: &[u8], len: u64, gap: u64) -> Result<Vec<Part>, AllocError>
+    ensures coalesced { IfOk result (λ parts. AreCoalesced len gap parts.items) }
+    ensures covers { IfOk result (λ parts. (p : ℕ) → Any (Holds p) parts.items
+        ↔ IsJoined gap (IsAsked len set.now) p) }
+{
+    let asked = parts_as_asked(alloc, set, len)?;
+    let parts = coalesce(alloc, len, gap, asked)?;
     Ok(parts)
 }
 
-// The parts that the specs of a field ask for, in their order.
-fn parts_as_asked(alloc: Global, range: &Range, len: u64) -> Result<Vec<Part>, AllocError>
+// The parts that a range-set asks for, in their order.
+fn parts_as_asked(alloc: Global, set: &[u8], len: u64) -> Result<Vec<Part>, AllocError>
     ensures within { IfOk result (λ parts. All (IsPartOf len) parts.items) }
-    ensures covers { IfOk result (λ parts. (p : ℕ) → Any (Holds p) parts.items ↔ IsAsked len range.now.bytes p) }
+    ensures covers { IfOk result (λ parts. (p : ℕ) → Any (Holds p) parts.items ↔ IsAsked len set.now p) }
 {
-    let parts = parts_between(alloc, range.satisfiable_ranges(len))?;
+    let parts = parts_in(alloc, len, set)?;
     Ok(parts)
-}
-
-// The parts between the bounds that are left.
-fn parts_between(alloc: Global, ranges: Satisfiable<'_>) -> Result<Vec<Part>, AllocError>
-    ensures { IfOk result (λ parts. parts.items ≡ filter_map part_between ranges.entry) }
-{
-    ranges.filter_map(part_between).collect(alloc)
 }

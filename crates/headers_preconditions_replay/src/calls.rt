@@ -2,14 +2,17 @@
 //!
 //! A row names a method, the fields of a request, and a resource: `missing`, or an entity tag, the
 //! second of its last modification, and `strong` or `weak` for that date. A tag or a second that it
-//! doesn't have is `(none)`.
+//! doesn't have is `(none)`. Unless the row says it, the time is the start of 2026.
 use headers::{HeaderMap, HeaderValue, LastModified, apply};
 use headers_preconditions::{
-    Boundary, Content, Part, Precondition, Resource, Response, Selection, Validators, evaluate,
-    respond, select,
+    Boundary, Content, Part, Precondition, RangeLimits, Resource, Response, Selection, Validators,
+    evaluate, respond, select,
 };
 use headers_rows::{Answer, Arguments, Calls, Failure};
 use http::Method;
+
+/// The time of rows that don't say it: the start of 2026.
+const PRESENT: u64 = 1_767_225_600;
 
 /// The calls of `headers_preconditions`.
 pub struct Decisions;
@@ -62,11 +65,8 @@ fn show_selection(selection: &Selection, answer: &mut Answer) -> Result<(), Fail
     Ok(())
 }
 
-// `evaluate METHOD FIELD.. (/) RESOURCE`
-fn call_evaluate(arguments: &mut Arguments<'_>, answer: &mut Answer) -> Result<(), Failure> {
-    let (method, request) = read_request(arguments)?;
-    let resource = read_resource(arguments)?;
-    let word = match evaluate(arguments.alloc(), &method, &request, &resource)? {
+fn show_precondition(answer: &mut Answer, precondition: Precondition) -> Result<(), Failure> {
+    let word = match precondition {
         Precondition::Perform => "perform",
         Precondition::NotModified => "not_modified",
         Precondition::Failed => "failed",
@@ -74,22 +74,60 @@ fn call_evaluate(arguments: &mut Arguments<'_>, answer: &mut Answer) -> Result<(
     Ok(answer.word(word)?)
 }
 
-// `select METHOD FIELD.. (/) VALIDATORS LENGTH`
-fn call_select(arguments: &mut Arguments<'_>, answer: &mut Answer) -> Result<(), Failure> {
+// `evaluate METHOD FIELD.. (/) RESOURCE`, at a time
+fn call_evaluate(
+    arguments: &mut Arguments<'_>,
+    present: u64,
+    answer: &mut Answer,
+) -> Result<(), Failure> {
+    let (method, request) = read_request(arguments)?;
+    let resource = read_resource(arguments)?;
+    show_precondition(answer, evaluate(&method, &request, &resource, present))
+}
+
+// `evaluate_at SECOND METHOD FIELD.. (/) RESOURCE`
+fn call_evaluate_at(arguments: &mut Arguments<'_>, answer: &mut Answer) -> Result<(), Failure> {
+    let present = arguments.number()?;
+    call_evaluate(arguments, present, answer)
+}
+
+// `select METHOD FIELD.. (/) VALIDATORS LENGTH`, within limits
+fn call_select(
+    arguments: &mut Arguments<'_>,
+    limits: &RangeLimits,
+    answer: &mut Answer,
+) -> Result<(), Failure> {
+    let alloc = arguments.alloc();
     let (method, request) = read_request(arguments)?;
     let current = read_validators(arguments)?;
     let len = arguments.number()?;
-    let selection = select(arguments.alloc(), &method, &request, &current, len)?;
+    let selection = select(alloc, &method, &request, &current, PRESENT, len, limits)?;
     show_selection(&selection, answer)
 }
 
-fn read_content(arguments: &mut Arguments<'_>) -> Result<Content, Failure> {
-    let len = arguments.number()?;
+// `select_within GAP HEAD PARTS METHOD FIELD.. (/) VALIDATORS LENGTH`
+fn call_select_within(arguments: &mut Arguments<'_>, answer: &mut Answer) -> Result<(), Failure> {
+    let gap = arguments.number()?;
+    let head = arguments.number()?;
+    let parts = arguments.number()?;
+    call_select(arguments, &RangeLimits { gap, head, parts }, answer)
+}
+
+// A length, or `(none)`, and a media type, or `(none)`.
+fn read_content(
+    arguments: &mut Arguments<'_>,
+    ranges: Option<RangeLimits>,
+) -> Result<Content, Failure> {
+    let len = arguments.optional_number()?;
     let media_type = match arguments.option()? {
         Some(text) => Some(HeaderValue::from_str(arguments.alloc(), text)?),
         None => None,
     };
-    Ok(Content { len, media_type })
+    Ok(Content {
+        len,
+        media_type,
+        ranges,
+    })
 }
 
 // The status, and the fields that the steps leave of a map.
@@ -104,15 +142,21 @@ fn show_response(
 }
 
 // `respond METHOD FIELD.. (/) RESOURCE LENGTH TYPE FIELD..`, with the fields that the answer's map has
-// before. The boundary is `THIS_STRING_SEPARATES`.
-fn call_respond(arguments: &mut Arguments<'_>, answer: &mut Answer) -> Result<(), Failure> {
+// before, and with the ranges that the server sends. The boundary is `THIS_STRING_SEPARATES`.
+fn call_respond(
+    arguments: &mut Arguments<'_>,
+    ranges: Option<RangeLimits>,
+    answer: &mut Answer,
+) -> Result<(), Failure> {
     let alloc = arguments.alloc();
     let (method, request) = read_request(arguments)?;
     let resource = read_resource(arguments)?;
-    let content = read_content(arguments)?;
+    let content = read_content(arguments, ranges)?;
     let fields = arguments.map()?;
     let boundary = Boundary::new(alloc, "THIS_STRING_SEPARATES")?;
-    match respond(alloc, &method, &request, &resource, &content, &boundary)? {
+    match respond(
+        alloc, &method, &request, &resource, PRESENT, &content, &boundary,
+    )? {
         Some(response) => show_response(response, fields, answer),
         None => Ok(answer.none()?),
     }
@@ -128,9 +172,12 @@ fn call_boundary(arguments: &mut Arguments<'_>, answer: &mut Answer) -> Result<(
 impl Calls for Decisions {
     fn make(name: &str, arguments: &mut Arguments<'_>, answer: &mut Answer) -> Result<(), Failure> {
         match name {
-            "evaluate" => call_evaluate(arguments, answer),
-            "select" => call_select(arguments, answer),
-            "respond" => call_respond(arguments, answer),
+            "evaluate" => call_evaluate(arguments, PRESENT, answer),
+            "evaluate_at" => call_evaluate_at(arguments, answer),
+            "select" => call_select(arguments, &RangeLimits::usual(), answer),
+            "select_within" => call_select_within(arguments, answer),
+            "respond" => call_respond(arguments, Some(RangeLimits::usual()), answer),
+            "respond_whole" => call_respond(arguments, None, answer),
             "boundary" => call_boundary(arguments, answer),
             _ => Err(Failure::NoCall),
         }

@@ -4,10 +4,12 @@ use Rattle.std.proofs.lemmas.List.Elements.{All-head}
 use Rattle.http_header.specs.FieldValue.{FieldValue}
 use Rattle.headers.specs.LineMap.{LineMap}
 use Rattle.headers_preconditions.specs.Boundaries.{multipart_type}
+use Rattle.headers_preconditions.specs.Limits.{usual_limits}
 use Rattle.headers_preconditions.specs.Parts.{IsPartOf}
 use Rattle.headers_preconditions.specs.Plans.{IsPlan}
 use Rattle.headers_preconditions.specs.Responses.{IsResponse}
 use Rattle.headers_preconditions.specs.declared.content.Content.{Content}
+use Rattle.headers_preconditions.specs.declared.limits.RangeLimits.{RangeLimits}
 use Rattle.headers_preconditions.specs.declared.plan.Plan.{Plan}
 use Rattle.headers_preconditions.specs.declared.plan.Plan.TheVariants.{NotModified, Failed, Full, Single, Multiple}
 use Rattle.headers_preconditions.specs.declared.plan.Plan.TheVariants.{Unsatisfiable}
@@ -20,33 +22,33 @@ use Rattle.headers_serve.specs.Parts.{Fits, Occurs}
 use Rattle.headers_serve.specs.declared.file.File.{File}
 
 -- the parts of a plan lie in the representation
-pub Fits-from_plan : (method : List ℕ) (request : LineMap) (resource : Resource) (len : ℕ) (plan : Plan)
-    → IsPlan method request resource len plan → Fits len plan
-Fits-from_plan method request resource len Full h = tt
-Fits-from_plan method request resource len (Single part) h =
-    All-head (IsPartOf len) part [] h.2.2.coalesced.within
-Fits-from_plan method request resource len (Multiple parts) h = h.2.2.coalesced.within
-Fits-from_plan method request resource len NotModified h = tt
-Fits-from_plan method request resource len Failed h = tt
-Fits-from_plan method request resource len Unsatisfiable h = tt
+pub Fits-from_plan : (present : ℕ) (method : List ℕ) (request : LineMap) (resource : Resource) (len : ℕ)
+    (limits : RangeLimits) (plan : Plan) → IsPlan present method request resource len limits plan → Fits len plan
+Fits-from_plan present method request resource len limits Full h = tt
+Fits-from_plan present method request resource len limits (Single part) h =
+    All-head (IsPartOf len) part [] h.2.asks.asked.coalesced.within
+Fits-from_plan present method request resource len limits (Multiple parts) h = h.2.asks.asked.coalesced.within
+Fits-from_plan present method request resource len limits NotModified h = tt
+Fits-from_plan present method request resource len limits Failed h = tt
+Fits-from_plan present method request resource len limits Unsatisfiable h = tt
 
-pub Fits-from_answer : (method : List ℕ) (request : LineMap) (file : File) (answer : Answer)
-    → IsAnswerOf method request file answer → Fits (length file.content) answer.plan
-Fits-from_answer method request file answer h =
-    Fits-from_plan method request (resource_of file) (length file.content) answer.plan h.2.plan
+pub Fits-from_answer : (present : ℕ) (method : List ℕ) (request : LineMap) (file : File) (answer : Answer)
+    → IsAnswerOf present method request file answer → Fits (length file.content) answer.plan
+Fits-from_answer present method request file answer h =
+    Fits-from_plan present method request (resource_of file) (length file.content) usual_limits answer.plan h.2.plan
 
 -- what is answered for a file's resource and content is the answer for the file
-pub IsAnswerOf-from_response : (method : List ℕ) (request : LineMap) (file : File) (resource : Resource)
-    (content : Content) (kind : FieldValue) (digits : List ℕ) (answer : Answer)
+pub IsAnswerOf-from_response : (present : ℕ) (method : List ℕ) (request : LineMap) (file : File)
+    (resource : Resource) (content : Content) (kind : FieldValue) (digits : List ℕ) (answer : Answer)
     → resource ≡ resource_of file → content ≡ content_of file → kind.bytes ≡ multipart_type digits
     → digits ≡ boundary_of file
-    → IsResponse method request resource content kind answer → IsAnswerOf method request file answer
-IsAnswerOf-from_response method request file resource content kind digits answer same_resource same_content bytes
-    digest h = (
+    → IsResponse present method request resource content kind answer → IsAnswerOf present method request file answer
+IsAnswerOf-from_response present method request file resource content kind digits answer same_resource same_content
+    bytes digest h = (
       kind,
       subst (λ (d : List ℕ). kind.bytes ≡ multipart_type d) digest bytes,
-      subst (λ (r : Resource). IsResponse method request r (content_of file) kind answer) same_resource
-          (subst (λ (c : Content). IsResponse method request resource c kind answer) same_content h),
+      subst (λ (r : Resource). IsResponse present method request r (content_of file) kind answer) same_resource
+          (subst (λ (c : Content). IsResponse present method request resource c kind answer) same_content h),
     )
 
 pub Occurs-from_found : (content bytes : List ℕ) (k : ℕ) → FindsNeedle content bytes 0 (Some k) → Occurs bytes content

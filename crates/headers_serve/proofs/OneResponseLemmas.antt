@@ -16,6 +16,7 @@ use Rattle.headers_cors_policy.proofs.SameLemmas.{same_lines}
 use Rattle.headers_cors_policy.specs.Policy.{Policy}
 use Rattle.headers_preconditions.specs.Fields.{etag_sent, is_known_by, length_sent, lines_sent, modified_sent}
 use Rattle.headers_preconditions.specs.Fields.{range_sent, type_sent, units_sent, unless_known}
+use Rattle.headers_preconditions.specs.Limits.{usual_limits}
 use Rattle.headers_preconditions.specs.Plans.{IsSamePlan}
 use Rattle.headers_preconditions.specs.declared.part.Part.{Part}
 use Rattle.headers_preconditions.specs.declared.plan.Plan.{Plan}
@@ -25,7 +26,7 @@ use Rattle.headers_preconditions.specs.declared.response.Response.{Response as A
 use Rattle.headers_preconditions.proofs.OnePlanLemmas.{one_plan}
 use Rattle.headers_serve.specs.Answer.{AnswersBehind, AnswersEntry, AnswersFile, AnswersOther, Carries, IsAnswerAt}
 use Rattle.headers_serve.specs.Answer.{IsAnswerOf, IsSendable, LeadsTo, body_sent, cache_sent, coding_sent, date_fields}
-use Rattle.headers_serve.specs.Answer.{is_several}
+use Rattle.headers_serve.specs.Answer.{clock, is_several}
 use Rattle.headers_serve.specs.Cors.{IsShared}
 use Rattle.headers_serve.specs.File.{boundary_of, resource_of, tag_of}
 use Rattle.headers_serve.specs.Multipart.{multipart}
@@ -71,17 +72,18 @@ several_alike : (is_known : Bool) (coding : Option Coding) (parts : _)
 several_alike is_known None parts = refl
 several_alike is_known (Some coding) parts = refl
 
-module _ (method : List ℕ) (request : LineMap) (file : File) (a b : Answer)
-    (h : IsAnswerOf method request file a) (k : IsAnswerOf method request file b) where
+module _ (present : ℕ) (method : List ℕ) (request : LineMap) (file : File) (a b : Answer)
+    (h : IsAnswerOf present method request file a) (k : IsAnswerOf present method request file b) where
   same_plan : IsSamePlan (Some a.plan) (Some b.plan)
   same_plan =
-      one_plan method request (resource_of file) (length file.content) (Some a.plan) (Some b.plan) h.2.plan k.2.plan
+      one_plan present method request (resource_of file) (length file.content) usual_limits (Some a.plan) (Some b.plan)
+      h.2.plan k.2.plan
 
   by_plan : {X : Type 0} (of_plan : Plan → X) (several : List Part → X)
       → ((parts : _) → of_plan (Multiple parts) ≡ several parts.items) → of_plan a.plan ≡ of_plan b.plan
   by_plan of_plan several same_parts =
-      same_by_plan method request (resource_of file) (length file.content) of_plan several same_parts a.plan b.plan
-      h.2.plan k.2.plan same_plan
+      same_by_plan present method request (resource_of file) (length file.content) usual_limits of_plan several
+      same_parts a.plan b.plan h.2.plan k.2.plan same_plan
 
   several_same : is_several a.plan ≡ is_several b.plan
   several_same = by_plan is_several (λ _. true) (λ _. refl)
@@ -106,16 +108,17 @@ module _ (method : List ℕ) (request : LineMap) (file : File) (a b : Answer)
             ∙ sym t.last_modified;
         accept_ranges =
             s.accept_ranges
-            ∙ by_plan (λ plan. lines_sent (λ (units : Line). units) (units_sent plan))
+            ∙ by_plan (λ plan. lines_sent (λ (units : Line). units) (units_sent plan true))
             (λ _. codes "bytes" ∷ []) (λ _. refl)
             ∙ sym t.accept_ranges;
         content_range =
             s.content_range
-            ∙ by_plan (λ plan. lines_sent content_text (range_sent plan (length file.content))) (λ _. []) (λ _. refl)
+            ∙ by_plan (λ plan. lines_sent content_text (range_sent plan (Some (length file.content)))) (λ _. [])
+            (λ _. refl)
             ∙ sym t.content_range;
         content_length =
             s.content_length
-            ∙ by_plan (λ plan. lines_sent decimal (length_sent plan (length file.content))) (λ _. []) (λ _. refl)
+            ∙ by_plan (λ plan. lines_sent decimal (length_sent plan (Some (length file.content)))) (λ _. []) (λ _. refl)
             ∙ sym t.content_length;
         content_type =
             s.content_type
@@ -157,23 +160,25 @@ module _ (method : List ℕ) (request : LineMap) (file : File) (a b : Answer)
           ∙ sym y.body,
     )
 
-file_once : (before : List Header) (cache_control : Option FieldValue) (method : List ℕ) (request : LineMap)
-    (file : File)
-    (r s : Response) → AnswersFile before cache_control method request file r
-    → AnswersFile before cache_control method request file s → IsSameResponse r s
-file_once before cache_control method request file r s x y =
+file_once : (present : ℕ) (before : List Header) (cache_control : Option FieldValue) (method : List ℕ)
+    (request : LineMap) (file : File)
+    (r s : Response) → AnswersFile present before cache_control method request file r
+    → AnswersFile present before cache_control method request file s → IsSameResponse r s
+file_once present before cache_control method request file r s x y =
     elim x.1 [
       | inl h ↦
           elim y.1 [
-            | inl k ↦ carried_same method request file x.0 y.0 h.1 k.1 before cache_control r s x.2 y.2
+            | inl k ↦ carried_same present method request file x.0 y.0 h.1 k.1 before cache_control r s x.2 y.2
             | inr k ↦
-                absurd (k.1 (sendable_as file x.0.plan k.0.plan (several_same method request file x.0 k.0 h.1 k.2) h.0))
+                absurd (k.1 (sendable_as file x.0.plan k.0.plan
+                (several_same present method request file x.0 k.0 h.1 k.2) h.0))
           ]
       | inr h ↦
           elim y.1 [
             | inl k ↦
-                absurd (h.1 (sendable_as file y.0.plan h.0.plan (several_same method request file y.0 h.0 k.1 h.2) k.0))
-            | inr k ↦ carried_same (codes "HEAD") request file x.0 y.0 h.3 k.3 before cache_control r s x.2 y.2
+                absurd (h.1 (sendable_as file y.0.plan h.0.plan
+                (several_same present method request file y.0 h.0 k.1 h.2) k.0))
+            | inr k ↦ carried_same present (codes "HEAD") request file x.0 y.0 h.3 k.3 before cache_control r s x.2 y.2
           ]
     ]
 
@@ -195,15 +200,16 @@ other_once before method r s x y =
       | inr h ↦ elim y [ inl k ↦ absurd (h.0 k.0) | inr k ↦ with_same _ _ _ _ r s h.1 k.1 ]
     ]
 
-module _ (before : List Header) (cache_control : Option FieldValue) (request : Request (List ℕ)) (r s : Response) where
-  entry_once : (entry : Entry) → AnswersEntry before cache_control request entry r
-      → AnswersEntry before cache_control request entry s → IsSameResponse r s
+module _ (present : ℕ) (before : List Header) (cache_control : Option FieldValue) (request : Request (List ℕ))
+    (r s : Response) where
+  entry_once : (entry : Entry) → AnswersEntry present before cache_control request entry r
+      → AnswersEntry present before cache_control request entry s → IsSameResponse r s
   entry_once Missing x y = with_same _ _ _ _ r s x y
   entry_once Forbidden x y = with_same _ _ _ _ r s x y
   entry_once Folder x y =
       folder_once before (uri_path (head_of request).uri) (uri_query (head_of request).uri) r s x y
   entry_once (Readable file) x y =
-      file_once before cache_control (head_of request).method (lines_at (head_of request).headers) file r s x y
+      file_once present before cache_control (head_of request).method (lines_at (head_of request).headers) file r s x y
 
 -- a path leads a request to one entry, where the store has one at each path
 pub leads_once : (negotiates : Bool) (look : List ℕ → Entry) (request : LineMap) (path : List ℕ) (e f : Entry)
@@ -227,11 +233,12 @@ leads_once negotiates look request path e f x y =
     ]
 
 -- what is said after the same fields is one response
-behind_once : (before : List Header) (negotiates : Bool) (cache_control : Option FieldValue) (look : List ℕ → Entry)
-    (request : Request (List ℕ)) (r s : Response)
-    → AnswersBehind before negotiates cache_control (λ named entry. entry ≡ look named) request r
-    → AnswersBehind before negotiates cache_control (λ named entry. entry ≡ look named) request s → IsSameResponse r s
-behind_once before negotiates cache_control look request r s x y =
+behind_once : (present : ℕ) (before : List Header) (negotiates : Bool) (cache_control : Option FieldValue)
+    (look : List ℕ → Entry) (request : Request (List ℕ)) (r s : Response)
+    → AnswersBehind present before negotiates cache_control (λ named entry. entry ≡ look named) request r
+    → AnswersBehind present before negotiates cache_control (λ named entry. entry ≡ look named) request s
+    → IsSameResponse r s
+behind_once present before negotiates cache_control look request r s x y =
     elim x [
       | inl h ↦
           elim y [
@@ -239,8 +246,8 @@ behind_once before negotiates cache_control look request r s x y =
                 let same =
                 leads_once negotiates look (lines_at (head_of request).headers) (uri_path (head_of request).uri)
                 h.1.0 k.1.0 h.1.1 k.1.1 in
-                entry_once before cache_control request r s k.1.0
-                (subst (λ (e : Entry). AnswersEntry before cache_control request e r) same h.1.2) k.1.2
+                entry_once present before cache_control request r s k.1.0
+                (subst (λ (e : Entry). AnswersEntry present before cache_control request e r) same h.1.2) k.1.2
             | inr k ↦ absurd (k.0 h.0)
           ]
       | inr h ↦
@@ -266,9 +273,10 @@ pub one_response : (now : Option ℕ) (cors : Option Policy) (negotiates : Bool)
     → IsAnswerAt now cors negotiates cache_control (λ path entry. entry ≡ look path) request r
     → IsAnswerAt now cors negotiates cache_control (λ path entry. entry ≡ look path) request s → IsSameResponse r s
 one_response now cors negotiates cache_control look request r s x y =
-    behind_once (date_fields now ++ y.0) negotiates cache_control look request r s
+    behind_once (clock now) (date_fields now ++ y.0) negotiates cache_control look request r s
     (subst
     (λ (fields : List Header).
-    AnswersBehind (date_fields now ++ fields) negotiates cache_control (λ path entry. entry ≡ look path) request r)
+    AnswersBehind (clock now) (date_fields now ++ fields) negotiates cache_control (λ path entry. entry ≡ look path)
+    request r)
     (shared_once cors request x.0 y.0 x.1 y.1) x.2)
     y.2

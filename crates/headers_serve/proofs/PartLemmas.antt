@@ -6,7 +6,9 @@ use Rattle.std.proofs.lemmas.List.{get_or-drop, get_or-take, length-take}
 use Rattle.std.specs.Prelude.{codes, slice_range}
 use Rattle.memchr.specs.Find.{OccursAt}
 use Rattle.headers.specs.LineMap.{LineMap}
+use Rattle.headers_preconditions.specs.Limits.{usual_limits}
 use Rattle.headers_preconditions.specs.Plans.{IsPlan}
+use Rattle.headers_preconditions.specs.declared.limits.RangeLimits.{RangeLimits}
 use Rattle.headers_preconditions.specs.declared.part.Part.{Part}
 use Rattle.headers_preconditions.specs.declared.plan.Plan.{Plan}
 use Rattle.headers_preconditions.specs.declared.plan.Plan.TheVariants.{NotModified, Failed, Full, Single, Multiple}
@@ -46,23 +48,25 @@ no_part_holds content (byte ∷ bytes) part none o =
     )
 
 -- a HEAD has no parts
-head_has_none : (request : LineMap) (resource : Resource) (len : ℕ) (plan : Plan)
-    → IsPlan (codes "HEAD") request resource len plan → is_several plan ≡ false
-head_has_none request resource len Full h = refl
-head_has_none request resource len (Single part) h = refl
-head_has_none request resource len (Multiple parts) h = let get = h.2.1.is_get in absurd (cc get)
-head_has_none request resource len NotModified h = refl
-head_has_none request resource len Failed h = refl
-head_has_none request resource len Unsatisfiable h = refl
+head_has_none : (present : ℕ) (request : LineMap) (resource : Resource) (len : ℕ) (limits : RangeLimits)
+    (plan : Plan) → IsPlan present (codes "HEAD") request resource len limits plan → is_several plan ≡ false
+head_has_none present request resource len limits Full h = refl
+head_has_none present request resource len limits (Single part) h = refl
+head_has_none present request resource len limits (Multiple parts) h =
+    let get = h.2.asks.applies.is_get in absurd (cc get)
+head_has_none present request resource len limits NotModified h = refl
+head_has_none present request resource len limits Failed h = refl
+head_has_none present request resource len limits Unsatisfiable h = refl
 
-pub no_part_holds_boundary : (method : List ℕ) (request : LineMap) (file : File) (answer : Answer)
-    → AnswersRead method request file answer → is_several answer.plan ≡ true
+pub no_part_holds_boundary : (present : ℕ) (method : List ℕ) (request : LineMap) (file : File) (answer : Answer)
+    → AnswersRead present method request file answer → is_several answer.plan ≡ true
     → (part : Part) → ¬ (Occurs (boundary_of file) (part_bytes file.content part))
-no_part_holds_boundary method request file answer h several part =
+no_part_holds_boundary present method request file answer h several part =
     elim h [
       | inl sent ↦ no_part_holds file.content (boundary_of file) part (sent.0 several).apart
       | inr whole ↦
           let none =
-          head_has_none request (resource_of file) (length file.content) answer.plan whole.3.2.plan in
+          head_has_none present request (resource_of file) (length file.content) usual_limits answer.plan
+          whole.3.2.plan in
           absurd (cc (none, several))
     ]

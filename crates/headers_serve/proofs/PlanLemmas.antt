@@ -4,6 +4,7 @@ use Rattle.std.specs.Prelude.{if◌then◌else◌, ◌==◌}
 use Rattle.headers.specs.LineMap.{LineMap}
 use Rattle.headers_preconditions.specs.Fields.{status_of}
 use Rattle.headers_preconditions.specs.Plans.{IsPlan, IsSamePlan, parts_sent}
+use Rattle.headers_preconditions.specs.declared.limits.RangeLimits.{RangeLimits}
 use Rattle.headers_preconditions.specs.declared.part.Part.{Part}
 use Rattle.headers_preconditions.specs.declared.plan.Plan.{Plan}
 use Rattle.headers_preconditions.specs.declared.plan.Plan.TheVariants.{NotModified, Failed, Full, Single, Multiple}
@@ -30,10 +31,11 @@ by_parts-several of_plan several [] more = absurd (omega (arith, more))
 by_parts-several of_plan several (part ∷ []) more = absurd (omega (arith, more))
 by_parts-several of_plan several (part ∷ other ∷ parts) more = refl
 
-module _ (method : List ℕ) (request : LineMap) (resource : Resource) (len : ℕ) where
+module _ (present : ℕ) (method : List ℕ) (request : LineMap) (resource : Resource) (len : ℕ)
+    (limits : RangeLimits) where
   goes_by_status : {X : Type 0} (of_plan : Plan → X) (several : List Part → X)
       → ((parts : _) → of_plan (Multiple parts) ≡ several parts.items) → (plan : Plan)
-      → IsPlan method request resource len plan
+      → IsPlan present method request resource len limits plan
       → of_plan plan ≡ by_status of_plan several (status_of plan) (parts_sent plan)
   goes_by_status of_plan several same_parts Full h = refl
   goes_by_status of_plan several same_parts (Single part) h = refl
@@ -46,7 +48,8 @@ module _ (method : List ℕ) (request : LineMap) (resource : Resource) (len : �
   -- what goes by a plan, and of several parts by their list alone, is the same for two such plans
   pub same_by_plan : {X : Type 0} (of_plan : Plan → X) (several : List Part → X)
       → ((parts : _) → of_plan (Multiple parts) ≡ several parts.items) → (p q : Plan)
-      → IsPlan method request resource len p → IsPlan method request resource len q → IsSamePlan (Some p) (Some q)
+      → IsPlan present method request resource len limits p → IsPlan present method request resource len limits q
+      → IsSamePlan (Some p) (Some q)
       → of_plan p ≡ of_plan q
   same_by_plan of_plan several same_parts p q h k same =
       goes_by_status of_plan several same_parts p h

@@ -10,6 +10,7 @@ use Rattle.http_server.specs.declared.response.Response.{Response}
 use Rattle.http1.specs.Fields.{Header}
 use Rattle.headers.specs.LineMap.{LineMap, lines_at}
 use Rattle.headers_preconditions.specs.Fields.{is_known_by}
+use Rattle.headers_preconditions.specs.Limits.{usual_limits}
 use Rattle.headers_preconditions.specs.Plans.{IsPlan, IsSamePlan}
 use Rattle.headers_preconditions.specs.Selection.{Selects}
 use Rattle.headers_preconditions.specs.declared.part.Part.{Part}
@@ -37,17 +38,16 @@ get = codes "GET"
 abbrev HasAll : File → Response → Type 0
 HasAll file response = (response.status ≡ 200) × (response.body.items ≡ file.content)
 
-module _ (request : LineMap) (file : File) (all : AsksForAll request) where
-  selects_whole : Selects get request (validators_of file) (length file.content) Whole
-  selects_whole = λ line applies.
-      let asked = rw all.range at applies.asked in cc
+module _ (present : ℕ) (request : LineMap) (file : File) (all : AsksForAll request) where
+  selects_whole : Selects present get request (validators_of file) (length file.content) usual_limits Whole
+  selects_whole = inl (λ set applies. let asked = rw all.range at applies.asked in absurd (cc asked))
 
-  full : IsPlan get request (resource_of file) (length file.content) Full
+  full : IsPlan present get request (resource_of file) (length file.content) usual_limits Full
   full = (
     validators_of file,
     record {
       performs =
-          unconditional request (resource_of file) get all.if_match all.if_none_match all.if_modified_since
+          unconditional present request (resource_of file) get all.if_match all.if_none_match all.if_modified_since
           all.if_unmodified_since;
       is_read = inl refl;
       is_current = refl;
@@ -55,15 +55,17 @@ module _ (request : LineMap) (file : File) (all : AsksForAll request) where
     selects_whole,
   )
 
-  module _ (answer : Answer) (h : IsAnswerOf get request file answer) where
+  module _ (answer : Answer) (h : IsAnswerOf present get request file answer) where
     same : IsSamePlan (Some answer.plan) (Some Full)
-    same = one_plan get request (resource_of file) (length file.content) (Some answer.plan) (Some Full) h.2.plan full
+    same =
+        one_plan present get request (resource_of file) (length file.content) usual_limits (Some answer.plan)
+        (Some Full) h.2.plan full
 
     by_plan : {X : Type 0} (of_plan : Plan → X) (several : List Part → X)
         → ((parts : _) → of_plan (Multiple parts) ≡ several parts.items) → of_plan answer.plan ≡ of_plan Full
     by_plan of_plan several same_parts =
-        same_by_plan get request (resource_of file) (length file.content) of_plan several same_parts answer.plan Full
-        h.2.plan full same
+        same_by_plan present get request (resource_of file) (length file.content) usual_limits of_plan several
+        same_parts answer.plan Full h.2.plan full same
 
     one_part : is_several answer.plan ≡ false
     one_part = by_plan is_several (λ _. true) (λ _. refl)
@@ -76,7 +78,7 @@ module _ (request : LineMap) (file : File) (all : AsksForAll request) where
     )
 
   pub file_whole : (before : List Header) (cache_control : Option FieldValue) (response : Response)
-      → AnswersFile before cache_control get request file response → HasAll file response
+      → AnswersFile present before cache_control get request file response → HasAll file response
   file_whole before cache_control response x =
       elim x.1 [
         | inl sent ↦ carried x.0 sent.1 before cache_control response x.2
@@ -84,23 +86,23 @@ module _ (request : LineMap) (file : File) (all : AsksForAll request) where
             absurd (whole.1 (λ several. let no = one_part whole.0 whole.2 in absurd (cc (no, several))))
       ]
 
-pub get_whole : (before : List Header) (negotiates : Bool) (cache_control : Option FieldValue) (look : List ℕ → Entry)
-    (request : Request (List ℕ)) (named : List ℕ) (file : File) (response : Response)
+pub get_whole : (present : ℕ) (before : List Header) (negotiates : Bool) (cache_control : Option FieldValue)
+    (look : List ℕ → Entry) (request : Request (List ℕ)) (named : List ℕ) (file : File) (response : Response)
     → (head_of request).method ≡ get → Names (uri_path (head_of request).uri) (Some named) → look named ≡ Readable file
     → AsksForAll (lines_at (head_of request).headers)
-    → AnswersBehind before negotiates cache_control (λ path entry. entry ≡ look path) request response
+    → AnswersBehind present before negotiates cache_control (λ path entry. entry ≡ look path) request response
     → HasAll file response
-get_whole before negotiates cache_control look request named file response method names found all x =
+get_whole present before negotiates cache_control look request named file response method names found all x =
     elim x [
       | inl h ↦
           let lines : LineMap = lines_at (head_of request).headers in
           let own = leads_own look negotiates lines (uri_path (head_of request).uri) named file h.1.0 names found
           all.accept_encoding h.1.1 in
           let answers =
-          subst (λ (e : Entry). AnswersEntry before cache_control request e response) own.1 h.1.2 in
+          subst (λ (e : Entry). AnswersEntry present before cache_control request e response) own.1 h.1.2 in
           let whole =
-          file_whole lines own.0 all before cache_control response
-          (subst (λ (m : List ℕ). AnswersFile before cache_control m lines own.0 response) method answers) in
+          file_whole present lines own.0 all before cache_control response
+          (subst (λ (m : List ℕ). AnswersFile present before cache_control m lines own.0 response) method answers) in
           (whole.0, whole.1 ∙ own.2)
       | inr h ↦ absurd (h.0 (inl method))
     ]

@@ -37,12 +37,12 @@ use Rattle.headers_serve.specs.declared.file.File.{File}
 
 -- ---- a read of a file
 
--- The answer of `headers_preconditions` to a request for the file: by its method, its conditions and its ranges, with
--- the boundary of the file.
-abbrev pub IsAnswerOf : List ℕ → LineMap → File → Answer → Type 0
-IsAnswerOf method request file answer =
+-- The answer of `headers_preconditions` to a request for the file: by the time, in seconds since 1970, its method, its
+-- conditions and its ranges, with the boundary of the file.
+abbrev pub IsAnswerOf : ℕ → List ℕ → LineMap → File → Answer → Type 0
+IsAnswerOf present method request file answer =
     (kind : FieldValue) × (kind.bytes ≡ multipart_type (boundary_of file))
-    × IsResponse method request (resource_of file) (content_of file) kind answer
+    × IsResponse present method request (resource_of file) (content_of file) kind answer
 
 -- the plan sends several parts
 abbrev pub is_several : Plan → Bool
@@ -71,11 +71,11 @@ IsSendable file plan = is_several plan ≡ true → IsDivisible file
 
 -- The answer to a read of the file. If its parts can't be sent, Range is ignored, as RFC 9110, section 14.2, lets a
 -- server do: the plan is that of a HEAD, which is that of a GET without Range.
-abbrev pub AnswersRead : List ℕ → LineMap → File → Answer → Type 0
-AnswersRead method request file answer =
-    (IsSendable file answer.plan × IsAnswerOf method request file answer)
-    ⊎ ((asked : Answer) × (¬ (IsSendable file asked.plan)) × IsAnswerOf method request file asked
-    × IsAnswerOf (codes "HEAD") request file answer)
+abbrev pub AnswersRead : ℕ → List ℕ → LineMap → File → Answer → Type 0
+AnswersRead present method request file answer =
+    (IsSendable file answer.plan × IsAnswerOf present method request file answer)
+    ⊎ ((asked : Answer) × (¬ (IsSendable file asked.plan)) × IsAnswerOf present method request file asked
+    × IsAnswerOf present (codes "HEAD") request file answer)
 
 -- a cache may use the answer again
 abbrev pub is_reusable : Plan → Bool
@@ -139,14 +139,14 @@ pub record Carries (before : List Header) (cache_control : Option FieldValue) (i
   pub body : response.body.items ≡ body_sent file answer.plan
 
 -- the response to a read of the file
-abbrev pub AnswersFile : List Header → Option FieldValue → List ℕ → LineMap → File → Response → Type 0
-AnswersFile before cache_control method request file response =
-    (answer : Answer) × AnswersRead method request file answer
+abbrev pub AnswersFile : ℕ → List Header → Option FieldValue → List ℕ → LineMap → File → Response → Type 0
+AnswersFile present before cache_control method request file response =
+    (answer : Answer) × AnswersRead present method request file answer
     × Carries before cache_control (is_known_by request) file answer response
 
 -- ---- a request
 
-module _ (before : List Header) (cache_control : Option FieldValue) (request : Request (List ℕ)) where
+module _ (present : ℕ) (before : List Header) (cache_control : Option FieldValue) (request : Request (List ℕ)) where
   abbrev pub method_of : List ℕ
   method_of = (head_of request).method
 
@@ -159,7 +159,7 @@ module _ (before : List Header) (cache_control : Option FieldValue) (request : R
   AnswersEntry Forbidden response = IsWith before 403 [] [] response
   AnswersEntry Folder response = AnswersFolder before (uri_path uri_of) (uri_query uri_of) response
   AnswersEntry (Readable file) response =
-      AnswersFile before cache_control method_of (lines_at (head_of request).headers) file response
+      AnswersFile present before cache_control method_of (lines_at (head_of request).headers) file response
 
 -- the methods that are answered
 abbrev pub allow_field : Header
@@ -180,13 +180,13 @@ LeadsTo negotiates has request path entry =
     ⊎ (Names path None × (entry ≡ Missing))
 
 -- the response to a request, where the store has this at its paths
-abbrev pub AnswersBehind : List Header → Bool → Option FieldValue → (List ℕ → Entry → Type 0) → Request (List ℕ)
+abbrev pub AnswersBehind : ℕ → List Header → Bool → Option FieldValue → (List ℕ → Entry → Type 0) → Request (List ℕ)
     → Response → Type 0
-AnswersBehind before negotiates cache_control has request response =
+AnswersBehind present before negotiates cache_control has request response =
     (IsGetOrHead (head_of request).method
     × ((entry : Entry)
     × LeadsTo negotiates has (lines_at (head_of request).headers) (uri_path (head_of request).uri) entry
-    × AnswersEntry before cache_control request entry response))
+    × AnswersEntry present before cache_control request entry response))
     ⊎ ((¬ (IsGetOrHead (head_of request).method)) × AnswersOther before (head_of request).method response)
 
 -- the request makes no condition, and asks for no range and no coding
@@ -203,6 +203,11 @@ abbrev pub date_fields : Option ℕ → List Header
 date_fields None = []
 date_fields (Some seconds) = (codes "date", fixdate seconds) ∷ []
 
+-- the time by which a request is answered: the start of 1970 where there is no clock
+abbrev pub clock : Option ℕ → ℕ
+clock None = 0
+clock (Some seconds) = seconds
+
 -- The response to a request at a moment, if there is a clock, where the store has this at its paths: after the date,
 -- and what a policy for requests from other origins says, if there is one. The answer to a preflight (OPTIONS) is 204,
 -- which lets it pass.
@@ -210,7 +215,7 @@ abbrev pub IsAnswerAt : Option ℕ → Option Policy → Bool → Option FieldVa
     → Request (List ℕ) → Response → Type 0
 IsAnswerAt now cors negotiates cache_control has request response =
     (shared : List Header) × IsShared cors request shared
-    × AnswersBehind (date_fields now ++ shared) negotiates cache_control has request response
+    × AnswersBehind (clock now) (date_fields now ++ shared) negotiates cache_control has request response
 
 -- the response to a request at some moment
 abbrev pub IsAnswer : Option Policy → Bool → Option FieldValue → (List ℕ → Entry → Type 0) → Request (List ℕ) → Response

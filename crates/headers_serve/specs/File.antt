@@ -4,6 +4,7 @@ use Rattle.http_header.specs.FieldValue.{FieldValue, plain_value}
 use Rattle.sha2.specs.Sha256.{sha256}
 use Rattle.hex.specs.Hex.{encode_lower}
 use Rattle.headers.specs.EntityTag.{tag_text}
+use Rattle.headers_preconditions.specs.Limits.{usual_limits}
 use Rattle.headers_preconditions.specs.declared.content.Content.{Content}
 use Rattle.headers_preconditions.specs.declared.resource.Resource.{Resource}
 use Rattle.headers_preconditions.specs.declared.resource.Resource.TheVariants.{Current}
@@ -37,6 +38,10 @@ validators_of file = record {
 abbrev pub resource_of : File → Resource
 resource_of file = Current (validators_of file)
 
--- its length and its media type
+-- its length, its media type, and which ranges of it are sent
 abbrev pub content_of : File → Content
-content_of file = record { len = length file.content; media_type = Some file.media_type }
+content_of file = record {
+  len = Some (length file.content);
+  media_type = Some file.media_type;
+  ranges = Some usual_limits;
+}

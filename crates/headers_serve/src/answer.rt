@@ -11,7 +11,9 @@ ghost use Rattle.headers_serve.specs.Parts.{Fits, Occurs};
 
 use crate::file::File;
 use headers::{ETag, HeaderMap, Refused};
-use headers_preconditions::{Boundary, Content, Plan, Resource, Response, Validators, respond};
+use headers_preconditions::{
+    Boundary, Content, Plan, RangeLimits, Resource, Response, Validators, respond,
+};
 use http::Method;
 use memchr::memmem;
 use std::alloc::{AllocError, Global};
@@ -89,8 +91,9 @@ fn content_of(file: &File) -> Result<Content, AllocError>
 {
     let media_type = file.media_type.clone()?;
     Ok(Content {
-        len: file.content.len() as u64,
+        len: Some(file.content.len() as u64),
         media_type: Some(media_type),
+        ranges: Some(RangeLimits::usual()),
     })
 }
 
@@ -111,17 +114,20 @@ fn answer_by(
     alloc: Global,
     method: &Method,
     request: &HeaderMap,
+    present: u64,
     file: &File,
     text: &str,
 ) -> Result<Response, AllocError>
     requires read { IsGetOrHead method.now }
     requires text { text.now ≡ boundary_of file.now }
-    ensures { IfOk result (IsAnswerOf method.now (lines_at request.now) file.now) }
+    ensures { IfOk result (IsAnswerOf present method.now (lines_at request.now) file.now) }
 {
     let resource = resource_of(alloc, file, text)?;
     let content = content_of(file)?;
     let boundary = boundary_with(alloc, text)?;
-    match respond(alloc, method, request, &resource, &content, &boundary)? {
+    match respond(
+        alloc, method, request, &resource, present, &content, &boundary,
+    )? {
         Some(answer) => Ok(answer),
         None => unreachable!(),
     }
@@ -173,19 +179,20 @@ pub(crate) fn answer_read(
     alloc: Global,
     method: &Method,
     request: &HeaderMap,
+    present: u64,
     file: &File,
     text: &str,
 ) -> Result<Response, AllocError>
     requires read { IsGetOrHead method.now }
     requires text { text.now ≡ boundary_of file.now }
-    ensures answers { IfOk result (AnswersRead method.now (lines_at request.now) file.now) }
+    ensures answers { IfOk result (AnswersRead present method.now (lines_at request.now) file.now) }
     ensures fits { IfOk result (λ answer. Fits (length file.now.content) answer.plan) }
 {
-    let asked = answer_by(alloc, method, request, file, text)?;
+    let asked = answer_by(alloc, method, request, present, file, text)?;
     if is_sendable(&asked.plan, file, text) {
         return Ok(asked);
     }
     let head = Method::HEAD;
-    let whole = answer_by(alloc, &head, request, file, text)?;
+    let whole = answer_by(alloc, &head, request, present, file, text)?;
     Ok(whole)
 }

@@ -25,46 +25,31 @@ fn put<H: Header>(alloc: Global, response: &mut Response, header: &H) -> Result<
     Ok(())
 }
 
-// The date of a moment, if there is a clock and its year has four digits.
-fn date_of(now: Option<u64>) -> Option<Date> {
+/// The date of a moment, if there is a clock and its year has four digits.
+pub(crate) fn date_of(now: Option<u64>) -> Option<Date> {
     match now {
         Some(seconds) if seconds < 253_402_300_800 => Some(Date::from_unix_secs(seconds)),
         _ => None,
     }
 }
 
-// Adds a date, if there is one.
-fn put_some_date(
+/// Adds a date, if there is one.
+pub(crate) fn put_date(
     alloc: Global,
     response: &mut Response,
-    date: Option<Date>,
+    date: &Option<Date>,
 ) -> Result<(), AllocError>
     requires { fields_of response.old ≡ [] }
-    ensures headers { OnOk result (fields_of response.new ≡ date_fields date) }
+    ensures headers { OnOk result (fields_of response.new ≡ date_fields date.now) }
     ensures body { response.new.body ≡ response.old.body }
 {
     match date {
         Some(date) => {
-            put(alloc, response, &date)?;
+            put(alloc, response, date)?;
             Ok(())
         }
         None => Ok(()),
     }
-}
-
-/// Adds the date of a moment, if there is a clock.
-pub(crate) fn put_date(
-    alloc: Global,
-    response: &mut Response,
-    now: Option<u64>,
-) -> Result<(), AllocError>
-    requires { fields_of response.old ≡ [] }
-    ensures headers { OnOk result ((date : Option ℕ) × (fields_of response.new ≡ date_fields date)) }
-    ensures body { response.new.body ≡ response.old.body }
-{
-    let date = date_of(now);
-    put_some_date(alloc, response, date)?;
-    Ok(())
 }
 
 /// Adds the lines that a map has under a name.

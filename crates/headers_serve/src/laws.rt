@@ -34,12 +34,12 @@ pub fn request_has_one_response()
 /// A GET of a file that makes no condition and asks for no range and no coding is answered by 200 with
 /// its content.
 pub fn get_gets_the_content()
-    ensures { (negotiates : Bool) (cache_control : Option FieldValue) (look : List ℕ → Entry) (before : List Header)
-        (request : Request (List ℕ)) (named : List ℕ) (file : File) (response : Response)
+    ensures { (present : ℕ) (negotiates : Bool) (cache_control : Option FieldValue) (look : List ℕ → Entry)
+        (before : List Header) (request : Request (List ℕ)) (named : List ℕ) (file : File) (response : Response)
         → (head_of request).method ≡ codes "GET"
         → Names (uri_path (head_of request).uri) (Some named) → look named ≡ Readable file
         → AsksForAll (lines_at (head_of request).headers)
-        → AnswersBehind before negotiates cache_control (λ path entry. entry ≡ look path) request response
+        → AnswersBehind present before negotiates cache_control (λ path entry. entry ≡ look path) request response
         → (response.status ≡ 200) × (response.body.items ≡ file.content) }
 {}
 
@@ -53,7 +53,7 @@ pub fn redirects_stay_on_the_host()
 /// If an answer sends several parts, none holds the boundary between them (RFC 2046, section 5.1.1),
 /// whichever part of the file it is.
 pub fn no_part_holds_the_boundary()
-    ensures { (method : List ℕ) (request : LineMap) (file : File) (answer : Answer)
-        → AnswersRead method request file answer → is_several answer.plan ≡ true
+    ensures { (present : ℕ) (method : List ℕ) (request : LineMap) (file : File) (answer : Answer)
+        → AnswersRead present method request file answer → is_several answer.plan ≡ true
         → (part : Part) → ¬ (Occurs (boundary_of file) (part_bytes file.content part)) }
 {}

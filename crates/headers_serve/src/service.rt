@@ -8,14 +8,14 @@ ghost use Rattle.headers_preconditions.specs.Fields.{is_known_by};
 ghost use Rattle.headers_preconditions.specs.Preconditions.{IsGetOrHead};
 ghost use Rattle.http_server.specs.Response.{fields_of};
 ghost use Rattle.headers_serve.specs.Answer.{AnswersBehind, AnswersEntry, AnswersFile, AnswersOther, Carries};
-ghost use Rattle.headers_serve.specs.Answer.{LeadsTo, body_sent};
+ghost use Rattle.headers_serve.specs.Answer.{LeadsTo, body_sent, clock};
 ghost use Rattle.headers_serve.specs.File.{boundary_of};
 ghost use Rattle.headers_serve.specs.Parts.{Fits};
 
 use crate::answer::{answer_read, boundary_of};
 use crate::cache::{put_cache_control, put_coding};
 use crate::cors::put_shared;
-use crate::fields::{put_date, put_fields};
+use crate::fields::{date_of, put_date, put_fields};
 use crate::file::{Entry, File};
 use crate::multipart::{push_parts, slice_of};
 use crate::path::store_path;
@@ -23,7 +23,7 @@ use crate::redirect::answer_folder;
 use crate::representation::served_at;
 use crate::store::Store;
 use bytes::Bytes;
-use headers::{HeaderMap, HeaderValue};
+use headers::{Date, HeaderMap, HeaderValue};
 use headers_cors_policy::CorsPolicy;
 use headers_preconditions::Plan;
 use http::{Method, Request, StatusCode};
@@ -128,17 +128,18 @@ fn answer_file(
     cache_control: &Option<HeaderValue>,
     method: &Method,
     request: &HeaderMap,
+    present: u64,
     file: &File,
     response: &mut Response,
 ) -> Result<(), AllocError>
     requires read { IsGetOrHead method.now }
     requires blank { response.old.body.items ≡ [] }
-    ensures { OnOk result (AnswersFile (fields_of response.old) cache_control.now method.now
+    ensures { OnOk result (AnswersFile present (fields_of response.old) cache_control.now method.now
         (lines_at request.now) file.now response.new) }
 {
     let text = boundary_of(alloc, file)?;
     let boundary = text.as_str();
-    let answer = answer_read(alloc, method, request, file, boundary)?;
+    let answer = answer_read(alloc, method, request, present, file, boundary)?;
     carry(
         alloc,
         cache_control,
@@ -156,12 +157,13 @@ fn answer_entry(
     alloc: Global,
     cache_control: &Option<HeaderValue>,
     request: &Request<Bytes>,
+    present: u64,
     entry: &Entry,
     response: &mut Response,
 ) -> Result<(), AllocError>
     requires read { IsGetOrHead (head_of request.now).method }
     requires blank { response.old.body.items ≡ [] }
-    ensures { OnOk result (AnswersEntry (fields_of response.old) cache_control.now request.now
+    ensures { OnOk result (AnswersEntry present (fields_of response.old) cache_control.now request.now
         entry.now response.new) }
 {
     match entry {
@@ -184,6 +186,7 @@ fn answer_entry(
                 cache_control,
                 method,
                 request.headers(),
+                present,
                 file,
                 response,
             )?;
@@ -239,6 +242,16 @@ fn answer_other(method: &Method, response: &mut Response) -> Result<(), AllocErr
     Ok(())
 }
 
+// The time by which a request is answered: the start of 1970 where there is no clock.
+fn clock(date: &Option<Date>) -> u64
+    ensures { result ≡ clock date.now }
+{
+    match date {
+        Some(date) => date.unix_secs(),
+        None => 0,
+    }
+}
+
 // Answers a request from a store.
 fn answer<S: Store>(
     alloc: Global,
@@ -246,10 +259,11 @@ fn answer<S: Store>(
     negotiates: bool,
     cache_control: &Option<HeaderValue>,
     request: &Request<Bytes>,
+    present: u64,
     response: &mut Response,
 ) -> Result<(), AllocError>
     requires { response.old.body.items ≡ [] }
-    ensures { OnOk result (AnswersBehind (fields_of response.old) negotiates cache_control.now
+    ensures { OnOk result (AnswersBehind present (fields_of response.old) negotiates cache_control.now
         (S.has store.now) request.now response.new) }
 {
     if !is_read(request.method()) {
@@ -263,7 +277,7 @@ fn answer<S: Store>(
         request.headers(),
         path_of(request),
     )?;
-    answer_entry(alloc, cache_control, request, &entry, response)?;
+    answer_entry(alloc, cache_control, request, present, &entry, response)?;
     Ok(())
 }
 
@@ -280,7 +294,8 @@ impl<S: Store> Service for FileService<S> {
         request: &Request<Bytes>,
         response: &mut Response,
     ) -> Result<(), AllocError> {
-        put_date(self.alloc, response, self.store.now())?;
+        let date = date_of(self.store.now());
+        put_date(self.alloc, response, &date)?;
         put_shared(self.alloc, &self.cors, request, response)?;
         answer(
             self.alloc,
@@ -288,6 +303,7 @@ impl<S: Store> Service for FileService<S> {
             self.negotiates,
             &self.cache_control,
             request,
+            clock(&date),
             response,
         )?;
         Ok(())

@@ -17,6 +17,6 @@ returns c =
       holds = c.in_ok-request.ensures;
       selection = c.in_ok-selection.selection;
       selects =
-          rw method.1 at c.in_ok-selection.ensures;
+          rw (method.1, c.usual-limits.ensures) at c.in_ok-selection.ensures.selects;
       shown = c.in_ok-selected.ensures;
     }

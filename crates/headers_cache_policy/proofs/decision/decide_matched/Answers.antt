@@ -10,7 +10,7 @@ returns c =
       lifetime = c.lifetime_by-stated.ensures;
       answers =
           rw (← c.unwrap_or.ensures, ← c.current_age.ensures)
-          (Answers-at c.args.kind c.in_ok-asks.asks (directed (lines_at c.args.request.now)) c.in_ok-tells.tells
-          (directed (lines_at c.args.response.now)) _ c.answer.result c.in_ok-asks.ensures c.in_ok-tells.ensures
-          c.answer.ensures);
+          (Answers-at c.args.kind c.read_directives-asks.result (directed (lines_at c.args.request.now))
+          c.read_directives-tells.result (directed (lines_at c.args.response.now)) _ c.answer.result
+          c.read_directives-asks.ensures c.read_directives-tells.ensures c.answer.ensures);
     }

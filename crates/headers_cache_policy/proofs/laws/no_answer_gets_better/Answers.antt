@@ -3,7 +3,8 @@ use Rattle.headers_cache_policy.proofs.laws.no_answer_gets_better.Goals as goal
 
 pub returns-clause-stored : goal.returns-clause-stored
 returns-clause-stored c =
-    λ kind request response times later a b. from_store_before kind request response times later a b
+    λ kind stored request response times later a b. from_store_before kind stored request response times later a b
 
 pub returns-clause-fresh : goal.returns-clause-fresh
-returns-clause-fresh c = λ kind request response times later a. fresh_before kind request response times later a
+returns-clause-fresh c =
+    λ kind stored request response times later a. fresh_before kind stored request response times later a

@@ -1,5 +1,12 @@
 use Rattle.std.proofs.Common.{inr}
+use Rattle.headers.specs.LineMap.{lines_at}
+use Rattle.headers_serve.proofs.AnswerLemmas.{Fits-from_answer}
 use Rattle.headers_serve.proofs.answer.answer_read.Goals as goal
+
+pub returns-then-is_sendable-clause-fits : goal.returns-then-is_sendable-clause-fits
+returns-then-is_sendable-clause-fits c =
+    Fits-from_answer c.args.present c.args.method.now (lines_at c.args.request.now) c.args.file.now
+    c.in_ok-asked.asked c.in_ok-asked.ensures
 
 pub returns-clause-answers : goal.returns-clause-answers
 returns-clause-answers c =

@@ -25,10 +25,10 @@ returns-in_ok-answer_file-in-Readable c =
     let cache_control = c.args.cache_control.now in
     rw c.in-Readable.is
     (subst
-    (λ (method : List ℕ). AnswersFile before cache_control method (lines_at (head_of c.args.request.now).headers)
-    c.in-Readable.file c.answer_file.new.response)
+    (λ (method : List ℕ). AnswersFile c.args.present before cache_control method
+    (lines_at (head_of c.args.request.now).headers) c.in-Readable.file c.answer_file.new.response)
     c.method-method.ensures
     (subst
-    (λ (headers : Entries FieldValue). AnswersFile before cache_control c.method-method.result.now (lines_at headers)
-    c.in-Readable.file c.answer_file.new.response)
+    (λ (headers : Entries FieldValue). AnswersFile c.args.present before cache_control c.method-method.result.now
+    (lines_at headers) c.in-Readable.file c.answer_file.new.response)
     c.headers.ensures c.in_ok-answer_file-in-Readable.ensures))

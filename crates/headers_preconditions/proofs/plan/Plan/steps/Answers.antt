@@ -1,17 +1,25 @@
-use Rattle.std.proofs.Common.{subst, sym, List}
-use Rattle.headers.specs.LineMap.{run}
+use Rattle.std.proofs.Common.{List, ◌∙◌, ap, rules, subst, sym}
+use Rattle.std.specs.Prelude.{codes}
+use Rattle.headers.specs.LineMap.{LineMap, run}
 use Rattle.headers.specs.declared.Step.{Step}
+use Rattle.headers.specs.declared.Step.TheVariants.{Remove}
 use Rattle.headers_preconditions.specs.Fields.{SendsFields}
-use Rattle.headers_preconditions.proofs.StepLemmas.{sends-from_six}
+use Rattle.headers_preconditions.proofs.StepLemmas.{run-push, sends_kept, sends_removed}
 use Rattle.headers_preconditions.proofs.plan.Plan.steps.Goals as goal
+
+pub returns-then-keeps_encoding : goal.returns-then-keeps_encoding
+returns-then-keeps_encoding c =
+    λ before.
+    sends_kept c.args.self.now c.args.is_known c.args.resource.now c.args.content.now c.args.boundary.now before
+    (run before c.in_ok-own.own.items) (c.in_ok-own.ensures before) (search rules)
 
 pub returns : goal.returns
 returns c =
     λ before.
-    subst (λ (steps : List Step). SendsFields c.args.self.now c.args.is_known c.args.resource.now c.args.content.now
-    c.args.boundary.now before (run before steps)) (sym c.in_ok-steps.ensures.items)
-    (sends-from_six c.args.self.now c.args.is_known c.args.resource.now c.args.content.now c.args.boundary.now
-    c.in_ok-etag.etag c.in_ok-last_modified.last_modified c.in_ok-accept_ranges.accept_ranges
-    c.in_ok-content_range.content_range c.in_ok-content_length.content_length c.in_ok-content_type.content_type
-    c.in_ok-etag.ensures c.in_ok-last_modified.ensures c.in_ok-accept_ranges.ensures
-    c.in_ok-content_range.ensures c.in_ok-content_length.ensures c.in_ok-content_type.ensures before)
+    subst
+    (λ (after : LineMap). SendsFields c.args.self.now c.args.is_known c.args.resource.now c.args.content.now
+    c.args.boundary.now before after)
+    (sym (ap (λ (steps : List Step). run before steps) c.in_ok-steps.ensures
+    ∙ run-push before c.in_ok-own.own.items (Remove (codes "content-encoding"))))
+    (sends_removed c.args.self.now c.args.is_known c.args.resource.now c.args.content.now c.args.boundary.now before
+    (run before c.in_ok-own.own.items) (c.in_ok-own.ensures before) (search rules))

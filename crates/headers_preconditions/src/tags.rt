@@ -1,0 +1,168 @@
+//! Entity tags that a request names (RFC 9110, sections 13.1.1 and 13.1.2).
+ghost use Rattle.std.specs.Prelude.{◌≡◌, option_copied, option_map};
+ghost use Rattle.headers.specs.EntityTag.{is_tag};
+ghost use Rattle.headers.specs.Lines.{lines_of, only_line};
+ghost use Rattle.headers.specs.Text.{trim};
+ghost use Rattle.headers_preconditions.specs.Tags.{are_equal, are_tags, is_malformed, is_star, is_tag_of, lists};
+ghost use Rattle.headers_preconditions.specs.Tags.{may_name, names};
+ghost use Rattle.headers_preconditions.specs.declared.tags.Comparison.TheVariants.{Strong, Weak};
+
+use crate::resource::Resource;
+use headers::{ETag, HeaderValue, trim};
+use headers_conditional::tag_of;
+use headers_fields::{FieldMembers, Malformed};
+use headers_syntax::EntityTagRef;
+use http_header::GetAll;
+
+/// How two entity tags are compared (RFC 9110, section 8.8.3.2).
+#[derive(Clone, Copy)]
+pub(crate) enum Comparison {
+    /// Equal opaque parts of two tags neither of which is weak.
+    Strong,
+    /// Equal opaque parts.
+    Weak,
+}
+
+/// The only value of a field. `None` if it has none or several.
+pub(crate) fn only_value<'a>(field: &GetAll<'a, HeaderValue>) -> Option<&'a HeaderValue>
+    ensures { option_map (λ value. value.now.bytes) result ≡ only_line (lines_of field.now) }
+{
+    let mut values = field.iter();
+    let only = values.next()?;
+    match values.next() {
+        None => Some(only),
+        Some(_) => None,
+    }
+}
+
+/// The only value of a field, without the blanks at its ends.
+pub(crate) fn only_text<'a>(field: &GetAll<'a, HeaderValue>) -> Option<&'a [u8]>
+    ensures { option_map (λ text. text.now) result ≡ option_map trim (only_line (lines_of field.now)) }
+{
+    match only_value(field) {
+        Some(value) => Some(trim(value.as_bytes())),
+        None => None,
+    }
+}
+
+pub(crate) fn is_tag(text: &[u8]) -> bool
+    ensures { result ≡ is_tag text.now }
+{
+    EntityTagRef::parse(text).is_some()
+}
+
+fn is_strongly_equal(text: &[u8], etag: &ETag) -> bool
+    ensures { result ≡ are_equal Strong text.now etag.now.bytes }
+{
+    tag_of(etag).strong_eq_bytes(text)
+}
+
+fn is_weakly_equal(text: &[u8], etag: &ETag) -> bool
+    ensures { result ≡ are_equal Weak text.now etag.now.bytes }
+{
+    tag_of(etag).weak_eq_bytes(text)
+}
+
+// Whether a text is an entity tag that is equal to this one.
+fn is_equal(comparison: Comparison, text: &[u8], etag: &ETag) -> bool
+    ensures { result ≡ are_equal comparison text.now etag.now.bytes }
+{
+    match comparison {
+        Comparison::Strong => is_strongly_equal(text, etag),
+        Comparison::Weak => is_weakly_equal(text, etag),
+    }
+}
+
+/// Whether a text is an entity tag that is equal to that of a representation, if it has one.
+pub(crate) fn is_tag_of(comparison: Comparison, etag: Option<&ETag>, text: &[u8]) -> bool
+    ensures { result ≡ is_tag_of comparison (option_copied etag.entry) text.now }
+{
+    match etag {
+        Some(etag) => is_equal(comparison, text, etag),
+        None => false,
+    }
+}
+
+// Whether the field is `*` alone.
+fn is_star(field: &GetAll<'_, HeaderValue>) -> bool
+    ensures { result ≡ is_star (lines_of field.now) }
+{
+    match only_value(field) {
+        Some(value) => value.as_bytes() == b"*".as_slice(),
+        None => false,
+    }
+}
+
+// Whether each member is an entity tag.
+fn are_tags(field: &GetAll<'_, HeaderValue>) -> bool
+    ensures { result ≡ are_tags (lines_of field.now) }
+{
+    let mut members = FieldMembers::of_tags(field);
+    while let Some(member) = members.next() {
+        match member {
+            Ok(text) => {
+                if !is_tag(text) {
+                    return false;
+                }
+            }
+            Err(Malformed) => return false,
+        }
+    }
+    true
+}
+
+// Whether some member is equal to the tag of a representation.
+fn lists(comparison: Comparison, etag: Option<&ETag>, field: &GetAll<'_, HeaderValue>) -> bool
+    ensures { result ≡ lists comparison (option_copied etag.entry) (lines_of field.now) }
+{
+    let mut members = FieldMembers::of_tags(field);
+    while let Some(member) = members.next() {
+        if let Ok(text) = member {
+            if is_tag_of(comparison, etag, text) {
+                return true;
+            }
+        }
+    }
+    false
+}
+
+// Whether the field is neither `*` nor a list of entity tags.
+fn is_malformed(field: &GetAll<'_, HeaderValue>) -> bool
+    ensures { result ≡ is_malformed (lines_of field.now) }
+{
+    !is_star(field) && !are_tags(field)
+}
+
+/// Whether a field names the current representation: it is `*`, or a list that has its tag.
+pub(crate) fn names(
+    comparison: Comparison,
+    field: &GetAll<'_, HeaderValue>,
+    resource: &Resource,
+) -> bool
+    ensures { result ≡ names comparison (lines_of field.now) resource.now }
+{
+    match resource {
+        Resource::Missing => false,
+        Resource::Current(validators) => {
+            is_star(field)
+                || (are_tags(field) && lists(comparison, validators.etag.as_ref(), field))
+        }
+    }
+}
+
+/// Whether a field names the current representation, or nobody can say, since it is malformed.
+pub(crate) fn may_name(
+    comparison: Comparison,
+    field: &GetAll<'_, HeaderValue>,
+    resource: &Resource,
+) -> bool
+    ensures { result ≡ may_name comparison (lines_of field.now) resource.now }
+{
+    match resource {
+        Resource::Missing => false,
+        Resource::Current(validators) => {
+            is_malformed(field)
+                || (is_star(field) || lists(comparison, validators.etag.as_ref(), field))
+        }
+    }
+}
