@@ -72,8 +72,5 @@ where
     if !has_scheme(value.as_bytes(), C::scheme_name()) {
         return Err(Refused::Invalid(Error::invalid()));
     }
-    match C::decode(alloc, value)? {
-        Some(credentials) => Ok(credentials),
-        None => Err(Refused::Invalid(Error::invalid())),
-    }
+    Ok(C::decode(alloc, value)?.ok_or(Error::invalid())?)
 }

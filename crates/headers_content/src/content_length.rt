@@ -49,10 +49,7 @@ impl Header for ContentLength {
                 }
             }
         }
-        match length {
-            Some(bytes) => Ok(ContentLength(bytes)),
-            None => Err(Refused::Invalid(Error::invalid())),
-        }
+        Ok(ContentLength(length.ok_or(Error::invalid())?))
     }
 
     fn encode(&self, alloc: Global, values: &mut Vec<HeaderValue>) -> Result<(), AllocError> {

@@ -167,13 +167,9 @@ impl Header for ContentType {
     where
         I::Item: AsHeaderValue,
     {
-        let Some(line) = first(values) else {
-            return Err(Refused::Invalid(Error::invalid()));
-        };
-        match read_text(line.as_header_value()) {
-            Some(text) => ContentType::from_str(alloc, text),
-            None => Err(Refused::Invalid(Error::invalid())),
-        }
+        let line = first(values).ok_or(Error::invalid())?;
+        let text = read_text(line.as_header_value()).ok_or(Error::invalid())?;
+        ContentType::from_str(alloc, text)
     }
 
     fn encode(&self, alloc: Global, values: &mut Vec<HeaderValue>) -> Result<(), AllocError> {

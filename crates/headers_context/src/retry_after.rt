@@ -68,12 +68,9 @@ impl RetryAfter {
             Some(delay) => Some(RetryAfter {
                 after: After::Delay(delay),
             }),
-            None => match Date1::from_val(value) {
-                Some(date) => Some(RetryAfter {
-                    after: After::Date(date),
-                }),
-                None => None,
-            },
+            None => Some(RetryAfter {
+                after: After::Date(Date1::from_val(value)?),
+            }),
         }
     }
 

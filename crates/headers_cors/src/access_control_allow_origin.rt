@@ -137,10 +137,8 @@ impl Header for AccessControlAllowOrigin {
     where
         I::Item: AsHeaderValue,
     {
-        match just_one(values) {
-            Some(line) => AccessControlAllowOrigin::from_val(line.as_header_value()),
-            None => Err(Refused::Invalid(Error::invalid())),
-        }
+        let line = just_one(values).ok_or(Error::invalid())?;
+        AccessControlAllowOrigin::from_val(line.as_header_value())
     }
 
     fn encode(&self, alloc: Global, values: &mut Vec<HeaderValue>) -> Result<(), AllocError> {

@@ -104,10 +104,8 @@ impl Header for AccessControlRequestMethod {
     where
         I::Item: AsHeaderValue,
     {
-        match first(values) {
-            Some(line) => AccessControlRequestMethod::from_val(alloc, line.as_header_value()),
-            None => Err(Refused::Invalid(Error::invalid())),
-        }
+        let line = first(values).ok_or(Error::invalid())?;
+        AccessControlRequestMethod::from_val(alloc, line.as_header_value())
     }
 
     fn encode(&self, alloc: Global, values: &mut Vec<HeaderValue>) -> Result<(), AllocError> {

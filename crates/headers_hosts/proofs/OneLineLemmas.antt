@@ -26,10 +26,3 @@ module _ {V E : Type 0} (pick : List Line → Option Line) (Reads : Line → V �
   decodes_line shown steps s t item bytes r of same h =
       OfLines-weaker shown steps s t _ _ of
       (λ lines picked. by_line lines _ r picked (subst (λ (l : Line). LineDecodesTo Reads l r) same h))
-
-  -- without a picked line nothing is read
-  pub decodes_none : {S A : Type 0} (shown : A → FieldValue) (steps : S → Option A → S → Type 0) (s t : S) (e : E)
-      → OfLines shown steps s t (λ lines. pick lines ≡ None)
-      → OfLines shown steps s t (λ lines. DecodesTo (ReadsLine pick Reads) lines (Err (Invalid e)))
-  decodes_none shown steps s t e of =
-      OfLines-weaker shown steps s t _ _ of (λ lines none v k. let some = k.1 in cc (some, none))

@@ -1,8 +1,9 @@
 -- Origins out of a URI, and lines that hold them.
-use Rattle.std.proofs.Common.{◌≡◌, ℕ, Bool, true, false, not, ◌||◌, List, ◌++◌, Option, Some}
+use Rattle.std.proofs.Common.{◌≡◌, ℕ, true, false, not, List, ◌++◌, Option, Some}
 use Rattle.std.proofs.Common.{None, is_some, IsTrue, refl, sym, ◌∙◌, ap, subst, arith}
 use Rattle.std.specs.Prelude.{codes, bytes_eq, option_copied, slice_index, Result, Ok, Err}
 use denote.Ref.{Bor}
+use Rattle.std.proofs.lemmas.Bool.{or_right}
 use Rattle.std.proofs.lemmas.Bool.Decides.{nat_tests}
 use Rattle.std.proofs.lemmas.Slice.Eq.{bytes_eq-Decides}
 use Rattle.std.proofs.lemmas.List.Elements.{All-weaker, All-append}
@@ -43,10 +44,6 @@ IsFieldValue-tuple s a h k =
     All-append P (s ++ codes "://") a (All-append P s (codes "://") (IsFieldValue-scheme s h)
     (AllPass-from_list_all is_value_byte (codes "://") refl)) (IsFieldValue-authority a k)
 
-or_true : (b c : Bool) → c ≡ true → (b || c) ≡ true
-or_true true c e = refl
-or_true false c e = e
-
 -- a URI that is an origin shows the path `/` and no query
 pub origin_path : (uri : Uri) (origin : Origin) → IsUriOrigin uri origin → uri_path uri ≡ codes "/"
 origin_path uri origin h = by origin.kind h
@@ -54,7 +51,7 @@ origin_path uri origin h = by origin.kind h
     by : (kind : OriginOrNull) → IsUriKind uri kind → uri_path uri ≡ codes "/"
     by Null k = absurd k
     by (Tuple s a) k =
-        let shown : has_path uri ≡ true = or_true _ (is_some (uri_scheme uri))
+        let shown : has_path uri ≡ true = or_right _ (is_some (uri_scheme uri))
         (ap (λ (o : Option (List ℕ)). is_some o) k.0) in
         rw shown (k.2)
 

@@ -122,10 +122,8 @@ impl Header for Host {
     where
         I::Item: AsHeaderValue,
     {
-        match first(values) {
-            Some(line) => Host::from_val(line.as_header_value()),
-            None => Err(Refused::Invalid(Error::invalid())),
-        }
+        let line = first(values).ok_or(Error::invalid())?;
+        Host::from_val(line.as_header_value())
     }
 
     fn encode(&self, alloc: Global, values: &mut Vec<HeaderValue>) -> Result<(), AllocError> {

@@ -266,10 +266,8 @@ impl Header for Origin {
     where
         I::Item: AsHeaderValue,
     {
-        match just_one(values) {
-            Some(line) => origin_of_line(line.as_header_value()),
-            None => Err(Refused::Invalid(Error::invalid())),
-        }
+        let line = just_one(values).ok_or(Error::invalid())?;
+        origin_of_line(line.as_header_value())
     }
 
     fn encode(&self, alloc: Global, values: &mut Vec<HeaderValue>) -> Result<(), AllocError> {

@@ -8,6 +8,7 @@ use Rattle.std.proofs.lemmas.List.{map-append, drop_more, drop_all, take-append-
 use Rattle.std.proofs.lemmas.Bool.Decides.{nat_tests}
 use Rattle.headers_syntax.specs.Text.{quote, is_blank, is_text, trim}
 use Rattle.headers_syntax.specs.Text.{is_quote}
+use Rattle.headers_syntax.proofs.TextLemmas.{list_all-both}
 use Rattle.headers_items.specs.Places.{is_even, quotes_before, is_counting_place, places, pieces, counting_from, items}
 use Rattle.http_header.specs.Token.{is_visible_or_blank}
 use Rattle.std.proofs.lemmas.List.Sums.{sum_by-cons, sum_by-append}
@@ -213,11 +214,6 @@ pub items_cuts : (sep : ℕ) (s : List ℕ) → sep ≢ quote → is_text s ≡ 
 items_cuts sep s ne t =
     let z : is_even (quotes_before s 0) ≡ true = zero_even s in
     rw t (ap (map trim) (pieces_cuts sep s 0 (length s) ne (omega arith) ∙ ap (λ v. cuts sep v s) z))
-
-list_all-both : (f : ℕ → Bool) (xs ys : List ℕ) → list_all f xs ≡ true → list_all f ys ≡ true
-    → list_all f (xs ++ ys) ≡ true
-list_all-both f [] ys a b = b
-list_all-both f (x ∷ xs) ys a b = let parts = and_parts _ _ a in and_from _ _ parts.0 (list_all-both f xs ys parts.1 b)
 
 -- two texts, joined after an even number of quotes
 pub items_joined : (sep : ℕ) (a b : List ℕ) → IsSeparator sep → is_text a ≡ true → is_text b ≡ true

@@ -59,10 +59,7 @@ impl HeaderMapExt for HeaderMap {
     }
 
     fn typed_get<H: Header>(&self, alloc: Global) -> Option<H> {
-        match self.typed_try_get(alloc) {
-            Ok(value) => value,
-            Err(_) => None,
-        }
+        self.typed_try_get(alloc).ok()?
     }
 
     fn typed_try_get<H: Header>(&self, alloc: Global) -> Result<Option<H>, Refused<Error>> {

@@ -5,11 +5,10 @@ use Rattle.std.specs.Prelude.{bytes_eq, codes, option_map, IfSome, if◌then◌e
 use Rattle.std.specs.Char.{to_ascii_lowercase}
 use Rattle.std.specs.List.{All, list_all, flat_map, cons_option}
 use Rattle.std.proofs.lemmas.Bool.{and_parts, cases_Bool}
-use Rattle.std.proofs.lemmas.Str.Ascii.{lowercase-lowercase}
 use Rattle.std.proofs.lemmas.List.{length-map}
 use Rattle.std.proofs.lemmas.List.Elements.{All-nil, All-cons, All-head, All-tail, All-map, All-weaker}
 use Rattle.http_header.specs.Token.{IsToken, is_token_byte, lowercase}
-use Rattle.http_header.proofs.TokenLemmas.{is_token_byte-to_ascii_lowercase}
+use Rattle.http_header.proofs.TokenLemmas.{is_token_byte-to_ascii_lowercase, lowercase-lowercase_lem}
 use Rattle.headers_syntax.specs.Text.{quote, is_blank}
 use Rattle.headers_mime.specs.MediaType.{semicolon, slash, Parameter, MediaType, IsParameter, IsQuotedString}
 use Rattle.headers_mime.specs.MediaType.{quoted_part_text, parameter_text, Segment, IsSegment, segments_text}
@@ -17,7 +16,7 @@ use Rattle.headers_mime.specs.MediaType.{parameters_of, IsMediaType, canonical_v
 use Rattle.headers_mime.specs.MediaType.{canonical_parts, parameters_text, media_text, canonical, IsCanonical}
 use Rattle.headers_mime.specs.MediaTypeReading.{read_media, canonical_of}
 use Rattle.headers_mime.proofs.ReadingLemmas.{read_media-media, media-from_read}
-use Rattle.headers_mime.proofs.TokenLemmas.{map_parts}
+use Rattle.headers_syntax.proofs.OptionLemmas.{map_parts}
 
 -- a token in lower case is one
 lowercase-token : (s : List ℕ) → IsToken s → IsToken (lowercase s)
@@ -27,10 +26,6 @@ lowercase-token s token =
       All-map P to_ascii_lowercase s (All-weaker P (λ b. P (to_ascii_lowercase b)) is_token_byte-to_ascii_lowercase s
           token.1),
     )
-
-lowercase-twice : (s : List ℕ) → lowercase (lowercase s) ≡ lowercase s
-lowercase-twice [] = refl
-lowercase-twice (x ∷ xs) = rw (lowercase-lowercase x, lowercase-twice xs) refl
 
 -- a quoted string is no token
 quote_no_token : is_token_byte quote ≡ false
@@ -73,14 +68,15 @@ lowered_value-twice test v w e =
       | inr f ↦ rw f refl
       | inl t ↦
           elim (cases_Bool (test v)) [
-            | inl y ↦ let low : w ≡ lowercase v = rw y at e in rw t (ap lowercase low ∙ lowercase-twice v ∙ sym low)
+            | inl y ↦ let low : w ≡ lowercase v = rw y at e in rw t (ap lowercase low ∙ lowercase-lowercase_lem v
+                ∙ sym low)
             | inr n ↦ let same : w ≡ v = rw n at e in absurd (let yes = sym (ap test same) ∙ t in cc (yes, n))
           ]
     ]
 
 canonical_parameter-twice : (p : Parameter) → canonical_parameter (canonical_parameter p) ≡ canonical_parameter p
 canonical_parameter-twice p =
-    let low = lowercase-twice p.name in
+    let low = lowercase-lowercase_lem p.name in
     let w = canonical_value p in
     let value : (if is_lowered (lowercase (lowercase p.name)) w then lowercase w else w) ≡ w =
     ap (λ (n : List ℕ). if is_lowered n w then lowercase w else w) low ∙ lowered_value-twice
@@ -98,7 +94,11 @@ pub canonical_parts-twice : (m : MediaType) → canonical_parts (canonical_parts
 canonical_parts-twice m =
     let make : List ℕ → List ℕ → List Parameter → MediaType = λ t s ps. record
     { top_level = t; subtype = s; parameters = ps } in
-    rw (lowercase-twice m.top_level, lowercase-twice m.subtype, canonical_parameters-twice m.parameters) refl
+    rw (
+      lowercase-lowercase_lem m.top_level,
+      lowercase-lowercase_lem m.subtype,
+      canonical_parameters-twice m.parameters,
+    ) refl
 
 -- a parameter after a semicolon and a space
 abbrev canonical_segment : Parameter → Segment
@@ -169,7 +169,3 @@ pub canonical-from_canonical_of : (s t : List ℕ) → canonical_of s ≡ Some t
 canonical-from_canonical_of s t h =
     let m = map_parts canonical (read_media s) t h in
     subst IsCanonical m.2 (canonical-is_canonical s m.0 (media-from_read s m.0 m.1))
-
--- what is read of a text is read of its canonical text
-pub canonical_of-back : (s t : List ℕ) → canonical_of s ≡ Some t → canonical_of t ≡ Some t
-canonical_of-back s t h = canonical_of-canonical t (canonical-from_canonical_of s t h)

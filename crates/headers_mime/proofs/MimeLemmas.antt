@@ -2,10 +2,9 @@
 use Rattle.std.proofs.Common.{◌≡◌, ◌⊎◌, ℕ, Bool, true, false, List, [], ◌∷◌, ◌++◌, refl, sym, ◌∙◌, ap, subst, arith}
 use Rattle.std.proofs.Common.{Option, Some, None, IsTrue, inl, inr}
 use Rattle.std.specs.Prelude.{option_map, Err, MatchOption, IsSome, bytes_eq}
-use Rattle.std.specs.List.{All, list_all, list_any, flat_map}
-use Rattle.std.proofs.lemmas.Bool.{and_from, and_parts, cases_Bool}
+use Rattle.std.specs.List.{All, list_any, flat_map}
+use Rattle.std.proofs.lemmas.Bool.{and_from, cases_Bool}
 use Rattle.std.proofs.lemmas.Bool.Decides.{nat_tests}
-use Rattle.std.proofs.lemmas.List.Folds.{list_all-append}
 use Rattle.std.proofs.lemmas.List.Elements.{All-head, All-tail, All-weaker}
 use Rattle.std.proofs.lemmas.List.Sums.{AllPass-from_list_all, list_all-from_AllPass}
 use Rattle.http_header.specs.Token.{IsToken, is_token_byte, is_visible_or_blank, is_value_byte}
@@ -24,12 +23,10 @@ use Rattle.headers_mime.specs.declared.mime.Text.TheVariants.{Known, Read}
 use Rattle.headers_mime.proofs.KnownLemmas.{known_texts-canonical}
 use Rattle.std.proofs.lemmas.Slice.Eq.{bytes_eq-Decides}
 use Rattle.headers_mime.specs.declared.mime.Text.{Text}
-use Rattle.headers_mime.proofs.TokenLemmas.{map_parts}
+use Rattle.headers_syntax.proofs.OptionLemmas.{map_parts}
+use Rattle.headers_syntax.proofs.TextLemmas.{list_all-both}
 use Rattle.headers_mime.proofs.ReadingLemmas.{read_media-media, media-from_read}
 use Rattle.headers_mime.proofs.CanonicalLemmas.{parameters-valid, canonical-media}
-
-text-append : (s t : List ℕ) → is_text s ≡ true → is_text t ≡ true → is_text (s ++ t) ≡ true
-text-append s t a b = list_all-append is_visible_or_blank s t ∙ and_from _ _ a b
 
 token_byte-text : (b : ℕ) → is_token_byte b ≡ true → is_visible_or_blank b ≡ true
 token_byte-text b t = let range = token_byte_range b t in grind (arith, nat_tests)
@@ -37,14 +34,10 @@ token_byte-text b t = let range = token_byte_range b t in grind (arith, nat_test
 text_byte-value : (b : ℕ) → IsTrue (is_visible_or_blank b) → IsTrue (is_value_byte b)
 text_byte-value b t = grind (arith, nat_tests)
 
-token_bytes-text : (s : List ℕ) → list_all is_token_byte s ≡ true → is_text s ≡ true
-token_bytes-text [] h = refl
-token_bytes-text (b ∷ s) h =
-    let parts = and_parts (is_token_byte b) (list_all is_token_byte s) h in
-    and_from _ _ (token_byte-text b parts.0) (token_bytes-text s parts.1)
-
 token-text : (s : List ℕ) → IsToken s → is_text s ≡ true
-token-text s token = token_bytes-text s (list_all-from_AllPass is_token_byte s token.1)
+token-text s token =
+    list_all-from_AllPass is_visible_or_blank s
+    (All-weaker (λ b. IsTrue (is_token_byte b)) (λ b. IsTrue (is_visible_or_blank b)) token_byte-text s token.1)
 
 quoted_parts-text : (parts : List QuotedPart) → All IsQuotedPart parts
     → is_text (flat_map quoted_part_text parts) ≡ true
@@ -58,24 +51,27 @@ quoted_parts-text (escaped b ∷ parts) valid =
 
 value-text : (s : List ℕ) → IsToken s ⊎ IsQuotedString s → is_text s ≡ true
 value-text s (inl token) = token-text s token
-value-text s (inr q) = ap is_text q.text ∙ text-append (flat_map quoted_part_text q.parts) (quote ∷ [])
+value-text s (inr q) = ap is_text q.text ∙ list_all-both is_visible_or_blank (flat_map quoted_part_text q.parts)
+    (quote ∷ [])
     (quoted_parts-text q.parts q.valid) refl
 
 parameters-text : (ps : List Parameter) → All IsParameter ps → is_text (parameters_text ps) ≡ true
 parameters-text [] valid = refl
 parameters-text (p ∷ ps) valid =
     let here = All-head IsParameter p ps valid in
-    let one = text-append p.name (equals ∷ p.value) (token-text p.name here.name) (value-text p.value here.value) in
-    text-append (parameter_text p) (parameters_text ps) one (parameters-text ps (All-tail IsParameter p ps valid))
+    let one = list_all-both is_visible_or_blank p.name (equals ∷ p.value) (token-text p.name here.name)
+    (value-text p.value here.value) in
+    list_all-both is_visible_or_blank (parameter_text p) (parameters_text ps) one
+    (parameters-text ps (All-tail IsParameter p ps valid))
 
 -- the parts of a media type are text
 media-text : (s : List ℕ) (m : MediaType) → IsMediaType s m → is_text (media_text m) ≡ true
 media-text s m h =
     let valid : All IsParameter m.parameters = subst (All IsParameter) (sym h.parameters_are)
     (parameters-valid h.segments h.segments_are) in
-    text-append m.top_level (slash ∷ (m.subtype ++ parameters_text m.parameters))
+    list_all-both is_visible_or_blank m.top_level (slash ∷ (m.subtype ++ parameters_text m.parameters))
     (token-text m.top_level h.top_level_is)
-    (text-append m.subtype (parameters_text m.parameters) (token-text m.subtype h.subtype_is)
+    (list_all-both is_visible_or_blank m.subtype (parameters_text m.parameters) (token-text m.subtype h.subtype_is)
     (parameters-text m.parameters valid))
 
 -- and so is a canonical text

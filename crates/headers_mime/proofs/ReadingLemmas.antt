@@ -1,7 +1,7 @@
 -- What is read from the front on is the grammar of media types.
 use Rattle.std.proofs.Common.{◌≡◌, ℕ, zero, suc, ◌≤◌, true, false, List, [], ◌∷◌, ◌++◌, length, length-append}
 use Rattle.std.proofs.Common.{length-drop, refl, sym, ◌∙◌, ap, subst, arith, eqb, Option, Some, None, IsTrue, inl}
-use Rattle.std.proofs.Common.{inr, append_assoc, append-nil, ◌↔◌}
+use Rattle.std.proofs.Common.{inr, append_assoc, append-nil}
 use Rattle.std.specs.Prelude.{option_map}
 use Rattle.std.specs.List.{All, prefix_len, cons_option}
 use Rattle.std.specs.Prelude.{IfSome}
@@ -15,7 +15,9 @@ use Rattle.headers_mime.specs.MediaType.{parameters_of, IsMediaType}
 use Rattle.headers_mime.specs.MediaTypeReading.{begins_with, after_byte, read_token, read_value, read_parameter}
 use Rattle.headers_mime.specs.MediaTypeReading.{read_optional, read_segment, read_segments, read_parameters}
 use Rattle.headers_mime.specs.MediaTypeReading.{read_essence, read_media}
-use Rattle.headers_mime.proofs.TokenLemmas.{token_no_blank, map_parts, then_parts, trim_start-blanks}
+use Rattle.headers_syntax.proofs.OptionLemmas.{map_parts, then_parts}
+use Rattle.headers_mime.proofs.TokenLemmas.{trim_start-blanks}
+use Rattle.headers_syntax.proofs.TextLemmas.{token_no_blank}
 use Rattle.headers_mime.proofs.TokenLemmas.{blanks-trim_start, token-head, token-no_blank, read_token-token}
 use Rattle.headers_mime.proofs.TokenLemmas.{token-from_read, read_value-value, value-from_read}
 
@@ -382,7 +384,3 @@ media-from_read s m h =
       segments_are = more.segments_are;
       back_is = more.back_is;
     })
-
--- the two are one
-pub media_iff : (s : List ℕ) (m : MediaType) → (read_media s ≡ Some m) ↔ IsMediaType s m
-media_iff s m = (media-from_read s m, read_media-media s m)

@@ -3,16 +3,17 @@ use Rattle.std.proofs.Common.{◌≡◌, ◌≢◌, ◌⊎◌, ℕ, suc, ◌+◌
 use Rattle.std.proofs.Common.{length-append, take, drop, refl, sym, ◌∙◌, ap, subst, arith, eqb, Option, Some, None}
 use Rattle.std.proofs.Common.{IsTrue, inl, inr, append_assoc}
 use Rattle.std.specs.Prelude.{option_map}
-use Rattle.std.specs.Option.{option_and_then}
 use Rattle.std.proofs.lemmas.List.Folds.{length-prefix_len}
 use Rattle.std.specs.List.{All, list_all, prefix_len, flat_map}
-use Rattle.std.proofs.lemmas.Bool.{and_parts, and_from, and_right, ne_eqb, eqb-true, eq-eqb, cases_Bool}
+use Rattle.std.proofs.lemmas.Bool.{and_parts, and_from, and_right, ne_eqb, eqb-true, eqb-false, eq-eqb, cases_Bool}
+use Rattle.std.proofs.lemmas.Bool.{not-true}
+use Rattle.headers_syntax.proofs.OptionLemmas.{map_parts}
+use Rattle.headers_syntax.proofs.TextLemmas.{token_no_blank, token_no_quote}
 use Rattle.std.proofs.lemmas.List.Elements.{All-nil, All-cons, All-head, All-tail}
 use Rattle.std.proofs.lemmas.List.Sums.{AllPass-from_list_all, list_all-from_AllPass}
 use Rattle.std.proofs.lemmas.List.{take-append-drop}
 use Rattle.std.proofs.Math.Seq.{take-append_seam, drop-append_seam}
 use Rattle.http_header.specs.Token.{IsToken, is_token_byte, is_visible_or_blank}
-use Rattle.http_header.proofs.TokenLemmas.{token_byte_range}
 use Rattle.headers_syntax.specs.Text.{quote, is_blank, trim_start}
 use Rattle.headers_mime.specs.MediaType.{backslash, IsBlanks, QuotedPart, plain, escaped, IsQuotedPart}
 use Rattle.headers_mime.specs.MediaType.{quoted_part_text, IsQuotedString}
@@ -49,24 +50,6 @@ module _ (p : ℕ → Bool) where
         | inr f ↦ rw f f
       ]
 
--- what a value that was mapped, or read in two steps, came from
-pub map_parts : {A B : Type 0} (f : A → B) (o : Option A) (y : B) → option_map f o ≡ Some y
-    → (x : A) × (o ≡ Some x) × (f x ≡ y)
-map_parts f None y h = absurd (cc h)
-map_parts f (Some x) y h = (x, refl, cc h)
-
-pub then_parts : {A B : Type 0} (f : A → Option B) (o : Option A) (y : B) → option_and_then f o ≡ Some y
-    → (x : A) × (o ≡ Some x) × (f x ≡ Some y)
-then_parts f None y h = absurd (cc h)
-then_parts f (Some x) y h = (x, refl, h)
-
-not-true : (b : Bool) → not b ≡ true → b ≡ false
-not-true true h = absurd (cc h)
-not-true false h = refl
-
-ne_from_eqb : (a b : ℕ) → eqb a b ≡ false → a ≢ b
-ne_from_eqb a b h e = let yes = eq-eqb a b e in absurd (cc (yes, h))
-
 -- blanks go
 pub trim_start-blanks : (xs ys : List ℕ) → IsBlanks xs → begins_with is_blank ys ≡ false → trim_start (xs ++ ys) ≡ ys
 trim_start-blanks xs ys blank stop =
@@ -82,19 +65,6 @@ blanks-trim_start s = (
   take-append-drop (prefix_len is_blank s) s,
   drop_prefix-stops is_blank s,
 )
-
--- a byte of a token is no blank
-pub token_no_blank : (b : ℕ) → is_token_byte b ≡ true → is_blank b ≡ false
-token_no_blank b t =
-    let range = token_byte_range b t in
-    let a : b ≢ 9 = omega arith in
-    let c : b ≢ 32 = omega arith in
-    rw (ne_eqb b 9 a, ne_eqb b 32 c) refl
-
-pub token_no_quote : (b : ℕ) → is_token_byte b ≡ true → eqb b quote ≡ false
-unfolding is_token_byte
-token_no_quote b t = ne_eqb b quote
-    (λ e. let bad : is_token_byte quote ≡ true = subst (λ (n : ℕ). is_token_byte n ≡ true) e t in absurd (cc bad))
 
 -- a text cut where its first part ends
 split_here : (xs ys : List ℕ) (n : Option ℕ) → n ≡ Some (length xs)
@@ -245,7 +215,7 @@ quoted-from_len false (b ∷ s) n h =
             | inr back ↦
                 let inner : quoted_len false s ≡ Some more.2 = rw back at more.3 in
                 plain_more b s more.2 n more.1 (λ e. let yes = and_from _ _ (eq-eqb b quote e) refl in absurd
-                (cc (yes, more.0))) (ne_from_eqb b backslash back) more.4 (quoted-from_len false s more.2 inner)
+                (cc (yes, more.0))) (eqb-false b backslash back) more.4 (quoted-from_len false s more.2 inner)
           ]
     ]
 quoted-from_len true (b ∷ s) n h =

@@ -2,12 +2,13 @@
 ghost use Rattle.std.specs.Prelude.{◌≡◌, ◌+◌, ◌≤◌, length, false, IfSome, option_map};
 ghost use Rattle.std.specs.List.{prefix_len};
 ghost use Rattle.std.specs.Option.{option_copied};
-ghost use Rattle.headers_syntax.specs.Text.{is_blank, trim_start};
+ghost use Rattle.headers_syntax.specs.Text.{trim_start};
 ghost use Rattle.http_header.specs.Token.{is_token_byte, is_visible_or_blank};
 ghost use Rattle.headers_mime.specs.MediaTypeReading.{quoted_len, token_len, value_len, after_byte, read_token};
 ghost use Rattle.headers_mime.specs.MediaTypeReading.{read_value, read_parameter, read_optional, read_segment};
 ghost use Rattle.headers_mime.specs.MediaTypeReading.{read_essence, read_shown, two_pieces, three_pieces};
 
+use headers_syntax::trim_start;
 use http_header::is_token_char;
 use std::marker::Model;
 
@@ -26,36 +27,10 @@ impl<'a> Model for ParameterRef<'a> {
     ghost view = { λ p. record { name = p.name.now; value = p.value.now } };
 }
 
-fn is_blank(byte: u8) -> bool
-    ensures { result ≡ is_blank byte }
-{
-    byte == b'\t' || byte == b' '
-}
-
 fn is_text(byte: u8) -> bool
     ensures { result ≡ is_visible_or_blank byte }
 {
     byte == b'\t' || (byte >= b' ' && byte < 0x7f)
-}
-
-// How many spaces and tabs the bytes begin with.
-fn blanks_len(bytes: &[u8]) -> usize
-    ensures value { result ≡ prefix_len is_blank bytes.now }
-    ensures within { result ≤ length bytes.now }
-{
-    for (i, byte) in bytes.iter().enumerate() {
-        if !is_blank(*byte) {
-            return i;
-        }
-    }
-    bytes.len()
-}
-
-// The bytes without leading spaces and tabs.
-fn skip_blanks(bytes: &[u8]) -> &[u8]
-    ensures { result.now ≡ trim_start bytes.now }
-{
-    &bytes[blanks_len(bytes)..]
 }
 
 // How many bytes of a token the bytes begin with.
@@ -158,7 +133,7 @@ fn read_optional(bytes: &[u8]) -> Option<(Option<ParameterRef<'_>>, &[u8])>
     match bytes {
         [first, ..] if is_token_char(*first) => {
             let (parameter, rest) = read_parameter(bytes)?;
-            Some((Some(parameter), skip_blanks(rest)))
+            Some((Some(parameter), trim_start(rest)))
         }
         _ => Some((None, bytes)),
     }
@@ -169,7 +144,7 @@ fn read_optional(bytes: &[u8]) -> Option<(Option<ParameterRef<'_>>, &[u8])>
 pub(crate) fn read_segment(bytes: &[u8]) -> Option<(Option<ParameterRef<'_>>, &[u8])>
     ensures { option_map read_shown result ≡ read_segment bytes.now }
 {
-    read_optional(skip_blanks(after_byte(b';', bytes)?))
+    read_optional(trim_start(after_byte(b';', bytes)?))
 }
 
 /// The type, the subtype, and what follows them and blanks.
@@ -177,7 +152,7 @@ pub(crate) fn read_segment(bytes: &[u8]) -> Option<(Option<ParameterRef<'_>>, &[
 pub(crate) fn read_essence(bytes: &[u8]) -> Option<(&[u8], &[u8], &[u8])>
     ensures { option_map three_pieces result ≡ read_essence bytes.now }
 {
-    let (top_level, rest) = read_token(skip_blanks(bytes))?;
+    let (top_level, rest) = read_token(trim_start(bytes))?;
     let (subtype, rest) = read_token(after_byte(b'/', rest)?)?;
-    Some((top_level, subtype, skip_blanks(rest)))
+    Some((top_level, subtype, trim_start(rest)))
 }

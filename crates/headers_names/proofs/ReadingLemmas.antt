@@ -6,7 +6,7 @@ use Rattle.std.proofs.lemmas.Bool.Decides.{nat_tests}
 use Rattle.std.proofs.lemmas.List.Sums.{AllPass-from_list_all, list_all-from_AllPass, take_while-cons}
 use Rattle.http_header.specs.Token.{IsToken, is_token_byte, lowercase}
 use Rattle.http_header.specs.FieldName.{IsFieldName, IsHeaderName}
-use Rattle.headers_names.specs.ListItem.{Reading, is_token, name_of, method_of, values, leading_values, names}
+use Rattle.headers_names.specs.ListItem.{Reading, is_token, name_of, method_of, leading_values, names}
 use Rattle.headers_names.specs.ListItem.{ReadsAsItself}
 
 is_token-from : (item : List ℕ) → is_token item ≡ true → IsToken item
@@ -102,19 +102,9 @@ pub above : (m n : ℕ) → (m ≤ n → ⊥) → n < m
 above m n h = ⊎_elim (λ l. l) (λ l. absurd (h l)) (cases_lt n m)
 
 module _ (value_of : Reading) (item : List ℕ) (rest : List (List ℕ)) where
-  pub leading-none : value_of item ≡ None → leading_values value_of (item ∷ rest) ≡ []
-  leading-none e = rw (take_while-cons (λ x. is_some (value_of x)) item rest) (rw e refl)
-
   pub leading-some : (value : List ℕ) → value_of item ≡ Some value
       → leading_values value_of (item ∷ rest) ≡ value ∷ leading_values value_of rest
   leading-some value e = rw (take_while-cons (λ x. is_some (value_of x)) item rest) (rw e (rw e refl))
-
-  pub values-none : value_of item ≡ None → values value_of (item ∷ rest) ≡ values value_of rest
-  values-none e = rw e refl
-
-  pub values-some : (value : List ℕ) → value_of item ≡ Some value
-      → values value_of (item ∷ rest) ≡ value ∷ values value_of rest
-  values-some value e = rw e refl
 
 -- a walk that has not ended hands out the next name
 pub names-next : (ended : Bool) (before left : List (List ℕ)) (item name : List ℕ) (rest : List (List ℕ))

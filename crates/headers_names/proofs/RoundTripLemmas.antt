@@ -2,10 +2,9 @@
 use Rattle.std.proofs.Common.{◌≡◌, ◌≢◌, ℕ, ◌-◌, true, false, cond, List, [], ◌∷◌, ◌++◌}
 use Rattle.std.proofs.Common.{length, map, Option, None, is_some, Result, Ok, Err, IfOk}
 use Rattle.std.proofs.Common.{IsTrue, refl, sym, ◌∙◌, ap, subst, arith}
-use Rattle.std.specs.List.{flat_map, take_while, list_all, prefix_len, suffix_len, count_by}
+use Rattle.std.specs.List.{All, flat_map, take_while, list_all, prefix_len, suffix_len, count_by}
 use Rattle.std.proofs.Math.Seq.{take-length}
-use Rattle.std.proofs.lemmas.Bool.{and_from, ne_eqb}
-use Rattle.std.proofs.lemmas.Bool.Decides.{nat_tests}
+use Rattle.std.proofs.lemmas.Bool.{and_from}
 use Rattle.std.proofs.lemmas.List.Sums.{suffix_len_is, sum_by-cons, take_while-cons}
 use Rattle.std.proofs.lemmas.List.Elements.{All-tail}
 use Rattle.std.specs.Iterator.{Drains}
@@ -16,16 +15,19 @@ use Rattle.std.proofs.lemmas.Iterator.Adapters.{YieldsList-from_vec}
 use Rattle.std.proofs.lemmas.List.{map-id}
 use Rattle.http_header.specs.FieldValue.{FieldValue}
 use Rattle.http_header.specs.Token.{IsToken, is_token_byte, AllPass}
-use Rattle.http_header.proofs.TokenLemmas.{token_byte_range, IsVisibleAscii-from_token}
+use Rattle.http_header.proofs.TokenLemmas.{IsVisibleAscii-from_token}
 use Rattle.headers_syntax.specs.Text.{is_blank, is_text, trim}
 use Rattle.headers_syntax.specs.Text.{is_quote}
 use Rattle.headers_items.specs.Places.{is_even, comma, places, pieces, items}
 use Rattle.headers_items.specs.ItemsState.{NoCut}
 use Rattle.headers_items.specs.CutLaw.{EvenButLast, IsMerged, MergesItems}
+use Rattle.headers_items.specs.Merge.{merge}
+use Rattle.headers_items.specs.Separator.{comma_is_separator}
+use Rattle.headers_items.proofs.CutLemmas.{IsMerged-from}
 use Rattle.headers_syntax.specs.Lines.{lines_of}
 use Rattle.headers_items.proofs.ItemsLemmas.{items_last}
 use Rattle.headers_items.proofs.PlacesLemmas.{counting_place_other}
-use Rattle.headers_syntax.proofs.TextLemmas.{is_text-from_visible}
+use Rattle.headers_syntax.proofs.TextLemmas.{is_text-from_visible, token_no_blank, token_no_quote}
 use Rattle.headers_names.specs.ListItem.{Reading, values, leading_values, ReadsAsItself, IsListOf, ListsValues, Lists}
 
 -- a byte of a token is no comma
@@ -34,23 +36,15 @@ unfolding is_token_byte
 no_comma b t e = let f : IsTrue (is_token_byte comma) = subst (λ (x : ℕ). IsTrue (is_token_byte x)) e t in
     absurd (cc f)
 
-no_quote : (b : ℕ) → IsTrue (is_token_byte b) → is_quote b ≡ false
-unfolding is_token_byte
-no_quote b t = ne_eqb _ _ (λ e. let f : IsTrue (is_token_byte 34) =
-    subst (λ (x : ℕ). IsTrue (is_token_byte x)) e t in absurd (cc f))
-
-no_blank : (b : ℕ) → IsTrue (is_token_byte b) → is_blank b ≡ false
-no_blank b t = let r = token_byte_range b t in grind (arith, nat_tests)
-
 token_front : (x : List ℕ) → IsToken x → prefix_len is_blank x ≡ 0
 token_front [] t = absurd (omega (arith, t.0))
-token_front (b ∷ bs) t = let no : is_blank b ≡ false = no_blank b (t.1 0 0 t.0) in rw no refl
+token_front (b ∷ bs) t = let no : is_blank b ≡ false = token_no_blank b (t.1 0 0 t.0) in rw no refl
 
 token_back : (x : List ℕ) → IsToken x → suffix_len is_blank x ≡ 0
 token_back x t =
     let some = t.0 in
     suffix_len_is is_blank x (length x) 0 (omega arith) (λ k a b. absurd (omega (arith, a, b)))
-    (λ h. no_blank _ (t.1 (length x - 1) 0 (omega arith)))
+    (λ h. token_no_blank _ (t.1 (length x - 1) 0 (omega arith)))
     ∙ (let z : length x - length x ≡ 0 = omega arith in z)
 
 token_trim : (x : List ℕ) → IsToken x → trim x ≡ x
@@ -68,7 +62,7 @@ items_token x t =
 token_quotes : (x : List ℕ) → AllPass is_token_byte x → count_by is_quote x ≡ 0
 token_quotes [] t = refl
 token_quotes (b ∷ bs) t =
-    let no : is_quote b ≡ false = no_quote b (t 0 0 (omega arith)) in
+    let no : is_quote b ≡ false = token_no_quote b (t 0 0 (omega arith)) in
     sum_by-cons (λ y. cond (is_quote y) 1 0) b bs
     ∙ rw no (let later = token_quotes bs (All-tail (λ y. IsTrue (is_token_byte y)) b bs t) in omega (arith, later))
 
@@ -130,6 +124,17 @@ module _ (value_of : Reading) where
       }
   IsListOf-merged none (x ∷ xs) value h m =
       from_items (x ∷ xs) value h m (m.items_kept (each_text (x ∷ xs) h) (each_even (x ∷ xs) h) ∙ each_item (x ∷ xs) h)
+
+  -- and so are values of which each is one that reads as itself
+  pub IsListOf-own : value_of [] ≡ None → (P : List ℕ → Type 0) → ((x : List ℕ) → P x → ReadsAsItself value_of x)
+      → (given : List (List ℕ)) → All P given → IsListOf value_of given (merge comma given)
+  IsListOf-own none P reads given each =
+      IsListOf-merged none given (merge comma given) (own given each)
+      (IsMerged-from comma given (merge comma given) comma_is_separator refl)
+    where
+      own : (xs : List (List ℕ)) → All P xs → EachReads xs
+      own [] h = tt
+      own (x ∷ xs) h = (reads x (h 0 x (omega arith)), own xs (All-tail P x xs h))
 
 -- a vector's iterator gives its elements
 drained : {X Z : Type 0} (s : IntoIter X Z) (xs given : List X) → into_iter_items s ≡ xs

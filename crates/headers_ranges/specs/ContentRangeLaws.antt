@@ -12,6 +12,9 @@ use Rattle.headers_syntax.specs.Lines.{Line, first_line}
 use Rattle.headers_syntax.specs.Number.{number}
 use Rattle.headers_syntax.specs.Text.{is_text}
 use Rattle.headers_syntax.proofs.NumberLemmas.{number-decimal, number-lt}
+use Rattle.headers_syntax.proofs.OptionLemmas.{map_parts, then_parts}
+use Rattle.headers_syntax.proofs.TextLemmas.{list_all-both}
+use Rattle.http_header.specs.Token.{is_visible_or_blank}
 use Rattle.headers_syntax.proofs.ShapeLemmas.{ReadsBackLine, one_line_laws}
 use Rattle.headers_ranges.specs.ContentBytes.{ContentBytes, FitsOption, FitsContent, of_parts, star, in_order}
 use Rattle.headers_ranges.specs.ContentBytes.{numbers, positions, read_or_star, sized, in_bytes, content_bytes}
@@ -19,7 +22,7 @@ use Rattle.headers_ranges.specs.ContentBytes.{range_shown, length_shown, content
 use Rattle.headers_ranges.specs.ContentRange.{content_range_grammar}
 use Rattle.headers_ranges.specs.Cut.{cut}
 use Rattle.headers_ranges.specs.CutLaws.{Lacks, cut_joined}
-use Rattle.headers_ranges.specs.PrintedLaws.{decimal_text, decimal_lacks, text_append}
+use Rattle.headers_ranges.specs.PrintedLaws.{decimal_text, decimal_lacks}
 
 -- ---- what is printed is read
 
@@ -69,7 +72,7 @@ range_plain None f g = (refl, refl)
 range_plain (Some r) f g =
     let a = f r refl in
     let b = g r refl in (
-      text_append (decimal r.0) (45 ∷ decimal r.1) (decimal_text r.0 a)
+      list_all-both is_visible_or_blank (decimal r.0) (45 ∷ decimal r.1) (decimal_text r.0 a)
           (decimal_text r.1 b),
       range_lacks r.0 r.1 47 a b refl (decimal_lacks r.0 47 a refl)
           (decimal_lacks r.1 47 b refl),
@@ -83,7 +86,7 @@ length_plain (Some n) f = decimal_text n (f n refl)
 pub content_plain : (v : ContentBytes) → FitsContent v → is_text (content_text v) ≡ true
 unfolding content_text
 content_plain v h =
-    text_append (range_shown v.range) (47 ∷ length_shown v.length)
+    list_all-both is_visible_or_blank (range_shown v.range) (47 ∷ length_shown v.length)
     (range_plain v.range h.first h.last).0 (length_plain v.length h.whole)
 
 parts_read : (range : Option (ℕ × ℕ)) (length : Option ℕ)
@@ -115,16 +118,6 @@ from_if : {A : Type 0} (b : Bool) (o : Option A) (a : A) → (if b then o else N
 from_if true o a e = (refl, e)
 from_if false o a e = absurd (cc e)
 
-from_some : {A B : Type 0} (f : A → Option B) (o : Option A) (b : B) → option_and_then f o ≡ Some b
-    → (a : A) × (o ≡ Some a) × (f a ≡ Some b)
-from_some f None b e = absurd (cc e)
-from_some f (Some a) b e = (a, refl, e)
-
-from_map : {A B : Type 0} (f : A → B) (o : Option A) (b : B) → option_map f o ≡ Some b
-    → (a : A) × (o ≡ Some a) × (f a ≡ b)
-from_map f None b e = absurd (cc e)
-from_map f (Some a) b e = (a, refl, cc e)
-
 from_zip : {A B : Type 0} (o : Option A) (p : Option B) (x : A × B) → option_zip o p ≡ Some x
     → (o ≡ Some x.0) × (p ≡ Some x.1)
 from_zip None p x e = absurd (cc e)
@@ -138,7 +131,7 @@ from_star read text o e a h =
     elim (cases_Bool (bytes_eq text star)) [
       | inl y ↦ let none : Some None ≡ Some o = rw y at e in absurd (cc (none, h))
       | inr n ↦ let some : option_map Some (read text)
-          ≡ Some o = rw n at e in let m = from_map Some (read text) o some in m.1 ∙ m.2 ∙ h
+          ≡ Some o = rw n at e in let m = map_parts Some (read text) o some in m.1 ∙ m.2 ∙ h
     ]
 
 -- what two positions are
@@ -149,8 +142,8 @@ record AreInOrder (r : ℕ × ℕ) : Type 0 where
 
 positions_fit : (text : Line) (r : ℕ × ℕ) → positions text ≡ Some r → AreInOrder r
 positions_fit text r e =
-    let parts = from_some numbers (cut 45 text) r e in
-    let pair = from_some in_order (option_zip (number parts.0.0) (number parts.0.1)) r parts.2 in
+    let parts = then_parts numbers (cut 45 text) r e in
+    let pair = then_parts in_order (option_zip (number parts.0.0) (number parts.0.1)) r parts.2 in
     let both = from_zip (number parts.0.0) (number parts.0.1) pair.0 pair.1 in
     let order = from_if (nat_le pair.0.0 pair.0.1) (Some pair.0) r pair.2 in
     let same : pair.0 ≡ r = cc order.1 in
@@ -170,10 +163,10 @@ content_fits : (line : Line) (v : ContentBytes) → content_bytes line ≡ Some 
 unfolding content_bytes
 content_fits line v e =
     let text = from_if (is_text line) (option_and_then in_bytes (cut 32 line)) v e in
-    let unit = from_some in_bytes (cut 32 line) v text.1 in
+    let unit = then_parts in_bytes (cut 32 line) v text.1 in
     let rest = from_if (bytes_eq unit.0.0 (codes "bytes")) (option_and_then sized (cut 47 unit.0.1)) v unit.2 in
-    let parts = from_some sized (cut 47 unit.0.1) v rest.1 in
-    let kept = from_map of_parts (option_zip (read_or_star positions parts.0.0)
+    let parts = then_parts sized (cut 47 unit.0.1) v rest.1 in
+    let kept = map_parts of_parts (option_zip (read_or_star positions parts.0.0)
     (read_or_star number parts.0.1)) v parts.2 in
     let both = from_zip (read_or_star positions parts.0.0) (read_or_star number parts.0.1) kept.0 kept.1 in
     let order : (r : ℕ × ℕ) → kept.0.0 ≡ Some r

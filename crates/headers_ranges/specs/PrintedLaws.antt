@@ -1,5 +1,5 @@
 -- Numbers as they are printed, and the texts that they are part of.
-use Rattle.std.proofs.Common.{◌≡◌, ℕ, ◌<◌, ◌^◌, Bool, true, false, not, ◌==◌, List, [], ◌∷◌, ◌++◌}
+use Rattle.std.proofs.Common.{◌≡◌, ℕ, ◌<◌, ◌^◌, Bool, true, false, not, ◌==◌, List, [], ◌∷◌}
 use Rattle.std.proofs.Common.{Option, Some, None, refl, sym, ap, ◌∙◌, subst, arith}
 use Rattle.std.specs.Prelude.{decimal}
 use Rattle.std.specs.Char.{is_ascii_digit}
@@ -8,10 +8,10 @@ use Rattle.std.specs.Str.{all_ascii_digits}
 use Rattle.std.proofs.lemmas.Bool.{and_parts, and_from, ne_eqb}
 use Rattle.std.proofs.lemmas.Bool.Decides.{nat_tests}
 use Rattle.std.proofs.lemmas.Fmt.{digits_decimal}
-use Rattle.std.proofs.lemmas.List.Folds.{list_all-append}
 use Rattle.std.proofs.lemmas.Str.Parse.{numerals_by_value, tells_all_ascii_digits}
 use Rattle.http_header.specs.Token.{is_visible_or_blank}
 use Rattle.headers_syntax.specs.Text.{is_text}
+use Rattle.headers_syntax.proofs.TextLemmas.{list_all-both}
 use Rattle.headers_ranges.specs.ByteRanges.{is_range_line, bytes_from_to}
 use Rattle.headers_ranges.specs.ContentBytes.{FitsOption}
 use Rattle.headers_ranges.specs.CutLaws.{Lacks}
@@ -34,9 +34,6 @@ digits_pass test passes (c ∷ ds) h =
 pub decimal_text : (n : ℕ) → n < 2 ^ 64 → is_text (decimal n) ≡ true
 decimal_text n h = digits_pass is_visible_or_blank digit_visible (decimal n) (decimal_digits n h)
 
-pub text_append : (xs ys : List ℕ) → is_text xs ≡ true → is_text ys ≡ true → is_text (xs ++ ys) ≡ true
-text_append xs ys a b = list_all-append is_visible_or_blank xs ys ∙ and_from _ _ a b
-
 -- no byte but a digit stands there
 pub decimal_lacks : (n c : ℕ) → n < 2 ^ 64 → is_ascii_digit c ≡ false → Lacks c (decimal n)
 decimal_lacks n c h other = digits_pass (λ b. not (b == c))
@@ -52,8 +49,9 @@ fits_none m e = absurd (cc e)
 
 printed_text : (first : ℕ) (last : Option ℕ) → first < 2 ^ 64 → FitsOption last
     → is_text (bytes_from_to first last) ≡ true
-printed_text first None f g = text_append (decimal first) (45 ∷ []) (decimal_text first f) refl
-printed_text first (Some last) f g = text_append (decimal first) (45 ∷ decimal last) (decimal_text first f)
+printed_text first None f g = list_all-both is_visible_or_blank (decimal first) (45 ∷ []) (decimal_text first f) refl
+printed_text first (Some last) f g = list_all-both is_visible_or_blank (decimal first) (45 ∷ decimal last)
+    (decimal_text first f)
     (decimal_text last (g last refl))
 
 -- what is printed of a range is one

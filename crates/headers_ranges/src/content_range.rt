@@ -158,13 +158,10 @@ impl ContentRange {
     fn sized(range: &str, length: &str) -> Option<ContentRange>
         ensures { result ≡ sized (range.now, length.now) }
     {
-        match read_range(range).zip(read_length(length)) {
-            Some((range, complete_length)) => Some(ContentRange {
-                range,
-                complete_length,
-            }),
-            None => None,
-        }
+        Some(ContentRange {
+            range: read_range(range)?,
+            complete_length: read_length(length)?,
+        })
     }
 
     // What follows the unit, which must be `bytes`.
@@ -251,13 +248,8 @@ impl Header for ContentRange {
     where
         I::Item: AsHeaderValue,
     {
-        let Some(line) = first(values) else {
-            return Err(Refused::Invalid(Error::invalid()));
-        };
-        match ContentRange::from_val(line.as_header_value()) {
-            Some(range) => Ok(range),
-            None => Err(Refused::Invalid(Error::invalid())),
-        }
+        let line = first(values).ok_or(Error::invalid())?;
+        Ok(ContentRange::from_val(line.as_header_value()).ok_or(Error::invalid())?)
     }
 
     fn encode(&self, alloc: Global, values: &mut Vec<HeaderValue>) -> Result<(), AllocError> {

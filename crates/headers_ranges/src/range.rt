@@ -189,13 +189,8 @@ impl Header for Range {
     where
         I::Item: AsHeaderValue,
     {
-        let Some(line) = first(values) else {
-            return Err(Refused::Invalid(Error::invalid()));
-        };
-        match Range::from_val(alloc, line.as_header_value())? {
-            Some(range) => Ok(range),
-            None => Err(Refused::Invalid(Error::invalid())),
-        }
+        let line = first(values).ok_or(Error::invalid())?;
+        Ok(Range::from_val(alloc, line.as_header_value())?.ok_or(Error::invalid())?)
     }
 
     fn encode(&self, _alloc: Global, values: &mut Vec<HeaderValue>) -> Result<(), AllocError> {

@@ -60,10 +60,7 @@ fn half(text: &str) -> Option<Option<u64>>
     if text.is_empty() {
         return Some(None);
     }
-    match parse_number(text) {
-        Some(number) => Some(Some(number)),
-        None => None,
-    }
+    Some(Some(parse_number(text)?))
 }
 
 // The halves of a piece.

@@ -172,10 +172,8 @@ impl Header for ReferrerPolicy {
         while let Some(line) = values.next() {
             last = last_policy(line.as_header_value(), last);
         }
-        match last {
-            Some(policy) => Ok(ReferrerPolicy { policy }),
-            None => Err(Refused::Invalid(Error::invalid())),
-        }
+        let policy = last.ok_or(Error::invalid())?;
+        Ok(ReferrerPolicy { policy })
     }
 
     fn encode(&self, _alloc: Global, values: &mut Vec<HeaderValue>) -> Result<(), AllocError> {

@@ -1,18 +1,19 @@
 -- The calendar counted off from 1970, and that a printed date is read back.
-use Rattle.std.proofs.Common.{◌≡◌, ℕ, zero, suc, ◌+◌, ◌-◌, ◌*◌, ◌/◌, ◌%◌, ◌<◌, ◌≤◌, nat_lt, Bool, true, false, cond}
-use Rattle.std.proofs.Common.{[], ◌∷◌, ◌++◌, length, take, Option, Some, None, codes, refl, sym, ◌∙◌, ap, subst, inl}
+use Rattle.std.proofs.Common.{◌≡◌, ℕ, zero, suc, ◌+◌, ◌-◌, ◌*◌, ◌/◌, ◌%◌, ◌<◌, ◌≤◌, nat_lt, true, false}
+use Rattle.std.proofs.Common.{[], ◌∷◌, ◌++◌, length, take, Some, None, codes, refl, sym, ◌∙◌, ap, subst, inl}
 use Rattle.std.proofs.Common.{inr, arith, append_assoc}
 use Rattle.std.specs.Int.{IsInRange}
 use Rattle.std.specs.List.{prefix_len, suffix_len}
 use Rattle.std.proofs.lemmas.List.{reverse-append, take_all}
+use Rattle.std.proofs.lemmas.List.Elements.{All-from_recursion}
 use Rattle.std.proofs.lemmas.List.Folds.{list_all-append}
+use Rattle.std.proofs.lemmas.List.Sums.{AllPass-from_list_all}
 use Rattle.http_header.specs.Token.{is_visible_or_blank}
 use Rattle.headers_syntax.proofs.NumberLemmas.{visible, number-no_digits}
 use Rattle.headers_syntax.proofs.TextLemmas.{visible-from_is_text, is_text-from_visible, no_text}
 use Rattle.http_header.specs.FieldValue.{IsVisibleAscii}
-use Rattle.std.proofs.lemmas.Bool.{cases_Bool, and_from, ltb-true, ltb-false}
+use Rattle.std.proofs.lemmas.Bool.{cases_Bool, and_from, le-ltb, lt-ltb, ltb-true, ltb-false}
 use Rattle.std.proofs.lemmas.Bool.Decides.{nat_tests}
-use Rattle.std.proofs.lemmas.Option.{none-some}
 use Rattle.httpdate.specs.declared.parts.Parts.{Parts}
 use Rattle.httpdate.specs.Calendar.{days_in_year, days_in_month, days_of_years, days_of_months, days_from_civil}
 use Rattle.httpdate.specs.Calendar.{weekday}
@@ -29,100 +30,40 @@ use Rattle.headers_syntax.specs.Lines.{Line}
 use Rattle.headers_syntax.specs.Text.{is_blank, is_text, trim, trim_start, trim_end}
 use Rattle.headers_syntax.specs.Number.{after_plus, number}
 use Rattle.std.specs.Str.{all_ascii_digits}
-use Rattle.headers_syntax.specs.Date.{date, year_of, month_of, parts_at, fixdate, IsDated, ShowsDate}
+use Rattle.headers_syntax.specs.Date.{date, unit_of, parts_at, fixdate, IsDated, ShowsDate}
 
 -- ---- the calendar
 
-years_more : (n k : ℕ) → days_of_years n ≤ days_of_years (n + k)
-unfolding days_of_years
-years_more n zero = let same : n + 0 ≡ n = omega arith in rw same (omega arith)
-years_more n (suc k) =
-    let before = years_more n k in
-    let next : n + suc k ≡ suc (n + k) = omega arith in
-    rw next (omega arith)
+-- units of days from `first` on, the first k of which have `total k` days
+module _ (length total : ℕ → ℕ) (first : ℕ) (next : (k : ℕ) → total (suc k) ≡ total k + length (first + k)) where
+  total_more : (n k : ℕ) → total n ≤ total (n + k)
+  total_more n zero = let same : n + 0 ≡ n = omega arith in rw same (omega arith)
+  total_more n (suc k) =
+      let same : n + suc k ≡ suc (n + k) = omega arith in
+      rw same (omega (arith, total_more n k, next (n + k)))
 
-months_more : (y m k : ℕ) → days_of_months y m ≤ days_of_months y (m + k)
-unfolding days_of_months
-months_more y m zero = let same : m + 0 ≡ m = omega arith in rw same (omega arith)
-months_more y m (suc k) =
-    let before = months_more y m k in
-    let next : m + suc k ≡ suc (m + k) = omega arith in
-    rw next (omega arith)
-
--- a day that lies in the year 1970 + j, and in the year 1970 + k
-same_year : (j k r days : ℕ) → j ≤ k → days + days_of_years j ≡ days_of_years k + r → days < days_in_year (1970 + j)
-    → j ≡ k
-unfolding days_of_years
-same_year j k r days low e inside =
-    elim (cases_Bool (nat_lt j k)) [
-      | inl t ↦ let less : j < k = ltb-true _ _ t in
-          let up = years_more (suc j) (k - suc j) in
-          let same : suc j + (k - suc j) ≡ k = omega arith in
-          absurd (omega (arith, rw same at up))
-      | inr f ↦ let not_less : k ≤ j = ltb-false _ _ f in omega arith
-    ]
-
-year_of-is : (n j k r days : ℕ) → j ≤ k → k ≤ j + n → r < days_in_year (1970 + k)
-    → days + days_of_years j ≡ days_of_years k + r → year_of n (1970 + j) days ≡ (1970 + k, r)
-unfolding year_of days_of_years
-year_of-is zero j k r days low high inside e =
-    let same : j ≡ k = omega arith in
-    let left : days ≡ r = omega (arith, ap days_of_years same) in
-    rw (same, left) refl
-year_of-is (suc n) j k r days low high inside e =
-    elim (cases_Bool (nat_lt days (days_in_year (1970 + j)))) [
-      | inl t ↦ let same : j ≡ k = same_year j k r days low e (ltb-true _ _ t) in
-          let left : days ≡ r = omega (arith, ap days_of_years same) in
-          rw t (rw (same, left) refl)
-      | inr f ↦ let past : days_in_year (1970 + j) ≤ days = ltb-false _ _ f in
-          let later : suc j ≤ k = (elim (cases_Bool (nat_lt j k)) [
-            | inl u ↦ ltb-true _ _ u
-            | inr u ↦ let here : j ≡ k = (let not_less : k ≤ j = ltb-false _ _ u in omega arith) in
-                absurd (omega (arith, ap days_of_years here, ap (λ y. days_in_year (1970 + y)) here))
-          ]) in
-          let next : 1970 + j + 1 ≡ 1970 + suc j = omega arith in
-          rw f (rw next
-          (year_of-is n (suc j) k r (days - days_in_year (1970 + j)) later (omega arith) inside (omega arith)))
-    ]
-
--- a day that lies in the month j + 1, and in the month k + 1
-same_month : (y j k r days : ℕ) → j ≤ k → days + days_of_months y j ≡ days_of_months y k + r
-    → days < days_in_month y (j + 1) → j ≡ k
-unfolding days_of_months
-same_month y j k r days low e inside =
-    elim (cases_Bool (nat_lt j k)) [
-      | inl t ↦ let less : j < k = ltb-true _ _ t in
-          let up = months_more y (suc j) (k - suc j) in
-          let same : suc j + (k - suc j) ≡ k = omega arith in
-          let one : suc j ≡ j + 1 = omega arith in
-          absurd (omega (arith, rw same at up, ap (days_in_month y) one))
-      | inr f ↦ let not_less : k ≤ j = ltb-false _ _ f in omega arith
-    ]
-
-month_of-is : (n y j k r days : ℕ) → j ≤ k → k ≤ j + n → r < days_in_month y (k + 1)
-    → days + days_of_months y j ≡ days_of_months y k + r → month_of n y (j + 1) days ≡ (k + 1, r)
-unfolding month_of days_of_months
-month_of-is zero y j k r days low high inside e =
-    let same : j ≡ k = omega arith in
-    let left : days ≡ r = omega (arith, ap (days_of_months y) same) in
-    rw (same, left) refl
-month_of-is (suc n) y j k r days low high inside e =
-    elim (cases_Bool (nat_lt days (days_in_month y (j + 1)))) [
-      | inl t ↦ let same : j ≡ k = same_month y j k r days low e (ltb-true _ _ t) in
-          let left : days ≡ r = omega (arith, ap (days_of_months y) same) in
-          rw t (rw (same, left) refl)
-      | inr f ↦ let past : days_in_month y (j + 1) ≤ days = ltb-false _ _ f in
-          let later : suc j ≤ k = (elim (cases_Bool (nat_lt j k)) [
-            | inl u ↦ ltb-true _ _ u
-            | inr u ↦ let here : j ≡ k = (let not_less : k ≤ j = ltb-false _ _ u in omega arith) in
-                absurd (omega (arith, ap (days_of_months y) here, ap (λ m. days_in_month y (m + 1)) here))
-          ]) in
-          let next : j + 1 + 1 ≡ suc j + 1 = omega arith in
-          let one : suc j ≡ j + 1 = omega arith in
-          rw f (rw next
-          (month_of-is n y (suc j) k r (days - days_in_month y (j + 1)) later (omega arith) inside
-          (omega (arith, ap (days_in_month y) one))))
-    ]
+  unit_of-is : (n j k r days : ℕ) → j ≤ k → k ≤ j + n → r < length (first + k) → days + total j ≡ total k + r
+      → unit_of length n (first + j) days ≡ (first + k, r)
+  unfolding unit_of
+  unit_of-is zero j k r days low high inside e =
+      let same : j ≡ k = omega arith in
+      let left : days ≡ r = omega (arith, ap total same) in
+      rw (same, left) refl
+  unit_of-is (suc n) j k r days low high inside e =
+      elim (cases_Bool (nat_lt j k)) [
+        | inl t ↦ let less : j < k = ltb-true _ _ t in
+            let same : suc j + (k - suc j) ≡ k = omega arith in
+            let up : total (suc j) ≤ total k = rw same at (total_more (suc j) (k - suc j)) in
+            let past : length (first + j) ≤ days = omega (arith, next j) in
+            let later : first + j + 1 ≡ first + suc j = omega arith in
+            rw (le-ltb _ _ past) (rw later
+            (unit_of-is n (suc j) k r (days - length (first + j)) less (omega arith) inside (omega (arith, next j))))
+        | inr f ↦ let not_less : k ≤ j = ltb-false _ _ f in
+            let same : j ≡ k = omega arith in
+            let left : days ≡ r = omega (arith, ap total same) in
+            let here : days < length (first + j) = omega (arith, ap (λ u. length (first + u)) same) in
+            rw (lt-ltb _ _ here) (rw (same, left) refl)
+      ]
 
 -- ---- the date of a second
 
@@ -136,11 +77,17 @@ after_day_name p zone = 44 ∷ 32 ∷ (two_digits p.day ++ 32 ∷ (month_name p.
 days_before : Parts → ℕ
 days_before p = days_of_months p.year (p.mon - 1) + (p.day - 1)
 
-in_its_month : (p : Parts) → IsValid p → p.day - 1 < days_in_month p.year (p.mon - 1 + 1)
+next_month : (y k : ℕ) → days_of_months y (suc k) ≡ days_of_months y k + days_in_month y (1 + k)
+unfolding days_of_months
+next_month y k = let same : 1 + k ≡ suc k = omega arith in rw same refl
+
+in_its_month : (p : Parts) → IsValid p → p.day - 1 < days_in_month p.year (1 + (p.mon - 1))
 in_its_month p valid =
-    let same : p.mon - 1 + 1 ≡ p.mon = (let low : 1 ≤ p.mon = valid.0.1.0 in omega arith) in
-    rw same (let low : 1 ≤ p.day = valid.0.2.0 in let high : p.day ≤ days_in_month p.year p.mon = valid.0.2.1 in
-    omega arith)
+    let low : 1 ≤ p.mon = valid.0.1.0 in
+    let same : 1 + (p.mon - 1) ≡ p.mon = omega arith in
+    let first : 1 ≤ p.day = valid.0.2.0 in
+    let last : p.day ≤ days_in_month p.year p.mon = valid.0.2.1 in
+    rw same (omega arith)
 
 in_its_year : (p : Parts) → IsValid p → days_before p < days_in_year p.year
 unfolding days_before
@@ -150,31 +97,31 @@ in_its_year p valid =
     let first : 1 ≤ p.day = valid.0.2.0 in
     let last : p.day ≤ days_in_month p.year p.mon = valid.0.2.1 in
     let more = days_of_months_more p.year p.mon low in
-    let up = months_more p.year p.mon (12 - p.mon) in
+    let up = total_more (days_in_month p.year) (days_of_months p.year) 1 (next_month p.year) p.mon (12 - p.mon) in
     let same : p.mon + (12 - p.mon) ≡ 12 = omega arith in
     omega (arith, rw same at up, days_of_months_all p.year)
 
 year_of-date : (p : Parts) → IsValid p
-    → year_of 8029 1970 (days_from_civil p.year p.mon p.day) ≡ (p.year, days_before p)
+    → unit_of days_in_year 8029 1970 (days_from_civil p.year p.mon p.day) ≡ (p.year, days_before p)
 unfolding days_before days_of_years
 year_of-date p valid =
     let low : 1970 ≤ p.year = valid.0.0.0 in
     let high : p.year ≤ 9999 = valid.0.0.1 in
     let same : 1970 + (p.year - 1970) ≡ p.year = omega arith in
-    let start : 1970 + 0 ≡ 1970 = refl in
     let inside : days_before p < days_in_year (1970 + (p.year - 1970)) = rw same (in_its_year p valid) in
-    year_of-is 8029 0 (p.year - 1970) (days_before p) (days_from_civil p.year p.mon p.day) (omega arith) (omega arith)
-    inside (omega arith)
+    unit_of-is days_in_year days_of_years 1970 (λ k. refl) 8029 0 (p.year - 1970) (days_before p)
+    (days_from_civil p.year p.mon p.day) (omega arith) (omega arith) inside (omega arith)
     ∙ ap (λ y. (y, days_before p)) same
 
-month_of-date : (p : Parts) → IsValid p → month_of 11 p.year 1 (days_before p) ≡ (p.mon, p.day - 1)
+month_of-date : (p : Parts) → IsValid p
+    → unit_of (days_in_month p.year) 11 1 (days_before p) ≡ (p.mon, p.day - 1)
 unfolding days_before days_of_months
 month_of-date p valid =
     let low : 1 ≤ p.mon = valid.0.1.0 in
     let high : p.mon ≤ 12 = valid.0.1.1 in
-    let same : p.mon - 1 + 1 ≡ p.mon = omega arith in
-    month_of-is 11 p.year 0 (p.mon - 1) (p.day - 1) (days_before p) (omega arith) (omega arith) (in_its_month p valid)
-    (omega arith)
+    let same : 1 + (p.mon - 1) ≡ p.mon = omega arith in
+    unit_of-is (days_in_month p.year) (days_of_months p.year) 1 (next_month p.year) 11 0 (p.mon - 1) (p.day - 1)
+    (days_before p) (omega arith) (omega arith) (in_its_month p valid) (omega arith)
     ∙ ap (λ m. (m, p.day - 1)) same
 
 -- the day and the time of day of a second
@@ -187,9 +134,8 @@ pub parts_at-is : (p : Parts) → IsValid p → parts_at (parts_secs p) ≡ p
 parts_at-is p valid =
     let d = days_from_civil p.year p.mon p.day in
     let time = split_secs d p.hour p.min p.sec valid.1.0 valid.1.1 valid.1.2 in
-    let year = ap (year_of 8029 1970) time.0 ∙ year_of-date p valid in
-    let month =
-    ap (λ (y : ℕ × ℕ). month_of 11 y.0 1 y.1) year ∙ month_of-date p valid in
+    let year = ap (unit_of days_in_year 8029 1970) time.0 ∙ year_of-date p valid in
+    let month = ap (λ (y : ℕ × ℕ). unit_of (days_in_month y.0) 11 1 y.1) year ∙ month_of-date p valid in
     let low : 1 ≤ p.day = valid.0.2.0 in
     let back : p.day - 1 + 1 ≡ p.day = omega arith in
     let wday = ap weekday time.0 ∙ sym valid.2 in
@@ -225,34 +171,23 @@ digits_text n rest h t =
 name_text : (name rest : Line) → is_text name ≡ true → IsText rest → IsText (name ++ rest)
 name_text name rest h t = record { is = list_all-append is_visible_or_blank name rest ∙ and_from _ _ h t.is }
 
+-- what holds of the name of each day
+pub by_day_name : (P : Line → Type 0) → P (codes "Mon") → P (codes "Tue") → P (codes "Wed") → P (codes "Thu")
+    → P (codes "Fri") → P (codes "Sat") → P (codes "Sun") → (n : ℕ) → IsInRange 1 7 n → P (day_name n)
+by_day_name P mon tue wed thu fri sat sun n h =
+    let days = codes "Mon" ∷ codes "Tue" ∷ codes "Wed" ∷ codes "Thu" ∷ codes "Fri" ∷ codes "Sat" ∷ codes "Sun" ∷ [] in
+    All-from_recursion P days (mon, (tue, (wed, (thu, (fri, (sat, (sun, tt))))))) (n - 1) [] (omega arith)
+
 day_name_text : (n : ℕ) → IsInRange 1 7 n → is_text (day_name n) ≡ true
-day_name_text (suc zero) h = refl
-day_name_text (suc (suc zero)) h = refl
-day_name_text (suc (suc (suc zero))) h = refl
-day_name_text (suc (suc (suc (suc zero)))) h = refl
-day_name_text (suc (suc (suc (suc (suc zero))))) h = refl
-day_name_text (suc (suc (suc (suc (suc (suc zero)))))) h = refl
-day_name_text (suc (suc (suc (suc (suc (suc (suc zero))))))) h = refl
-day_name_text zero h = absurd (omega arith)
-day_name_text (suc (suc (suc (suc (suc (suc (suc (suc k)))))))) h = absurd (omega arith)
+day_name_text = by_day_name (λ name. is_text name ≡ true) refl refl refl refl refl refl refl
 
 month_name_text : (n : ℕ) → IsInRange 1 12 n → is_text (month_name n) ≡ true
-month_name_text (suc zero) h = refl
-month_name_text (suc (suc zero)) h = refl
-month_name_text (suc (suc (suc zero))) h = refl
-month_name_text (suc (suc (suc (suc zero)))) h = refl
-month_name_text (suc (suc (suc (suc (suc zero))))) h = refl
-month_name_text (suc (suc (suc (suc (suc (suc zero)))))) h = refl
-month_name_text (suc (suc (suc (suc (suc (suc (suc zero))))))) h = refl
-month_name_text (suc (suc (suc (suc (suc (suc (suc (suc zero)))))))) h = refl
-month_name_text (suc (suc (suc (suc (suc (suc (suc (suc (suc zero))))))))) h = refl
-month_name_text (suc (suc (suc (suc (suc (suc (suc (suc (suc (suc zero)))))))))) h = refl
-month_name_text (suc (suc (suc (suc (suc (suc (suc (suc (suc (suc (suc zero))))))))))) h = refl
-month_name_text (suc (suc (suc (suc (suc (suc (suc (suc (suc (suc (suc (suc zero)))))))))))) h = refl
-month_name_text zero h = absurd (omega arith)
-month_name_text (suc (suc (suc (suc (suc (suc (suc (suc (suc (suc (suc (suc (suc k))))))))))))) h = absurd (omega arith)
+month_name_text n h =
+    let months = codes "Jan" ∷ codes "Feb" ∷ codes "Mar" ∷ codes "Apr" ∷ codes "May" ∷ codes "Jun" ∷ codes "Jul"
+    ∷ codes "Aug" ∷ codes "Sep" ∷ codes "Oct" ∷ codes "Nov" ∷ codes "Dec" ∷ [] in
+    AllPass-from_list_all is_text months refl (n - 1) [] (omega arith)
 
-wday_range : (p : Parts) → IsValid p → IsInRange 1 7 p.wday
+pub wday_range : (p : Parts) → IsValid p → IsInRange 1 7 p.wday
 wday_range p valid = let e = valid.2 in (omega arith, omega arith)
 
 day_range : (y m : ℕ) → days_in_month y m ≤ 31
@@ -287,15 +222,8 @@ trim_end_same front last h =
     ap (λ n. take n s) (ap (λ k. length s - k) none) ∙ take_all (length s - 0) s (omega arith)
 
 letter_first : (n : ℕ) (rest : Line) → IsInRange 1 7 n → trim_start (day_name n ++ rest) ≡ day_name n ++ rest
-letter_first (suc zero) rest h = refl
-letter_first (suc (suc zero)) rest h = refl
-letter_first (suc (suc (suc zero))) rest h = refl
-letter_first (suc (suc (suc (suc zero)))) rest h = refl
-letter_first (suc (suc (suc (suc (suc zero))))) rest h = refl
-letter_first (suc (suc (suc (suc (suc (suc zero)))))) rest h = refl
-letter_first (suc (suc (suc (suc (suc (suc (suc zero))))))) rest h = refl
-letter_first zero rest h = absurd (omega arith)
-letter_first (suc (suc (suc (suc (suc (suc (suc (suc k)))))))) rest h = absurd (omega arith)
+letter_first n rest =
+    by_day_name (λ name. trim_start (name ++ rest) ≡ name ++ rest) refl refl refl refl refl refl refl n
 
 -- a printed date ends in a letter
 last_letter : (p : Parts) → imf_fixdate p ≡ (day_name p.wday ++ after_day_name p (codes " GM")) ++ 84 ∷ []
@@ -329,18 +257,25 @@ date-fixdate p valid =
       is_valid_complete p valid,
     )
 
+pub shows-date : (line : Line) (n : ℕ) → date line ≡ Some n → ShowsDate line n
+unfolding date
+shows-date line n e =
+    elim (cases_Bool (is_text line)) [
+      | inl t ↦ let shown : parse_secs (trim line) ≡ Some n = rw t at e in
+          and_then_some valid_secs (parse (trim line)) n shown λ p read secs.
+          let (valid, same) = cond_some (is_valid p) (parts_secs p) n secs in
+          (t, (p, is_valid_sound p valid, parse_sound (trim line) p read, same))
+      | inr f ↦ let none : None ≡ Some n = rw f at e in absurd (cc none)
+    ]
+
+pub date-shows : (line : Line) (n : ℕ) → ShowsDate line n → date line ≡ Some n
+unfolding date
+date-shows line n (t, (p, valid, shown, same)) =
+    rw (t, parse_complete (trim line) p valid shown, is_valid_complete p valid, same)
+
 -- the date that a line shows is a valid one
 pub date_parts : (line : Line) (n : ℕ) → date line ≡ Some n → (p : Parts) × IsValid p × (parts_secs p ≡ n)
-unfolding date
-date_parts line n e =
-    let shown = cond_some_of (is_text line) (parse_secs (trim line)) n e in
-    and_then_some valid_secs (parse (trim line)) n shown λ p read secs.
-    let (valid, same) = cond_some (is_valid p) (parts_secs p) n secs in
-    (p, is_valid_sound p valid, same)
-  where
-    cond_some_of : (b : Bool) (o : Option ℕ) (m : ℕ) → cond b o None ≡ Some m → o ≡ Some m
-    cond_some_of true o m h = h
-    cond_some_of false o m h = absurd (none-some m h)
+date_parts line n e = let (text, (p, valid, shown, same)) = shows-date line n e in (p, valid, same)
 
 -- which lies before the year 10000
 pub date_bound : (line : Line) (n : ℕ) → date line ≡ Some n → IsDated n
@@ -371,15 +306,8 @@ date-no_text line h = rw (no_text line h) refl
 -- ---- a printed date is no number
 
 name_no_digits : (n : ℕ) (rest : Line) → IsInRange 1 7 n → all_ascii_digits (after_plus (day_name n ++ rest)) ≡ false
-name_no_digits (suc zero) rest h = refl
-name_no_digits (suc (suc zero)) rest h = refl
-name_no_digits (suc (suc (suc zero))) rest h = refl
-name_no_digits (suc (suc (suc (suc zero)))) rest h = refl
-name_no_digits (suc (suc (suc (suc (suc zero))))) rest h = refl
-name_no_digits (suc (suc (suc (suc (suc (suc zero)))))) rest h = refl
-name_no_digits (suc (suc (suc (suc (suc (suc (suc zero))))))) rest h = refl
-name_no_digits zero rest h = absurd (omega arith)
-name_no_digits (suc (suc (suc (suc (suc (suc (suc (suc k)))))))) rest h = absurd (omega arith)
+name_no_digits n rest =
+    by_day_name (λ name. all_ascii_digits (after_plus (name ++ rest)) ≡ false) refl refl refl refl refl refl refl n
 
 pub number-fixdate : (line : Line) (n : ℕ) → date line ≡ Some n → number (fixdate n) ≡ None
 number-fixdate line n e =
@@ -389,21 +317,3 @@ number-fixdate line n e =
     ap number printed
     ∙ number-no_digits (day_name p.wday ++ after_day_name p (codes " GMT"))
     (name_no_digits p.wday (after_day_name p (codes " GMT")) (wday_range p shown.1))
-
--- ---- what a line shows
-
-pub shows-date : (line : Line) (n : ℕ) → date line ≡ Some n → ShowsDate line n
-unfolding date
-shows-date line n e =
-    elim (cases_Bool (is_text line)) [
-      | inl t ↦ let shown : parse_secs (trim line) ≡ Some n = rw t at e in
-          and_then_some valid_secs (parse (trim line)) n shown λ p read secs.
-          let (valid, same) = cond_some (is_valid p) (parts_secs p) n secs in
-          (t, (p, is_valid_sound p valid, parse_sound (trim line) p read, same))
-      | inr f ↦ let none : None ≡ Some n = rw f at e in absurd (cc none)
-    ]
-
-pub date-shows : (line : Line) (n : ℕ) → ShowsDate line n → date line ≡ Some n
-unfolding date
-date-shows line n (t, (p, valid, shown, same)) =
-    rw (t, parse_complete (trim line) p valid shown, is_valid_complete p valid, same)

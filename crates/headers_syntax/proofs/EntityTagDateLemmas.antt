@@ -1,14 +1,12 @@
 -- A printed date is no entity tag.
-use Rattle.std.proofs.Common.{◌≡◌, ◌≢◌, ℕ, zero, suc, Bool, true, false, ◌∷◌, ◌++◌, Some, get_or, sym, ◌∙◌, ap, arith}
+use Rattle.std.proofs.Common.{◌≡◌, ◌≢◌, ℕ, Bool, true, false, ◌∷◌, ◌++◌, Some, get_or, sym, ◌∙◌, ap, arith}
 use Rattle.std.specs.Int.{IsInRange}
 use Rattle.httpdate.specs.Text.{day_name}
-use Rattle.httpdate.specs.Valid.{IsValid}
-use Rattle.httpdate.specs.declared.parts.Parts.{Parts}
 use Rattle.httpdate.proofs.FormatLemmas.{imf_fixdate_grouped}
 use Rattle.headers_syntax.specs.Date.{date, fixdate}
 use Rattle.headers_syntax.specs.EntityTag.{tag_text, is_tag}
 use Rattle.headers_syntax.specs.Lines.{Line}
-use Rattle.headers_syntax.proofs.DateLemmas.{date_parts, fixdate-is}
+use Rattle.headers_syntax.proofs.DateLemmas.{by_day_name, date_parts, fixdate-is, wday_range}
 use Rattle.headers_syntax.proofs.EntityTagLemmas.{is_tag-false}
 
 -- a tag begins with a quote, or has a slash next
@@ -23,20 +21,15 @@ no_tag a b rest first second =
 
 -- the name of a day has neither
 day_no_tag : (n : ℕ) (rest : Line) → IsInRange 1 7 n → is_tag (day_name n ++ rest) ≡ false
-day_no_tag (suc zero) rest h = no_tag 77 111 _ (λ e. omega (arith, e)) (λ e. omega (arith, e))
-day_no_tag (suc (suc zero)) rest h = no_tag 84 117 _ (λ e. omega (arith, e)) (λ e. omega (arith, e))
-day_no_tag (suc (suc (suc zero))) rest h = no_tag 87 101 _ (λ e. omega (arith, e)) (λ e. omega (arith, e))
-day_no_tag (suc (suc (suc (suc zero)))) rest h = no_tag 84 104 _ (λ e. omega (arith, e)) (λ e. omega (arith, e))
-day_no_tag (suc (suc (suc (suc (suc zero))))) rest h = no_tag 70 114 _ (λ e. omega (arith, e)) (λ e. omega (arith, e))
-day_no_tag (suc (suc (suc (suc (suc (suc zero)))))) rest h =
-    no_tag 83 97 _ (λ e. omega (arith, e)) (λ e. omega (arith, e))
-day_no_tag (suc (suc (suc (suc (suc (suc (suc zero))))))) rest h =
-    no_tag 83 117 _ (λ e. omega (arith, e)) (λ e. omega (arith, e))
-day_no_tag zero rest h = absurd (omega arith)
-day_no_tag (suc (suc (suc (suc (suc (suc (suc (suc k)))))))) rest h = absurd (omega arith)
-
-wday_range : (p : Parts) → IsValid p → IsInRange 1 7 p.wday
-wday_range p valid = let e = valid.2 in (omega arith, omega arith)
+day_no_tag n rest =
+    by_day_name (λ name. is_tag (name ++ rest) ≡ false)
+    (no_tag 77 111 _ (λ e. omega (arith, e)) (λ e. omega (arith, e)))
+    (no_tag 84 117 _ (λ e. omega (arith, e)) (λ e. omega (arith, e)))
+    (no_tag 87 101 _ (λ e. omega (arith, e)) (λ e. omega (arith, e)))
+    (no_tag 84 104 _ (λ e. omega (arith, e)) (λ e. omega (arith, e)))
+    (no_tag 70 114 _ (λ e. omega (arith, e)) (λ e. omega (arith, e)))
+    (no_tag 83 97 _ (λ e. omega (arith, e)) (λ e. omega (arith, e)))
+    (no_tag 83 117 _ (λ e. omega (arith, e)) (λ e. omega (arith, e))) n
 
 pub is_tag-fixdate : (line : Line) (n : ℕ) → date line ≡ Some n → is_tag (fixdate n) ≡ false
 is_tag-fixdate line n e =

@@ -5,6 +5,7 @@ pub mod EntityTagDateLemmas
 pub mod EntityTagLemmas
 pub mod NumberLemmas
 pub mod OfLinesLemmas
+pub mod OptionLemmas
 pub mod PartsLemmas
 pub mod PlainLemmas
 pub mod ShapeLemmas

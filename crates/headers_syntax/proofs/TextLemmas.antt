@@ -1,12 +1,16 @@
 -- What is text.
-use Rattle.std.proofs.Common.{◌≡◌, ℕ, ◌-◌, Bool, true, false, List, [], ◌∷◌, ◌++◌, take, drop, refl, ◌∙◌, ap, inl, inr}
-use Rattle.std.proofs.lemmas.Bool.{cases_Bool, false_from_ne_true, and_parts, and_from}
+use Rattle.std.proofs.Common.{◌≡◌, ℕ, ◌-◌, Bool, true, false, List, [], ◌∷◌, ◌++◌, take, drop, refl, sym, ◌∙◌, ap}
+use Rattle.std.proofs.Common.{arith, inl, inr}
+use Rattle.std.proofs.lemmas.Bool.{cases_Bool, false_from_ne_true, and_parts, and_from, ne_eqb}
+use Rattle.std.proofs.lemmas.Bool.Decides.{nat_tests}
 use Rattle.std.proofs.lemmas.List.{take-append-drop}
 use Rattle.std.specs.List.{list_all, slice_range}
+use Rattle.std.proofs.lemmas.List.Folds.{list_all-append}
 use Rattle.std.proofs.lemmas.List.Sums.{AllPass-from_list_all, list_all-from_AllPass}
-use Rattle.http_header.specs.Token.{is_visible_or_blank, is_value_byte}
+use Rattle.http_header.specs.Token.{is_token_byte, is_visible_or_blank, is_value_byte}
+use Rattle.http_header.proofs.TokenLemmas.{token_byte_range}
 use Rattle.http_header.specs.FieldValue.{IsVisibleAscii, IsFieldValue}
-use Rattle.headers_syntax.specs.Text.{is_text}
+use Rattle.headers_syntax.specs.Text.{is_blank, is_quote, is_text, quote}
 
 pub is_text-from_visible : (s : List ℕ) → IsVisibleAscii s → is_text s ≡ true
 is_text-from_visible s h = list_all-from_AllPass is_visible_or_blank s h
@@ -26,12 +30,25 @@ list_all-parts f (x ∷ xs) ys h =
     let later = list_all-parts f xs ys parts.1 in
     (and_from _ _ parts.0 later.0, later.1)
 
+pub list_all-both : (f : ℕ → Bool) (xs ys : List ℕ) → list_all f xs ≡ true → list_all f ys ≡ true
+    → list_all f (xs ++ ys) ≡ true
+list_all-both f xs ys a b = list_all-append f xs ys ∙ and_from _ _ a b
+
 -- a part of a text is text
 pub is_text-slice : (s : List ℕ) (i j : ℕ) → is_text s ≡ true → is_text (slice_range s i j) ≡ true
 is_text-slice s i j h =
     let rest = (list_all-parts is_visible_or_blank (take i s) (drop i s) (ap is_text (take-append-drop i s) ∙ h)).1 in
     (list_all-parts is_visible_or_blank (take (j - i) (drop i s)) (drop (j - i) (drop i s))
     (ap is_text (take-append-drop (j - i) (drop i s)) ∙ rest)).0
+
+-- a byte of a token is no space or tab, and no quote
+pub token_no_blank : (b : ℕ) → is_token_byte b ≡ true → is_blank b ≡ false
+token_no_blank b t = let range = token_byte_range b t in grind (arith, nat_tests)
+
+pub token_no_quote : (b : ℕ) → is_token_byte b ≡ true → is_quote b ≡ false
+unfolding is_token_byte
+token_no_quote b t =
+    ne_eqb b quote (λ e. let bad : is_token_byte quote ≡ true = ap is_token_byte (sym e) ∙ t in absurd (cc bad))
 
 -- a value that is not refused is one
 pub IsFieldValue-from_kept : (bytes : List ℕ) → ¬ (¬ (IsFieldValue bytes)) → IsFieldValue bytes

@@ -16,26 +16,19 @@ date line = if is_text line then parse_secs (trim line) else None
 abbrev pub IsDated : ℕ → Type 0
 IsDated secs = secs < 253_402_300_800
 
--- The year in which a day lies, and how many days of that year have passed, if `days` have passed since `year` began.
--- At most n years are counted off.
-unfoldable pub year_of : ℕ → ℕ → ℕ → ℕ × ℕ
-year_of zero year days = (year, days)
-year_of (suc n) year days = if nat_lt days (days_in_year year) then (year, days)
-    else year_of n (year + 1) (days - days_in_year year)
-
--- the same for the months of a year
-unfoldable pub month_of : ℕ → ℕ → ℕ → ℕ → ℕ × ℕ
-month_of zero year month days = (month, days)
-month_of (suc n) year month days =
-    if nat_lt days (days_in_month year month) then (month, days)
-    else month_of n year (month + 1) (days - days_in_month year month)
+-- The unit in which a day lies, a year or a month, and how many days of it have passed, if `days` have passed since
+-- `unit` began. `length` says how many days each has. At most n units are counted off.
+unfoldable pub unit_of : (ℕ → ℕ) → ℕ → ℕ → ℕ → ℕ × ℕ
+unit_of length zero unit days = (unit, days)
+unit_of length (suc n) unit days = if nat_lt days (length unit) then (unit, days)
+    else unit_of length n (unit + 1) (days - length unit)
 
 -- the date and the time of day this many seconds after the start of 1970, up to 8029 years and 11 months later
 abbrev pub parts_at : ℕ → Parts
 parts_at secs =
     let days = secs / 86400 in
-    let year = year_of 8029 1970 days in
-    let month = month_of 11 year.0 1 year.1 in
+    let year = unit_of days_in_year 8029 1970 days in
+    let month = unit_of (days_in_month year.0) 11 1 year.1 in
     record {
       year = year.0;
       mon = month.0;

@@ -82,7 +82,6 @@ pub fn push_clone(values: &mut Vec<HeaderValue>, value: &HeaderValue) -> Result<
     ensures ok { OnOk result (values.new.items ≡ values.old.items ++ value.now ∷ []) }
     ensures err { OnErr result (values.new.items ≡ values.old.items) }
 {
-    let copy = value.clone()?;
-    values.push(copy)?;
+    values.push(value.clone()?)?;
     Ok(())
 }

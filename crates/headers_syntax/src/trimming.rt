@@ -1,7 +1,7 @@
 //! Spaces and tabs at the ends of a piece.
 ghost use Rattle.std.specs.Prelude.{◌≡◌, ◌-◌, ◌≤◌, length};
 ghost use Rattle.std.specs.List.{prefix_len, suffix_len, slice_range};
-ghost use Rattle.headers_syntax.specs.Text.{is_blank, trim};
+ghost use Rattle.headers_syntax.specs.Text.{is_blank, trim, trim_start};
 
 fn is_blank(byte: u8) -> bool
     ensures { result ≡ is_blank byte }
@@ -47,6 +47,13 @@ pub fn trimmed(bytes: &[u8], start: usize, end: usize) -> (usize, usize)
     let low = leading(piece);
     let rest = &piece[low..];
     (start + low, start + low + without_trailing(rest))
+}
+
+/// The bytes without leading spaces and tabs.
+pub fn trim_start(bytes: &[u8]) -> &[u8]
+    ensures { result.now ≡ trim_start bytes.now }
+{
+    &bytes[leading(bytes)..]
 }
 
 /// The bytes without leading and trailing spaces and tabs (RFC 9110, section 5.6.3).

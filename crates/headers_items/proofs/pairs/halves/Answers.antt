@@ -8,7 +8,8 @@ use Rattle.headers_items.proofs.pairs.halves.Goals as goal
 pub returns : goal.returns
 returns c =
     let same = c.as_bytes-bytes.ensures.value in
-    pair_of-some c.args.item.now c.as_bytes-bytes.result.now c.range.result.now c.range-2.result.now c.in_ok-equals.equals
+    pair_of-some c.args.item.now c.as_bytes-bytes.result.now c.range.result.now c.range-2.result.now
+    c.in_ok-equals.equals
     same c.in_ok-equals.ensures
     (c.range.ensures.value
     ∙ ap (λ (s : List ℕ). slice_range s c.trimmed-start.result.0 c.trimmed-start.result.1) (sym same)

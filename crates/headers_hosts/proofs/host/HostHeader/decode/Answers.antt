@@ -5,8 +5,8 @@ use Rattle.headers_hosts.specs.Host.{IsHostLine}
 use Rattle.headers_hosts.proofs.OneLineLemmas.{decodes_line}
 use Rattle.headers_hosts.proofs.host.HostHeader.decode.Goals as goal
 
-pub returns-in-Some-clause-value : goal.returns-in-Some-clause-value
-returns-in-Some-clause-value g c =
-    decodes_line first_line IsHostLine g.I.Item.AsHeaderValue.shown g.I.Iterator.next_gives _ _ c.in-Some.line
-    c.as_header_value.result.now.bytes c.from_val.result
-    c.in-Some.ensures.value (ap (λ (v : FieldValue). v.bytes) c.as_header_value.ensures) c.from_val.ensures
+pub returns-clause-value : goal.returns-clause-value
+returns-clause-value g c =
+    decodes_line first_line IsHostLine g.I.Item.AsHeaderValue.shown g.I.Iterator.next_gives _ _ c.in_ok-line.line
+    c.as_header_value.result.now.bytes c.from_val.result (rw c.in_ok-line.ensures.ok_part at c.first.ensures.value)
+    (ap (λ (v : FieldValue). v.bytes) c.as_header_value.ensures) c.from_val.ensures

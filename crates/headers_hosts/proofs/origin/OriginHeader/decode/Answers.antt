@@ -5,8 +5,9 @@ use Rattle.headers_hosts.specs.Origin.{IsOriginLine}
 use Rattle.headers_hosts.proofs.OneLineLemmas.{decodes_line}
 use Rattle.headers_hosts.proofs.origin.OriginHeader.decode.Goals as goal
 
-pub returns-in-Some-clause-value : goal.returns-in-Some-clause-value
-returns-in-Some-clause-value g c =
-    decodes_line only_line IsOriginLine g.I.Item.AsHeaderValue.shown g.I.Iterator.next_gives _ _ c.in-Some.line
+pub returns-clause-value : goal.returns-clause-value
+returns-clause-value g c =
+    decodes_line only_line IsOriginLine g.I.Item.AsHeaderValue.shown g.I.Iterator.next_gives _ _ c.in_ok-line.line
     c.as_header_value.result.now.bytes c.origin_of_line.result
-    c.in-Some.ensures.value (ap (λ (v : FieldValue). v.bytes) c.as_header_value.ensures) c.origin_of_line.ensures
+    (rw c.in_ok-line.ensures.ok_part at c.just_one.ensures.value)
+    (ap (λ (v : FieldValue). v.bytes) c.as_header_value.ensures) c.origin_of_line.ensures
