@@ -1,6 +1,7 @@
 -- What a text that is a directive begins with, and that it is one directive only.
-use Rattle.std.proofs.Common.{◌≡◌, ℕ, suc, ◌+◌, ◌-◌, ◌<◌, ◌≤◌, Bool, true, false, not, cond, List, [], ◌∷◌, ◌++◌, length, get_or, take, drop}
-use Rattle.std.proofs.Common.{Option, Some, None, refl, sym, ◌∙◌, ap, subst, arith, length-drop, option_map}
+use Rattle.std.proofs.Common.{◌≡◌, ℕ, suc, ◌+◌, ◌-◌, ◌<◌, ◌≤◌, Bool, true, false, not, cond, List, [], ◌∷◌, ◌++◌}
+use Rattle.std.proofs.Common.{length, get_or, take, drop, Option, Some, None, refl, sym, ◌∙◌, ap, subst, arith}
+use Rattle.std.proofs.Common.{length-drop}
 use Rattle.std.proofs.Math.Seq.{take-append_seam}
 use Rattle.std.proofs.lemmas.List.{take_all, take-append-drop}
 use Rattle.std.proofs.lemmas.List.Folds.{length-prefix_len}
@@ -8,10 +9,10 @@ use Rattle.std.proofs.lemmas.Bool.{and_parts, ne_eqb}
 use Rattle.std.specs.Prelude.{◌&&◌, ◌==◌}
 use Rattle.std.specs.List.{list_all, prefix_len}
 use Rattle.http_header.specs.Token.{is_token_byte}
-use Rattle.headers_fields.specs.Values.{ValueParts, is_token, is_value, value_text, is_quoted_text}
+use Rattle.headers_fields.specs.Values.{ValueParts, is_token, is_value, value_text}
 use Rattle.headers_fields.specs.Values.ValueParts.{TokenText, QuotedText}
-use Rattle.headers_fields.specs.Directives.{DirectiveParts, IsDirective, IsArgument, argument_text, is_argument, is_directive}
-use Rattle.headers_fields.specs.Directives.{directive_text, directive_member}
+use Rattle.headers_fields.specs.Directives.{DirectiveParts, IsDirective, IsArgument, argument_text, is_argument}
+use Rattle.headers_fields.specs.Directives.{is_directive}
 
 false_true : false ≡ true → ⊥
 false_true e = cc

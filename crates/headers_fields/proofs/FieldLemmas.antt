@@ -1,5 +1,6 @@
 -- The loops over the members of a field.
-use Rattle.std.proofs.Common.{◌≡◌, ℕ, Bool, true, false, cond, List, [], ◌∷◌, ◌++◌, map, find, Option, Some, None, refl, sym, ◌∙◌, ap, subst}
+use Rattle.std.proofs.Common.{◌≡◌, ℕ, Bool, true, false, cond, List, [], ◌∷◌, ◌++◌, map, find, Option, Some, None}
+use Rattle.std.proofs.Common.{refl, sym, ◌∙◌, ap, subst}
 use Rattle.std.specs.Prelude.{◌&&◌}
 use Rattle.std.specs.List.{list_all}
 use Rattle.std.proofs.lemmas.Bool.{and_parts}
@@ -10,11 +11,12 @@ use Rattle.headers_fields.specs.Scan.{Member}
 use Rattle.headers_fields.specs.Scan.Member.{Whole, Malformed}
 use Rattle.headers_fields.specs.Scan.{closes}
 use Rattle.headers_fields.specs.Members.{members, field_members, combined, is_whole, is_well_formed}
-use Rattle.headers_fields.specs.Laws.{DirectivesParseOneWay, JoinKeepsDirectives, WellFormedFieldIsWhole, MalformedIsClearOfNone}
+use Rattle.headers_fields.specs.Laws.{DirectivesParseOneWay, JoinKeepsDirectives, WellFormedFieldIsWhole}
+use Rattle.headers_fields.specs.Laws.{MalformedIsClearOfNone}
 use Rattle.headers_fields.specs.declared.scan.State.TheVariants.{Outside}
-use Rattle.headers_fields.specs.Directives.{DirectiveParts, IsDirective, IsMemberDirective, ListsDirectives, AreDirectives}
-use Rattle.headers_fields.specs.Directives.{FindsDirective, IsClearOf, HasOtherThanDirectives, directive_text, directive_member}
-use Rattle.headers_fields.specs.Directives.{is_directive, is_named, or_named}
+use Rattle.headers_fields.specs.Directives.{DirectiveParts, IsMemberDirective}
+use Rattle.headers_fields.specs.Directives.{AreDirectives, FindsDirective, IsClearOf, HasOtherThanDirectives}
+use Rattle.headers_fields.specs.Directives.{directive_text, directive_member, is_directive, is_named, or_named}
 use Rattle.headers_fields.proofs.DirectiveLemmas.{directive_once}
 use Rattle.headers_fields.proofs.JoinLemmas.{join_keeps_members}
 use Rattle.headers_fields.proofs.PieceLemmas.{whole_members}
@@ -118,10 +120,12 @@ directives_once (x ∷ ds) (y ∷ es) v w e =
     let texts : directive_text x ≡ directive_text y = cc in
     let tails : map directive_member ds ≡ map directive_member es = cc in
     let same : x ≡ y =
-    directive_once (directive_text x) x y (record { valid = p.0; written = refl }) (record { valid = q.0; written = texts }) in
+    directive_once (directive_text x) x y (record { valid = p.0; written = refl })
+    (record { valid = q.0; written = texts }) in
     ap (λ d. d ∷ ds) same ∙ ap (λ ds. y ∷ ds) (directives_once ds es p.1 q.1 tails)
 
-pub are_once : (lines : List Line) (ds es : List DirectiveParts) → AreDirectives lines ds → AreDirectives lines es → ds ≡ es
+pub are_once : (lines : List Line) (ds es : List DirectiveParts) → AreDirectives lines ds → AreDirectives lines es
+    → ds ≡ es
 are_once lines ds es h k = directives_once ds es h.valid k.valid (sym h.written ∙ k.written)
 
 pub found_once : (lines : List Line) (name : List ℕ) (a b : Option DirectiveParts) → FindsDirective lines name a

@@ -10,7 +10,7 @@ use Rattle.headers_fields.specs.Grammar.{part_text, is_element, element_text, li
 use Rattle.headers_fields.specs.Grammar.Octet.{Plain, Pair}
 use Rattle.headers_fields.specs.Grammar.Part.{Byte, Quoted}
 use Rattle.headers_fields.specs.Scan.{Member, state_after, is_cut, closes, push, pieces}
-use Rattle.headers_fields.specs.Scan.Member.{Whole, Malformed}
+use Rattle.headers_fields.specs.Scan.Member.{Whole}
 use Rattle.headers_fields.specs.Laws.{ParsesOneWay}
 use Rattle.headers_fields.specs.declared.scan.State.{State}
 use Rattle.headers_fields.specs.declared.scan.State.TheVariants.{Outside, Inside, Escaped}

@@ -1,19 +1,19 @@
 -- Lines that are joined by a comma and a space, and lines that end malformed.
-use Rattle.std.proofs.Common.{◌≡◌, ℕ, suc, ◌+◌, Bool, true, false, cond, List, [], ◌∷◌, ◌++◌, map, filter, drop, refl, sym, ◌∙◌, ap, subst, arith, inl, inr, ◌⊎◌}
-use Rattle.std.specs.Prelude.{◌&&◌, ◌==◌}
+use Rattle.std.proofs.Common.{◌≡◌, ℕ, suc, ◌+◌, Bool, true, false, cond, List, [], ◌∷◌, ◌++◌, map, filter, drop}
+use Rattle.std.proofs.Common.{refl, sym, ◌∙◌, ap, subst, arith, inl, inr, ◌⊎◌}
+use Rattle.std.specs.Prelude.{◌==◌}
 use Rattle.std.specs.List.{list_all, prefix_len}
 use Rattle.std.proofs.lemmas.Bool.{and_parts, eqb-true}
 use Rattle.std.proofs.lemmas.List.{map-append, append_assoc, append-nil}
 use Rattle.std.proofs.lemmas.List.Elements.{filter-append}
-use Rattle.headers_syntax.specs.Lines.{Line}
 use Rattle.headers_syntax.specs.Text.{trim, trim_end, is_blank}
 use Rattle.headers_fields.specs.Scan.{Member, state_after, is_cut, is_outside, closes, push, pieces}
 use Rattle.headers_fields.specs.Scan.Member.{Whole, Malformed}
-use Rattle.headers_fields.specs.Members.{members_of, members, field_members, combined, is_member, trimmed}
+use Rattle.headers_fields.specs.Members.{members_of, members, combined, is_member, trimmed}
 use Rattle.headers_fields.specs.Laws.{KeepsMembersBefore, JoinKeepsMembers, EndsMalformed, MalformedComesLast}
 use Rattle.headers_fields.specs.declared.scan.State.{State}
 use Rattle.headers_fields.specs.declared.scan.State.TheVariants.{Outside, Inside, Escaped}
-use Rattle.headers_fields.proofs.ScanLemmas.{pieces-cons, pieces-push, pieces-cut}
+use Rattle.headers_fields.proofs.ScanLemmas.{pieces-push}
 use Rattle.headers_fields.proofs.PieceLemmas.{SomePieces, some_pieces, cut_outside, no_members}
 
 push-append : (b : ℕ) (ps qs : List Member) → SomePieces ps → push b (ps ++ qs) ≡ push b ps ++ qs

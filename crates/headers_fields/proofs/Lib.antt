@@ -1,3 +1,4 @@
+mod CommentLemmas
 mod DirectiveLemmas
 mod FieldLemmas
 mod GrammarLemmas

@@ -1,7 +1,8 @@
 -- Digits, read with a greatest number.
-use Rattle.std.proofs.Common.{◌≡◌, ℕ, suc, ◌+◌, ◌-◌, ◌*◌, ◌^◌, Bool, true, false, cond, List, [], ◌∷◌, length, Option, Some, None, refl, sym, ◌∙◌, ap, arith}
+use Rattle.std.proofs.Common.{◌≡◌, ℕ, suc, ◌+◌, ◌-◌, ◌*◌, ◌^◌, Bool, true, false, cond, List, [], ◌∷◌, length}
+use Rattle.std.proofs.Common.{Option, Some, None, refl, sym, ◌∙◌, ap, arith}
 use Rattle.std.proofs.Math.Nat.{pow-suc}
-use Rattle.std.specs.Prelude.{◌&&◌, min, option_and_then, unwrap_or}
+use Rattle.std.specs.Prelude.{◌&&◌, min, option_and_then}
 use Rattle.std.specs.Char.{is_ascii_digit}
 use Rattle.std.specs.Str.{all_ascii_digits}
 use Rattle.headers_syntax.specs.Number.{decimal_value}
@@ -48,7 +49,8 @@ number_from-none g (b ∷ s) =
     let zero_more : 0 * 10 + d ≡ d = omega arith in
     digit_step g (0 * 10 + d) (min (0 * 10 + d) g) b s (is_ascii_digit b)
     (number_some g (0 * 10 + d) (min (0 * 10 + d) g) s refl)
-    ∙ ap (λ k. cond (is_ascii_digit b && all_ascii_digits s) (Some (min (k * 10 ^ length s + decimal_value s) g)) None) zero_more
+    ∙ ap (λ k. cond (is_ascii_digit b && all_ascii_digits s)
+    (Some (min (k * 10 ^ length s + decimal_value s) g)) None) zero_more
 
 -- the loop's fact, carried over an octet and to the end
 pub number_from-next : (g : ℕ) (m r : Option ℕ) (b : ℕ) (left rest : List ℕ) (all : Option ℕ) → left ≡ b ∷ rest

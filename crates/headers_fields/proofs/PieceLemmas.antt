@@ -1,16 +1,17 @@
 -- Pieces: that there is one, and which of them are whole.
-use Rattle.std.proofs.Common.{◌≡◌, ℕ, zero, suc, ◌+◌, Bool, true, false, not, cond, List, [], ◌∷◌, ◌++◌, map, filter, length, refl, sym, ◌∙◌, ap}
+use Rattle.std.proofs.Common.{◌≡◌, ℕ, Bool, true, false, not, cond, List, [], ◌∷◌}
+use Rattle.std.proofs.Common.{length, refl, sym, ◌∙◌, ap}
 use Rattle.std.specs.Prelude.{◌&&◌, ◌==◌}
 use Rattle.std.specs.List.{list_all}
 use Rattle.std.proofs.lemmas.Bool.{and_parts, eqb-true}
 use Rattle.headers_syntax.specs.Text.{trim}
 use Rattle.headers_fields.specs.Grammar.{comma}
-use Rattle.headers_fields.specs.Scan.{Member, is_outside, state_after, is_cut, closes, last_member, with_byte, push, pieces}
+use Rattle.headers_fields.specs.Scan.{Member, state_after, is_cut, closes, last_member, with_byte, push}
+use Rattle.headers_fields.specs.Scan.{pieces}
 use Rattle.headers_fields.specs.Scan.Member.{Whole, Malformed}
-use Rattle.headers_fields.specs.Members.{is_member, is_whole, trimmed, members_of, members}
+use Rattle.headers_fields.specs.Members.{is_whole, members_of, members}
 use Rattle.headers_fields.specs.declared.scan.State.{State}
 use Rattle.headers_fields.specs.declared.scan.State.TheVariants.{Outside, Inside, Escaped}
-use Rattle.headers_fields.proofs.ScanLemmas.{pieces-cons, pieces-push, pieces-cut}
 
 -- some pieces, of which there's one at least
 pub record SomePieces (ps : List Member) : Type 0 where

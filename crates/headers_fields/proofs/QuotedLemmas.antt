@@ -5,7 +5,7 @@ use Rattle.std.specs.Option.{option_map_or}
 use Rattle.std.specs.List.{flat_map, list_all}
 use Rattle.std.proofs.lemmas.Bool.{and_parts, eqb-true}
 use Rattle.http_header.specs.Token.{is_value_byte}
-use Rattle.headers_fields.specs.Grammar.{Octet, is_octet, octet_text, octet_value}
+use Rattle.headers_fields.specs.Grammar.{Octet, is_octet, octet_text}
 use Rattle.headers_fields.specs.Grammar.Octet.{Plain, Pair}
 use Rattle.headers_fields.specs.Values.{escape_after, is_quoted_text, is_qdtext, octets_from}
 use Rattle.headers_fields.specs.Laws.{QuotedTextsParse, QuotedTextsAreOctets}
@@ -33,7 +33,8 @@ quoted_texts_parse (Plain b ∷ os) h =
     let n : (b == 92) ≡ false = not_true (b == 92) y.1 in
     let rest = quoted_texts_parse os x.1 in
     let s = flat_map octet_text os in (
-      ap (λ c. option_map_or (λ next. is_quoted_text next s) (cond c (Some true) (cond (is_qdtext b) (Some false) None)) false) n
+      ap (λ c. option_map_or (λ next. is_quoted_text next s)
+          (cond c (Some true) (cond (is_qdtext b) (Some false) None)) false) n
           ∙ ap (λ c. option_map_or (λ next. is_quoted_text next s) (cond c (Some false) None) false) x.0 ∙ rest.0,
       octets-plain b s n ∙ ap (λ t. b ∷ t) rest.1,
     )

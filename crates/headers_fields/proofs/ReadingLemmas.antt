@@ -5,8 +5,8 @@ use Rattle.std.specs.List.{flat_map, list_all}
 use Rattle.std.proofs.lemmas.Bool.{and_parts, eqb-true}
 use Rattle.std.proofs.lemmas.List.{append_assoc}
 use Rattle.http_header.specs.Token.{is_value_byte}
-use Rattle.headers_fields.specs.Grammar.{Octet, Part, Element, is_octet, octet_text, is_part}
-use Rattle.headers_fields.specs.Grammar.{part_text, is_element, element_text, list_text, IsList}
+use Rattle.headers_fields.specs.Grammar.{Octet, Part, Element, is_octet, octet_text, is_part, part_text, is_element}
+use Rattle.headers_fields.specs.Grammar.{element_text, list_text, IsList}
 use Rattle.headers_fields.specs.Grammar.Octet.{Plain, Pair}
 use Rattle.headers_fields.specs.Grammar.Part.{Byte, Quoted}
 use Rattle.headers_fields.specs.Scan.{state_after, closes}
@@ -49,9 +49,11 @@ outside_quote sep p b s e r =
     record {
       first = Quoted r.octets ∷ r.first;
       others = r.others;
-      valid = ap (λ v. (v && is_element sep p r.first) && list_all (is_element sep p) r.others) r.valid_octets ∙ r.valid;
+      valid = ap (λ v. (v && is_element sep p r.first) && list_all (is_element sep p) r.others) r.valid_octets
+          ∙ r.valid;
       text = ap (λ x. x ∷ s) e ∙ ap (λ x. 34 ∷ x) r.text
-          ∙ ap (λ x. 34 ∷ x) (sym (append_assoc (flat_map octet_text r.octets) (34 ∷ []) (list_text sep r.first r.others)))
+          ∙ ap (λ x. 34 ∷ x) (sym (append_assoc (flat_map octet_text r.octets) (34 ∷ [])
+          (list_text sep r.first r.others)))
           ∙ sym (list_text-part sep (Quoted r.octets) r.first r.others);
     }
 

@@ -1,12 +1,13 @@
 -- The steps of the loop over a text, and what the end of its first element makes of its pieces.
-use Rattle.std.proofs.Common.{◌≡◌, ℕ, zero, suc, ◌+◌, ◌<◌, ◌≤◌, Bool, true, false, cond, List, [], ◌∷◌, length, get_or, take, drop}
-use Rattle.std.proofs.Common.{Option, Some, None, refl, sym, ◌∙◌, ap, subst, add-one, arith}
+use Rattle.std.proofs.Common.{◌≡◌, ℕ, zero, suc, ◌+◌, ◌<◌, ◌≤◌, Bool, true, false, cond, List, [], ◌∷◌, length}
+use Rattle.std.proofs.Common.{get_or, take, drop, Some, None, refl, sym, ◌∙◌, ap, subst, add-one, arith}
 use Rattle.std.proofs.lemmas.Bool.{false_from_ne_true, or_parts}
-use Rattle.std.proofs.lemmas.List.{drop_all, take_all}
+use Rattle.std.proofs.lemmas.List.{drop_all}
 use Rattle.std.proofs.Math.Seq.{drop-cons}
-use Rattle.std.specs.Prelude.{◌&&◌, ◌==◌, MatchOption}
+use Rattle.std.specs.Prelude.{◌&&◌, ◌==◌}
 use Rattle.memchr.specs.Find.{IsFirstByte, is_byte2}
-use Rattle.headers_fields.specs.Scan.{Member, is_outside, state_after, is_cut, end_of, end_from, last_member, push, pieces, FindsEnd}
+use Rattle.headers_fields.specs.Scan.{state_after, is_cut, end_of, end_from, push}
+use Rattle.headers_fields.specs.Scan.{pieces, FindsEnd}
 use Rattle.headers_fields.specs.Scan.Member.{Whole, Malformed}
 use Rattle.headers_fields.specs.declared.scan.State.{State}
 use Rattle.headers_fields.specs.declared.scan.State.TheVariants.{Outside, Inside, Escaped}
@@ -15,16 +16,19 @@ use Rattle.headers_fields.specs.declared.scan.End.TheVariants.{Cut, Closed, Open
 
 pub end_from-step : (sep : ℕ) (q : Bool) (st : State) (i : ℕ) (s : List ℕ) → i < length s
     → end_from sep q st i (drop i s)
-    ≡ cond (is_cut sep st (get_or s i 0)) (Cut i) (end_from sep q (state_after q st (get_or s i 0)) (i + 1) (drop (i + 1) s))
+    ≡ cond (is_cut sep st (get_or s i 0)) (Cut i) (end_from sep q (state_after q st (get_or s i 0)) (i + 1)
+    (drop (i + 1) s))
 unfolding end_from
 end_from-step sep q st i s h =
     ap (end_from sep q st i) (drop-cons s i 0 h)
-    ∙ ap (λ n. cond (is_cut sep st (get_or s i 0)) (Cut i) (end_from sep q (state_after q st (get_or s i 0)) (i + 1) (drop n s)))
+    ∙ ap (λ n. cond (is_cut sep st (get_or s i 0)) (Cut i) (end_from sep q (state_after q st (get_or s i 0)) (i + 1)
+    (drop n s)))
     (sym (add-one i))
 
 -- the loop's fact, carried over a byte and to the end
 pub end_from-next : (sep : ℕ) (q : Bool) (st st' : State) (i : ℕ) (s : List ℕ) (all : End) → i < length s
-    → is_cut sep st (get_or s i 0) ≡ false → st' ≡ state_after q st (get_or s i 0) → all ≡ end_from sep q st i (drop i s)
+    → is_cut sep st (get_or s i 0) ≡ false → st' ≡ state_after q st (get_or s i 0)
+    → all ≡ end_from sep q st i (drop i s)
     → all ≡ end_from sep q st' (i + 1) (drop (i + 1) s)
 end_from-next sep q st st' i s all h e n a =
     a ∙ end_from-step sep q st i s h

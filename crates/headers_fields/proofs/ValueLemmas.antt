@@ -1,14 +1,12 @@
 -- The loop over what stands between quotes, and its octets.
-use Rattle.std.proofs.Common.{◌≡◌, ℕ, ◌+◌, ◌<◌, ◌≤◌, Bool, true, false, not, cond, List, [], ◌∷◌, length, get_or, take, drop, ◌-◌}
-use Rattle.std.proofs.Common.{Option, Some, None, refl, sym, ◌∙◌, ap, add-one, arith}
-use Rattle.std.specs.Prelude.{◌&&◌, ◌==◌}
+use Rattle.std.proofs.Common.{◌≡◌, ℕ, ◌+◌, ◌<◌, ◌≤◌, Bool, true, false, not, cond, List, [], ◌∷◌, length, get_or}
+use Rattle.std.proofs.Common.{take, drop, ◌-◌, Option, refl, sym, ◌∙◌, ap, add-one, arith}
+use Rattle.std.specs.Prelude.{◌==◌}
 use Rattle.std.specs.Option.{option_map_or}
-use Rattle.std.specs.List.{flat_map, list_all}
 use Rattle.std.proofs.Math.Seq.{drop-cons}
 use Rattle.std.proofs.lemmas.List.{drop_all, take_all}
-use Rattle.std.proofs.lemmas.Bool.{and_parts, eqb-true, false_from_ne_true}
-use Rattle.http_header.specs.Token.{is_value_byte}
-use Rattle.headers_fields.specs.Values.{escape_after, is_quoted_text, octets_from, octets_after, is_skipped}
+use Rattle.std.proofs.lemmas.Bool.{eqb-true, false_from_ne_true}
+use Rattle.headers_fields.specs.Values.{escape_after, is_quoted_text, octets_from, octets_after}
 
 quoted-step : (e : Bool) (i : ℕ) (s : List ℕ) → i < length s
     → is_quoted_text e (drop i s)

@@ -1,13 +1,15 @@
 -- Digits of a weight, and the parts of a text.
-use Rattle.std.proofs.Common.{◌≡◌, ℕ, suc, ◌+◌, ◌-◌, ◌*◌, ◌^◌, ◌<◌, ◌≤◌, Bool, true, false, cond, List, [], ◌∷◌, length, get_or, take, drop, Option, Some, None, refl, sym, ◌∙◌, ap, subst, arith, option_map}
+use Rattle.std.proofs.Common.{◌≡◌, ℕ, suc, ◌+◌, ◌-◌, ◌*◌, ◌^◌, ◌<◌, ◌≤◌, Bool, true, false, cond, List, [], ◌∷◌}
+use Rattle.std.proofs.Common.{length, Some, None, refl, sym, ◌∙◌, ap, subst, arith}
+use Rattle.std.proofs.Common.{option_map}
 use Rattle.std.proofs.Math.Nat.{pow-suc, mul-le-mul_left}
-use Rattle.std.specs.Prelude.{◌&&◌, ◌==◌, min, nat_le}
+use Rattle.std.specs.Prelude.{◌&&◌, min, nat_le}
 use Rattle.std.specs.Char.{is_ascii_digit}
 use Rattle.std.specs.Str.{all_ascii_digits}
 use Rattle.std.proofs.lemmas.Bool.{and_parts, leb-true, le-leb}
 use Rattle.headers_syntax.specs.Number.{decimal_value}
-use Rattle.headers_fields.specs.Numbers.{number_within, is_number}
-use Rattle.headers_fields.specs.Weights.{thousandths, fraction, weight, one}
+use Rattle.headers_fields.specs.Numbers.{number_within}
+use Rattle.headers_fields.specs.Weights.{thousandths}
 
 -- what k digits write is below 10 ^ k
 below : (s : List ℕ) → all_ascii_digits s ≡ true → decimal_value s < 10 ^ length s

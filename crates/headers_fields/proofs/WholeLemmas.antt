@@ -1,17 +1,17 @@
 -- A whole member is well formed by itself.
-use Rattle.std.proofs.Common.{◌≡◌, ℕ, zero, suc, ◌+◌, ◌-◌, ◌<◌, ◌≤◌, Bool, true, false, not, cond, List, [], ◌∷◌, ◌++◌, length, get_or, take, drop}
-use Rattle.std.proofs.Common.{refl, sym, ◌∙◌, ap, subst, arith, inl, inr}
+use Rattle.std.proofs.Common.{◌≡◌, ℕ, zero, suc, ◌+◌, ◌-◌, ◌≤◌, Bool, true, false, not, cond, List, [], ◌∷◌}
+use Rattle.std.proofs.Common.{◌++◌, length, get_or, take, drop, refl, sym, ◌∙◌, ap, subst, arith, inl, inr}
 use Rattle.std.proofs.Math.Seq.{take-suc}
 use Rattle.std.proofs.lemmas.Bool.{and_parts, cases_Bool, eqb-true, or_cases}
 use Rattle.std.proofs.lemmas.List.{take_all}
 use Rattle.std.proofs.lemmas.List.Sums.{suffix_len-take_yes, suffix_len-take_no}
-use Rattle.std.specs.Prelude.{◌&&◌, ◌||◌, ◌==◌}
+use Rattle.std.specs.Prelude.{◌&&◌, ◌==◌}
 use Rattle.std.specs.List.{list_all, prefix_len, suffix_len}
-use Rattle.headers_syntax.specs.Text.{trim, trim_start, trim_end, is_blank}
-use Rattle.headers_fields.specs.Grammar.{comma, IsSeparator}
+use Rattle.headers_syntax.specs.Text.{trim, trim_start, is_blank}
+use Rattle.headers_fields.specs.Grammar.{comma}
 use Rattle.headers_fields.specs.Scan.{Member, is_outside, state_after, is_cut, closes, last_member, push, pieces}
 use Rattle.headers_fields.specs.Scan.Member.{Whole, Malformed}
-use Rattle.headers_fields.specs.Members.{members, members_of, is_member, is_whole, trimmed, closes_member}
+use Rattle.headers_fields.specs.Members.{members_of, closes_member}
 use Rattle.headers_fields.specs.Laws.{PartsAreWhole, WholeMembersAreWellFormed}
 use Rattle.headers_fields.specs.declared.scan.State.{State}
 use Rattle.headers_fields.specs.declared.scan.State.TheVariants.{Outside, Inside, Escaped}
@@ -75,7 +75,8 @@ trailing q st s (suc m) h e =
     elim (cases_Bool (is_blank (get_or s m 0))) [
       | inl blank ↦
           let len : suffix_len is_blank (take (suc m) s) ≡ 1 + suffix_len is_blank (take m s) =
-          suffix_len-take_yes is_blank s (suc m) 0 (omega arith) h (ap (λ k. is_blank (get_or s k 0)) (omega arith) ∙ blank)
+          suffix_len-take_yes is_blank s (suc m) 0 (omega arith) h (ap (λ k. is_blank (get_or s k 0)) (omega arith)
+          ∙ blank)
           ∙ ap (λ k. 1 + suffix_len is_blank (take k s)) (omega arith) in
           let front : closes q st (take m s) ≡ true =
           strip_last q st (take m s) (get_or s m 0) blank (sym (ap (closes q st) (take-suc s m 0 (omega arith))) ∙ e) in
@@ -83,7 +84,8 @@ trailing q st s (suc m) h e =
           subst (λ (k : ℕ). closes q st (take k s) ≡ true) same (trailing q st s m (omega arith) front)
       | inr other ↦
           let len : suffix_len is_blank (take (suc m) s) ≡ 0 =
-          suffix_len-take_no is_blank s (suc m) 0 (omega arith) h (ap (λ k. is_blank (get_or s k 0)) (omega arith) ∙ other) in
+          suffix_len-take_no is_blank s (suc m) 0 (omega arith) h (ap (λ k. is_blank (get_or s k 0)) (omega arith)
+          ∙ other) in
           let same : suc m ≡ suc m - suffix_len is_blank (take (suc m) s) = omega arith in
           subst (λ (k : ℕ). closes q st (take k s) ≡ true) same e
     ]
@@ -123,7 +125,8 @@ unfolding closes
 closed_at_cut sep q st b h = (and_parts (b == sep) (is_outside st) h).1
 
 step_closes : (sep : ℕ) (q : Bool) (st : State) (b : ℕ) (s : List ℕ) (c : Bool) → is_cut sep st b ≡ c
-    → PiecesClose q Outside (pieces sep q Outside s) → PiecesClose q (state_after q st b) (pieces sep q (state_after q st b) s)
+    → PiecesClose q Outside (pieces sep q Outside s) → PiecesClose q (state_after q st b)
+    (pieces sep q (state_after q st b) s)
     → PiecesClose q st (cond c (Whole [] ∷ pieces sep q Outside s) (push b (pieces sep q (state_after q st b) s)))
 step_closes sep q st b s true e h k = (closed_at_cut sep q st b e, h)
 step_closes sep q st b s false e h k = push_closes q st b (pieces sep q (state_after q st b) s) k
@@ -132,7 +135,8 @@ pub pieces_close : (sep : ℕ) (q : Bool) (st : State) (s : List ℕ) → Pieces
 unfolding pieces
 pieces_close sep q st [] = (last_closes q st, tt)
 pieces_close sep q st (b ∷ s) =
-    step_closes sep q st b s (is_cut sep st b) refl (pieces_close sep q Outside s) (pieces_close sep q (state_after q st b) s)
+    step_closes sep q st b s (is_cut sep st b) refl (pieces_close sep q Outside s)
+    (pieces_close sep q (state_after q st b) s)
 
 members_of_close : (q : Bool) (ps : List Member) → PiecesClose q Outside ps
     → list_all (closes_member q) (members_of ps) ≡ true

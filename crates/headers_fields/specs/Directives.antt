@@ -1,5 +1,6 @@
 -- Directives and parameters: a name, and maybe a value (RFC 9111, section 5.2; RFC 9110, section 5.6.6).
-use Rattle.std.specs.Prelude.{◌≡◌, ℕ, Bool, true, false, ◌&&◌, List, [], ◌∷◌, ◌++◌, map, find, Option, None, Some, option_map, if◌then◌else◌}
+use Rattle.std.specs.Prelude.{◌≡◌, ℕ, Bool, true, false, ◌&&◌, List, [], ◌∷◌, ◌++◌, map, find, Option, None, Some}
+use Rattle.std.specs.Prelude.{option_map, if◌then◌else◌}
 use Rattle.std.specs.List.{list_all}
 use Rattle.headers_syntax.specs.AsciiCase.{same_name}
 use Rattle.headers_syntax.specs.Lines.{Line}

@@ -75,8 +75,8 @@ abbrev pub list_text : ℕ → Element → List Element → List ℕ
 list_text separator e [] = element_text e
 list_text separator e (f ∷ es) = element_text e ++ separator ∷ list_text separator f es
 
--- a list as the grammar has it: [ element ] *( OWS "," OWS [ element ] ) (section 5.6.1). With a semicolon, it's a value
--- and its parameters (section 5.6.6).
+-- a list as the grammar has it: [ element ] *( OWS "," OWS [ element ] ) (section 5.6.1). With a semicolon,
+-- it's a value and its parameters (section 5.6.6).
 pub record IsList (separator : ℕ) (pairs : Bool) (s : List ℕ) : Type 0 where
   pub first : Element
   pub others : List Element

@@ -3,8 +3,8 @@ use Rattle.std.specs.Prelude.{◌≡◌, ℕ, Bool, true, false, List, [], ◌�
 use Rattle.std.specs.List.{flat_map, list_all}
 use Rattle.http_header.specs.Token.{is_value_byte}
 use Rattle.headers_syntax.specs.Lines.{Line}
-use Rattle.headers_fields.specs.Grammar.{Octet, is_octet, octet_text, octet_value}
-use Rattle.headers_fields.specs.Grammar.{Element, is_element, element_text, list_text, IsList, IsSeparator, comma, semicolon, space}
+use Rattle.headers_fields.specs.Grammar.{Octet, is_octet, octet_text, octet_value, Element, is_element, element_text}
+use Rattle.headers_fields.specs.Grammar.{list_text, IsList, IsSeparator, comma, semicolon, space}
 use Rattle.headers_fields.specs.Scan.{closes, pieces}
 use Rattle.headers_fields.specs.Scan.Member.{Whole, Malformed}
 use Rattle.headers_fields.specs.Members.{members, field_members, closes_member, combined, is_whole, is_well_formed}
@@ -81,7 +81,8 @@ QuotedTextsAreOctets = (s : List ℕ) → is_quoted_text false s ≡ true
 -- a text is one directive only, and a field has one list of directives only
 pub record DirectivesParseOneWay : Type 0 where
   pub one : (text : List ℕ) (d e : DirectiveParts) → IsDirective text d → IsDirective text e → d ≡ e
-  pub all : (lines : List Line) (ds es : List DirectiveParts) → AreDirectives lines ds → AreDirectives lines es → ds ≡ es
+  pub all : (lines : List Line) (ds es : List DirectiveParts) → AreDirectives lines ds → AreDirectives lines es
+      → ds ≡ es
 
 -- well formed lines have the same directives as the one line that they make if they are joined
 abbrev pub JoinKeepsDirectives : Type 0

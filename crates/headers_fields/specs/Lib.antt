@@ -1,3 +1,5 @@
+pub mod CommentScan
+pub mod Comments
 pub mod Directives
 pub mod Grammar
 pub mod Laws

@@ -1,13 +1,14 @@
 -- Where the text between two quotes ends, and where a list is cut, byte by byte.
-use Rattle.std.specs.Prelude.{◌≡◌, ℕ, ◌+◌, Bool, true, false, ◌&&◌, ◌==◌, List, [], ◌∷◌}
-use Rattle.std.specs.Prelude.{◌<◌, length, take, drop, if◌then◌else◌}
+use Rattle.std.specs.Prelude.{◌≡◌, ℕ, ◌+◌, Bool, true, false, ◌&&◌, ◌==◌, List, [], ◌∷◌, ◌<◌, length, take, drop}
+use Rattle.std.specs.Prelude.{if◌then◌else◌}
 use Rattle.headers_fields.specs.Grammar.{quote, backslash}
 use Rattle.headers_fields.specs.declared.scan.State.{State}
 use Rattle.headers_fields.specs.declared.scan.State.TheVariants.{Outside, Inside, Escaped}
 use Rattle.headers_fields.specs.declared.scan.End.{End}
 use Rattle.headers_fields.specs.declared.scan.End.TheVariants.{Cut, Closed, Open}
 
--- what a list has between two separators: a whole element, or, after its last separator, a text whose last quote has no end
+-- what a list has between two separators: a whole element, or, after its last separator, a text whose last quote has
+-- no end
 pub data Member : Type 0 where
   Whole : List ℕ → Member
   Malformed : Member
@@ -50,7 +51,8 @@ push b (m ∷ ms) = with_byte b m ∷ ms
 unfoldable pub pieces : ℕ → Bool → State → List ℕ → List Member
 pieces separator pairs state [] = last_member state ∷ []
 pieces separator pairs state (b ∷ s) =
-    if is_cut separator state b then Whole [] ∷ pieces separator pairs Outside s else push b (pieces separator pairs (state_after pairs state b) s)
+    if is_cut separator state b then Whole [] ∷ pieces separator pairs Outside s
+    else push b (pieces separator pairs (state_after pairs state b) s)
 
 -- how an element ends with its text, in that state
 abbrev pub end_of : State → End

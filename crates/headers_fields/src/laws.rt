@@ -1,4 +1,5 @@
 //! What follows from the definitions alone. A proof cites a law by calling it.
+ghost use Rattle.headers_fields.specs.Comments.{CommentsParseOneWay};
 ghost use Rattle.headers_fields.specs.Laws.{HasAReading, JoinKeepsMembers, KeepsMembersBefore, MalformedComesLast};
 ghost use Rattle.headers_fields.specs.Laws.{DirectivesParseOneWay, JoinKeepsDirectives, MalformedIsClearOfNone};
 ghost use Rattle.headers_fields.specs.Laws.{ParsesOneWay, PartsAreWhole, QuotedTextsAreOctets, QuotedTextsParse};
@@ -81,4 +82,9 @@ pub fn malformed_fields_are_clear_of_none()
 /// Members are cut at commas, and parameters at semicolons: both are separators of the grammar.
 pub fn commas_and_semicolons_separate()
     ensures { Separate }
+{}
+
+/// A text begins with one comment at most (section 5.6.5).
+pub fn comments_parse_one_way()
+    ensures { CommentsParseOneWay }
 {}

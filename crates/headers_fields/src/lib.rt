@@ -1,11 +1,11 @@
-//! The grammar of field values: lists, quoted-strings, parameters, directives and numbers (RFC 9110,
+//! The grammar of field values: lists, quoted-strings, comments, parameters, directives and numbers (RFC 9110,
 //! section 5.6).
 //!
 //! A member of a list is a slice of its field line, and nothing allocates. What the grammar doesn't
 //! have is malformed, and no reading of it is guessed: a caller takes it as the strictest answer.
-//! Comments (section 5.6.5) are not read, since no list that is parsed here has any.
 #![tactic(auto)]
 
+mod comments;
 mod directives;
 mod error;
 mod field;
@@ -17,6 +17,7 @@ mod scan;
 mod values;
 mod weights;
 
+pub use crate::comments::skip_comment;
 pub use crate::directives::{Directive, read_directive};
 pub use crate::error::Malformed;
 pub use crate::field::{are_tokens, contains_token, find_directive, is_clear_of};

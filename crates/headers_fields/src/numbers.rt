@@ -1,5 +1,6 @@
 //! Numbers: `1*DIGIT`.
-ghost use Rattle.std.specs.Prelude.{◌≡◌, ◌≤◌, ◌<◌, ◌^◌, ◌-◌, ◌+◌, ◌*◌, Some, None, IfSome, min, unwrap_or, if◌then◌else◌};
+ghost use Rattle.std.specs.Prelude.{◌≡◌, ◌≤◌, ◌<◌, ◌^◌, ◌-◌, ◌+◌, ◌*◌, Some, None, IfSome, min, unwrap_or};
+ghost use Rattle.std.specs.Prelude.{if◌then◌else◌};
 ghost use Rattle.std.specs.Char.{is_ascii_digit};
 ghost use Rattle.headers_fields.specs.Numbers.{number_within, with_digit};
 ghost use Rattle.headers_fields.specs.Values.{octets_of, value_parts};

@@ -51,7 +51,7 @@ pub fn is_token(text: &[u8]) -> bool
 }
 
 // Whether a field may have the byte: a tab, a space, a visible byte, or one past ASCII.
-fn is_value_byte(byte: u8) -> bool
+pub(crate) fn is_value_byte(byte: u8) -> bool
     ensures { result ≡ is_value_byte byte }
 {
     byte == b'\t' || (byte >= b' ' && byte != 127)

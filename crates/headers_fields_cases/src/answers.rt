@@ -3,7 +3,8 @@ use crate::words::{NAME, Words, push_bytes, push_word};
 use anyhow::{Result, bail};
 use headers_fields::{
     Directive, FieldMembers, Malformed, Members, Parameterized, Value, are_tokens, contains_token,
-    delta_seconds, find_directive, is_clear_of, number, read_directive, read_value, weight,
+    delta_seconds, find_directive, is_clear_of, number, read_directive, read_value, skip_comment,
+    weight,
 };
 use std::alloc::{AllocError, Global};
 
@@ -173,6 +174,12 @@ fn call_weight(alloc: Global, words: &mut Words<'_>, answer: &mut String) -> Res
     Ok(push_number(answer, weight(&text).map(u64::from))?)
 }
 
+// TEXT: what follows the comment that it begins with.
+fn call_comment(alloc: Global, words: &mut Words<'_>, answer: &mut String) -> Result<()> {
+    let text = words.bytes(alloc)?;
+    Ok(push_member(answer, skip_comment(&text))?)
+}
+
 fn make_call(alloc: Global, name: &str, words: &mut Words<'_>, answer: &mut String) -> Result<()> {
     match name {
         "members" => call_members(alloc, words, answer),
@@ -188,6 +195,7 @@ fn make_call(alloc: Global, name: &str, words: &mut Words<'_>, answer: &mut Stri
         "number" => call_number(alloc, words, answer),
         "seconds" => call_seconds(alloc, words, answer),
         "weight" => call_weight(alloc, words, answer),
+        "comment" => call_comment(alloc, words, answer),
         _ => bail!("no such call: {name}"),
     }
 }

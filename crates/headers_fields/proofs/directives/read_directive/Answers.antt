@@ -1,4 +1,4 @@
-use Rattle.std.proofs.Common.{refl, sym, ◌∙◌, arith}
+use Rattle.std.proofs.Common.{sym, ◌∙◌, arith}
 use Rattle.headers_fields.proofs.DirectiveLemmas.{no_name, argument_at, directive_at}
 use Rattle.headers_fields.proofs.directives.read_directive.Goals as goal
 

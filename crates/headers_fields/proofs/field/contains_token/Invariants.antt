@@ -6,7 +6,8 @@ use Rattle.headers_fields.proofs.field.contains_token.Given as goal
 
 abbrev pub invariant-loop-member : goal.invariant-loop-member
 invariant-loop-member l =
-    list_any (is_same_token l.token) (field_left l.initial.members) ≡ list_any (is_same_token l.token) (field_left l.members)
+    list_any (is_same_token l.token) (field_left l.initial.members)
+    ≡ list_any (is_same_token l.token) (field_left l.members)
 
 abbrev pub decreases-loop-member : goal.decreases-loop-member
 decreases-loop-member l = length (field_left l.members)

@@ -1,4 +1,4 @@
-use Rattle.std.proofs.Common.{◌≡◌, length, option_map}
+use Rattle.std.proofs.Common.{length, option_map}
 use Rattle.headers_fields.specs.Members.{field_left}
 use Rattle.headers_fields.specs.Directives.{directive_parts}
 use Rattle.headers_fields.proofs.FieldLemmas.{SoFar}

@@ -5,4 +5,5 @@ use Rattle.headers_fields.proofs.scan.end_from.Given as goal
 
 abbrev pub invariant-loop-place : goal.invariant-loop-place
 invariant-loop-place l =
-    end_from l.separator l.pairs Outside l.from (drop l.from l.text) ≡ end_from l.separator l.pairs l.state l.place (drop l.place l.text)
+    end_from l.separator l.pairs Outside l.from (drop l.from l.text)
+    ≡ end_from l.separator l.pairs l.state l.place (drop l.place l.text)

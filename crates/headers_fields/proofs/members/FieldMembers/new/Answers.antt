@@ -1,4 +1,4 @@
-use Rattle.std.proofs.Common.{true, false, ap, ◌∙◌, ◌++◌}
+use Rattle.std.proofs.Common.{true, ap, ◌∙◌, ◌++◌}
 use Rattle.headers_syntax.specs.Lines.{lines_of}
 use Rattle.headers_fields.specs.Members.{field_members}
 use Rattle.headers_fields.proofs.PieceLemmas.{no_members}

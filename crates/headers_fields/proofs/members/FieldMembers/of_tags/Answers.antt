@@ -1,4 +1,4 @@
-use Rattle.std.proofs.Common.{true, false, ap, ◌∙◌, ◌++◌}
+use Rattle.std.proofs.Common.{false, ap, ◌∙◌, ◌++◌}
 use Rattle.headers_syntax.specs.Lines.{lines_of}
 use Rattle.headers_fields.specs.Members.{field_members}
 use Rattle.headers_fields.proofs.PieceLemmas.{no_members}
@@ -6,6 +6,7 @@ use Rattle.headers_fields.proofs.members.FieldMembers.of_tags.Goals as goal
 
 pub returns : goal.returns
 returns c =
-    ap (λ ms. ms ++ field_members c.of_tags.result.pairs (lines_of c.iter.result)) (c.of_tags.ensures.members ∙ no_members false)
+    ap (λ ms. ms ++ field_members c.of_tags.result.pairs (lines_of c.iter.result)) (c.of_tags.ensures.members
+    ∙ no_members false)
     ∙ ap (λ q. field_members q (lines_of c.iter.result)) c.of_tags.ensures.pairs
     ∙ ap (λ vs. field_members false (lines_of vs)) c.iter.ensures

@@ -7,7 +7,8 @@ use Rattle.headers_fields.proofs.values.Octets.next.Goals as goal
 pub returns : goal.returns
 returns c =
     sym (ap octets_left c.self.view_is)
-    ∙ octets_some c.self.inside.is_quoted c.self.inside.rest.now c.behind_backslash-text.result.now c.in_ok-octet.octet.now
+    ∙ octets_some c.self.inside.is_quoted c.self.inside.rest.now c.behind_backslash-text.result.now
+    c.in_ok-octet.octet.now
     c.in_ok-octet.rest.now c.behind_backslash-text.ensures c.in_ok-octet.ensures.cases.0
 
 pub returns-in_err-octet : goal.returns-in_err-octet
