@@ -1,16 +1,18 @@
 -- What follows from the rules of the client, and which of them each return of `check` has seen.
-use Rattle.std.proofs.Common.{◌≡◌, ℕ, zero, suc, ◌+◌, refl, ap, arith}
+use Rattle.std.proofs.Common.{◌≡◌, ℕ, zero, suc, ◌+◌, ◌<◌, ◌≤◌, refl, ap, arith, inl, inr}
 use Rattle.headers.specs.LineMap.{LineMap}
 use Rattle.headers_handshake.specs.Client.{AcceptsKey, Checks, IsOpened, IsSwitched, NamesWebsocket, Rule, flaw_number}
+use Rattle.headers_handshake.specs.Extensions.{HasExtensions, UsesAskedExtensions}
 use Rattle.headers_handshake.specs.Fields.{ListsUpgrade}
-use Rattle.headers_handshake.specs.Offers.{UsesAskedExtensions, UsesAskedProtocol}
+use Rattle.headers_handshake.specs.Protocols.{UsesAskedProtocol}
 use Rattle.headers_handshake.specs.Rules.{IsFirstBroken, KeepsBelow}
 use Rattle.headers_handshake.specs.declared.client.Checked.{Checked}
 use Rattle.headers_handshake.specs.declared.client.Checked.TheVariants.{Open, Fail}
 use Rattle.headers_handshake.specs.declared.client.Flaw.{Flaw}
 use Rattle.headers_handshake.specs.declared.client.Flaw.TheVariants.{NotSwitched, NoUpgrade, NoConnection, WrongAccept}
-use Rattle.headers_handshake.specs.declared.client.Flaw.TheVariants.{UnaskedExtension, UnaskedProtocol}
-use Rattle.headers_handshake.proofs.RuleLemmas.{keeps_next, one_first}
+use Rattle.headers_handshake.specs.declared.client.Flaw.TheVariants.{MalformedExtensions, UnaskedExtension}
+use Rattle.headers_handshake.specs.declared.client.Flaw.TheVariants.{UnaskedProtocol}
+use Rattle.headers_handshake.proofs.RuleLemmas.{keeps_next, one_first, some_first}
 
 -- the flaw of a number
 abbrev flaw_at : ℕ → Flaw
@@ -18,7 +20,8 @@ flaw_at zero = NotSwitched
 flaw_at (suc zero) = NoUpgrade
 flaw_at (suc (suc zero)) = NoConnection
 flaw_at (suc (suc (suc zero))) = WrongAccept
-flaw_at (suc (suc (suc (suc zero)))) = UnaskedExtension
+flaw_at (suc (suc (suc (suc zero)))) = MalformedExtensions
+flaw_at (suc (suc (suc (suc (suc zero))))) = UnaskedExtension
 flaw_at n = UnaskedProtocol
 
 flaw_back : (flaw : Flaw) → flaw_at (flaw_number flaw) ≡ flaw
@@ -26,8 +29,27 @@ flaw_back NotSwitched = refl
 flaw_back NoUpgrade = refl
 flaw_back NoConnection = refl
 flaw_back WrongAccept = refl
+flaw_back MalformedExtensions = refl
 flaw_back UnaskedExtension = refl
 flaw_back UnaskedProtocol = refl
+
+flaw_low : (flaw : Flaw) → flaw_number flaw < 7
+flaw_low NotSwitched = omega arith
+flaw_low NoUpgrade = omega arith
+flaw_low NoConnection = omega arith
+flaw_low WrongAccept = omega arith
+flaw_low MalformedExtensions = omega arith
+flaw_low UnaskedExtension = omega arith
+flaw_low UnaskedProtocol = omega arith
+
+at_low : (n : ℕ) → flaw_number (flaw_at n) ≤ n
+at_low zero = omega arith
+at_low (suc zero) = omega arith
+at_low (suc (suc zero)) = omega arith
+at_low (suc (suc (suc zero))) = omega arith
+at_low (suc (suc (suc (suc zero)))) = omega arith
+at_low (suc (suc (suc (suc (suc zero))))) = omega arith
+at_low (suc (suc (suc (suc (suc (suc n)))))) = omega arith
 
 module _ (sent : LineMap) (status : ℕ) (response : LineMap) where
   -- the rules of this response, and those before a number
@@ -67,27 +89,48 @@ module _ (sent : LineMap) (status : ℕ) (response : LineMap) where
   first_accept switched upgrade connection fails =
       record { broken = fails; before = below_3 switched upgrade connection }
 
-  pub first_extension : IsSwitched status → NamesWebsocket response → ListsUpgrade response → AcceptsKey sent response
-      → ¬ (UsesAskedExtensions sent response) → First UnaskedExtension
-  first_extension switched upgrade connection accept fails =
+  below_5 : IsSwitched status → NamesWebsocket response → ListsUpgrade response → AcceptsKey sent response
+      → HasExtensions response → KeepsBelow flaw_number R 5
+  below_5 switched upgrade connection accept extensions =
+      next 4 (below_4 switched upgrade connection accept) extensions
+
+  pub first_malformed : IsSwitched status → NamesWebsocket response → ListsUpgrade response → AcceptsKey sent response
+      → ¬ (HasExtensions response) → First MalformedExtensions
+  first_malformed switched upgrade connection accept fails =
       record { broken = fails; before = below_4 switched upgrade connection accept }
 
+  pub first_extension : IsSwitched status → NamesWebsocket response → ListsUpgrade response → AcceptsKey sent response
+      → HasExtensions response → ¬ (UsesAskedExtensions sent response) → First UnaskedExtension
+  first_extension switched upgrade connection accept extensions fails =
+      record { broken = fails; before = below_5 switched upgrade connection accept extensions }
+
   pub first_protocol : IsSwitched status → NamesWebsocket response → ListsUpgrade response → AcceptsKey sent response
-      → UsesAskedExtensions sent response → ¬ (UsesAskedProtocol sent response) → First UnaskedProtocol
-  first_protocol switched upgrade connection accept extension fails =
-      record { broken = fails; before = next 4 (below_4 switched upgrade connection accept) extension }
+      → HasExtensions response → UsesAskedExtensions sent response → ¬ (UsesAskedProtocol sent response)
+      → First UnaskedProtocol
+  first_protocol switched upgrade connection accept extensions asked fails =
+      record { broken = fails; before = next 5 (below_5 switched upgrade connection accept extensions) asked }
 
   pub opened : IsSwitched status → NamesWebsocket response → ListsUpgrade response → AcceptsKey sent response
-      → UsesAskedExtensions sent response → UsesAskedProtocol sent response → IsOpened sent status response
-  opened switched upgrade connection accept extension protocol NotSwitched = switched
-  opened switched upgrade connection accept extension protocol NoUpgrade = upgrade
-  opened switched upgrade connection accept extension protocol NoConnection = connection
-  opened switched upgrade connection accept extension protocol WrongAccept = accept
-  opened switched upgrade connection accept extension protocol UnaskedExtension = extension
-  opened switched upgrade connection accept extension protocol UnaskedProtocol = protocol
+      → HasExtensions response → UsesAskedExtensions sent response → UsesAskedProtocol sent response
+      → IsOpened sent status response
+  opened switched upgrade connection accept extensions asked protocol NotSwitched = switched
+  opened switched upgrade connection accept extensions asked protocol NoUpgrade = upgrade
+  opened switched upgrade connection accept extensions asked protocol NoConnection = connection
+  opened switched upgrade connection accept extensions asked protocol WrongAccept = accept
+  opened switched upgrade connection accept extensions asked protocol MalformedExtensions = extensions
+  opened switched upgrade connection accept extensions asked protocol UnaskedExtension = asked
+  opened switched upgrade connection accept extensions asked protocol UnaskedProtocol = protocol
 
   pub one_result : (a b : Checked) → Checks sent status response a → Checks sent status response b → a ≡ b
   one_result Open Open h k = refl
   one_result Open (Fail g) h k = absurd (k.broken (h g))
   one_result (Fail f) Open h k = absurd (h.broken (k f))
   one_result (Fail f) (Fail g) h k = ap (λ flaw. Fail flaw) (one_first flaw_number flaw_at flaw_back R f g h k)
+
+  pub some_result : ¬ (¬ ((result : Checked) × Checks sent status response result))
+  some_result never =
+      some_first flaw_number flaw_at flaw_back R at_low 7 (λ found.
+      elim found [
+        | inl all ↦ never (Open, λ flaw. all flaw (flaw_low flaw))
+        | inr first ↦ never (Fail first.0, first.1)
+      ])

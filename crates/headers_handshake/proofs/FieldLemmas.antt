@@ -1,55 +1,38 @@
--- What the lines that both ends write have for items, and what an iterator over lines was given.
-use Rattle.std.proofs.Common.{◌≡◌, List, [], ◌∷◌, ◌++◌, map, Option, None, true, false, Bool, IsTrue}
-use Rattle.std.proofs.Common.{refl, sym, ◌∙◌, ap, subst, arith, codes}
-use Rattle.std.specs.Bool.{MatchBool}
-use Rattle.std.specs.Iterator.{Yields, YieldsThen, YieldsFirstRef}
-use denote.Ref.{Bor}
-use Rattle.http_header.specs.FieldValue.{FieldValue}
+-- What the fields that both ends set have for members.
+use Rattle.std.proofs.Common.{◌≡◌, [], ◌∷◌, true, refl, codes}
+use Rattle.std.specs.List.{list_all}
+use Rattle.http_header.specs.Token.{is_token_byte}
 use Rattle.headers.specs.LineMap.{LineMap}
-use Rattle.headers.specs.Lines.{Line, lines_of}
-use Rattle.headers.specs.OfLines.{OfLines}
-use Rattle.headers.specs.Places.{comma, items, pieces, places, is_counting_place}
-use Rattle.headers_handshake.specs.Fields.{ListsUpgrade, ListsWebsocket}
+use Rattle.headers_fields.specs.Directives.{is_token_member}
+use Rattle.headers_fields.specs.Members.{field_members}
+use Rattle.headers_fields.specs.Scan.{pieces, push}
+use Rattle.headers_fields.specs.Scan.Member.{Whole}
+use Rattle.headers_handshake.specs.Fields.{ListsUpgrade, ListsWebsocket, is_protocol}
 
--- what an iterator over references shows
-abbrev shown : Bor FieldValue → FieldValue
-shown item = item.now
+websocket_member : field_members true (codes "websocket" ∷ []) ≡ Whole (codes "websocket") ∷ []
+unfolding pieces push
+websocket_member = refl
 
--- the steps of an iterator over the values of a name
-abbrev value_steps : List FieldValue → Option (Bor FieldValue) → List FieldValue → Type 0
-value_steps = YieldsFirstRef (λ it. it)
+websocket_protocol : list_all is_protocol (Whole (codes "websocket") ∷ []) ≡ true
+unfolding is_token_byte
+websocket_protocol = refl
 
--- some calls gave the first of the lines
-left_after : (s t : List FieldValue) (given : List (Bor FieldValue)) → Yields value_steps s given t
-    → lines_of s ≡ map (λ item. (shown item).bytes) given ++ lines_of t
-left_after s t [] e = ap lines_of e
-left_after s t (x ∷ given) calls =
-    ap lines_of calls.1 ∙ ap (λ (ls : List Line). (shown x).bytes ∷ ls) (left_after calls.0 t given calls.2)
+upgrade_member : field_members true (codes "upgrade" ∷ []) ≡ Whole (codes "upgrade") ∷ []
+unfolding pieces push
+upgrade_member = refl
 
--- so what is said of the lines that it gave holds of them all
-pub OfLines-values : (s t : List FieldValue) (P : List Line → Type 0) → OfLines shown value_steps s t P
-    → P (lines_of s)
-OfLines-values s t P g = by g.ended g.calls g.holds
-  where
-    by : (ended : Bool) → MatchBool ended (YieldsThen value_steps s g.items None t) (Yields value_steps s g.items t)
-        → ((more : List Line) → (IsTrue ended → more ≡ []) → P (map (λ item. (shown item).bytes) g.items ++ more))
-        → P (lines_of s)
-    by true calls holds =
-        subst P (sym (left_after s calls.0 g.items calls.1)) (holds (lines_of calls.0) (λ _. ap lines_of calls.2.0))
-    by false calls holds =
-        subst P (sym (left_after s t g.items calls)) (holds (lines_of t) (λ e. absurd (cc e)))
+upgrade_token : list_all is_token_member (Whole (codes "upgrade") ∷ []) ≡ true
+unfolding is_token_byte
+upgrade_token = refl
 
--- a word of Upgrade or Connection is its only item
-websocket_item : items comma (codes "websocket") ≡ codes "websocket" ∷ []
-unfolding pieces places is_counting_place
-websocket_item = refl
+pub lists_websocket : (map : LineMap) → map (codes "upgrade") ≡ codes "websocket" ∷ [] → ListsWebsocket map
+lists_websocket map is = record {
+  protocols = rw is (rw websocket_member websocket_protocol);
+  listed = rw is (rw websocket_member refl);
+}
 
-upgrade_item : items comma (codes "upgrade") ≡ codes "upgrade" ∷ []
-unfolding pieces places is_counting_place
-upgrade_item = refl
-
-pub written_lists_websocket : (map : LineMap) → map (codes "upgrade") ≡ codes "websocket" ∷ [] → ListsWebsocket map
-written_lists_websocket map is = rw is (rw websocket_item (0, codes "websocket", omega arith, refl, refl))
-
-pub written_lists_upgrade : (map : LineMap) → map (codes "connection") ≡ codes "upgrade" ∷ [] → ListsUpgrade map
-written_lists_upgrade map is = rw is (rw upgrade_item (0, codes "upgrade", omega arith, refl, refl))
+pub lists_upgrade : (map : LineMap) → map (codes "connection") ≡ codes "upgrade" ∷ [] → ListsUpgrade map
+lists_upgrade map is = record {
+  tokens = rw is (rw upgrade_member upgrade_token);
+  listed = rw is (rw upgrade_member refl);
+}

@@ -1,7 +1,8 @@
 pub mod ClientLemmas
+pub mod CutLemmas
+pub mod ExtensionLemmas
 pub mod FieldLemmas
 pub mod HandshakeLemmas
-pub mod OfferLemmas
+pub mod ProtocolLemmas
 pub mod RuleLemmas
 pub mod ServerLemmas
-pub mod StepLemmas

@@ -4,14 +4,16 @@ use Rattle.http_header.specs.Token.{lowercase}
 use Rattle.websocket.specs.Handshake.{accept_key_of}
 use Rattle.headers.specs.LineMap.{LineMap}
 use Rattle.headers.specs.Lines.{Line, only_line}
+use Rattle.headers_handshake.specs.Extensions.{HasExtensions, UsesAskedExtensions}
 use Rattle.headers_handshake.specs.Fields.{ListsUpgrade}
-use Rattle.headers_handshake.specs.Offers.{UsesAskedExtensions, UsesAskedProtocol}
+use Rattle.headers_handshake.specs.Protocols.{UsesAskedProtocol}
 use Rattle.headers_handshake.specs.Rules.{IsFirstBroken, KeepsAll}
 use Rattle.headers_handshake.specs.declared.client.Checked.{Checked}
 use Rattle.headers_handshake.specs.declared.client.Checked.TheVariants.{Open, Fail}
 use Rattle.headers_handshake.specs.declared.client.Flaw.{Flaw}
 use Rattle.headers_handshake.specs.declared.client.Flaw.TheVariants.{NotSwitched, NoUpgrade, NoConnection, WrongAccept}
-use Rattle.headers_handshake.specs.declared.client.Flaw.TheVariants.{UnaskedExtension, UnaskedProtocol}
+use Rattle.headers_handshake.specs.declared.client.Flaw.TheVariants.{MalformedExtensions, UnaskedExtension}
+use Rattle.headers_handshake.specs.declared.client.Flaw.TheVariants.{UnaskedProtocol}
 
 -- 1: the status is 101
 abbrev pub IsSwitched : ℕ → Type 0
@@ -38,16 +40,18 @@ flaw_number NotSwitched = 0
 flaw_number NoUpgrade = 1
 flaw_number NoConnection = 2
 flaw_number WrongAccept = 3
-flaw_number UnaskedExtension = 4
-flaw_number UnaskedProtocol = 5
+flaw_number MalformedExtensions = 4
+flaw_number UnaskedExtension = 5
+flaw_number UnaskedProtocol = 6
 
 module _ (sent : LineMap) (status : ℕ) (response : LineMap) where
-  -- the rule that each flaw breaks
+  -- the rule that each flaw breaks; the grammar of extensions is of section 9.1
   abbrev pub Rule : Flaw → Type 0
   Rule NotSwitched = IsSwitched status
   Rule NoUpgrade = NamesWebsocket response
   Rule NoConnection = ListsUpgrade response
   Rule WrongAccept = AcceptsKey sent response
+  Rule MalformedExtensions = HasExtensions response
   Rule UnaskedExtension = UsesAskedExtensions sent response
   Rule UnaskedProtocol = UsesAskedProtocol sent response
 

@@ -1,57 +1,64 @@
--- The lines of a handshake, and of what a server answers (RFC 6455, sections 4.1, 4.2.2 and 4.4).
-use Rattle.std.specs.Prelude.{◌≡◌, ⊤, ℕ, List, [], ◌∷◌, Some, None, codes}
+-- The fields of a handshake, and of what a server answers (RFC 6455, sections 4.1, 4.2.2 and 4.4).
+use Rattle.std.specs.Prelude.{◌≡◌, ⊤, ℕ, Bool, false, ◌||◌, bytes_eq, List, [], ◌∷◌, Option, Some, None, codes}
 use Rattle.http_header.specs.FieldValue.{FieldValue}
-use Rattle.headers.specs.LineMap.{LineMap, put}
+use Rattle.headers.specs.LineMap.{Field, LineMap, set_all}
 use Rattle.headers.specs.Lines.{Line}
-use Rattle.headers_handshake.specs.Offers.{AsksFor}
+use Rattle.headers_handshake.specs.Protocols.{AsksFor}
 use Rattle.headers_handshake.specs.declared.server.Answer.{Answer}
-use Rattle.headers_handshake.specs.declared.server.Answer.TheVariants.{Switch, BadRequest, UpgradeRequired}
+use Rattle.headers_handshake.specs.declared.server.Answer.TheVariants.{Switch, BadRequest, UpgradeRequired, Forbidden}
 
 abbrev pub status_of : Answer → ℕ
 status_of (Switch accept protocol) = 101
 status_of (BadRequest fault) = 400
 status_of UpgradeRequired = 426
+status_of Forbidden = 403
 
--- the map with Upgrade and Connection as a change of protocol has them (RFC 9110, section 7.8)
-abbrev pub upgrading : LineMap → LineMap
-upgrading map = put (put map (codes "upgrade") (codes "websocket" ∷ [])) (codes "connection") (codes "upgrade" ∷ [])
+-- Upgrade and Connection as a change of protocol has them (RFC 9110, section 7.8), and further fields
+abbrev pub upgrading : List Field → List Field
+upgrading fields =
+    (codes "upgrade", codes "websocket" ∷ []) ∷ (codes "connection", codes "upgrade" ∷ []) ∷ fields
 
--- the same with the version of the protocol
-abbrev pub of_version_13 : LineMap → LineMap
-of_version_13 map = put (upgrading map) (codes "sec-websocket-version") (codes "13" ∷ [])
+-- the version of the protocol
+abbrev pub version_field : Field
+version_field = (codes "sec-websocket-version", codes "13" ∷ [])
 
--- the map with the lines of a handshake in it, whose key is this line
-abbrev pub asking : Line → LineMap → LineMap
-asking key map = put (of_version_13 map) (codes "sec-websocket-key") (key ∷ [])
+-- the field lines of the subprotocol that is taken
+abbrev pub taken_lines : Option FieldValue → List Line
+taken_lines None = []
+taken_lines (Some protocol) = protocol.bytes ∷ []
 
--- the map with the lines of a change to the WebSocket protocol in it
-abbrev pub switching : FieldValue → LineMap → LineMap
-switching accept map = put (upgrading map) (codes "sec-websocket-accept") (accept.bytes ∷ [])
+-- the fields of a handshake with this key, which offers no subprotocol and no extension
+abbrev pub request_fields : Line → List Field
+request_fields key =
+    upgrading (
+    version_field ∷ (codes "sec-websocket-key", key ∷ []) ∷ (codes "sec-websocket-protocol", [])
+    ∷ (codes "sec-websocket-extensions", []) ∷ []
+    )
 
--- the map with the lines of the answer in it
-abbrev pub answered : Answer → LineMap → LineMap
-answered (Switch accept None) map = switching accept map
-answered (Switch accept (Some protocol)) map =
-    put (switching accept map) (codes "sec-websocket-protocol") (protocol.bytes ∷ [])
-answered (BadRequest fault) map = map
-answered UpgradeRequired map = of_version_13 map
+-- the fields of an answer
+abbrev pub answer_fields : Answer → List Field
+answer_fields (Switch accept protocol) =
+    upgrading (
+    (codes "sec-websocket-accept", accept.bytes ∷ []) ∷ (codes "sec-websocket-protocol", taken_lines protocol)
+    ∷ (codes "sec-websocket-extensions", []) ∷ []
+    )
+answer_fields (BadRequest fault) = []
+answer_fields UpgradeRequired = upgrading (version_field ∷ [])
+answer_fields Forbidden = []
 
--- the two maps have the same lines under each name
-abbrev pub SameLines : LineMap → LineMap → Type 0
-SameLines new old = (name : List ℕ) → new name ≡ old name
+-- the message has, under each name, what the map has once the fields are set in it
+abbrev pub Carries : List Field → LineMap → LineMap → Type 0
+Carries fields map message = (name : List ℕ) → message name ≡ set_all map fields name
 
--- the request has, under each name, what the map has with the lines of the handshake in it
-abbrev pub Asks : Line → LineMap → LineMap → Type 0
-Asks key map request = SameLines request (asking key map)
+-- the field is one by which a handshake offers something
+abbrev pub is_offer : List ℕ → Bool
+is_offer name =
+    bytes_eq name (codes "sec-websocket-protocol") || bytes_eq name (codes "sec-websocket-extensions")
 
--- the response has, under each name, what the map has with the lines of the answer in it
-abbrev pub Carries : Answer → LineMap → LineMap → Type 0
-Carries answer map response = SameLines response (answered answer map)
-
--- the map has no line of an extension and none of a subprotocol
-pub record HasNoOffer (map : LineMap) : Type 0 where
-  pub extension : map (codes "sec-websocket-extensions") ≡ []
-  pub protocol : map (codes "sec-websocket-protocol") ≡ []
+-- the same but for what the handshake offers
+abbrev pub CarriesButOffers : List Field → LineMap → LineMap → Type 0
+CarriesButOffers fields map message =
+    (name : List ℕ) → is_offer name ≡ false → message name ≡ set_all map fields name
 
 -- the answer takes no subprotocol, or one that this handshake asks for
 abbrev pub FitsProtocol : LineMap → Answer → Type 0
@@ -59,3 +66,4 @@ FitsProtocol sent (Switch accept None) = ⊤
 FitsProtocol sent (Switch accept (Some protocol)) = AsksFor sent protocol.bytes
 FitsProtocol sent (BadRequest fault) = ⊤
 FitsProtocol sent UpgradeRequired = ⊤
+FitsProtocol sent Forbidden = ⊤

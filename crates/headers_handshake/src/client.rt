@@ -2,15 +2,22 @@
 ghost use Rattle.std.specs.Prelude.{◌≡◌, IfOk};
 ghost use Rattle.std.specs.Bool.{MatchBool};
 ghost use Rattle.websocket.specs.Handshake.{IsValidKey, base64};
-ghost use Rattle.headers.specs.LineMap.{LineMap, lines_at, run};
+ghost use Rattle.headers.specs.LineMap.{fields_of, lines_at};
 ghost use Rattle.headers_handshake.specs.Client.{AcceptsKey, Checks, NamesWebsocket};
-ghost use Rattle.headers_handshake.specs.Messages.{Asks};
+ghost use Rattle.headers_handshake.specs.Messages.{request_fields};
 
-use crate::fields::{lists, only_value, put_line, value_of, version_steps};
-use crate::offers::{uses_asked_extensions, uses_asked_protocol};
-use headers::{HeaderMap, HeaderValue, Step};
+use crate::extensions::{has_extensions, uses_asked_extensions};
+use crate::fields::{
+    absent, connection_field, field, lists_upgrade, only_value, upgrade_field, value_of,
+    version_field,
+};
+use crate::protocols::uses_asked_protocol;
+use headers::{Encoded, HeaderMap, HeaderValue};
 use http::StatusCode;
-use http_header::{CONNECTION, SEC_WEBSOCKET_ACCEPT, SEC_WEBSOCKET_KEY, UPGRADE};
+use http_header::{
+    SEC_WEBSOCKET_ACCEPT, SEC_WEBSOCKET_EXTENSIONS, SEC_WEBSOCKET_KEY, SEC_WEBSOCKET_PROTOCOL,
+    UPGRADE,
+};
 use std::alloc::{AllocError, Global};
 use websocket::handshake::client::generate_key;
 use websocket::handshake::derive_accept_key;
@@ -21,15 +28,18 @@ use websocket::handshake::derive_accept_key;
 pub enum Flaw {
     /// The status isn't 101. A client may follow it as HTTP says: a redirection, or a 401.
     NotSwitched,
-    /// `Upgrade` isn't one line, `websocket`.
+    /// `Upgrade` isn't one field line, `websocket`.
     NoUpgrade,
     /// `Connection` doesn't list `upgrade`.
     NoConnection,
-    /// `Sec-WebSocket-Accept` isn't one line, what the key that was sent calls for.
+    /// `Sec-WebSocket-Accept` isn't one field line, what the key that was sent calls for.
     WrongAccept,
-    /// `Sec-WebSocket-Extensions` isn't text, or names an extension that wasn't asked for.
+    /// `Sec-WebSocket-Extensions` breaks its grammar (section 9.1).
+    MalformedExtensions,
+    /// `Sec-WebSocket-Extensions` names an extension that wasn't asked for.
     UnaskedExtension,
-    /// `Sec-WebSocket-Protocol` has several lines, or one that isn't a subprotocol that was asked for.
+    /// `Sec-WebSocket-Protocol` has several field lines, or one that isn't a subprotocol that was
+    /// asked for.
     UnaskedProtocol,
 }
 
@@ -42,18 +52,23 @@ pub enum Checked {
     Fail(Flaw),
 }
 
-/// The header lines of an opening handshake, as steps over a request's map: `headers::apply` takes
-/// them (RFC 6455, section 4.1). The request is a GET of HTTP/1.1, and has a Host field.
+/// The fields of an opening handshake that offers no subprotocol and no extension (RFC 6455, section
+/// 4.1): `headers::set_all` sets them in a request's map, and removes old offers. The request is a
+/// GET of HTTP/1.1, and has a Host field. To offer something, append it to the map afterwards.
 ///
-/// The nonce is sixteen bytes, drawn at random for each connection.
-pub fn request(alloc: Global, nonce: [u8; 16]) -> Result<Vec<Step>, AllocError>
+/// The nonce is sixteen bytes, drawn at random for each connection. The key that is made of it is
+/// marked as sensitive, so that it stays out of logs.
+pub fn request(alloc: Global, nonce: [u8; 16]) -> Result<Vec<Encoded>, AllocError>
     ensures key { IfOk result (λ _. IsValidKey (base64 nonce)) }
-    ensures lines { IfOk result (λ steps. (map : LineMap) → Asks (base64 nonce) map (run map steps.items)) }
+    ensures fields { IfOk result (λ fields. fields_of fields.items ≡ request_fields (base64 nonce)) }
 {
-    let key = key_of(alloc, nonce)?;
-    let mut steps = version_steps(alloc)?;
-    steps.push(put_line(alloc, SEC_WEBSOCKET_KEY, key)?)?;
-    Ok(steps)
+    let upgrade = upgrade_field(alloc)?;
+    let connection = connection_field(alloc)?;
+    let version = version_field(alloc)?;
+    let key = field(alloc, SEC_WEBSOCKET_KEY, key_of(alloc, nonce)?)?;
+    let protocol = absent(alloc, SEC_WEBSOCKET_PROTOCOL);
+    let extensions = absent(alloc, SEC_WEBSOCKET_EXTENSIONS);
+    Ok(vec![in alloc; upgrade, connection, version, key, protocol, extensions]?)
 }
 
 // The key of a nonce, which is kept out of logs.
@@ -65,38 +80,36 @@ fn key_of(alloc: Global, nonce: [u8; 16]) -> Result<HeaderValue, AllocError>
     Ok(key)
 }
 
-/// Looks at the response to an opening handshake, of which the header lines that were sent are
-/// given (RFC 6455, section 4.1): its key, and the subprotocols and extensions that it asked for.
+/// Looks at the response to an opening handshake whose header map, `sent`, has the key and what the
+/// handshake asked for (RFC 6455, section 4.1). It allocates nothing.
 ///
 /// Of an extension only the name is compared, with case; what its parameters say is for the
-/// extension to look at.
-pub fn check(
-    alloc: Global,
-    sent: &HeaderMap,
-    status: StatusCode,
-    response: &HeaderMap,
-) -> Result<Checked, AllocError>
-    ensures { IfOk result (Checks (lines_at sent.now) status (lines_at response.now)) }
+/// extension to look at. If `sent` breaks the grammar of its offers, it asks for nothing.
+pub fn check(sent: &HeaderMap, status: StatusCode, response: &HeaderMap) -> Checked
+    ensures { Checks (lines_at sent.now) status (lines_at response.now) result }
 {
     if status != StatusCode::SWITCHING_PROTOCOLS {
-        return Ok(Checked::Fail(Flaw::NotSwitched));
+        return Checked::Fail(Flaw::NotSwitched);
     }
     if !names_websocket(response) {
-        return Ok(Checked::Fail(Flaw::NoUpgrade));
+        return Checked::Fail(Flaw::NoUpgrade);
     }
-    if !lists(alloc, response, &CONNECTION, "upgrade")? {
-        return Ok(Checked::Fail(Flaw::NoConnection));
+    if !lists_upgrade(response) {
+        return Checked::Fail(Flaw::NoConnection);
     }
     if !accepts_key(sent, response) {
-        return Ok(Checked::Fail(Flaw::WrongAccept));
+        return Checked::Fail(Flaw::WrongAccept);
     }
-    if !uses_asked_extensions(alloc, sent, response)? {
-        return Ok(Checked::Fail(Flaw::UnaskedExtension));
+    if !has_extensions(response) {
+        return Checked::Fail(Flaw::MalformedExtensions);
     }
-    if !uses_asked_protocol(alloc, sent, response)? {
-        return Ok(Checked::Fail(Flaw::UnaskedProtocol));
+    if !uses_asked_extensions(sent, response) {
+        return Checked::Fail(Flaw::UnaskedExtension);
     }
-    Ok(Checked::Open)
+    if !uses_asked_protocol(sent, response) {
+        return Checked::Fail(Flaw::UnaskedProtocol);
+    }
+    Checked::Open
 }
 
 // Whether Upgrade names the protocol of WebSockets and no other.

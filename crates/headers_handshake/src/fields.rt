@@ -1,20 +1,21 @@
-//! Reads and steps that both ends make.
-ghost use Rattle.std.specs.Prelude.{◌≡◌, ◌∷◌, [], IfOk, option_map};
+//! Fields that both ends look at and set.
+ghost use Rattle.std.specs.Prelude.{◌≡◌, ◌∷◌, [], IfOk, codes, option_map, true};
 ghost use Rattle.std.specs.Bool.{MatchBool};
+ghost use Rattle.std.specs.List.{list_all};
 ghost use Rattle.http_header.specs.FieldValue.{plain_value};
-ghost use Rattle.headers.specs.DecodesTo.{DecodesTo};
-ghost use Rattle.headers.specs.LineMap.{LineMap, after_step, lines_at, put, run};
-ghost use Rattle.headers.specs.Lines.{only_line};
-ghost use Rattle.headers.specs.Merge.{merge};
-ghost use Rattle.headers.specs.Places.{comma};
+ghost use Rattle.headers.specs.LineMap.{field_of, lines_at};
+ghost use Rattle.headers.specs.Lines.{lines_of, only_line};
 ghost use Rattle.headers.specs.Typed.{HasLine};
-ghost use Rattle.headers_handshake.specs.Fields.{Lists};
-ghost use Rattle.headers_handshake.specs.Messages.{SameLines, of_version_13, upgrading};
+ghost use Rattle.headers_fields.specs.Members.{field_members, member_of};
+ghost use Rattle.headers_handshake.specs.Fields.{HasMember, ListsUpgrade, ListsWebsocket, cut, is_protocol};
+ghost use Rattle.headers_handshake.specs.Messages.{version_field};
 
 use headers::{
-    Connection, Encoded, Error, Header, HeaderMap, HeaderName, HeaderValue, Refused,
-    SecWebsocketVersion, Step, Upgrade, Vary, encoding,
+    Connection, Encoded, HeaderMap, HeaderName, HeaderValue, SecWebsocketVersion, Upgrade, encoding,
 };
+use headers_fields::{FieldMembers, Malformed, are_tokens, contains_token, is_token};
+use http_header::{CONNECTION, GetAll, UPGRADE};
+use memchr::memchr;
 use std::alloc::{AllocError, Global};
 
 // The value under the name, if there is exactly one.
@@ -29,55 +30,63 @@ pub(crate) fn only_value<'a>(map: &'a HeaderMap, name: &HeaderName) -> Option<&'
     }
 }
 
-// Whether there is a line under the name.
+// Whether there is a field line under the name.
 pub(crate) fn has_line(map: &HeaderMap, name: &HeaderName) -> bool
     ensures { MatchBool result (HasLine (lines_at map.now name.now)) (lines_at map.now name.now ≡ []) }
 {
     map.get_all(name).iter().next().is_some()
 }
 
-// The header that the lines under the name read, whatever the header's own name is.
-fn read_at<H: Header>(
-    alloc: Global,
-    map: &HeaderMap,
-    name: &HeaderName,
-) -> Result<H, Refused<Error>>
-    ensures { DecodesTo H.reads (lines_at map.now name.now) result }
+// What is before the first such byte of a text, and behind it, if there is one.
+pub(crate) fn cut(at: u8, text: &[u8]) -> Option<(&[u8], &[u8])>
+    ensures { option_map (λ sides. (sides.0.now, sides.1.now)) result ≡ cut at text.now }
 {
-    H::decode(alloc, &mut map.get_all(name).iter())
-}
-
-// Whether some item under the name is the word, ignoring the case of ASCII letters. All lines are
-// one list (RFC 9110, section 5.3), which `Connection` reads.
-pub(crate) fn lists(
-    alloc: Global,
-    map: &HeaderMap,
-    name: &HeaderName,
-    word: &str,
-) -> Result<bool, AllocError>
-    ensures { IfOk result (λ lists. MatchBool lists (Lists name.now word.now (lines_at map.now))
-        (¬ (Lists name.now word.now (lines_at map.now)))) }
-{
-    match read_at::<Connection>(alloc, map, name) {
-        Ok(list) => Ok(list.contains(word)),
-        Err(Refused::Invalid(_)) => unreachable!(),
-        Err(Refused::Memory(refused)) => Err(refused),
+    match memchr(at, text) {
+        Some(place) => Some((&text[..place], &text[place + 1..])),
+        None => None,
     }
 }
 
-// The lines under the name as one list, which `Vary` reads too.
-pub(crate) fn items_at(
-    alloc: Global,
-    map: &HeaderMap,
-    name: &HeaderName,
-) -> Result<Vary, AllocError>
-    ensures { IfOk result (λ list. list ≡ merge comma (lines_at map.now name.now)) }
+fn is_protocol(member: Result<&[u8], Malformed>) -> bool
+    ensures { result ≡ is_protocol (member_of member.entry) }
 {
-    match read_at::<Vary>(alloc, map, name) {
-        Ok(list) => Ok(list),
-        Err(Refused::Invalid(_)) => unreachable!(),
-        Err(Refused::Memory(refused)) => Err(refused),
+    match member {
+        Ok(element) => match cut(b'/', element) {
+            Some((name, version)) => is_token(name) && is_token(version),
+            None => is_token(element),
+        },
+        Err(Malformed) => false,
     }
+}
+
+// Whether each member of a list field is a protocol.
+fn are_protocols(field: &GetAll<'_, HeaderValue>) -> bool
+    ensures { result ≡ list_all is_protocol (field_members true (lines_of field.now)) }
+{
+    FieldMembers::new(field).all(|member| is_protocol(member))
+}
+
+// Whether Upgrade lists `websocket`.
+pub(crate) fn lists_websocket(map: &HeaderMap) -> bool
+    ensures { MatchBool result (ListsWebsocket (lines_at map.now)) (¬ (ListsWebsocket (lines_at map.now))) }
+{
+    let field = map.get_all(UPGRADE);
+    are_protocols(&field) && contains_token(&field, b"websocket")
+}
+
+// Whether Connection lists `upgrade`.
+pub(crate) fn lists_upgrade(map: &HeaderMap) -> bool
+    ensures { MatchBool result (ListsUpgrade (lines_at map.now)) (¬ (ListsUpgrade (lines_at map.now))) }
+{
+    let field = map.get_all(CONNECTION);
+    are_tokens(&field) && contains_token(&field, b"upgrade")
+}
+
+// Whether a list field has a member.
+pub(crate) fn has_member(field: &GetAll<'_, HeaderValue>) -> bool
+    ensures { MatchBool result (HasMember (lines_of field.now)) (¬ (HasMember (lines_of field.now))) }
+{
+    FieldMembers::new(field).next().is_some()
 }
 
 // A value of these bytes.
@@ -90,33 +99,43 @@ pub(crate) fn value_of(alloc: Global, bytes: &[u8]) -> Result<HeaderValue, Alloc
     }
 }
 
-// The step that puts one line under the name.
-pub(crate) fn put_line(
+// The field with this field line.
+pub(crate) fn field(
     alloc: Global,
     name: HeaderName,
     value: HeaderValue,
-) -> Result<Step, AllocError>
-    ensures { IfOk result (λ step. (map : LineMap)
-        → SameLines (after_step map step) (put map name (value.bytes ∷ []))) }
+) -> Result<Encoded, AllocError>
+    ensures { IfOk result (λ field. field_of field ≡ (name, value.bytes ∷ [])) }
 {
     let lines = vec![in alloc; value]?;
-    Ok(Step::Put(Encoded { name, lines }))
+    Ok(Encoded { name, lines })
 }
 
-// The steps of a change of protocol (RFC 9110, section 7.8), and one more.
-pub(crate) fn upgrading_with(alloc: Global, last: Step) -> Result<Vec<Step>, AllocError>
-    ensures { IfOk result (λ steps. (map : LineMap)
-        → SameLines (run map steps.items) (after_step (upgrading map) last)) }
+// The field without a field line.
+pub(crate) fn absent(alloc: Global, name: HeaderName) -> Encoded
+    ensures { field_of result ≡ (name, []) }
 {
-    let upgrade = encoding(alloc, &Upgrade::websocket())?;
-    let connection = encoding(alloc, &Connection::upgrade())?;
-    Ok(vec![in alloc; Step::Put(upgrade), Step::Put(connection), last]?)
+    Encoded {
+        name,
+        lines: Vec::new(alloc),
+    }
 }
 
-// The same, of which the last has the version of the protocol.
-pub(crate) fn version_steps(alloc: Global) -> Result<Vec<Step>, AllocError>
-    ensures { IfOk result (λ steps. (map : LineMap) → SameLines (run map steps.items) (of_version_13 map)) }
+// Upgrade and Connection, as a change of protocol has them.
+pub(crate) fn upgrade_field(alloc: Global) -> Result<Encoded, AllocError>
+    ensures { IfOk result (λ field. field_of field ≡ (codes "upgrade", codes "websocket" ∷ [])) }
 {
-    let version = encoding(alloc, &SecWebsocketVersion::V13)?;
-    upgrading_with(alloc, Step::Put(version))
+    encoding(alloc, &Upgrade::websocket())
+}
+
+pub(crate) fn connection_field(alloc: Global) -> Result<Encoded, AllocError>
+    ensures { IfOk result (λ field. field_of field ≡ (codes "connection", codes "upgrade" ∷ [])) }
+{
+    encoding(alloc, &Connection::upgrade())
+}
+
+pub(crate) fn version_field(alloc: Global) -> Result<Encoded, AllocError>
+    ensures { IfOk result (λ field. field_of field ≡ version_field) }
+{
+    encoding(alloc, &SecWebsocketVersion::V13)
 }

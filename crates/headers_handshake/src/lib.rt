@@ -3,10 +3,13 @@
 #![tactic(auto)]
 
 mod client;
+mod extensions;
 mod fields;
 pub mod laws;
-mod offers;
+mod origins;
+mod protocols;
 mod server;
 
 pub use crate::client::{Checked, Flaw, check, request};
+pub use crate::origins::Origins;
 pub use crate::server::{Answer, Fault, accept};

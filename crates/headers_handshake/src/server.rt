@@ -1,21 +1,26 @@
 //! The server's end (RFC 6455, section 4.2).
-ghost use Rattle.std.specs.Prelude.{◌≡◌, IfOk, MatchOption};
+ghost use Rattle.std.specs.Prelude.{◌≡◌, ◌≢◌, [], IfErr, IfOk, MatchOption, MatchResult, codes, option_map};
 ghost use Rattle.std.specs.Bool.{MatchBool};
 ghost use Rattle.websocket.specs.Handshake.{accept_key_of};
-ghost use Rattle.headers.specs.LineMap.{LineMap, lines_at, run};
+ghost use Rattle.headers.specs.LineMap.{field_of, fields_of, lines_at};
 ghost use Rattle.headers.specs.Lines.{Line};
-ghost use Rattle.headers_handshake.specs.Messages.{Carries, SameLines, status_of, switching};
-ghost use Rattle.headers_handshake.specs.Server.{Answers, HasKey, HasVersion13, IsRecent};
+ghost use Rattle.headers_handshake.specs.Messages.{answer_fields, status_of, taken_lines};
+ghost use Rattle.headers_handshake.specs.Server.{Answers, HasKey, HasVersion13, IsAccepted, IsFirst, IsHttp11};
+ghost use Rattle.headers_handshake.specs.Server.{IsRecent};
+ghost use Rattle.headers_handshake.specs.declared.server.Answer.TheVariants.{Switch, UpgradeRequired};
 
+use crate::extensions::has_extensions;
 use crate::fields::{
-    has_line, lists, only_value, put_line, upgrading_with, value_of, version_steps,
+    absent, connection_field, field, has_line, lists_upgrade, lists_websocket, only_value,
+    upgrade_field, value_of, version_field,
 };
-use crate::offers::taken;
-use headers::{HeaderMap, HeaderValue, Step};
+use crate::origins::{Origins, allows_origin};
+use crate::protocols::{offers_protocols, taken};
+use headers::{Encoded, HeaderMap, HeaderValue};
 use http::{Method, StatusCode, Version};
 use http_header::{
-    CONNECTION, HOST, SEC_WEBSOCKET_ACCEPT, SEC_WEBSOCKET_KEY, SEC_WEBSOCKET_PROTOCOL,
-    SEC_WEBSOCKET_VERSION, UPGRADE,
+    HOST, SEC_WEBSOCKET_ACCEPT, SEC_WEBSOCKET_EXTENSIONS, SEC_WEBSOCKET_KEY,
+    SEC_WEBSOCKET_PROTOCOL, SEC_WEBSOCKET_VERSION,
 };
 use std::alloc::{AllocError, Global};
 use websocket::handshake::server::accept_key;
@@ -27,14 +32,21 @@ pub enum Fault {
     NotGet,
     /// The version is older than HTTP/1.1.
     OldHttp,
+    /// The version is HTTP/2 or HTTP/3, which have no 101 (RFC 9113, section 8.6; RFC 9114, section
+    /// 4.5). A WebSocket over them begins with a CONNECT (RFC 8441, RFC 9220).
+    NotHttp11,
     /// There is no Host field.
     NoHost,
     /// `Upgrade` doesn't list `websocket`.
     NoUpgrade,
     /// `Connection` doesn't list `upgrade`.
     NoConnection,
-    /// `Sec-WebSocket-Key` isn't one line, the base64 of sixteen bytes.
+    /// `Sec-WebSocket-Key` isn't one field line, the base64 of sixteen bytes.
     NoKey,
+    /// `Sec-WebSocket-Protocol` isn't a list of tokens (section 4.3).
+    MalformedProtocols,
+    /// `Sec-WebSocket-Extensions` isn't a list of extensions (section 9.1).
+    MalformedExtensions,
 }
 
 /// What a server answers to an opening handshake (RFC 6455, section 4.2.2).
@@ -47,10 +59,22 @@ pub enum Answer {
     BadRequest(Fault),
     /// The handshake is for another version than 13: the answer is 426, and says so.
     UpgradeRequired,
+    /// The handshake is from an origin that isn't allowed: the answer is 403.
+    Forbidden,
+}
+
+// Why a server doesn't switch.
+pub(crate) enum Refusal {
+    // The request is no opening handshake.
+    Faulty(Fault),
+    // The handshake is for another version than 13.
+    OtherVersion,
+    // The origin isn't allowed.
+    OtherOrigin,
 }
 
 impl Answer {
-    /// The status of the response: 101, 400 or 426.
+    /// The status of the response: 101, 400, 403 or 426.
     pub fn status(&self) -> StatusCode
         ensures { result ≡ status_of self.now }
     {
@@ -58,76 +82,152 @@ impl Answer {
             Answer::Switch(..) => StatusCode::SWITCHING_PROTOCOLS,
             Answer::BadRequest(_) => StatusCode::BAD_REQUEST,
             Answer::UpgradeRequired => StatusCode::UPGRADE_REQUIRED,
+            Answer::Forbidden => StatusCode::FORBIDDEN,
         }
     }
 
-    /// The header lines of the response, as steps over its map: `headers::apply` takes them.
-    pub fn steps(&self, alloc: Global) -> Result<Vec<Step>, AllocError>
-        ensures { IfOk result (λ steps. (map : LineMap) → Carries self.now map (run map steps.items)) }
+    /// The fields of the response: `headers::set_all` sets them in its map. A 101 also removes each
+    /// field line of `Sec-WebSocket-Protocol` and `Sec-WebSocket-Extensions` that isn't its own. A
+    /// 400 and a 403 have no fields, and allocate nothing.
+    pub fn fields(&self, alloc: Global) -> Result<Vec<Encoded>, AllocError>
+        ensures fields { IfOk result (λ fields. fields_of fields.items ≡ answer_fields self.now) }
+        ensures memory { IfErr result (λ _. answer_fields self.now ≢ []) }
     {
         match self {
-            Answer::Switch(accept, None) => switching_steps(alloc, accept),
-            Answer::Switch(accept, Some(protocol)) => {
-                let mut steps = switching_steps(alloc, accept)?;
-                steps.push(put_line(alloc, SEC_WEBSOCKET_PROTOCOL, protocol.clone()?)?)?;
-                Ok(steps)
-            }
+            Answer::Switch(accept, protocol) => switching_fields(alloc, accept, protocol),
+            Answer::UpgradeRequired => version_fields(alloc),
             Answer::BadRequest(_) => Ok(Vec::new(alloc)),
-            Answer::UpgradeRequired => version_steps(alloc),
+            Answer::Forbidden => Ok(Vec::new(alloc)),
         }
     }
 }
 
-// The steps of a change to the WebSocket protocol.
-fn switching_steps(alloc: Global, accept: &HeaderValue) -> Result<Vec<Step>, AllocError>
-    ensures { IfOk result (λ steps. (map : LineMap)
-        → SameLines (run map steps.items) (switching accept.now map)) }
+// The fields of a change to the WebSocket protocol.
+fn switching_fields(
+    alloc: Global,
+    accept: &HeaderValue,
+    protocol: &Option<HeaderValue>,
+) -> Result<Vec<Encoded>, AllocError>
+    ensures { IfOk result (λ fields. fields_of fields.items ≡ answer_fields (Switch accept.now protocol.now)) }
 {
-    let accept = put_line(alloc, SEC_WEBSOCKET_ACCEPT, accept.clone()?)?;
-    upgrading_with(alloc, accept)
+    let upgrade = upgrade_field(alloc)?;
+    let connection = connection_field(alloc)?;
+    let accept = field(alloc, SEC_WEBSOCKET_ACCEPT, accept.clone()?)?;
+    let protocol = protocol_field(alloc, protocol)?;
+    let extensions = absent(alloc, SEC_WEBSOCKET_EXTENSIONS);
+    Ok(vec![in alloc; upgrade, connection, accept, protocol, extensions]?)
+}
+
+// The subprotocol that is taken, if one is.
+fn protocol_field(alloc: Global, protocol: &Option<HeaderValue>) -> Result<Encoded, AllocError>
+    ensures { IfOk result (λ field. field_of field ≡ (codes "sec-websocket-protocol", taken_lines protocol.now)) }
+{
+    match protocol {
+        Some(protocol) => field(alloc, SEC_WEBSOCKET_PROTOCOL, protocol.clone()?),
+        None => Ok(absent(alloc, SEC_WEBSOCKET_PROTOCOL)),
+    }
+}
+
+// The fields that ask for version 13.
+fn version_fields(alloc: Global) -> Result<Vec<Encoded>, AllocError>
+    ensures { IfOk result (λ fields. fields_of fields.items ≡ answer_fields UpgradeRequired) }
+{
+    let upgrade = upgrade_field(alloc)?;
+    let connection = connection_field(alloc)?;
+    let version = version_field(alloc)?;
+    Ok(vec![in alloc; upgrade, connection, version]?)
 }
 
 /// Reads a client's opening handshake, and says what to answer (RFC 6455, sections 4.2.1 and
-/// 4.2.2). A server that has no resource under the request's target, or doesn't serve its origin,
-/// answers that instead.
+/// 4.2.2). A server that has no resource under the request's target answers that instead.
 ///
 /// The rules are looked at in their order. `Upgrade` and `Connection` are lists, over all their
-/// lines. Of `Sec-WebSocket-Key` and `Sec-WebSocket-Version` there must be one line.
+/// field lines. Of `Sec-WebSocket-Key` and `Sec-WebSocket-Version` there must be one field line. A
+/// `Sec-WebSocket-Protocol` or `Sec-WebSocket-Extensions` that breaks its grammar is a fault.
 ///
 /// The server's own subprotocols are tokens, the most wanted first. The first that the request asks
 /// for is taken, compared with case; one that isn't a token never is. No extension is taken.
+///
+/// Only a 101 allocates: the call may be out of memory only if the request is an opening handshake
+/// from an origin that is allowed.
 pub fn accept(
     alloc: Global,
     method: &Method,
     version: Version,
     request: &HeaderMap,
     protocols: &[HeaderValue],
+    origins: &Origins,
 ) -> Result<Answer, AllocError>
-    ensures { IfOk result (Answers method.now version (lines_at request.now) protocols.now) }
+    ensures answer { IfOk result (Answers method.now version (lines_at request.now) origins.now protocols.now) }
+    ensures memory { IfErr result (λ _. (key : Line)
+        × IsAccepted method.now version (lines_at request.now) origins.now key) }
+{
+    match judge(method, version, request, origins) {
+        Ok(accept) => Ok(Answer::Switch(
+            value_of(alloc, &accept)?,
+            own_copy(taken(request, protocols))?,
+        )),
+        Err(Refusal::Faulty(fault)) => Ok(Answer::BadRequest(fault)),
+        Err(Refusal::OtherVersion) => Ok(Answer::UpgradeRequired),
+        Err(Refusal::OtherOrigin) => Ok(Answer::Forbidden),
+    }
+}
+
+fn own_copy(protocol: Option<&HeaderValue>) -> Result<Option<HeaderValue>, AllocError>
+    ensures { IfOk result (λ copy. copy ≡ option_map (λ value. value.now) protocol.entry) }
+{
+    match protocol {
+        Some(protocol) => Ok(Some(protocol.clone()?)),
+        None => Ok(None),
+    }
+}
+
+// What the key of the request calls for, if the server switches.
+fn judge(
+    method: &Method,
+    version: Version,
+    request: &HeaderMap,
+    origins: &Origins,
+) -> Result<[u8; 28], Refusal>
+    ensures { MatchResult result
+        (λ accept. (key : Line) × IsAccepted method.now version (lines_at request.now) origins.now key
+        × (accept ≡ accept_key_of key))
+        (IsFirst method.now version (lines_at request.now) origins.now) }
 {
     if *method != Method::GET {
-        return Ok(Answer::BadRequest(Fault::NotGet));
+        return Err(Refusal::Faulty(Fault::NotGet));
     }
     if !is_recent(version) {
-        return Ok(Answer::BadRequest(Fault::OldHttp));
+        return Err(Refusal::Faulty(Fault::OldHttp));
+    }
+    if !is_http_11(version) {
+        return Err(Refusal::Faulty(Fault::NotHttp11));
     }
     if !has_line(request, &HOST) {
-        return Ok(Answer::BadRequest(Fault::NoHost));
+        return Err(Refusal::Faulty(Fault::NoHost));
     }
-    if !lists(alloc, request, &UPGRADE, "websocket")? {
-        return Ok(Answer::BadRequest(Fault::NoUpgrade));
+    if !lists_websocket(request) {
+        return Err(Refusal::Faulty(Fault::NoUpgrade));
     }
-    if !lists(alloc, request, &CONNECTION, "upgrade")? {
-        return Ok(Answer::BadRequest(Fault::NoConnection));
+    if !lists_upgrade(request) {
+        return Err(Refusal::Faulty(Fault::NoConnection));
     }
     let Some(accept) = accept_for(request) else {
-        return Ok(Answer::BadRequest(Fault::NoKey));
+        return Err(Refusal::Faulty(Fault::NoKey));
     };
     if !is_version_13(request) {
-        return Ok(Answer::UpgradeRequired);
+        return Err(Refusal::OtherVersion);
     }
-    let protocol = taken(alloc, request, protocols)?;
-    Ok(Answer::Switch(value_of(alloc, &accept)?, protocol))
+    if !offers_protocols(request) {
+        return Err(Refusal::Faulty(Fault::MalformedProtocols));
+    }
+    if !has_extensions(request) {
+        return Err(Refusal::Faulty(Fault::MalformedExtensions));
+    }
+    if !allows_origin(origins, request) {
+        return Err(Refusal::OtherOrigin);
+    }
+    Ok(accept)
 }
 
 // Whether the version is HTTP/1.1 or higher.
@@ -135,6 +235,12 @@ fn is_recent(version: Version) -> bool
     ensures { MatchBool result (IsRecent version) (¬ (IsRecent version)) }
 {
     version >= Version::HTTP_11
+}
+
+fn is_http_11(version: Version) -> bool
+    ensures { MatchBool result (IsHttp11 version) (¬ (IsHttp11 version)) }
+{
+    version == Version::HTTP_11
 }
 
 // What the key of the request calls for, if it has one that is a key.

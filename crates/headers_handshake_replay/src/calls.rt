@@ -1,6 +1,6 @@
 //! Calls of the opening handshake. Fields are written as those of a map.
-use headers::{HeaderMap, HeaderValue, Step, apply};
-use headers_handshake::{Answer as Response, Checked, accept, check, request};
+use headers::{Encoded, HeaderMap, HeaderValue, set_all};
+use headers_handshake::{Answer as Response, Checked, Origins, accept, check, request};
 use headers_rows::{Answer, Arguments, Calls, Failure};
 use http::{Method, StatusCode, Version};
 use std::alloc::Global;
@@ -19,53 +19,75 @@ fn version_of(word: &str) -> Result<Version, Failure> {
     }
 }
 
-// An empty map after the steps.
-fn after(alloc: Global, steps: Vec<Step>) -> Result<HeaderMap, Failure> {
-    let mut map = HeaderMap::new(alloc);
-    match apply(&mut map, steps) {
+// The values of a word, with commas between.
+fn values_of(alloc: Global, word: &str) -> Result<Vec<HeaderValue>, Failure> {
+    let mut values = Vec::new(alloc);
+    for value in word.split(',') {
+        values.push(HeaderValue::from_str(alloc, value)?)?;
+    }
+    Ok(values)
+}
+
+// The map with the fields set in it.
+fn after(mut map: HeaderMap, fields: Vec<Encoded>) -> Result<HeaderMap, Failure> {
+    match set_all(&mut map, fields) {
         Ok(()) => Ok(map),
         Err(_) => Err(Failure::Memory),
     }
 }
 
-// The subprotocols of a server, with commas between.
-fn protocols_of(alloc: Global, word: &str) -> Result<Vec<HeaderValue>, Failure> {
-    let mut protocols = Vec::new(alloc);
-    for protocol in word.split(',') {
-        protocols.push(HeaderValue::from_str(alloc, protocol)?)?;
-    }
-    Ok(protocols)
-}
-
-// What a server with these subprotocols answers to a request with these fields.
-fn answer_to(own: &[HeaderValue], arguments: &mut Arguments<'_>) -> Result<Response, Failure> {
+// What a server with these subprotocols and origins answers to a request with these fields.
+fn answer_to(
+    own: &[HeaderValue],
+    origins: &Origins,
+    arguments: &mut Arguments<'_>,
+) -> Result<Response, Failure> {
     let alloc = arguments.alloc();
     let method = Method::from_bytes(alloc, arguments.word()?.as_bytes())?;
     let version = version_of(arguments.word()?)?;
-    Ok(accept(alloc, &method, version, &arguments.map()?, own)?)
+    Ok(accept(alloc, &method, version, &arguments.map()?, own, origins)?)
 }
 
-// The status of that answer, the fault, and the fields that its steps put.
+// The status of an answer, the fault, and the fields once those of the answer are set in a map.
+fn show(
+    response: &Response,
+    map: HeaderMap,
+    alloc: Global,
+    answer: &mut Answer,
+) -> Result<(), Failure> {
+    answer.word(response.status().as_u16())?;
+    if let Response::BadRequest(fault) = response {
+        answer.word(format_args!("{fault:?}"))?;
+    }
+    answer.map(&after(map, response.fields(alloc)?)?)
+}
+
+// That answer, in an empty map.
 fn show_answer(
     own: &[HeaderValue],
+    origins: &Origins,
     arguments: &mut Arguments<'_>,
     answer: &mut Answer,
 ) -> Result<(), Failure> {
-    let response = answer_to(own, arguments)?;
-    answer.word(response.status().as_u16())?;
-    if let Response::BadRequest(fault) = &response {
-        answer.word(format_args!("{fault:?}"))?;
-    }
-    let steps = response.steps(arguments.alloc())?;
-    answer.map(&after(arguments.alloc(), steps)?)
+    let alloc = arguments.alloc();
+    let response = answer_to(own, origins, arguments)?;
+    show(&response, HeaderMap::new(alloc), alloc, answer)
 }
 
-// The fields of a handshake with a nonce.
+// That answer, in a map that has fields already.
+fn show_answer_over(arguments: &mut Arguments<'_>, answer: &mut Answer) -> Result<(), Failure> {
+    let alloc = arguments.alloc();
+    let own = values_of(alloc, arguments.word()?)?;
+    let response = answer_to(own.as_slice(), &Origins::Any, arguments)?;
+    show(&response, arguments.map()?, alloc, answer)
+}
+
+// The fields of a handshake with a nonce, in a map that has fields already.
 fn show_request(arguments: &mut Arguments<'_>, answer: &mut Answer) -> Result<(), Failure> {
     let alloc = arguments.alloc();
     let nonce = <[u8; 16]>::try_from(arguments.bytes()?.as_slice());
     let nonce = nonce.map_err(|_| Failure::NoCall)?;
-    answer.map(&after(alloc, request(alloc, nonce)?)?)
+    answer.map(&after(arguments.map()?, request(alloc, nonce)?)?)
 }
 
 // What a client that sent these fields finds in a response of a status with those.
@@ -73,7 +95,7 @@ fn show_check(arguments: &mut Arguments<'_>, answer: &mut Answer) -> Result<(), 
     let sent = arguments.map()?;
     let status = StatusCode::from_bytes(arguments.word()?.as_bytes());
     let status = status.map_err(|_| Failure::NoCall)?;
-    match check(arguments.alloc(), &sent, status, &arguments.map()?)? {
+    match check(&sent, status, &arguments.map()?) {
         Checked::Open => answer.word("open")?,
         Checked::Fail(flaw) => answer.word(format_args!("{flaw:?}"))?,
     }
@@ -83,11 +105,16 @@ fn show_check(arguments: &mut Arguments<'_>, answer: &mut Answer) -> Result<(), 
 impl Calls for Handshake {
     fn make(name: &str, arguments: &mut Arguments<'_>, answer: &mut Answer) -> Result<(), Failure> {
         match name {
-            "accept" => show_answer(&[], arguments, answer),
+            "accept" => show_answer(&[], &Origins::Any, arguments, answer),
             "accept_with" => {
-                let own = protocols_of(arguments.alloc(), arguments.word()?)?;
-                show_answer(own.as_slice(), arguments, answer)
+                let own = values_of(arguments.alloc(), arguments.word()?)?;
+                show_answer(own.as_slice(), &Origins::Any, arguments, answer)
             }
+            "accept_from" => {
+                let origins = values_of(arguments.alloc(), arguments.word()?)?;
+                show_answer(&[], &Origins::Listed(origins), arguments, answer)
+            }
+            "accept_over" => show_answer_over(arguments, answer),
             "request" => show_request(arguments, answer),
             "check" => show_check(arguments, answer),
             _ => Err(Failure::NoCall),
