@@ -1,56 +1,49 @@
--- The first of the offers of the greatest quality.
+-- The first of the greatest score in a list.
 use Rattle.std.proofs.Common.{◌≡◌, ℕ, zero, suc, ◌+◌, ◌<◌, ◌≤◌, Bool, true, false, List, [], ◌∷◌, length}
 use Rattle.std.proofs.Common.{get_or, Option, Some, None, inl, inr, refl, sym, ◌∙◌, ap, subst, arith}
-use Rattle.std.specs.Prelude.{MatchOption, nat_lt, filter_map, if◌then◌else◌}
+use Rattle.std.specs.Prelude.{MatchOption, nat_lt, if◌then◌else◌}
 use Rattle.std.proofs.lemmas.Bool.{cases_order, ltb-false, ltb-true}
-use Rattle.http_header.specs.FieldValue.{FieldValue}
-use Rattle.headers.specs.HeaderLaws.{ReadsBy}
-use Rattle.headers.specs.Lines.{Line}
-use Rattle.headers.specs.Merge.{merge}
-use Rattle.headers.specs.Places.{comma, items}
-use Rattle.headers.specs.Typed.{HasLine}
-use Rattle.headers_negotiation.specs.Choice.{Chooses}
-use Rattle.headers_negotiation.specs.Preferences.{first_place, led, quality_by}
-use Rattle.headers_negotiation.specs.PreferencesLaws.{list_grammar}
-use Rattle.headers_negotiation.specs.Quality.{QualityBy, QualityIn}
+use Rattle.headers_negotiation.specs.Choice.{IsFirstOfGreatest, Picks, led}
 use Rattle.headers_negotiation.specs.declared.choice.Leader.{Leader}
-use Rattle.headers_negotiation.specs.declared.preference.Preference.{Preference}
-use Rattle.headers_negotiation.proofs.QualityLemmas.{has_quality_by, one_quality}
 
 -- a place within a list has one element
-at_place : {A : Type 0} (xs : List A) (k : ℕ) (a b : A) → k < length xs → get_or xs k a ≡ get_or xs k b
+pub at_place : {A : Type 0} (xs : List A) (k : ℕ) (a b : A) → k < length xs → get_or xs k a ≡ get_or xs k b
 at_place [] k a b within = absurd (omega (arith, within))
 at_place (x ∷ xs) zero a b within = refl
 at_place (x ∷ xs) (suc k) a b within = at_place xs k a b (omega (arith, within))
 
-module _ (quality : List ℕ → ℕ) (offers : List FieldValue) where
-  -- the offer at this place is of this quality, those before it of a lesser one
+element_at : {A : Type 0} (k : ℕ) (xs : List A) → k < length xs → A
+element_at k [] low = absurd (omega (arith, low))
+element_at k (x ∷ xs) low = x
+
+module _ {A : Type 0} (score : A → ℕ) (xs : List A) where
+  -- what is at this place has this score, and what is before it a lesser one
   pub record Leads (n greatest place : ℕ) : Type 0 where
     pub within : place < n
     pub positive : 0 < greatest
-    pub has : (other : FieldValue) → quality (get_or offers place other).bytes ≡ greatest
-    pub before : (k : ℕ) (other : FieldValue) → k < place → quality (get_or offers k other).bytes < greatest
+    pub has : (other : A) → score (get_or xs place other) ≡ greatest
+    pub before : (k : ℕ) (other : A) → k < place → score (get_or xs k other) < greatest
 
-  -- of the first n offers none is of a greater quality than the leader's
+  -- of the first n none has a greater score than the leader
   pub record IsLeading (n : ℕ) (leader : Leader) : Type 0 where
-    pub bound : (k : ℕ) (other : FieldValue) → k < n → quality (get_or offers k other).bytes ≤ leader.quality
-    pub leads : MatchOption leader.place (leader.quality ≡ 0) (Leads n leader.quality)
+    pub bound : (k : ℕ) (other : A) → k < n → score (get_or xs k other) ≤ leader.score
+    pub leads : MatchOption leader.place (leader.score ≡ 0) (Leads n leader.score)
 
-  pub none_leads : IsLeading 0 (record { place = None; quality = 0 })
+  pub none_leads : IsLeading 0 (record { place = None; score = 0 })
   none_leads = record { bound = λ k other low. absurd (omega (arith, low)); leads = refl }
 
-  module _ (n : ℕ) (offer : FieldValue) (within : n < length offers) (is : offer ≡ get_or offers n offer) where
-    here : (other : FieldValue) → quality (get_or offers n other).bytes ≡ quality offer.bytes
-    here other = ap (λ (v : FieldValue). quality v.bytes) (at_place offers n other offer within ∙ sym is)
+  module _ (n : ℕ) (x : A) (within : n < length xs) (is : x ≡ get_or xs n x) where
+    here : (other : A) → score (get_or xs n other) ≡ score x
+    here other = ap score (at_place xs n other x within ∙ sym is)
 
-    bound_more : (old new : ℕ) → old ≤ new → quality offer.bytes ≤ new
-        → ((k : ℕ) (other : FieldValue) → k < n → quality (get_or offers k other).bytes ≤ old)
-        → (k : ℕ) (other : FieldValue) → k < n + 1 → quality (get_or offers k other).bytes ≤ new
+    bound_more : (old new : ℕ) → old ≤ new → score x ≤ new
+        → ((k : ℕ) (other : A) → k < n → score (get_or xs k other) ≤ old) → (k : ℕ) (other : A) → k < n + 1
+        → score (get_or xs k other) ≤ new
     bound_more old new up own bound k other low =
         elim (cases_order k n) [
           | inl same ↦
-              let e : quality (get_or offers k other).bytes ≡ quality offer.bytes =
-              ap (λ (j : ℕ). quality (get_or offers j other).bytes) same ∙ here other in
+              let e : score (get_or xs k other) ≡ score x =
+              ap (λ (j : ℕ). score (get_or xs j other)) same ∙ here other in
               omega (arith, e, own)
           | inr apart ↦
               elim apart [
@@ -65,19 +58,16 @@ module _ (quality : List ℕ → ℕ) (offers : List FieldValue) where
     leads_more greatest (Some place) h =
         record { within = omega (arith, h.within); positive = h.positive; has = h.has; before = h.before }
 
-    -- so it is with one more offer
-    pub leading_on : (leader : Leader) → IsLeading n leader → IsLeading (n + 1) (led leader n (quality offer.bytes))
-    unfolding led
-    leading_on leader h = by (nat_lt leader.quality (quality offer.bytes)) refl
+    -- so it is with one more
+    pub leading_on : (leader : Leader) → IsLeading n leader → IsLeading (n + 1) (led leader (Some n) (score x))
+    leading_on leader h = by (nat_lt leader.score (score x)) refl
       where
-        by : (more : Bool) → nat_lt leader.quality (quality offer.bytes) ≡ more
-            → IsLeading (n + 1)
-            (if more then record { place = Some n; quality = quality offer.bytes } else leader)
+        by : (more : Bool) → nat_lt leader.score (score x) ≡ more
+            → IsLeading (n + 1) (if more then record { place = Some n; score = score x } else leader)
         by true e =
-            let up : leader.quality < quality offer.bytes = ltb-true leader.quality (quality offer.bytes) e in
+            let up : leader.score < score x = ltb-true leader.score (score x) e in
             record {
-              bound =
-                  bound_more leader.quality (quality offer.bytes) (omega (arith, up)) (omega arith) h.bound;
+              bound = bound_more leader.score (score x) (omega (arith, up)) (omega arith) h.bound;
               leads =
                   record {
                     within = omega arith;
@@ -87,72 +77,69 @@ module _ (quality : List ℕ → ℕ) (offers : List FieldValue) where
                   };
             }
         by false e =
-            let own : quality offer.bytes ≤ leader.quality = ltb-false leader.quality (quality offer.bytes) e in
+            let own : score x ≤ leader.score = ltb-false leader.score (score x) e in
             record {
-              bound = bound_more leader.quality leader.quality (omega arith) own h.bound;
-              leads = leads_more leader.quality leader.place h.leads;
+              bound = bound_more leader.score leader.score (omega arith) own h.bound;
+              leads = leads_more leader.score leader.place h.leads;
             }
 
-  -- who leads in the end is chosen
-  pub leader_is_chosen : (Quality : List ℕ → ℕ → Type 0)
-      → ((offer : List ℕ) → Quality offer (quality offer))
-      → ((offer : List ℕ) (q : ℕ) → Quality offer q → q ≡ quality offer)
-      → (leader : Leader) → IsLeading (length offers) leader → Chooses Quality offers leader.place
-  leader_is_chosen Quality is only leader h = by leader.place h.leads
+  -- who leads in the end is picked
+  pub leader_is_picked : (leader : Leader) → IsLeading (length xs) leader → Picks score xs leader.place
+  leader_is_picked leader h = by leader.place h.leads
     where
-      by : (place : Option ℕ) → MatchOption place (leader.quality ≡ 0) (Leads (length offers) leader.quality)
-          → Chooses Quality offers place
-      by None none = λ k other low q has.
-          omega (arith, only (get_or offers k other).bytes q has, h.bound k other low, none)
+      by : (place : Option ℕ) → MatchOption place (leader.score ≡ 0) (Leads (length xs) leader.score)
+          → Picks score xs place
+      by None none = λ k other low. omega (arith, h.bound k other low, none)
       by (Some place) l =
           record {
             within = l.within;
-            quality = leader.quality;
-            acceptable = l.positive;
-            has = λ other.
-                let bytes : List ℕ = (get_or offers place other).bytes in
-                subst (Quality bytes) (l.has other) (is bytes);
-            greatest = λ k other low q has.
-                omega (arith, only (get_or offers k other).bytes q has, h.bound k other low);
-            first = λ k q other low has.
-                omega (arith, only (get_or offers k other).bytes q has, l.before k other low);
+            positive = λ other. omega (arith, l.has other, l.positive);
+            greatest = λ k other low. omega (arith, l.has other, h.bound k other low);
+            first = λ k other low. omega (arith, l.has other, l.before k other low);
           }
 
-module _ (says : List ℕ → List ℕ → Option Preference) (unlisted : List ℕ → ℕ) where
-  -- the quality that elements give is what is computed
-  pub chosen_by : (elements : List (List ℕ)) (offers : List FieldValue) (leader : Leader)
-      → IsLeading (λ (offer : List ℕ). quality_by (says offer) (unlisted offer) elements) offers (length offers) leader
-      → Chooses (QualityBy says unlisted elements) offers leader.place
-  chosen_by elements offers leader h =
-      leader_is_chosen (λ (offer : List ℕ). quality_by (says offer) (unlisted offer) elements) offers
-      (QualityBy says unlisted elements)
-      (λ offer. has_quality_by (says offer) (unlisted offer) elements)
-      (λ offer q has. one_quality (filter_map (says offer) elements) (unlisted offer) q
-      (quality_by (says offer) (unlisted offer) elements) has (has_quality_by (says offer) (unlisted offer) elements))
-      leader h
+  -- ---- one is picked, and only one
 
-  -- the elements of a field are those of its lines
-  pub chosen_in_lines : (lines : List Line) (value : List ℕ) (offers : List FieldValue) (choice : Option ℕ)
-      → HasLine lines → ReadsBy list_grammar lines value
-      → Chooses (QualityBy says unlisted (items comma value)) offers choice
-      → Chooses (QualityIn says unlisted lines) offers choice
-  chosen_in_lines [] value offers choice has reads chosen = absurd (omega (arith, has))
-  chosen_in_lines (line ∷ lines) value offers choice has reads chosen =
-      let same : value ≡ merge comma (line ∷ lines) = cc reads in
-      subst (λ (v : List ℕ). Chooses (QualityBy says unlisted (items comma v)) offers choice) same chosen
+  not_lower : (a b : ℕ) → IsFirstOfGreatest score xs a → IsFirstOfGreatest score xs b → ¬ (a < b)
+  not_lower a b h k low =
+      let other : A = element_at a xs h.within in
+      let less : score (get_or xs a other) < score (get_or xs b other) = k.first a other low in
+      let more : score (get_or xs b other) ≤ score (get_or xs a other) = h.greatest b other k.within in
+      omega (arith, less, more)
 
-  -- without a line the first offer is chosen
-  pub first_is_chosen : (lines : List Line) (offers : List FieldValue) → lines ≡ []
-      → Chooses (QualityIn says unlisted lines) offers (first_place offers)
-  first_is_chosen [] [] none = λ k other low q has. absurd (omega (arith, low))
-  first_is_chosen [] (offer ∷ offers) none =
-      record {
-        within = omega arith;
-        quality = 1000;
-        acceptable = omega arith;
-        has = λ other. refl;
-        greatest = λ k other low q has. omega (arith, has);
-        first = λ k q other low has. absurd (omega (arith, low));
-      }
-  first_is_chosen (line ∷ lines) offers none =
-      let n : suc (length lines) ≡ 0 = ap length none in absurd (omega (arith, n))
+  picked_is_some : (a : ℕ) → IsFirstOfGreatest score xs a → ¬ (Picks score xs None)
+  picked_is_some a h none =
+      let other : A = element_at a xs h.within in omega (arith, none a other h.within, h.positive other)
+
+  pub picks_one : (a b : Option ℕ) → Picks score xs a → Picks score xs b → a ≡ b
+  picks_one None None h k = refl
+  picks_one None (Some b) h k = absurd (picked_is_some b k h)
+  picks_one (Some a) None h k = absurd (picked_is_some a h k)
+  picks_one (Some a) (Some b) h k =
+      elim (cases_order a b) [
+        | inl same ↦ ap (λ (n : ℕ). Some n) same
+        | inr apart ↦
+            elim apart [
+              | inl lower ↦ absurd (not_lower a b h k lower)
+              | inr higher ↦ absurd (not_lower b a k h higher)
+            ]
+      ]
+
+  -- who leads a part of the list, from the first on
+  leader_of : (n : ℕ) → n ≤ length xs → (leader : Leader) × IsLeading n leader
+  leader_of zero low = (record { place = None; score = 0 }, none_leads)
+  leader_of (suc n) low =
+      let before = leader_of n (omega (arith, low)) in
+      let within : n < length xs = omega (arith, low) in
+      let x : A = get_or xs n (element_at n xs within) in
+      let is : x ≡ get_or xs n x = at_place xs n (element_at n xs within) x within in
+      let more : n + 1 ≡ suc n = omega arith in (
+        led before.0 (Some n) (score x),
+        subst (λ (m : ℕ). IsLeading m (led before.0 (Some n) (score x))) more
+            (leading_on n x within is before.0 before.1),
+      )
+
+  pub picks_some : (choice : Option ℕ) × Picks score xs choice
+  picks_some =
+      let leader = leader_of (length xs) (omega arith) in
+      (leader.0.place, leader_is_picked leader.0 leader.1)

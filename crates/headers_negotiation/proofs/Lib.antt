@@ -1,6 +1,9 @@
 pub mod ChoiceLemmas
-pub mod CountingLemmas
+mod DirectiveLemmas
+mod ElementLemmas
+mod LanguageLemmas
 pub mod LawLemmas
-pub mod PartLemmas
-pub mod PreferenceLemmas
-pub mod QualityLemmas
+mod LookupLemmas
+mod ParameterLemmas
+mod PreferenceLemmas
+mod RangeLemmas

@@ -1,13 +1,16 @@
 -- The order of what elements say, and the strongest of a list.
-use Rattle.std.proofs.Common.{◌≡◌, ◌⊎◌, ℕ, zero, suc, ◌<◌, ◌≤◌, Bool, true, false, List, [], ◌∷◌, length, Option, Some}
+use Rattle.std.proofs.Common.{◌≡◌, ◌⊎◌, ℕ, zero, suc, ◌<◌, ◌≤◌, Bool, true, false, List, [], ◌∷◌, length, Option}
+use Rattle.std.proofs.Common.{Some}
 use Rattle.std.proofs.Common.{None, inl, inr, refl, sym, ◌∙◌, ap, arith}
-use Rattle.std.specs.Prelude.{MatchOption, Contains, nat_lt, ◌==◌, ◌&&◌, if◌then◌else◌}
+use Rattle.std.specs.Prelude.{Contains, filter_map, nat_lt, ◌==◌, ◌&&◌, if◌then◌else◌}
 use Rattle.std.specs.List.{fold}
 use Rattle.std.proofs.lemmas.Bool.{and_cases, and_parts, cases_order, eqb-false, eqb-true, ltb-false, ltb-true}
 use Rattle.std.proofs.lemmas.Bool.{or_cases, or_parts}
-use Rattle.std.proofs.lemmas.List.Elements.{All-cons, All-head, All-nil, All-tail}
-use Rattle.headers_negotiation.specs.Preferences.{is_below, is_below_or, stronger}
-use Rattle.headers_negotiation.specs.Quality.{AtMost, IsStrongest}
+use Rattle.std.proofs.lemmas.List.Elements.{All-cons, All-contains, All-head, All-nil, All-tail}
+use Rattle.headers_fields.specs.Scan.{Member}
+use Rattle.headers_negotiation.specs.Preferences.{AtMost, IsBest, IsStrongest, is_below, is_below_or, stronger}
+use Rattle.headers_negotiation.specs.Preferences.{strongest}
+use Rattle.headers_negotiation.specs.Qualities.{preferred, weighed}
 use Rattle.headers_negotiation.specs.declared.preference.Preference.{Preference}
 
 -- x is below y, or they are the same and the rest decides
@@ -52,10 +55,10 @@ join_below_or x y z P Q R f (inr h) (inr k) = inr (h.0 ∙ k.0, f h.1 k.1)
 
 -- ---- the order
 
-pub at_most_itself : (a : Preference) → AtMost a a
+at_most_itself : (a : Preference) → AtMost a a
 at_most_itself a = inr (refl, inr (refl, omega arith))
 
-pub at_most_along : (a b c : Preference) → AtMost a b → AtMost b c → AtMost a c
+at_most_along : (a b c : Preference) → AtMost a b → AtMost b c → AtMost a c
 at_most_along a b c =
     join_below_or a.names b.names c.names _ _ _
     (join_below_or a.extent b.extent c.extent _ _ _ (λ (h : a.quality ≤ b.quality) (k : b.quality ≤ c.quality).
@@ -83,7 +86,7 @@ is_below-false a b e =
     (below_or-false a.names b.names (is_below_or a.extent b.extent (nat_lt a.quality b.quality)) e)
 
 -- two that are at most each other have one quality
-pub same_quality : (a b : Preference) → AtMost a b → AtMost b a → a.quality ≡ b.quality
+same_quality : (a b : Preference) → AtMost a b → AtMost b a → a.quality ≡ b.quality
 same_quality a b (inl h) (inl k) = absurd (omega (arith, h, k))
 same_quality a b (inl h) (inr k) = absurd (omega (arith, h, k.0))
 same_quality a b (inr h) (inl k) = absurd (omega (arith, h.0, k))
@@ -134,10 +137,6 @@ widen x y xs p h = by (is_below x y) refl h
               (All-tail (λ (other : Preference). AtMost other p) x xs h.greatest));
         }
 
--- what is the best of a list, if it isn't empty
-abbrev pub IsBest : List Preference → Option Preference → Type 0
-IsBest said best = MatchOption best (said ≡ []) (IsStrongest said)
-
 best_of_more : (x y : Preference) (xs : List Preference) (best : Option Preference)
     → IsBest ((if is_below x y then y else x) ∷ xs) best → IsBest (x ∷ y ∷ xs) best
 best_of_more x y xs None h =
@@ -158,7 +157,29 @@ strongest_fold x (y ∷ xs) =
     (strongest_fold (if is_below x y then y else x) xs)
 
 -- what is kept of a list is its strongest
-pub best_of_fold : (said : List Preference) → IsBest said (fold stronger None said)
+best_of_fold : (said : List Preference) → IsBest said (fold stronger None said)
 unfolding stronger
 best_of_fold [] = refl
 best_of_fold (x ∷ xs) = strongest_fold x xs
+
+-- so what decides is the strongest of what the members say
+pub strongest_is_best : (says : Member → Option Preference) (field : List Member)
+    → IsBest (filter_map says field) (strongest says field)
+unfolding strongest
+strongest_is_best says field = best_of_fold (filter_map says field)
+
+none_among : (said : List Preference) (p : Preference) → IsStrongest said p → said ≡ [] → ⊥
+none_among said p h e =
+    let low : h.among.0 < length said = h.among.1 in
+    let none : length said ≡ 0 = ap length e in omega (arith, low, none)
+
+-- and two that are the strongest of a list give one quality
+pub one_best : (said : List Preference) (a b : Option Preference) → IsBest said a → IsBest said b
+    → preferred a ≡ preferred b
+one_best said None None h k = refl
+one_best said None (Some q) h k = absurd (none_among said q k h)
+one_best said (Some p) None h k = absurd (none_among said p h k)
+one_best said (Some p) (Some q) h k =
+    ap weighed
+    (same_quality p q (All-contains (λ (other : Preference). AtMost other q) said p k.greatest h.among)
+    (All-contains (λ (other : Preference). AtMost other p) said q h.greatest k.among))

@@ -1,19 +1,40 @@
 -- Which of a server's offers, the most wanted first, is chosen (RFC 9110, sections 12.1 and 12.4).
-use Rattle.std.specs.Prelude.{◌≡◌, ℕ, ◌<◌, ◌≤◌, List, length, get_or, Option, Some, None, All}
+use Rattle.std.specs.Prelude.{◌≡◌, ℕ, ◌<◌, ◌≤◌, List, [], ◌∷◌, length, get_or, Option, Some, None, nat_lt}
+use Rattle.std.specs.Prelude.{if◌then◌else◌}
 use Rattle.http_header.specs.FieldValue.{FieldValue}
+use Rattle.headers_negotiation.specs.Qualities.{rank}
+use Rattle.headers_negotiation.specs.declared.choice.Leader.{Leader}
+use Rattle.headers_negotiation.specs.declared.acceptability.Quality.{Quality}
 
--- the quality of each offer
-module _ (Quality : List ℕ → ℕ → Type 0) (offers : List FieldValue) where
-  -- the offer at this place is acceptable, none has a greater quality, and those before it have a lesser one
+module _ {A : Type 0} (score : A → ℕ) (xs : List A) where
+  -- what is at this place has a score, nothing has a greater one, and what is before it has a lesser one
   pub record IsFirstOfGreatest (place : ℕ) : Type 0 where
-    pub within : place < length offers
-    pub quality : ℕ
-    pub acceptable : 0 < quality
-    pub has : (other : FieldValue) → Quality (get_or offers place other).bytes quality
-    pub greatest : All (λ (offer : FieldValue). (q : ℕ) → Quality offer.bytes q → q ≤ quality) offers
-    pub first : (k q : ℕ) (other : FieldValue) → k < place → Quality (get_or offers k other).bytes q → q < quality
+    pub within : place < length xs
+    pub positive : (other : A) → 0 < score (get_or xs place other)
+    pub greatest : (k : ℕ) (other : A) → k < length xs → score (get_or xs k other) ≤ score (get_or xs place other)
+    pub first : (k : ℕ) (other : A) → k < place → score (get_or xs k other) < score (get_or xs place other)
 
-  -- the place of the chosen offer, or none, if no offer is acceptable
-  abbrev pub Chooses : Option ℕ → Type 0
-  Chooses None = All (λ (offer : FieldValue). (q : ℕ) → Quality offer.bytes q → q ≡ 0) offers
-  Chooses (Some place) = IsFirstOfGreatest place
+  -- the place of what is chosen by its score, or none, if nothing has a score
+  abbrev pub Picks : Option ℕ → Type 0
+  Picks None = (k : ℕ) (other : A) → k < length xs → score (get_or xs k other) ≡ 0
+  Picks (Some place) = IsFirstOfGreatest place
+
+-- the rank of an offer
+abbrev pub offer_rank : (List ℕ → Quality) → FieldValue → ℕ
+offer_rank quality offer = rank (quality offer.bytes)
+
+-- The offer at the place is chosen: it is acceptable, none has a greater quality, and those before it have a lesser
+-- one. None is chosen if none is acceptable.
+abbrev pub Chooses : (List ℕ → Quality) → List FieldValue → Option ℕ → Type 0
+Chooses quality offers choice = Picks (offer_rank quality) offers choice
+
+-- ---- how it is found
+
+-- who leads once one more score is known
+abbrev pub led : Leader → Option ℕ → ℕ → Leader
+led leader place score = if nat_lt leader.score score then record { place = place; score = score } else leader
+
+-- the first of the offers, if there is one
+abbrev pub first_place : {A : Type 0} → List A → Option ℕ
+first_place [] = None
+first_place (offer ∷ offers) = Some 0

@@ -1,41 +1,104 @@
--- An element of a field: a range, and parameters, of which one may be its weight (RFC 9110, section 12.4.2).
-use Rattle.std.specs.Prelude.{ℕ, List, [], ◌∷◌, Option}
-use Rattle.std.specs.Option.{option_map}
-use Rattle.headers.specs.Lines.{Line}
-use Rattle.headers.specs.Merge.{merge}
-use Rattle.headers.specs.Places.{comma, items, items_from, semicolon}
-use Rattle.headers_negotiation.specs.Weights.{weight_in}
-use Rattle.headers_negotiation.specs.declared.preference.Preference.{Preference}
+-- An element of a field: a range, its parameters and its weight (RFC 9110, sections 5.6.6 and 12.4.2).
+use Rattle.std.specs.Prelude.{ℕ, Bool, true, false, ◌&&◌, ◌==◌, not, List, [], ◌∷◌, length, filter, filter_map, find}
+use Rattle.std.specs.Prelude.{Option, Some, None}
+use Rattle.std.specs.Prelude.{is_some, option_and_then, option_map, if◌then◌else◌}
+use Rattle.std.specs.Option.{option_map_or}
+use Rattle.std.specs.List.{list_all}
+use Rattle.headers_syntax.specs.Text.{trim}
+use Rattle.headers_fields.specs.Grammar.{semicolon}
+use Rattle.headers_fields.specs.Members.{members_of, pieces_left}
+use Rattle.headers_fields.specs.Scan.{Member}
+use Rattle.headers_fields.specs.Scan.Member.{Whole, Malformed}
+use Rattle.headers_fields.specs.Values.{ValueParts, is_token}
+use Rattle.headers_fields.specs.Values.ValueParts.{TokenText, QuotedText}
+use Rattle.headers_fields.specs.Weights.{weight}
+use Rattle.headers_negotiation.specs.Parameters.{ParameterParts, is_weight, parameter_of}
+use Rattle.headers_negotiation.specs.declared.element.Element.{Element}
 
--- the elements in the lines of a field, which are one list
-abbrev pub elements_of : List Line → List (List ℕ)
-elements_of lines = items comma (merge comma lines)
+-- ---- what is between the semicolons of a text
 
--- the parts of an element: what stands between its semicolons, but for those in quotes, without the blanks round it
-unfoldable pub parts : List ℕ → List (List ℕ)
-parts element = items_from semicolon element 0
+-- the text, cut at each semicolon outside quotes (section 5.6.6)
+abbrev pub between_semicolons : List ℕ → List Member
+between_semicolons text =
+    pieces_left (record { separator = semicolon; pairs = true; rest = text; is_done = false })
 
-abbrev pub first_of : List (List ℕ) → List ℕ
+abbrev pub first_of : List Member → List ℕ
 first_of [] = []
-first_of (part ∷ others) = part
+first_of (Whole text ∷ others) = trim text
+first_of (Malformed ∷ others) = []
 
-abbrev pub others_of : List (List ℕ) → List (List ℕ)
+abbrev pub others_of : List Member → List Member
 others_of [] = []
-others_of (part ∷ others) = others
+others_of (Whole text ∷ others) = members_of others
+others_of (Malformed ∷ others) = []
 
--- the range of an element, and the type and subtype of a media type: the first part
-unfoldable pub range_of : List ℕ → List ℕ
-range_of element = first_of (parts element)
+-- what is before the first semicolon
+unfoldable pub value_of : List ℕ → List ℕ
+value_of text = first_of (between_semicolons text)
 
--- the parameters: the other parts
-unfoldable pub parameters : List ℕ → List (List ℕ)
-parameters element = others_of (parts element)
+-- what is between the others, but for what is empty
+unfoldable pub members_after : List ℕ → List Member
+members_after text = others_of (between_semicolons text)
 
--- the weight of an element, in thousandths, if it can be read
-unfoldable pub weight_of : List ℕ → Option ℕ
-weight_of element = weight_in (parameters element)
+abbrev pub is_parameter : Member → Bool
+is_parameter member = is_some (parameter_of member)
 
--- what an element with this range says of an offer; an element whose weight can't be read says nothing
-abbrev pub weighted : List ℕ → ℕ → ℕ → Option Preference
-weighted element names extent =
-    option_map (λ (quality : ℕ). record { names = names; extent = extent; quality = quality }) (weight_of element)
+-- each of them is a parameter
+abbrev pub has_only_parameters : List ℕ → Bool
+has_only_parameters text = list_all is_parameter (members_after text)
+
+-- the parameters of a text
+abbrev pub parameters_of : List ℕ → List ParameterParts
+parameters_of text = filter_map parameter_of (members_after text)
+
+-- ---- weights
+
+-- the weight that a value is, in thousandths, if it is one: no quoted-string is
+abbrev pub weight_of : ValueParts → Option ℕ
+weight_of (TokenText text) = weight text
+weight_of (QuotedText text) = None
+
+-- the weight among parameters: the first that is named so, or 1 if none is
+abbrev pub weight_in : List ParameterParts → Option ℕ
+weight_in parameters = option_map_or (λ p. weight_of p.value) (find is_weight parameters) (Some 1000)
+
+-- ---- elements
+
+pub record ElementParts : Type 0 where
+  -- what is before the first semicolon
+  pub range : List ℕ
+  -- the parameters but for the weight
+  pub parameters : List ParameterParts
+  -- in thousandths
+  pub weight : ℕ
+
+-- the parameters of a text that are no weight
+abbrev pub own_parameters : List ℕ → List ParameterParts
+own_parameters text = filter (λ p. not (is_weight p)) (parameters_of text)
+
+-- what an `Element` shows
+abbrev pub element_parts : Element → ElementParts
+element_parts e =
+    record { range = e.range.now; parameters = own_parameters e.text.now; weight = e.weight }
+
+-- the element that a text is, if it is one: each of its parameters is well formed, and so is its weight
+unfoldable pub element_in : List ℕ → Option ElementParts
+element_in text =
+    if has_only_parameters text
+    then option_map
+    (λ (weight : ℕ). record { range = value_of text; parameters = own_parameters text; weight = weight })
+    (weight_in (parameters_of text))
+    else None
+
+-- the element is a range and maybe a weight, as those of Accept-Encoding and Accept-Language are (sections 12.5.3 and
+-- 12.5.4)
+abbrev pub is_bare : ElementParts → Bool
+is_bare e = length e.parameters == 0 && is_token e.range
+
+abbrev pub if_bare : ElementParts → Option ElementParts
+if_bare e = if is_bare e then Some e else None
+
+-- the element without parameters that a member is, if it is one
+abbrev pub bare_element_of : Member → Option ElementParts
+bare_element_of (Whole text) = option_and_then if_bare (element_in text)
+bare_element_of Malformed = None

@@ -1,17 +1,34 @@
--- What an element of Accept-Language says of a language tag (RFC 9110, section 12.5.4; RFC 4647, section 3.3.1).
-use Rattle.std.specs.Prelude.{ℕ, Bool, ◌&&◌, ◌||◌, ◌==◌, List, length, Option, None, bytes_eq, codes, slice_index}
+-- Language ranges and tags (RFC 9110, section 12.5.4; RFC 4647).
+use Rattle.std.specs.Prelude.{ℕ, Bool, ◌&&◌, ◌==◌, true, false, List, [], ◌∷◌, length, Option, Some, None}
+use Rattle.std.specs.Prelude.{option_and_then}
 use Rattle.std.specs.Prelude.{if◌then◌else◌}
-use Rattle.headers_negotiation.specs.Elements.{range_of, weighted}
-use Rattle.headers_negotiation.specs.Names.{begins_with}
+use Rattle.http_header.specs.Token.{lowercase}
+use Rattle.headers_fields.specs.Scan.{Member}
+use Rattle.headers_negotiation.specs.Elements.{ElementParts, bare_element_of}
+use Rattle.headers_negotiation.specs.MediaRanges.{is_star}
 use Rattle.headers_negotiation.specs.declared.preference.Preference.{Preference}
 
--- the range is the tag, in any case, or a prefix of it that a hyphen follows
-unfoldable pub covers_tag : List ℕ → List ℕ → Bool
-covers_tag range tag =
-    begins_with tag range && (length range == length tag || slice_index tag (length range) == 45)
+-- b'-'
+abbrev pub hyphen : ℕ
+hyphen = 45
+
+-- the first text is the second, or a prefix of it that a hyphen follows
+abbrev pub is_front : List ℕ → List ℕ → Bool
+is_front [] [] = true
+is_front [] (b ∷ text) = b == hyphen
+is_front (a ∷ front) [] = false
+is_front (a ∷ front) (b ∷ text) = a == b && is_front front text
+
+-- Basic filtering (RFC 4647, section 3.3.1): a range matches a tag if it is equal to the tag, in any case, or to a
+-- prefix of it that a hyphen follows.
+abbrev pub covers : List ℕ → List ℕ → Bool
+covers range tag = is_front (lowercase range) (lowercase tag)
 
 -- a star matches each tag, and any other range those that it covers: of two that do, the longer one is more specific
-unfoldable pub language_preference : List ℕ → List ℕ → Option Preference
-language_preference tag element =
-    if bytes_eq (range_of element) (codes "*") then weighted element 0 0
-    else if covers_tag (range_of element) tag then weighted element 1 (length (range_of element)) else None
+abbrev pub says_of : List ℕ → ElementParts → Option Preference
+says_of tag e =
+    if is_star e.range then Some (record { names = 0; extent = 0; quality = e.weight })
+    else (if covers e.range tag then Some (record { names = 1; extent = length e.range; quality = e.weight }) else None)
+
+abbrev pub language_says : List ℕ → Member → Option Preference
+language_says tag member = option_and_then (says_of tag) (bare_element_of member)

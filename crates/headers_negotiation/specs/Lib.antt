@@ -1,13 +1,10 @@
 pub mod Choice
 pub mod Codings
-pub mod DimensionLaws
 pub mod Elements
-pub mod Identity
 pub mod Languages
+pub mod Laws
+pub mod Lookup
 pub mod MediaRanges
-pub mod Names
-pub mod Parts
+pub mod Parameters
 pub mod Preferences
-pub mod PreferencesLaws
-pub mod Quality
-pub mod Weights
+pub mod Qualities

@@ -1,80 +1,119 @@
--- What an element of Accept says of a media type (RFC 9110, section 12.5.1).
-use Rattle.std.specs.Prelude.{ℕ, ◌+◌, ◌-◌, Bool, ◌&&◌, ◌||◌, not, ◌==◌, List, length, take, drop, filter}
-use Rattle.std.specs.Prelude.{Option, Some, None, bytes_eq, codes, is_some, nat_le, slice_index, if◌then◌else◌}
-use Rattle.std.specs.List.{list_all, list_any, position_or_len}
-use Rattle.std.specs.Option.{option_and_then}
-use Rattle.headers.specs.Text.{quote}
-use Rattle.headers_negotiation.specs.Elements.{parameters, range_of, weighted}
-use Rattle.headers_negotiation.specs.Names.{begins_with, is_same}
-use Rattle.headers_negotiation.specs.Weights.{weight_text}
+-- Media ranges and media types (RFC 9110, sections 8.3.1 and 12.5.1).
+use Rattle.std.specs.Prelude.{ℕ, ◌+◌, Bool, ◌&&◌, ◌||◌, ◌==◌, not, List, length, bytes_eq, codes}
+use Rattle.std.specs.Prelude.{Option, Some, None, option_and_then, option_map, if◌then◌else◌}
+use Rattle.std.specs.List.{after_first, before_first, list_all, list_any}
+use Rattle.headers_syntax.specs.AsciiCase.{same_name}
+use Rattle.headers_fields.specs.Scan.{Member}
+use Rattle.headers_fields.specs.Scan.Member.{Whole, Malformed}
+use Rattle.headers_fields.specs.Values.{is_token}
+use Rattle.headers_negotiation.specs.Elements.{ElementParts, element_in, has_only_parameters, own_parameters}
+use Rattle.headers_negotiation.specs.Elements.{parameters_of, value_of}
+use Rattle.headers_negotiation.specs.Parameters.{ParameterParts, is_same_parameter}
+use Rattle.headers_negotiation.specs.declared.media.MediaRange.{MediaRange}
+use Rattle.headers_negotiation.specs.declared.media.MediaType.{MediaType}
+use Rattle.headers_negotiation.specs.declared.media.Names.{Names}
 use Rattle.headers_negotiation.specs.declared.preference.Preference.{Preference}
 
 -- ---- type and subtype
 
--- `text/` of the range `text/*`
-unfoldable pub before_star : List ℕ → Option (List ℕ)
-before_star range =
-    if nat_le 2 (length range) && (slice_index range (length range - 1) == 42
-    && slice_index range (length range - 2) == 47)
-    then Some (take (length range - 1) range) else None
+pub record NamesParts : Type 0 where
+  pub type_name : List ℕ
+  pub subtype : List ℕ
 
--- how many names of a type and a subtype a range gives, where it gives the type alone, or both
-abbrev pub names_by : Option (List ℕ) → List ℕ → List ℕ → Option ℕ
-names_by (Some top_level) range names = if begins_with names top_level then Some 1 else None
-names_by None range names = if is_same range names then Some 2 else None
+-- what `Names` shows
+abbrev pub names_parts : Names → NamesParts
+names_parts n = record { type_name = n.type_name.now; subtype = n.subtype.now }
 
--- how many it gives, if they are these in any case; `*/*` gives none
-unfoldable pub names_given : List ℕ → List ℕ → Option ℕ
-names_given range names =
-    if bytes_eq range (codes "*/*") then Some 0 else names_by (before_star range) range names
+abbrev pub is_slash : ℕ → Bool
+is_slash b = b == 47
 
--- ---- parameters
+-- the names that a text is, if it is type "/" subtype, two tokens
+unfoldable pub names_in : List ℕ → Option NamesParts
+names_in text =
+    if is_token (before_first is_slash text) && is_token (after_first is_slash text)
+    then Some (record { type_name = before_first is_slash text; subtype = after_first is_slash text })
+    else None
 
--- a parameter belongs to the range if it is there, and isn't the weight
-abbrev pub is_of_range : List ℕ → Bool
-is_of_range parameter = nat_le 1 (length parameter) && not (is_some (weight_text parameter))
+abbrev pub is_star : List ℕ → Bool
+is_star name = bytes_eq name (codes "*")
 
--- the bytes between the quotes of a quoted string; any other text as it is
-unfoldable pub unquoted : List ℕ → List ℕ
-unquoted text =
-    if nat_le 2 (length text) && (slice_index text 0 == quote && slice_index text (length text - 1) == quote)
-    then drop 1 (take (length text - 1) text) else text
+-- a range has a star in the place of the subtype, or of both: `*/html` is none
+abbrev pub is_range : NamesParts → Bool
+is_range n = not (is_star n.type_name) || is_star n.subtype
 
--- where the name of a parameter ends
-abbrev pub name_len : List ℕ → ℕ
-name_len parameter = position_or_len (λ b. b == 61) parameter
+-- a name of a range is a star, or that of the media type, in any case
+abbrev pub is_star_or_same : List ℕ → List ℕ → Bool
+is_star_or_same name other = is_star name || same_name name other
 
-abbrev pub name_of : List ℕ → List ℕ
-name_of parameter = take (name_len parameter) parameter
+-- how many names it gives
+abbrev pub given : List ℕ → ℕ
+given name = if is_star name then 0 else 1
 
--- the value, which means the same in quotes and without them (section 5.6.6)
-abbrev pub value_of : List ℕ → List ℕ
-value_of parameter = unquoted (drop (name_len parameter + 1) parameter)
+-- ---- ranges and types
 
--- name and value are the same but for case
-unfoldable pub is_same_parameter : List ℕ → List ℕ → Bool
-is_same_parameter a b = is_same (name_of a) (name_of b) && is_same (value_of a) (value_of b)
+pub record MediaTypeParts : Type 0 where
+  pub names : NamesParts
+  pub parameters : List ParameterParts
 
--- the media type has the parameter
-unfoldable pub has_parameter : List ℕ → List ℕ → Bool
-has_parameter media wanted = list_any (λ parameter. is_same_parameter parameter wanted) (parameters media)
+pub record MediaRangeParts : Type 0 where
+  pub names : NamesParts
+  -- but for the weight
+  pub parameters : List ParameterParts
+  -- in thousandths
+  pub weight : ℕ
 
--- the media type has each parameter of the range
-unfoldable pub has_parameters_of : List ℕ → List ℕ → Bool
-has_parameters_of media element =
-    list_all (λ parameter. not (is_of_range parameter) || has_parameter media parameter) (parameters element)
+-- what a `MediaRange` shows
+abbrev pub media_range_parts : MediaRange → MediaRangeParts
+media_range_parts r =
+    record { names = names_parts r.names; parameters = own_parameters r.text.now; weight = r.weight }
 
--- how many parameters the range has
-unfoldable pub parameter_count : List ℕ → ℕ
-parameter_count element = length (filter is_of_range (parameters element))
+-- what a `MediaType` shows
+abbrev pub media_type_parts : MediaType → MediaTypeParts
+media_type_parts t = record { names = names_parts t.names; parameters = parameters_of t.text.now }
 
--- ---- both
+-- the media type that a text is, if it is one
+unfoldable pub media_type_in : List ℕ → Option MediaTypeParts
+media_type_in text =
+    if has_only_parameters text
+    then option_map (λ (names : NamesParts). record { names = names; parameters = parameters_of text })
+    (names_in (value_of text))
+    else None
 
--- a range matches a media type that it names, whose parameters include its own: of two that name as much, the one with
--- more parameters is more specific
-unfoldable pub media_preference : List ℕ → List ℕ → Option Preference
-media_preference media element =
-    option_and_then
-    (λ (names : ℕ).
-    if has_parameters_of media element then weighted element names (parameter_count element) else None)
-    (names_given (range_of element) (range_of media))
+abbrev pub if_range : ElementParts → NamesParts → Option MediaRangeParts
+if_range e names =
+    if is_range names then Some (record { names = names; parameters = e.parameters; weight = e.weight }) else None
+
+-- the media range that an element is, if it is one
+unfoldable pub media_range_in : List ℕ → Option MediaRangeParts
+media_range_in text = option_and_then (λ e. option_and_then (if_range e) (names_in e.range)) (element_in text)
+
+-- each parameter of a range is one of the media type
+abbrev pub are_had : List ParameterParts → List ParameterParts → Bool
+are_had wanted parameters = list_all (λ p. list_any (is_same_parameter p) parameters) wanted
+
+-- A range matches a media type exactly if type and subtype are equal or a star, and the media type has each parameter
+-- of the range.
+abbrev pub matches : MediaRangeParts → MediaTypeParts → Bool
+matches r t =
+    is_star_or_same r.names.type_name t.names.type_name
+    && (is_star_or_same r.names.subtype t.names.subtype && are_had r.parameters t.parameters)
+
+-- ---- what an element says of a media type
+
+abbrev pub says_of : MediaRangeParts → MediaTypeParts → Option Preference
+says_of r t =
+    if matches r t
+    then Some (record {
+      names = given r.names.type_name + given r.names.subtype;
+      extent = length r.parameters;
+      quality = r.weight;
+    })
+    else None
+
+abbrev pub says_in : List ℕ → List ℕ → Option Preference
+says_in offer element =
+    option_and_then (λ r. option_and_then (says_of r) (media_type_in offer)) (media_range_in element)
+
+abbrev pub media_type_says : List ℕ → Member → Option Preference
+media_type_says offer (Whole element) = says_in offer element
+media_type_says offer Malformed = None

@@ -1,16 +1,32 @@
--- How qualities and choices are computed. That this is what Quality and Choice say is proved in proofs/.
-use Rattle.std.specs.Prelude.{ℕ, Bool, ◌&&◌, ◌||◌, ◌==◌, List, [], ◌∷◌, filter_map, Option, Some, None, nat_lt}
-use Rattle.std.specs.Prelude.{if◌then◌else◌}
+-- What elements say of an offer, and which of them decides (RFC 9110, section 12.5.1).
+use Rattle.std.specs.Prelude.{◌≡◌, ◌⊎◌, ℕ, ◌<◌, ◌≤◌, Bool, ◌&&◌, ◌||◌, ◌==◌, List, [], All, Contains, filter_map}
+use Rattle.std.specs.Prelude.{Option, Some, None, MatchOption, nat_lt, if◌then◌else◌}
 use Rattle.std.specs.List.{fold}
-use Rattle.std.specs.Option.{option_map_or}
-use Rattle.headers_negotiation.specs.declared.choice.Leader.{Leader}
+use Rattle.headers_fields.specs.Scan.{Member}
 use Rattle.headers_negotiation.specs.declared.preference.Preference.{Preference}
 
--- whether x is below y; if they are the same, the rest decides
+-- the first is less specific than the second, or as specific and of no greater quality
+abbrev pub AtMost : Preference → Preference → Type 0
+AtMost a b =
+    (a.names < b.names)
+    ⊎ ((a.names ≡ b.names) × ((a.extent < b.extent) ⊎ ((a.extent ≡ b.extent) × (a.quality ≤ b.quality))))
+
+-- this is said of the offer, and all that is said of it is at most this
+pub record IsStrongest (said : List Preference) (p : Preference) : Type 0 where
+  pub among : Contains said p
+  pub greatest : All (λ (other : Preference). AtMost other p) said
+
+-- the strongest of what is said, if anything is
+abbrev pub IsBest : List Preference → Option Preference → Type 0
+IsBest said best = MatchOption best (said ≡ []) (IsStrongest said)
+
+-- ---- how it is found
+
+-- x is below y, or they are equal and the rest decides
 abbrev pub is_below_or : ℕ → ℕ → Bool → Bool
 is_below_or x y rest = nat_lt x y || (x == y && rest)
 
--- whether the first says less than the second
+-- the first says less than the second
 unfoldable pub is_below : Preference → Preference → Bool
 is_below a b = is_below_or a.names b.names (is_below_or a.extent b.extent (nat_lt a.quality b.quality))
 
@@ -19,20 +35,6 @@ unfoldable pub stronger : Option Preference → Preference → Option Preference
 stronger None said = Some said
 stronger (Some best) said = Some (if is_below best said then said else best)
 
--- the strongest of what elements say of an offer
-unfoldable pub strongest : (List ℕ → Option Preference) → List (List ℕ) → Option Preference
-strongest says elements = fold stronger None (filter_map says elements)
-
--- the quality of an offer
-unfoldable pub quality_by : (List ℕ → Option Preference) → ℕ → List (List ℕ) → ℕ
-quality_by says unlisted elements = option_map_or (λ (p : Preference). p.quality) (strongest says elements) unlisted
-
--- who leads once one more offer is looked at
-unfoldable pub led : Leader → ℕ → ℕ → Leader
-led leader place quality =
-    if nat_lt leader.quality quality then record { place = Some place; quality = quality } else leader
-
--- the first of the offers, if there is one
-abbrev pub first_place : {A : Type 0} → List A → Option ℕ
-first_place [] = None
-first_place (offer ∷ offers) = Some 0
+-- the strongest of what the members of a field say
+unfoldable pub strongest : (Member → Option Preference) → List Member → Option Preference
+strongest says field = fold stronger None (filter_map says field)

@@ -1,38 +1,29 @@
-//! The first of the offers of the greatest quality.
+//! The first of the greatest score.
 ghost use Rattle.std.specs.Prelude.{◌≡◌};
-ghost use Rattle.headers_negotiation.specs.Preferences.{first_place, led};
+ghost use Rattle.headers_negotiation.specs.Choice.{led};
 
-use headers::HeaderValue;
-
-/// The place of the first offer of the greatest quality so far, if one is acceptable, and its
-/// quality.
-#[derive(Clone, Copy, Debug, PartialEq, Eq)]
+/// A place of the greatest score so far, if there is any score, and the score.
+#[derive(Clone, Copy)]
 pub(crate) struct Leader {
     pub(crate) place: Option<usize>,
-    pub(crate) quality: u16,
+    pub(crate) score: u64,
 }
 
-/// Who leads once one more offer is looked at.
-#[tactic(auto, unfolding(crate::specs::Preferences::led))]
-pub(crate) fn led(leader: Leader, place: usize, quality: u16) -> Leader
-    ensures { result ≡ led leader place quality }
+impl Leader {
+    /// Nothing leads yet.
+    pub(crate) const NONE: Leader = Leader {
+        place: None,
+        score: 0,
+    };
+}
+
+/// Who leads once one more score is known.
+pub(crate) fn led(leader: Leader, place: Option<usize>, score: u64) -> Leader
+    ensures { result ≡ led leader place score }
 {
-    if quality > leader.quality {
-        Leader {
-            place: Some(place),
-            quality,
-        }
+    if score > leader.score {
+        Leader { place, score }
     } else {
         leader
-    }
-}
-
-/// The place of the first offer, if there is one.
-pub(crate) fn first_place(offers: &[HeaderValue]) -> Option<usize>
-    ensures { result ≡ first_place offers.now }
-{
-    match offers {
-        [] => None,
-        [..] => Some(0),
     }
 }

@@ -1,50 +1,140 @@
 //! Content codings.
-ghost use Rattle.std.specs.Prelude.{◌≡◌};
+ghost use Rattle.std.specs.Prelude.{◌≡◌, ◌&&◌, true, codes};
+ghost use Rattle.headers_syntax.specs.AsciiCase.{same_name};
+ghost use Rattle.headers_syntax.specs.Lines.{lines_of};
+ghost use Rattle.headers_fields.specs.Members.{field_members, member_of};
+ghost use Rattle.headers_negotiation.specs.Codings.{are_elements, coding_quality, encoding_quality, is_same_coding};
+ghost use Rattle.headers_negotiation.specs.Codings.{member_quality, registered, says_of, unlisted};
+ghost use Rattle.headers_negotiation.specs.Elements.{element_parts};
 
-use crate::element::{range_of, weighted};
-use crate::names::is_same;
-use crate::preference::Preference;
-use crate::preferences::{Dimension, Preferences};
-use http_header::{ACCEPT_ENCODING, HeaderName};
+use crate::acceptability::{Quality, least, weighed};
+use crate::dimension::Dimension;
+use crate::element::{Element, bare_element_of};
+use crate::media::is_star;
+use crate::preference::{Preference, Ranges, strongest};
+use headers_fields::{FieldMembers, Malformed, Members};
+use http_header::{ACCEPT_ENCODING, GetAll, HeaderName, HeaderValue};
 
-/// The content codings that a client accepts (RFC 9110, section 12.5.3). A range matches the coding
-/// of its name, in any case, and `*` each one. If no element matches `identity`, it is acceptable,
-/// with a quality of one thousandth; any other coding isn't.
-pub type AcceptEncoding = Preferences<Codings>;
+/// Accept-Encoding: the content codings that a client accepts (RFC 9110, section 12.5.3). An offer
+/// is a value of Content-Encoding, or `identity` for content without a coding.
+///
+/// An element matches the coding that it names, in any case, and `*` each one; `x-gzip` is `gzip`
+/// and `x-compress` is `compress` (section 8.4.1). Content with several codings has the least of
+/// their qualities. `identity` that no element matches is acceptable, if no element is malformed.
+#[derive(Clone, Copy, Debug)]
+pub struct AcceptEncoding;
 
-/// The codings of a representation's content.
-#[derive(Debug, PartialEq)]
-pub struct Codings;
+// The registered name of a coding.
+fn registered(name: &[u8]) -> &[u8]
+    ensures { result.now ≡ registered name.now }
+{
+    if name.eq_ignore_ascii_case(b"x-gzip") {
+        b"gzip"
+    } else if name.eq_ignore_ascii_case(b"x-compress") {
+        b"compress"
+    } else {
+        name
+    }
+}
 
-impl Dimension for Codings {
+// Whether both name one coding.
+#[tactic(auto, unfolding(crate::specs::Codings::is_same_coding))]
+fn is_same_coding(one: &[u8], other: &[u8]) -> bool
+    ensures { result ≡ is_same_coding one.now other.now }
+{
+    registered(one).eq_ignore_ascii_case(registered(other))
+}
+
+// What an element says of a coding.
+fn says_of(coding: &[u8], element: &Element<'_>) -> Option<Preference>
+    ensures { result ≡ says_of coding.now (element_parts element.now) }
+{
+    if is_star(element.range) {
+        Some(Preference {
+            names: 0,
+            extent: 0,
+            quality: element.weight,
+        })
+    } else if is_same_coding(element.range, coding) {
+        Some(Preference {
+            names: 1,
+            extent: 0,
+            quality: element.weight,
+        })
+    } else {
+        None
+    }
+}
+
+impl Ranges for AcceptEncoding {
+    ghost use Rattle.headers_negotiation.specs.Codings.{coding_says};
+
+    ghost says = { coding_says };
+
+    fn preference(offer: &[u8], member: Result<&[u8], Malformed>) -> Option<Preference> {
+        match bare_element_of(member) {
+            Some(element) => says_of(offer, &element),
+            None => None,
+        }
+    }
+}
+
+// Whether each member of a field is an element.
+fn are_elements(field: &GetAll<'_, HeaderValue>) -> bool
+    ensures { result ≡ are_elements (field_members true (lines_of field.now)) }
+{
+    FieldMembers::new(field).all(|member| bare_element_of(member).is_some())
+}
+
+// The quality of a coding that no element matches.
+fn unlisted(field: &GetAll<'_, HeaderValue>, coding: &[u8]) -> Quality
+    ensures { result ≡ unlisted (field_members true (lines_of field.now)) coding.now }
+{
+    if coding.eq_ignore_ascii_case(b"identity") && are_elements(field) {
+        Quality::Unlisted
+    } else {
+        Quality::NotAcceptable
+    }
+}
+
+// The quality of one coding.
+#[tactic(auto, unfolding(crate::specs::Codings::coding_quality))]
+fn coding_quality(field: &GetAll<'_, HeaderValue>, coding: &[u8]) -> Quality
+    ensures { result ≡ coding_quality (field_members true (lines_of field.now)) coding.now }
+{
+    match strongest::<AcceptEncoding>(field, coding) {
+        Some(preference) => weighed(preference.quality),
+        None => unlisted(field, coding),
+    }
+}
+
+// The quality of one coding of an offer.
+fn member_quality(field: &GetAll<'_, HeaderValue>, member: Result<&[u8], Malformed>) -> Quality
+    ensures { result ≡ member_quality (field_members true (lines_of field.now)) (member_of member.entry) }
+{
+    match member {
+        Ok(coding) => coding_quality(field, coding),
+        Err(Malformed) => Quality::NotAcceptable,
+    }
+}
+
+impl Dimension for AcceptEncoding {
     ghost use Rattle.std.specs.Prelude.{codes};
-    ghost use Rattle.headers_negotiation.specs.Codings.{coding_preference, unlisted_coding};
-    ghost use Rattle.headers_negotiation.specs.DimensionLaws.{codings_in_range};
+    ghost use Rattle.headers_negotiation.specs.Codings.{encoding_quality};
 
     ghost NAME = { codes "accept-encoding" };
 
-    ghost says = { coding_preference };
-
-    ghost unlisted = { unlisted_coding };
-
-    ghost in_range = { codings_in_range };
+    ghost gives = { encoding_quality };
 
     const NAME: HeaderName = ACCEPT_ENCODING;
 
-    #[tactic(auto, unfolding(crate::specs::Codings::coding_preference))]
-    fn preference(coding: &[u8], element: &[u8]) -> Option<Preference> {
-        let range = range_of(element);
-        if range == b"*".as_slice() {
-            weighted(element, 0, 0)
-        } else if is_same(range, coding) {
-            weighted(element, 1, 0)
-        } else {
-            None
+    fn quality(field: &GetAll<'_, HeaderValue>, offer: &[u8]) -> Quality {
+        let mut codings = Members::new(offer);
+        match codings.next() {
+            Some(first) => codings.fold(member_quality(field, first), |quality, coding| {
+                least(quality, member_quality(field, coding))
+            }),
+            None => coding_quality(field, b"identity"),
         }
-    }
-
-    #[tactic(auto, unfolding(crate::specs::Codings::unlisted_coding))]
-    fn unlisted_quality(coding: &[u8]) -> u16 {
-        if is_same(coding, b"identity") { 1 } else { 0 }
     }
 }

@@ -1,49 +1,162 @@
-//! Elements of a field: a range and its parameters.
-ghost use Rattle.std.specs.Prelude.{◌≡◌, ◌<◌, ◌^◌, ◌≤◌, length, IfSome};
-ghost use Rattle.std.specs.Option.{option_copied};
-ghost use Rattle.headers_negotiation.specs.Elements.{parameters, range_of, weight_of, weighted};
-ghost use Rattle.headers_negotiation.specs.Parts.{parts_left};
+//! Elements of a field: a range, its parameters and its weight (RFC 9110, section 12.4.2).
+ghost use Rattle.std.specs.Prelude.{◌≡◌, ◌<◌, ◌^◌, length, option_map};
+ghost use Rattle.std.specs.List.{list_all, list_any};
+ghost use Rattle.headers_fields.specs.Members.{member_of, members_left};
+ghost use Rattle.headers_fields.specs.Values.{value_parts};
+ghost use Rattle.headers_negotiation.specs.Elements.{bare_element_of, element_in, element_parts, has_only_parameters};
+ghost use Rattle.headers_negotiation.specs.Elements.{if_bare, is_bare, is_parameter, members_after, own_parameters};
+ghost use Rattle.headers_negotiation.specs.Elements.{parameters_of, value_of, weight_in, weight_of};
+ghost use Rattle.headers_negotiation.specs.MediaRanges.{are_had};
+ghost use Rattle.headers_negotiation.specs.Parameters.{is_same_parameter, parameter_parts};
 
-use crate::parts::{Parts, behind_cut, first_part};
-use crate::preference::Preference;
-use crate::weight::weight_in;
+use crate::parameter::{Parameter, parameter_of};
+use headers_fields::{Malformed, Members, Parameterized, Value, is_token, weight};
 
-/// The range of an element, and the type and subtype of a media type.
-#[tactic(auto, using(crate::proofs::PartLemmas::range_is_first_part))]
-pub(crate) fn range_of(element: &[u8]) -> &[u8]
-    ensures { result.now ≡ range_of element.now }
-{
-    first_part(element)
+/// An element of a field.
+#[derive(Clone, Copy)]
+pub(crate) struct Element<'a> {
+    /// What stands before the first semicolon.
+    pub(crate) range: &'a [u8],
+    /// All of it.
+    pub(crate) text: &'a [u8],
+    /// In thousandths.
+    pub(crate) weight: u16,
 }
 
-/// The parameters after it.
-#[tactic(auto, using(crate::proofs::PartLemmas::parameters_stand_behind))]
-pub(crate) fn parameters(element: &[u8]) -> Parts<'_>
-    ensures value { parts_left (option_copied result.rest) ≡ parameters element.now }
-    ensures count { length (parts_left (option_copied result.rest)) < 2 ^ 64 }
+/// What stands before the first semicolon of a text.
+pub(crate) fn value_of(text: &[u8]) -> &[u8]
+    ensures { result.now ≡ value_of text.now }
 {
-    Parts {
-        rest: behind_cut(element),
+    match Parameterized::read(text) {
+        Ok(parts) => parts.value,
+        Err(Malformed) => b"",
     }
 }
 
-// The weight of an element, if it can be read.
-#[tactic(auto, unfolding(crate::specs::Elements::weight_of))]
-fn weight_of(element: &[u8]) -> Option<u16>
-    ensures value { result ≡ weight_of element.now }
-    ensures within { IfSome result (λ thousandths. thousandths ≤ 1000) }
+// What stands between the other semicolons.
+fn members_after(text: &[u8]) -> Members<'_>
+    ensures { members_left result ≡ members_after text.now }
 {
-    weight_in(parameters(element))
+    match Parameterized::read(text) {
+        Ok(parts) => parts.parameters,
+        Err(Malformed) => Members::new(b""),
+    }
 }
 
-/// What an element says of an offer that its range matches.
-pub(crate) fn weighted(element: &[u8], names: u8, extent: usize) -> Option<Preference>
-    ensures { result ≡ weighted element.now names extent }
+fn is_parameter(member: Result<&[u8], Malformed>) -> bool
+    ensures { result ≡ is_parameter (member_of member.entry) }
 {
-    let quality = weight_of(element)?;
-    Some(Preference {
-        names,
-        extent,
-        quality,
-    })
+    parameter_of(member).is_some()
+}
+
+/// Whether a text has nothing but parameters after its first semicolon.
+pub(crate) fn has_only_parameters(text: &[u8]) -> bool
+    ensures { result ≡ has_only_parameters text.now }
+{
+    members_after(text).all(|member| is_parameter(member))
+}
+
+// The weight that a value is, in thousandths. No quoted-string is one.
+fn weight_of(value: &Value<'_>) -> Option<u16>
+    ensures { result ≡ weight_of (value_parts value.now) }
+{
+    match value {
+        Value::Token(text) => weight(text),
+        Value::Quoted(_) => None,
+    }
+}
+
+// The weight among the parameters of a text: the first that is one, or 1 if none is.
+fn weight_in(text: &[u8]) -> Option<u16>
+    ensures { result ≡ weight_in (parameters_of text.now) }
+{
+    for member in members_after(text) {
+        if let Some(parameter) = parameter_of(member) {
+            if parameter.is_weight() {
+                return weight_of(&parameter.value);
+            }
+        }
+    }
+    Some(1000)
+}
+
+/// The element that a text is. `None` if a parameter is malformed, or the weight is.
+#[tactic(auto, unfolding(crate::specs::Elements::element_in))]
+pub(crate) fn element_in(text: &[u8]) -> Option<Element<'_>>
+    ensures { option_map element_parts result ≡ element_in text.now }
+{
+    if !has_only_parameters(text) {
+        return None;
+    }
+    match weight_in(text) {
+        Some(weight) => Some(Element {
+            range: value_of(text),
+            text,
+            weight,
+        }),
+        None => None,
+    }
+}
+
+/// How many parameters a text has but for the weight.
+pub(crate) fn parameter_count(text: &[u8]) -> usize
+    ensures { result ≡ length (own_parameters text.now) }
+{
+    let mut count = 0;
+    for member in members_after(text) {
+        if let Some(parameter) = parameter_of(member) {
+            if !parameter.is_weight() {
+                count += 1;
+            }
+        }
+    }
+    count
+}
+
+// Whether a text has this parameter.
+fn has_parameter(text: &[u8], wanted: &Parameter<'_>) -> bool
+    ensures { result ≡ list_any (is_same_parameter (parameter_parts wanted.now)) (parameters_of text.now) }
+{
+    for member in members_after(text) {
+        if let Some(parameter) = parameter_of(member) {
+            if wanted.is_same(&parameter) {
+                return true;
+            }
+        }
+    }
+    false
+}
+
+/// Whether a text has each parameter of an element.
+pub(crate) fn has_parameters_of(text: &[u8], element: &[u8]) -> bool
+    ensures { result ≡ are_had (own_parameters element.now) (parameters_of text.now) }
+{
+    for member in members_after(element) {
+        if let Some(wanted) = parameter_of(member) {
+            if !wanted.is_weight() && !has_parameter(text, &wanted) {
+                return false;
+            }
+        }
+    }
+    true
+}
+
+// Whether an element is a range and maybe a weight.
+fn is_bare(element: &Element<'_>) -> bool
+    ensures { result ≡ is_bare (element_parts element.now) }
+{
+    parameter_count(element.text) == 0 && is_token(element.range)
+}
+
+/// The element without parameters that a member of a field is.
+pub(crate) fn bare_element_of<'a>(member: Result<&'a [u8], Malformed>) -> Option<Element<'a>>
+    ensures { option_map element_parts result ≡ bare_element_of (member_of member.entry) }
+{
+    match member {
+        Ok(text) => match element_in(text) {
+            Some(element) if is_bare(&element) => Some(element),
+            _ => None,
+        },
+        Err(Malformed) => None,
+    }
 }

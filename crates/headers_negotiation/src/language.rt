@@ -1,58 +1,90 @@
 //! Languages.
 ghost use Rattle.std.specs.Prelude.{◌≡◌};
-ghost use Rattle.headers_negotiation.specs.Languages.{covers_tag};
+ghost use Rattle.headers_negotiation.specs.Elements.{element_parts};
+ghost use Rattle.headers_negotiation.specs.Languages.{covers, says_of};
 
-use crate::element::{range_of, weighted};
-use crate::names::begins_with;
-use crate::preference::Preference;
-use crate::preferences::{Dimension, Preferences};
-use http_header::{ACCEPT_LANGUAGE, HeaderName};
+use crate::acceptability::{Quality, preferred};
+use crate::dimension::Dimension;
+use crate::element::{Element, bare_element_of};
+use crate::media::is_star;
+use crate::preference::{Preference, Ranges, strongest};
+use headers_fields::Malformed;
+use http_header::{ACCEPT_LANGUAGE, GetAll, HeaderName, HeaderValue};
 
-/// The languages that a client prefers (RFC 9110, section 12.5.4). A range matches a tag that it is,
-/// in any case, or of which it is a prefix that a hyphen follows, and `*` matches each tag. The
-/// longest range that matches decides.
-pub type AcceptLanguage = Preferences<Languages>;
+/// Accept-Language: the languages that a client prefers (RFC 9110, section 12.5.4), by basic
+/// filtering (RFC 4647, section 3.3.1). An offer is a language tag.
+///
+/// A range matches a tag that it is equal to, in any case, or of which it is a prefix that a hyphen
+/// follows, and `*` matches each tag. The longest range that matches decides.
+#[derive(Clone, Copy, Debug)]
+pub struct AcceptLanguage;
 
-/// The languages of a representation.
-#[derive(Debug, PartialEq)]
-pub struct Languages;
-
-// Whether the range is the tag, or a prefix of it that a hyphen follows.
-#[tactic(auto, unfolding(crate::specs::Languages::covers_tag))]
-fn covers_tag(range: &[u8], tag: &[u8]) -> bool
-    ensures { result ≡ covers_tag range.now tag.now }
+/// Whether the range is the tag, or a prefix of it that a hyphen follows.
+pub(crate) fn covers(range: &[u8], tag: &[u8]) -> bool
+    ensures { result ≡ covers range.now tag.now }
 {
-    begins_with(tag, range) && (range.len() == tag.len() || tag[range.len()] == b'-')
+    let mut rest = tag;
+    for byte in range {
+        let Some((first, others)) = rest.split_first() else {
+            return false;
+        };
+        if !first.eq_ignore_ascii_case(byte) {
+            return false;
+        }
+        rest = others;
+    }
+    match rest {
+        [] => true,
+        [first, ..] => *first == b'-',
+    }
 }
 
-impl Dimension for Languages {
+// What an element says of a tag.
+fn says_of(tag: &[u8], element: &Element<'_>) -> Option<Preference>
+    ensures { result ≡ says_of tag.now (element_parts element.now) }
+{
+    if is_star(element.range) {
+        Some(Preference {
+            names: 0,
+            extent: 0,
+            quality: element.weight,
+        })
+    } else if covers(element.range, tag) {
+        Some(Preference {
+            names: 1,
+            extent: element.range.len(),
+            quality: element.weight,
+        })
+    } else {
+        None
+    }
+}
+
+impl Ranges for AcceptLanguage {
+    ghost use Rattle.headers_negotiation.specs.Languages.{language_says};
+
+    ghost says = { language_says };
+
+    fn preference(offer: &[u8], member: Result<&[u8], Malformed>) -> Option<Preference> {
+        match bare_element_of(member) {
+            Some(element) => says_of(offer, &element),
+            None => None,
+        }
+    }
+}
+
+impl Dimension for AcceptLanguage {
     ghost use Rattle.std.specs.Prelude.{codes};
-    ghost use Rattle.headers_negotiation.specs.Languages.{language_preference};
-    ghost use Rattle.headers_negotiation.specs.DimensionLaws.{languages_in_range};
+    ghost use Rattle.headers_negotiation.specs.Languages.{language_says};
+    ghost use Rattle.headers_negotiation.specs.Qualities.{quality_by};
 
     ghost NAME = { codes "accept-language" };
 
-    ghost says = { language_preference };
-
-    ghost unlisted = { λ tag. 0 };
-
-    ghost in_range = { languages_in_range };
+    ghost gives = { quality_by language_says };
 
     const NAME: HeaderName = ACCEPT_LANGUAGE;
 
-    #[tactic(auto, unfolding(crate::specs::Languages::language_preference))]
-    fn preference(tag: &[u8], element: &[u8]) -> Option<Preference> {
-        let range = range_of(element);
-        if range == b"*".as_slice() {
-            weighted(element, 0, 0)
-        } else if covers_tag(range, tag) {
-            weighted(element, 1, range.len())
-        } else {
-            None
-        }
-    }
-
-    fn unlisted_quality(_tag: &[u8]) -> u16 {
-        0
+    fn quality(field: &GetAll<'_, HeaderValue>, offer: &[u8]) -> Quality {
+        preferred(strongest::<AcceptLanguage>(field, offer))
     }
 }

@@ -1,39 +1,67 @@
 //! What follows from the definitions alone. A proof cites a law by calling it.
-ghost use Rattle.std.specs.Prelude.{◌≡◌, ℕ, List, [], Option, Any, codes};
-ghost use Rattle.http_header.specs.FieldValue.{FieldValue};
-ghost use Rattle.headers.specs.Lines.{Line};
-ghost use Rattle.headers_negotiation.specs.Choice.{Chooses};
-ghost use Rattle.headers_negotiation.specs.Codings.{coding_preference, unlisted_coding};
-ghost use Rattle.headers_negotiation.specs.Identity.{ExcludesIdentity};
-ghost use Rattle.headers_negotiation.specs.Preferences.{first_place};
-ghost use Rattle.headers_negotiation.specs.Quality.{QualityBy, QualityIn};
+ghost use Rattle.headers_negotiation.specs.Laws.{EachCodingIsAccepted, HasOneChoice, HasTwoNames};
+ghost use Rattle.headers_negotiation.specs.Laws.{IdentityIsExcludedByName, ListedComesFirst, LooksUpOne};
+ghost use Rattle.headers_negotiation.specs.Laws.{MostSpecificDecides, RangesCover, RangesMatch, TakesTheFirst};
+ghost use Rattle.headers_negotiation.specs.Laws.{WeightsAreInRange};
 
-use crate::preferences::Dimension;
+use crate::dimension::Dimension;
 
-/// Each offer has one quality, whatever the lines of the field are.
-pub fn offer_has_one_quality<D: Dimension>()
-    ensures some { (lines : List Line) (offer : List ℕ)
-        → (quality : ℕ) × QualityIn D.says D.unlisted lines offer quality }
-    ensures one { (lines : List Line) (offer : List ℕ) (q r : ℕ) → QualityIn D.says D.unlisted lines offer q
-        → QualityIn D.says D.unlisted lines offer r → q ≡ r }
+/// Of what the elements of a field say of an offer, the most specific decides, and of several that
+/// are as specific the one of the greatest weight (RFC 9110, section 12.5.1).
+pub fn most_specific_decides()
+    ensures { MostSpecificDecides }
 {}
 
-/// A request has one choice at most. `negotiate` gives one, unless it runs out of memory.
+/// A request has a choice, and only one.
 pub fn request_has_one_choice<D: Dimension>()
-    ensures { (lines : List Line) (offers : List FieldValue) (a b : Option ℕ)
-        → Chooses (QualityIn D.says D.unlisted lines) offers a
-        → Chooses (QualityIn D.says D.unlisted lines) offers b → a ≡ b }
+    ensures { HasOneChoice D.gives }
 {}
 
-/// Without a line of the field the first offer is chosen.
+/// Without the field the first offer is chosen.
 pub fn no_field_takes_the_first<D: Dimension>()
-    ensures { (offers : List FieldValue) (choice : Option ℕ)
-        → Chooses (QualityIn D.says D.unlisted []) offers choice → choice ≡ first_place offers }
+    ensures { TakesTheFirst D.gives }
 {}
 
-/// Content without a coding is acceptable unless an element `identity;q=0` or `*;q=0` excludes it.
+/// A media range matches a media type exactly if type and subtype are equal or a star, and the media
+/// type has each parameter of the range (section 12.5.1).
+pub fn ranges_match()
+    ensures { RangesMatch }
+{}
+
+/// Content without a coding is acceptable unless an element `identity;q=0` or `*;q=0` excludes it,
+/// or an element is malformed (section 12.5.3).
 pub fn identity_is_excluded_by_name()
-    ensures { (elements : List (List ℕ))
-        → QualityBy coding_preference unlisted_coding elements (codes "identity") 0
-        → Any ExcludesIdentity elements }
+    ensures { IdentityIsExcludedByName }
+{}
+
+/// `x-gzip` is `gzip`, and `x-compress` is `compress` (section 8.4.1).
+pub fn codings_have_two_names()
+    ensures { HasTwoNames }
+{}
+
+/// Each coding that is listed with a weight above 0 comes before content without a coding that isn't
+/// listed.
+pub fn listed_comes_first()
+    ensures { ListedComesFirst }
+{}
+
+/// Content with several codings is no more acceptable than each of them (section 12.5.3).
+pub fn each_coding_is_accepted()
+    ensures { EachCodingIsAccepted }
+{}
+
+/// A language range matches a tag by filtering exactly if it is equal to it, in any case, or to a
+/// prefix of it that a hyphen follows (RFC 4647, section 3.3.1).
+pub fn ranges_cover()
+    ensures { RangesCover }
+{}
+
+/// Lookup has one answer (RFC 4647, section 3.4).
+pub fn request_has_one_lookup()
+    ensures { LooksUpOne }
+{}
+
+/// A quality that is a weight is 1 to 1000 thousandths (RFC 9110, section 12.4.2).
+pub fn weights_are_in_range()
+    ensures { WeightsAreInRange }
 {}

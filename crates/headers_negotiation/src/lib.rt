@@ -1,21 +1,22 @@
 //! Content negotiation: which of a server's offers a client prefers, by `Accept`, `Accept-Encoding`
-//! and `Accept-Language` (RFC 9110, section 12).
+//! and `Accept-Language` (RFC 9110, section 12). Nothing allocates.
 #![tactic(auto)]
 
+mod acceptability;
 mod choice;
 mod coding;
+mod dimension;
 mod element;
 mod language;
 pub mod laws;
+mod lookup;
 mod media;
-mod names;
-mod parts;
+mod parameter;
 mod preference;
-mod preferences;
-mod weight;
 
-pub use crate::coding::{AcceptEncoding, Codings};
-pub use crate::language::{AcceptLanguage, Languages};
-pub use crate::media::{Accept, MediaTypes};
-pub use crate::preference::Preference;
-pub use crate::preferences::{Dimension, Preferences};
+pub use crate::acceptability::Quality;
+pub use crate::coding::AcceptEncoding;
+pub use crate::dimension::{Dimension, negotiate, quality, varies_by};
+pub use crate::language::AcceptLanguage;
+pub use crate::lookup::look_up;
+pub use crate::media::Accept;

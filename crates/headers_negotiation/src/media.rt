@@ -1,162 +1,194 @@
 //! Media types.
-ghost use Rattle.std.specs.Prelude.{◌≡◌, ◌≤◌, length};
-ghost use Rattle.std.specs.Option.{option_copied};
-ghost use Rattle.headers_negotiation.specs.MediaRanges.{before_star, has_parameter, has_parameters_of, is_of_range};
-ghost use Rattle.headers_negotiation.specs.MediaRanges.{is_same_parameter, name_len, names_given, parameter_count};
-ghost use Rattle.headers_negotiation.specs.MediaRanges.{unquoted, value_of};
+ghost use Rattle.std.specs.Prelude.{◌≡◌, ◌≤◌, option_map, position};
+ghost use Rattle.headers_negotiation.specs.MediaRanges.{given, is_range, is_slash, is_star, is_star_or_same};
+ghost use Rattle.headers_negotiation.specs.MediaRanges.{matches, media_range_in, media_range_parts, media_type_in};
+ghost use Rattle.headers_negotiation.specs.MediaRanges.{media_type_parts};
+ghost use Rattle.headers_negotiation.specs.MediaRanges.{names_in, names_parts, says_in, says_of};
 
-use crate::element::{parameters, range_of, weighted};
-use crate::names::{begins_with, is_same};
-use crate::preference::Preference;
-use crate::preferences::{Dimension, Preferences};
-use crate::weight::weight_text;
-use http_header::{ACCEPT, HeaderName};
+use crate::acceptability::{Quality, preferred};
+use crate::dimension::Dimension;
+use crate::element::{
+    element_in, has_only_parameters, has_parameters_of, parameter_count, value_of,
+};
+use crate::preference::{Preference, Ranges, strongest};
+use headers_fields::{Malformed, is_token};
+use http_header::{ACCEPT, GetAll, HeaderName, HeaderValue};
 
-/// The media types that a client accepts (RFC 9110, section 12.5.1). A range matches a media type
-/// that it names, in any case, and whose parameters include its own: `*/*` names each, and `text/*`
-/// those of the type `text`.
+/// Accept: the media types that a client accepts (RFC 9110, section 12.5.1). An offer is a media
+/// type with its parameters.
 ///
-/// An offer is a media type with its parameters. Their values are compared without case, and
-/// quotes round them don't count.
-pub type Accept = Preferences<MediaTypes>;
+/// A range matches a media type if type and subtype are equal or a star in the range, and the media
+/// type has each parameter of the range. Names and values are compared without case. The range that
+/// gives more of the names decides, then the one with more parameters.
+#[derive(Clone, Copy, Debug)]
+pub struct Accept;
 
-/// The media types of a representation.
-#[derive(Debug, PartialEq)]
-pub struct MediaTypes;
+// A type and a subtype.
+#[derive(Clone, Copy)]
+pub(crate) struct Names<'a> {
+    pub(crate) type_name: &'a [u8],
+    pub(crate) subtype: &'a [u8],
+}
 
-// `text/` of the range `text/*`.
-#[tactic(auto, unfolding(crate::specs::MediaRanges::before_star))]
-fn before_star(range: &[u8]) -> Option<&[u8]>
-    ensures { option_copied result ≡ before_star range.now }
+// A media range.
+#[derive(Clone, Copy)]
+pub(crate) struct MediaRange<'a> {
+    pub(crate) names: Names<'a>,
+    // The element, with its parameters.
+    pub(crate) text: &'a [u8],
+    // In thousandths.
+    pub(crate) weight: u16,
+}
+
+// A media type.
+#[derive(Clone, Copy)]
+pub(crate) struct MediaType<'a> {
+    pub(crate) names: Names<'a>,
+    // The text, with its parameters.
+    pub(crate) text: &'a [u8],
+}
+
+fn slash_in(text: &[u8]) -> Option<usize>
+    ensures { result ≡ position is_slash text.now }
 {
-    let len = range.len();
-    if len >= 2 && (range[len - 1] == b'*' && range[len - 2] == b'/') {
-        Some(&range[..len - 1])
+    text.iter().position(|byte| *byte == b'/')
+}
+
+#[tactic(auto, unfolding(crate::specs::MediaRanges::names_in))]
+fn names_in(text: &[u8]) -> Option<Names<'_>>
+    ensures { option_map names_parts result ≡ names_in text.now }
+{
+    let slash = slash_in(text)?;
+    let names = Names {
+        type_name: &text[..slash],
+        subtype: &text[slash + 1..],
+    };
+    if is_token(names.type_name) && is_token(names.subtype) {
+        Some(names)
     } else {
         None
     }
 }
 
-// How many of the names of a type and a subtype the range gives, if they are these.
-#[tactic(auto, unfolding(crate::specs::MediaRanges::names_given))]
-fn names_given(range: &[u8], names: &[u8]) -> Option<u8>
-    ensures { result ≡ names_given range.now names.now }
+/// Whether a name is the star.
+pub(crate) fn is_star(name: &[u8]) -> bool
+    ensures { result ≡ is_star name.now }
 {
-    if range == b"*/*".as_slice() {
-        return Some(0);
-    }
-    match before_star(range) {
-        Some(top_level) => begins_with(names, top_level).then_some(1),
-        None => is_same(range, names).then_some(2),
+    name == b"*".as_slice()
+}
+
+// Whether the names are those of a range: `*/html` is none.
+fn is_range(names: &Names<'_>) -> bool
+    ensures { result ≡ is_range (names_parts names.now) }
+{
+    !is_star(names.type_name) || is_star(names.subtype)
+}
+
+// How many names a name of a range gives.
+fn given(name: &[u8]) -> u8
+    ensures value { result ≡ given name.now }
+    ensures within { result ≤ 1 }
+{
+    if is_star(name) { 0 } else { 1 }
+}
+
+fn is_star_or_same(name: &[u8], other: &[u8]) -> bool
+    ensures { result ≡ is_star_or_same name.now other.now }
+{
+    is_star(name) || name.eq_ignore_ascii_case(other)
+}
+
+// The media range that an element is.
+#[tactic(auto, unfolding(crate::specs::MediaRanges::media_range_in))]
+fn media_range_in(text: &[u8]) -> Option<MediaRange<'_>>
+    ensures { option_map media_range_parts result ≡ media_range_in text.now }
+{
+    match element_in(text) {
+        Some(element) => match names_in(element.range) {
+            Some(names) if is_range(&names) => Some(MediaRange {
+                names,
+                text: element.text,
+                weight: element.weight,
+            }),
+            _ => None,
+        },
+        None => None,
     }
 }
 
-// Whether a parameter belongs to the range: it is there, and isn't the weight.
-fn is_of_range(parameter: &[u8]) -> bool
-    ensures { result ≡ is_of_range parameter.now }
+// The media type that a text is.
+#[tactic(auto, unfolding(crate::specs::MediaRanges::media_type_in))]
+fn media_type_in(text: &[u8]) -> Option<MediaType<'_>>
+    ensures { option_map media_type_parts result ≡ media_type_in text.now }
 {
-    parameter.len() >= 1 && !weight_text(parameter).is_some()
+    if !has_only_parameters(text) {
+        return None;
+    }
+    match names_in(value_of(text)) {
+        Some(names) => Some(MediaType { names, text }),
+        None => None,
+    }
 }
 
-// The bytes between the quotes of a quoted string; any other text as it is.
-#[tactic(auto, unfolding(crate::specs::MediaRanges::unquoted))]
-fn unquoted(text: &[u8]) -> &[u8]
-    ensures { result.now ≡ unquoted text.now }
+// Whether a range matches a media type.
+fn matches(range: &MediaRange<'_>, media: &MediaType<'_>) -> bool
+    ensures { result ≡ matches (media_range_parts range.now) (media_type_parts media.now) }
 {
-    let len = text.len();
-    if len >= 2 && (text[0] == b'"' && text[len - 1] == b'"') {
-        &text[..len - 1][1..]
+    is_star_or_same(range.names.type_name, media.names.type_name)
+        && is_star_or_same(range.names.subtype, media.names.subtype)
+        && has_parameters_of(media.text, range.text)
+}
+
+// What a range says of a media type.
+fn says_of(range: &MediaRange<'_>, media: &MediaType<'_>) -> Option<Preference>
+    ensures { result ≡ says_of (media_range_parts range.now) (media_type_parts media.now) }
+{
+    if matches(range, media) {
+        Some(Preference {
+            names: given(range.names.type_name) + given(range.names.subtype),
+            extent: parameter_count(range.text),
+            quality: range.weight,
+        })
     } else {
-        text
+        None
     }
 }
 
-// Where the name of a parameter ends.
-fn name_len(parameter: &[u8]) -> usize
-    ensures value { result ≡ name_len parameter.now }
-    ensures within { result ≤ length parameter.now }
+// What an element says of an offer.
+fn says_in(offer: &[u8], element: &[u8]) -> Option<Preference>
+    ensures { result ≡ says_in offer.now element.now }
 {
-    for (i, byte) in parameter.iter().enumerate() {
-        if *byte == b'=' {
-            return i;
+    match (media_range_in(element), media_type_in(offer)) {
+        (Some(range), Some(media)) => says_of(&range, &media),
+        _ => None,
+    }
+}
+
+impl Ranges for Accept {
+    ghost use Rattle.headers_negotiation.specs.MediaRanges.{media_type_says};
+
+    ghost says = { media_type_says };
+
+    fn preference(offer: &[u8], member: Result<&[u8], Malformed>) -> Option<Preference> {
+        match member {
+            Ok(element) => says_in(offer, element),
+            Err(Malformed) => None,
         }
     }
-    parameter.len()
 }
 
-// The value of a parameter, without the quotes round it. It is empty if there is none.
-fn value_of(parameter: &[u8]) -> &[u8]
-    ensures { result.now ≡ value_of parameter.now }
-{
-    let len = name_len(parameter);
-    if len < parameter.len() {
-        unquoted(&parameter[len + 1..])
-    } else {
-        unquoted(b"")
-    }
-}
-
-// Whether name and value are the same but for case.
-#[tactic(auto, unfolding(crate::specs::MediaRanges::is_same_parameter))]
-fn is_same_parameter(one: &[u8], other: &[u8]) -> bool
-    ensures { result ≡ is_same_parameter one.now other.now }
-{
-    is_same(&one[..name_len(one)], &other[..name_len(other)])
-        && is_same(value_of(one), value_of(other))
-}
-
-// Whether the media type has the parameter.
-#[tactic(auto, unfolding(crate::specs::MediaRanges::has_parameter))]
-fn has_parameter(media: &[u8], wanted: &[u8]) -> bool
-    ensures { result ≡ has_parameter media.now wanted.now }
-{
-    parameters(media).any(|parameter| is_same_parameter(parameter, wanted))
-}
-
-// Whether the media type has each parameter of the range.
-#[tactic(auto, unfolding(crate::specs::MediaRanges::has_parameters_of))]
-fn has_parameters_of(media: &[u8], element: &[u8]) -> bool
-    ensures { result ≡ has_parameters_of media.now element.now }
-{
-    parameters(element).all(|parameter| !is_of_range(parameter) || has_parameter(media, parameter))
-}
-
-// How many parameters the range has.
-#[tactic(auto, unfolding(crate::specs::MediaRanges::parameter_count))]
-fn parameter_count(element: &[u8]) -> usize
-    ensures { result ≡ parameter_count element.now }
-{
-    parameters(element)
-        .filter(|parameter| is_of_range(parameter))
-        .count()
-}
-
-impl Dimension for MediaTypes {
+impl Dimension for Accept {
     ghost use Rattle.std.specs.Prelude.{codes};
-    ghost use Rattle.headers_negotiation.specs.MediaRanges.{media_preference};
-    ghost use Rattle.headers_negotiation.specs.DimensionLaws.{media_types_in_range};
+    ghost use Rattle.headers_negotiation.specs.MediaRanges.{media_type_says};
+    ghost use Rattle.headers_negotiation.specs.Qualities.{quality_by};
 
     ghost NAME = { codes "accept" };
 
-    ghost says = { media_preference };
-
-    ghost unlisted = { λ media. 0 };
-
-    ghost in_range = { media_types_in_range };
+    ghost gives = { quality_by media_type_says };
 
     const NAME: HeaderName = ACCEPT;
 
-    #[tactic(auto, unfolding(crate::specs::MediaRanges::media_preference))]
-    fn preference(media: &[u8], element: &[u8]) -> Option<Preference> {
-        let names = names_given(range_of(element), range_of(media))?;
-        if has_parameters_of(media, element) {
-            weighted(element, names, parameter_count(element))
-        } else {
-            None
-        }
-    }
-
-    fn unlisted_quality(_media: &[u8]) -> u16 {
-        0
+    fn quality(field: &GetAll<'_, HeaderValue>, offer: &[u8]) -> Quality {
+        preferred(strongest::<Accept>(field, offer))
     }
 }

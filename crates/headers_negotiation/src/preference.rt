@@ -1,17 +1,34 @@
-//! What elements of a field say of an offer.
-ghost use Rattle.std.specs.Prelude.{◌≡◌};
-ghost use Rattle.headers_negotiation.specs.Preferences.{is_below, stronger};
+//! What elements say of an offer, and which of them decides.
+ghost use Rattle.std.specs.Prelude.{◌≡◌, true, List, ℕ, Option};
+ghost use Rattle.headers_syntax.specs.Lines.{lines_of};
+ghost use Rattle.headers_fields.specs.Members.{field_members, member_of};
+ghost use Rattle.headers_fields.specs.Scan.{Member};
+ghost use Rattle.headers_negotiation.specs.Preferences.{is_below, stronger, strongest};
+ghost use Rattle.headers_negotiation.specs.declared.preference.Preference.{Preference};
+
+use headers_fields::{FieldMembers, Malformed};
+use http_header::{GetAll, HeaderValue};
 
 /// What an element of a field says of an offer that its range matches.
-#[derive(Clone, Copy, Debug, PartialEq, Eq)]
-pub struct Preference {
+#[derive(Clone, Copy)]
+pub(crate) struct Preference {
     /// How many names of the offer the range gives: 0 for `*` and `*/*`, 1 for `text/*`, `gzip` and
     /// `en`, 2 for `text/html`.
-    pub names: u8,
+    pub(crate) names: u8,
     /// How much else it gives: the number of its parameters, or the length of a language range.
-    pub extent: usize,
+    pub(crate) extent: usize,
     /// The weight of the element, in thousandths.
-    pub quality: u16,
+    pub(crate) quality: u16,
+}
+
+/// Ranges that are matched with offers.
+pub(crate) trait Ranges {
+    // What a member of the field says of an offer, if it matches.
+    ghost says: { List ℕ → Member → Option Preference };
+
+    /// What a member of the field says of an offer. `None` if it is malformed or doesn't match.
+    fn preference(offer: &[u8], member: Result<&[u8], Malformed>) -> Option<Preference>
+        ensures { result ≡ says offer.now (member_of member.entry) };
 }
 
 // Whether the first is less specific than the second, or as specific and of less quality.
@@ -25,13 +42,25 @@ fn is_below(first: Preference, second: Preference) -> bool
                 || first.extent == second.extent && first.quality < second.quality)
 }
 
-/// The strongest, once one more thing is said.
+// The strongest, once one more thing is said.
 #[tactic(auto, unfolding(crate::specs::Preferences::stronger))]
-pub(crate) fn stronger(best: Option<Preference>, said: Preference) -> Option<Preference>
+fn stronger(best: Option<Preference>, said: Preference) -> Option<Preference>
     ensures { result ≡ stronger best said }
 {
     match best {
         Some(best) if !is_below(best, said) => Some(best),
         _ => Some(said),
     }
+}
+
+/// The strongest of what the members of a field say of an offer.
+pub(crate) fn strongest<R: Ranges>(
+    field: &GetAll<'_, HeaderValue>,
+    offer: &[u8],
+) -> Option<Preference>
+    ensures { result ≡ strongest (R.says offer.now) (field_members true (lines_of field.now)) }
+{
+    FieldMembers::new(field)
+        .filter_map(|member| R::preference(offer, member))
+        .fold(None, stronger)
 }

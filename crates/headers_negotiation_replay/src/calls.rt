@@ -1,6 +1,9 @@
-//! Calls of content negotiation. A row names the fields of a request, and the offers of a server.
-use headers::{HeaderMap, HeaderMapExt, decode_values};
-use headers_negotiation::{Codings, Dimension, Languages, MediaTypes, Preferences};
+//! Calls of content negotiation. A test case names the fields of a request, and the offers of a
+//! server.
+use headers_negotiation::{
+    Accept, AcceptEncoding, AcceptLanguage, Dimension, Quality, look_up, negotiate, quality,
+    varies_by,
+};
 use headers_rows::{Answer, Arguments, Calls, Failure};
 
 /// The calls of content negotiation.
@@ -13,40 +16,46 @@ fn show_choice<D: Dimension>(
 ) -> Result<(), Failure> {
     let request = arguments.map()?;
     let offers = arguments.lines()?;
-    let choice = Preferences::<D>::negotiate(arguments.alloc(), &request, offers.as_slice())?;
-    match choice.and_then(|place| offers.get(place)) {
+    match negotiate::<D>(&request, offers.as_slice()).and_then(|place| offers.get(place)) {
         Some(offer) => answer.line(offer),
         None => Ok(answer.none()?),
     }
 }
 
-// `quality FIELD.. (/) OFFER..`: the quality of each offer by the field, or `(none)` without it.
+// `look_up FIELD.. (/) OFFER..`: the offer that lookup finds, or `(none)`.
+fn show_look_up(arguments: &mut Arguments<'_>, answer: &mut Answer) -> Result<(), Failure> {
+    let request = arguments.map()?;
+    let offers = arguments.lines()?;
+    match look_up(&request, offers.as_slice()).and_then(|place| offers.get(place)) {
+        Some(offer) => answer.line(offer),
+        None => Ok(answer.none()?),
+    }
+}
+
+fn show_quality(quality: Quality, answer: &mut Answer) -> Result<(), Failure> {
+    match quality {
+        Quality::NotAcceptable => answer.word(0)?,
+        Quality::Unlisted => answer.word("unlisted")?,
+        Quality::Weight(thousandths) => answer.word(thousandths)?,
+    }
+    Ok(())
+}
+
+// `quality FIELD.. (/) OFFER..`: the quality of each offer, in thousandths, or `unlisted`.
 fn show_qualities<D: Dimension>(
     arguments: &mut Arguments<'_>,
     answer: &mut Answer,
 ) -> Result<(), Failure> {
     let request = arguments.map()?;
-    let Some(preferences) = request.typed_try_get::<Preferences<D>>(arguments.alloc())? else {
-        return Ok(answer.none()?);
-    };
     for offer in arguments.lines()? {
-        answer.word(preferences.quality(offer.as_bytes()))?;
+        show_quality(quality::<D>(&request, offer.as_bytes()), answer)?;
     }
     Ok(())
 }
 
-// `written LINE..`: the field that is written of what these lines read, and what an answer varies by.
-fn show_written<D: Dimension>(
-    arguments: &mut Arguments<'_>,
-    answer: &mut Answer,
-) -> Result<(), Failure> {
-    let alloc = arguments.alloc();
-    let lines = arguments.lines()?;
-    let preferences = decode_values::<Preferences<D>>(alloc, lines.as_slice())?;
-    let mut map = HeaderMap::new(alloc);
-    map.typed_insert(alloc, preferences)?;
-    map.append("vary", Preferences::<D>::varies_by())?;
-    answer.map(&map)
+// `varies`: what an answer varies by.
+fn show_varies<D: Dimension>(answer: &mut Answer) -> Result<(), Failure> {
+    answer.line(&varies_by::<D>())
 }
 
 fn call<D: Dimension>(
@@ -57,7 +66,7 @@ fn call<D: Dimension>(
     match name {
         "choose" => show_choice::<D>(arguments, answer),
         "quality" => show_qualities::<D>(arguments, answer),
-        "written" => show_written::<D>(arguments, answer),
+        "varies" => show_varies::<D>(answer),
         _ => Err(Failure::NoCall),
     }
 }
@@ -65,9 +74,10 @@ fn call<D: Dimension>(
 impl Calls for Negotiation {
     fn make(name: &str, arguments: &mut Arguments<'_>, answer: &mut Answer) -> Result<(), Failure> {
         match name.split_once('.') {
-            Some(("accept", name)) => call::<MediaTypes>(name, arguments, answer),
-            Some(("encoding", name)) => call::<Codings>(name, arguments, answer),
-            Some(("language", name)) => call::<Languages>(name, arguments, answer),
+            Some(("accept", name)) => call::<Accept>(name, arguments, answer),
+            Some(("encoding", name)) => call::<AcceptEncoding>(name, arguments, answer),
+            Some(("language", "look_up")) => show_look_up(arguments, answer),
+            Some(("language", name)) => call::<AcceptLanguage>(name, arguments, answer),
             _ => Err(Failure::NoCall),
         }
     }

@@ -1,0 +1,81 @@
+//! Parameters (RFC 9110, section 5.6.6).
+ghost use Rattle.std.specs.Prelude.{◌≡◌, option_map};
+ghost use Rattle.headers_fields.specs.Directives.{directive_parts};
+ghost use Rattle.headers_fields.specs.Members.{member_of};
+ghost use Rattle.headers_fields.specs.Values.{value_parts};
+ghost use Rattle.headers_negotiation.specs.Parameters.{directive_in, is_same_parameter, is_same_value, is_weight};
+ghost use Rattle.headers_negotiation.specs.Parameters.{parameter_of, parameter_parts, with_value};
+
+use headers_fields::{Directive, Malformed, Value, read_directive};
+
+/// A name and a value.
+#[derive(Clone, Copy)]
+pub(crate) struct Parameter<'a> {
+    pub(crate) name: &'a [u8],
+    pub(crate) value: Value<'a>,
+}
+
+fn directive_in(text: &[u8]) -> Option<Directive<'_>>
+    ensures { option_map directive_parts result ≡ directive_in text.now }
+{
+    match read_directive(text) {
+        Ok(directive) => Some(directive),
+        Err(Malformed) => None,
+    }
+}
+
+// The parameter that a directive is. A name alone is none.
+fn with_value(directive: Directive<'_>) -> Option<Parameter<'_>>
+    ensures { option_map parameter_parts result ≡ with_value (directive_parts directive.entry) }
+{
+    match directive.argument {
+        Some(value) => Some(Parameter {
+            name: directive.name,
+            value,
+        }),
+        None => None,
+    }
+}
+
+/// The parameter that a member of an element is.
+pub(crate) fn parameter_of<'a>(member: Result<&'a [u8], Malformed>) -> Option<Parameter<'a>>
+    ensures { option_map parameter_parts result ≡ parameter_of (member_of member.entry) }
+{
+    match member {
+        Ok(text) => match directive_in(text) {
+            Some(directive) => with_value(directive),
+            None => None,
+        },
+        Err(Malformed) => None,
+    }
+}
+
+// Whether both values mean the same octets but for case, in whichever form they are written.
+fn is_same_value(one: &Value<'_>, other: &Value<'_>) -> bool
+    ensures { result ≡ is_same_value (value_parts one.now) (value_parts other.now) }
+{
+    let mut others = other.octets();
+    for octet in one.octets() {
+        match others.next() {
+            Some(theirs) if theirs.eq_ignore_ascii_case(&octet) => {}
+            _ => return false,
+        }
+    }
+    others.next().is_none()
+}
+
+impl<'a> Parameter<'a> {
+    /// Whether it is a weight (section 12.4.2).
+    pub(crate) fn is_weight(&self) -> bool
+        ensures { result ≡ is_weight (parameter_parts self.now) }
+    {
+        self.name.eq_ignore_ascii_case(b"q")
+    }
+
+    /// Whether name and value are equal but for case.
+    pub(crate) fn is_same(&self, other: &Parameter<'_>) -> bool
+        ensures { result ≡ is_same_parameter (parameter_parts self.now) (parameter_parts other.now) }
+    {
+        self.name.eq_ignore_ascii_case(other.name) && is_same_value(&self.value, &other.value)
+    }
+}
