@@ -351,11 +351,12 @@ uint8_t typed_headers_decide(const uint8_t *stored_method, size_t stored_method_
 /*
  * The fields by which the origin is asked whether a stored response is still good (RFC 9111, section 4.3.1): its
  * entity tag as a line of `if-none-match`, and the date of its last modification as one of `if-modified-since`, each
- * with a LF. A validator that it doesn't have, or that can't be read, has no line. They stand in place of the request's
- * own two fields, which are to be taken off first. Refused: a line of the section before its first empty one is no
- * field.
+ * with a LF. `received` is when the response came, in seconds since 1970; it resolves a year of two digits. A validator
+ * that the response doesn't have, or that is no single entity tag or date, has no line. The lines stand in
+ * place of the request's own two fields, which are to be taken off first. Refused: a line of the section before its
+ * first empty one is no field.
  */
-uint8_t typed_headers_validators(const uint8_t *response, size_t response_length,
+uint8_t typed_headers_validators(const uint8_t *response, size_t response_length, uint64_t received,
                                  const struct typed_headers_keys *keys, uint8_t *room, size_t room_length,
                                  size_t *written);
 

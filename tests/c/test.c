@@ -839,20 +839,21 @@ static void check_decide(const struct row *row) {
 
 static uint8_t call_validators(const void *arguments, uint64_t *number, uint8_t *room, size_t room_length,
                                size_t *written) {
-    const struct text *response = arguments;
+    const struct cache_call *call = arguments;
     (void)number;
-    return typed_headers_validators(response->bytes, response->length, &KEYS, room, room_length, written);
+    return typed_headers_validators(call->response.bytes, call->response.length, call->moments.response, &KEYS, room,
+                                    room_length, written);
 }
 
-/* `validation_steps REQUEST (/) RESPONSE`: of the answer the two fields count. */
+/* `validation_steps RECEIVED REQUEST (/) RESPONSE`: of the answer the two fields count. */
 static void check_validators(const struct row *row) {
     static char wanted[AREA];
-    struct text request, response;
-    read_section(row, read_section(row, 0, first_area, &request), second_area, &response);
+    struct cache_call call = {.moments.response = read_number(row, 0)};
+    read_section(row, read_section(row, 1, first_area, &call.request), second_area, &call.response);
     const struct row *answer = answer_words(row);
     size_t length = field_lines(answer, 0, "if-none-match", "if-none-match: %.*s\n", wanted);
     length += field_lines(answer, 0, "if-modified-since", "if-modified-since: %.*s\n", wanted + length);
-    check(row, call_validators, &response, TYPED_HEADERS_DONE, NO_NUMBER, (struct word){wanted, length});
+    check(row, call_validators, &call, TYPED_HEADERS_DONE, NO_NUMBER, (struct word){wanted, length});
 }
 
 static void make_row(struct row *row) {

@@ -112,11 +112,12 @@ def select(words, wanted):
 
 
 def rules(words):
-    """The rules of a row, or `None` if the only value of a list is a star, which is any here."""
+    """The rules of a row, or `None` if they can't be said: a list of the one value `*`, which is any here, or any name
+    with `authorization`."""
     found, left = fields(words)
     listed = {name: [value for other, value in found if other == name] for name, _ in found}
     names = (b"origins", b"methods", b"names", b"exposed")
-    if any(listed.get(name) == [b"*"] for name in names):
+    if any(listed.get(name) == [b"*"] for name in names) or b"names-and-authorization" in listed.get(b"any", []):
         return None, left
     lists = [headers.ANY if name in listed.get(b"any", []) else listed.get(name, []) for name in names]
     max_age = int(listed[b"max-age"][0]) if b"max-age" in listed else None
@@ -132,6 +133,8 @@ def cors_new(words, wanted):
 
 def cors_answer(words, wanted):
     given, left = rules(words)
+    if given is None:
+        return True
     method, sent, left = request(left)
     before, _ = section(left)
     shared = answer(headers.cors_answer, given, method, sent, before)
@@ -175,10 +178,11 @@ def decide(words, wanted):
 
 
 def validators(words, wanted):
-    _, left = section(words)
+    _, left = section(words[1:])
     names = (b"if-none-match", b"if-modified-since")
     found = fields(wanted)[0]
-    return headers.validators(section(left)[0]) == [it for name in names for it in found if it[0] == name]
+    given = headers.validators(section(left)[0], int(words[0]))
+    return given == [it for name in names for it in found if it[0] == name]
 
 
 CALLS = {

@@ -263,7 +263,7 @@ _decide = _call(
     ctypes.c_bool,
     ctypes.POINTER(ctypes.c_uint8),
 )
-_validators = _call("validators", *_SECTION, *_ROOM)
+_validators = _call("validators", *_TEXT, ctypes.c_uint64, ctypes.POINTER(_Keys), *_ROOM)
 
 
 def _check(status: int) -> None:
@@ -516,8 +516,12 @@ def decide(
     return Decision(decision.value)
 
 
-def validators(response: bytes) -> Fields:
+def validators(response: bytes, received: Optional[int] = None) -> Fields:
     """The fields by which the origin is asked whether a stored response is still good (RFC 9111, section 4.3.1). They
-    stand in place of the request's own `if-none-match` and `if-modified-since`."""
-    _, text = _bytes(lambda *room: _validators(*_section(response), *room), 128)
+    stand in place of the request's own `if-none-match` and `if-modified-since`. `received` is the time of receipt, in
+    seconds since 1970: now, if it isn't given. It resolves a year of two digits."""
+    if received is None:
+        received = int(time.time())
+    arguments = (response, len(response), received, ctypes.byref(_keys))
+    _, text = _bytes(lambda *room: _validators(*arguments, *room), 128)
     return _fields(text)

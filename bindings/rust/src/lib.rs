@@ -481,12 +481,15 @@ pub fn decide(
     })
 }
 
-/// The lines by which the origin is asked whether a stored response is still good (RFC 9111, section 4.3.1), each
-/// `name: value` and a LF. They stand in place of the request's own `if-none-match` and `if-modified-since`.
-pub fn validators(response: &[u8], keys: Keys) -> Result<Vec<u8>, Error> {
+/// The lines by which the origin is asked whether a stored response that came at a moment is still good (RFC 9111,
+/// section 4.3.1), each `name: value` and a LF. They stand in place of the request's own `if-none-match` and
+/// `if-modified-since`.
+pub fn validators(response: &[u8], received: u64, keys: Keys) -> Result<Vec<u8>, Error> {
     let (lines, _) = items(128, |room, length, written| {
         // SAFETY: as above.
-        unsafe { sys::typed_headers_validators(response.as_ptr(), response.len(), &keys, room, length, written) }
+        unsafe {
+            sys::typed_headers_validators(response.as_ptr(), response.len(), received, &keys, room, length, written)
+        }
     })?;
     Ok(lines)
 }
@@ -559,6 +562,6 @@ mod tests {
         assert_eq!(current_age(response, KEYS, at(784_111_787)), Ok(10));
         assert_eq!(decide(b"GET", b"", b"GET", b"", response, KEYS, at(784_111_787), true), Ok(Decision::Serve));
         assert_eq!(decide(b"GET", b"", b"GET", b"", response, KEYS, at(784_111_837), true), Ok(Decision::Revalidate));
-        assert_eq!(validators(response, KEYS), Ok(b"if-none-match: \"a\"\n".to_vec()));
+        assert_eq!(validators(response, 784_111_777, KEYS), Ok(b"if-none-match: \"a\"\n".to_vec()));
     }
 }

@@ -253,6 +253,7 @@ extern "C" {
     pub fn typed_headers_validators(
         response: *const u8,
         response_length: usize,
+        received: u64,
         keys: *const Keys,
         room: *mut u8,
         room_length: usize,

@@ -1,3 +1,2 @@
-pub mod CacheLemmas
 pub mod RuleLemmas
 pub mod TagLemmas

@@ -1,13 +1,12 @@
 -- What a cache may do with a response, by what a caller hands in.
-use Rattle.std.specs.Prelude.{◌≡◌, ◌⊎◌, ℕ, ◌++◌, Bool, true, false, List, [], flat_map, codes, Option, Some, None}
+use Rattle.std.specs.Prelude.{◌≡◌, ◌⊎◌, ℕ, Bool, true, false, List, Option, Some, None}
 use Rattle.std.specs.Prelude.{Result, Ok, Err}
 use Rattle.std.specs.Global.{Vec}
 use Rattle.http.specs.StatusCode.{IsStatusCode}
 use Rattle.http_header.specs.FieldValue.{FieldValue}
 use Rattle.http_header.specs.HeaderMap.{Entries}
 use Rattle.http_header.specs.Token.{IsToken}
-use Rattle.headers.specs.LineMap.{LineMap, lines_at}
-use Rattle.headers_section.specs.CanonicalText.{line_text}
+use Rattle.headers.specs.LineMap.{lines_at}
 use Rattle.headers_section.specs.Section.{Holds}
 use Rattle.headers_cache_policy.specs.Age.{age_at}
 use Rattle.headers_cache_policy.specs.Decisions as Decided_by
@@ -15,12 +14,13 @@ use Rattle.headers_cache_policy.specs.Fields.{capped}
 use Rattle.headers_cache_policy.specs.Freshness.{HasLifetime}
 use Rattle.headers_cache_policy.specs.Requests.{Request}
 use Rattle.headers_cache_policy.specs.Storing.{MayStore}
-use Rattle.headers_cache_policy.specs.Validating.{conditional}
+use Rattle.headers_cache_policy.specs.Validating.{validation_fields}
 use Rattle.headers_cache_policy.specs.declared.age.Times.{Times}
 use Rattle.headers_cache_policy.specs.declared.decision.Decision.{Decision}
 use Rattle.headers_cache_policy.specs.declared.decision.Decision.TheVariants as Decided
 use Rattle.headers_cache_policy.specs.declared.kind.Kind.{Kind}
 use Rattle.headers_cache_policy.specs.declared.kind.Kind.TheVariants.{Shared, Private}
+use Rattle.headers_c.specs.FieldLines.{fields_text}
 use Rattle.headers_c.specs.Preconditions.{IsMethodOf}
 use Rattle.headers_c_parts.specs.SectionMap.{IsMapOf}
 use Rattle.headers_c.specs.Tags.{Tells}
@@ -120,18 +120,10 @@ Decides stored_method stored method request response moments is_shared (Err fail
     ⊎ (IsMethodOf method (Err failure)
     ⊎ (IsMapOf stored (Err failure) ⊎ (IsMapOf request (Err failure) ⊎ IsMapOf response (Err failure))))
 
--- each line of a request under a name, after the name
-abbrev pub field_text : LineMap → List ℕ → List ℕ
-field_text request name = flat_map (line_text name) (request name)
-
--- the lines of a request under the two names of validators
-abbrev pub validators_text : LineMap → List ℕ
-validators_text request = field_text request (codes "if-none-match") ++ field_text request (codes "if-modified-since")
-
--- a request without fields, made conditional, has the text; or the section could not be read
-abbrev pub Validates : List ℕ → Result (Vec ℕ) Failure → Type 0
-Validates response (Ok text) =
+-- the text is that of the fields that validate the response, which came at a moment, or the section could not be read
+abbrev pub Validates : List ℕ → ℕ → Result (Vec ℕ) Failure → Type 0
+Validates response received (Ok text) =
     (told : Entries FieldValue)
     × Holds response told
-    × (text.items ≡ validators_text (conditional (lines_at []) (lines_at told)))
-Validates response (Err failure) = IsMapOf response (Err failure)
+    × (text.items ≡ fields_text (validation_fields received (lines_at told)))
+Validates response received (Err failure) = IsMapOf response (Err failure)

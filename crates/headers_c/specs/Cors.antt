@@ -1,13 +1,9 @@
 -- What a server answers a request from another origin, by what a caller hands in.
-use Rattle.std.specs.Prelude.{◌≡◌, ◌⊎◌, ℕ, List, [], flat_map, Result, Ok, Err}
+use Rattle.std.specs.Prelude.{◌≡◌, ◌⊎◌, ℕ, List, Result, Ok, Err}
 use Rattle.http_header.specs.FieldValue.{FieldValue}
 use Rattle.http_header.specs.HeaderMap.{Entries}
 use Rattle.http_header.specs.Token.{IsToken}
-use Rattle.headers.specs.LineMap.{lines_at}
-use Rattle.headers.specs.Lines.{lines_of}
-use Rattle.headers.specs.declared.Step.{Step}
-use Rattle.headers.specs.declared.Step.TheVariants.{Put, Remove}
-use Rattle.headers_section.specs.CanonicalText.{line_text}
+use Rattle.headers.specs.LineMap.{fields_of, lines_at}
 use Rattle.headers_section.specs.Section.{Holds}
 use Rattle.headers_cors_policy.specs.Answer.{IsAnswer}
 use Rattle.headers_cors_policy.specs.Policy.{Policy}
@@ -15,6 +11,7 @@ use Rattle.headers_cors_policy.specs.declared.kind.CorsKind.{CorsKind}
 use Rattle.headers_cors_policy.specs.declared.kind.CorsKind.TheVariants.{Preflight, Plain, NoOrigin}
 use Rattle.headers_cors_policy.specs.declared.policy.CorsAnswer.{CorsAnswer}
 use Rattle.headers_c.specs.CacheDirectives.{flag_of}
+use Rattle.headers_c.specs.FieldLines.{fields_text}
 use Rattle.headers_c_parts.specs.Endings.{TellsAndWrites}
 use Rattle.headers_c.specs.Preconditions.{IsMethodOf}
 use Rattle.headers_c.specs.Rules.{IsPolicyAnswer, IsPolicyFor}
@@ -29,16 +26,11 @@ kind_number NoOrigin = 0
 kind_number Plain = 1
 kind_number Preflight = 2
 
--- the lines that a step puts
-abbrev pub step_text : Step → List ℕ
-step_text (Put e) = flat_map (line_text e.name) (lines_of e.lines.items)
-step_text (Remove name) = []
-
--- what an answer says of its request, and the lines that its steps put
+-- what an answer says of its request, and the field lines of its fields
 pub record IsShownAnswer (answer : CorsAnswer) (shared : Shared) : Type 0 where
   pub kind : shared.facts.kind ≡ kind_number answer.kind
   pub allowed : shared.facts.is_allowed ≡ flag_of answer.is_allowed
-  pub text : shared.text.items ≡ flat_map step_text answer.steps.items
+  pub text : shared.text.items ≡ fields_text (fields_of answer.fields.items)
 
 -- the method and the fields of both sections are those that were handed in, and this is the policy's answer
 pub record IsSharedBy (policy : Policy) (method request response : List ℕ) (shared : Shared) : Type 0 where

@@ -2,6 +2,7 @@ pub mod Cache
 pub mod CacheDirectives
 pub mod Canonical
 pub mod Cors
+pub mod FieldLines
 pub mod Fields
 pub mod Handshake
 pub mod Preconditions

@@ -1,21 +1,17 @@
 //! What a cache may do with a response.
-ghost use Rattle.std.specs.Prelude.{◌≡◌, ◌++◌, IfOk, OnOk, flat_map};
-ghost use Rattle.headers.specs.LineMap.{lines_at};
-ghost use Rattle.headers_section.specs.CanonicalText.{line_text};
+ghost use Rattle.std.specs.Prelude.{◌≡◌};
 ghost use Rattle.headers_c.specs.Cache.{Ages, Decides, IsStatusOf, Lives, Stores, Validates, decision_number, kind_of};
-ghost use Rattle.headers_c.specs.Cache.{times_of, validators_text};
+ghost use Rattle.headers_c.specs.Cache.{times_of};
 ghost use Rattle.headers_c_parts.specs.Endings.{Gives, Writes, done};
 
+use crate::field_lines::fields_text;
 use crate::preconditions::read_method;
-use headers::{HeaderMap, HeaderName, apply};
 use headers_c_parts::{DONE, Failure, HashKeys, copy_into, read_map};
 use headers_cache_policy::{
-    Decision, Kind, RequestHead, Times, current_age, decide, lifetime, may_store, validation_steps,
+    Decision, Kind, RequestHead, Times, current_age, decide, lifetime, may_store, validation_fields,
 };
-use headers_section::print_line;
 use http::StatusCode;
-use http_header::{IF_MODIFIED_SINCE, IF_NONE_MATCH};
-use std::alloc::{AllocError, Global};
+use std::alloc::Global;
 
 /// Moments that a cache knows of a stored response, in seconds since the start of 1970, all of its
 /// own clock.
@@ -263,54 +259,34 @@ fn decision_number(decision: Decision) -> u8
 }
 
 /// The fields by which a request asks whether a stored response is still good (RFC 9111, section
-/// 4.3.1).
+/// 4.3.1). `received` is when that response came.
 #[unsafe(no_mangle)]
 pub extern "C" fn typed_headers_validators(
     alloc: Global,
     response: &[u8],
+    received: u64,
     keys: &HashKeys,
     room: &mut [u8],
     written: &mut usize,
 ) -> u8
-    ensures { Writes (λ text. text.items) (λ _. done) (Validates response.now)
+    ensures { Writes (λ text. text.items) (λ _. done) (Validates response.now received)
         room.old room.new written.old written.new result }
 {
-    match validators(alloc, response, keys) {
+    match validators(alloc, response, received, keys) {
         Ok(text) => copy_into(text.as_slice(), DONE, room, written),
         Err(failure) => failure.status(),
     }
 }
 
-fn validators(alloc: Global, response: &[u8], keys: &HashKeys) -> Result<Vec<u8>, Failure>
-    ensures { Validates response.now result }
+fn validators(
+    alloc: Global,
+    response: &[u8],
+    received: u64,
+    keys: &HashKeys,
+) -> Result<Vec<u8>, Failure>
+    ensures { Validates response.now received result }
 {
     let response = read_map(alloc, response, keys)?;
-    let steps = validation_steps(alloc, &response)?;
-    let mut request = HeaderMap::new(alloc);
-    match apply(&mut request, steps) {
-        Ok(()) => Ok(validators_text(alloc, &request)?),
-        // An empty map has room for two names.
-        Err(_) => Err(Failure::Memory),
-    }
-}
-
-// The lines that a conditional request has under the names of validators.
-fn validators_text(alloc: Global, request: &HeaderMap) -> Result<Vec<u8>, AllocError>
-    ensures { IfOk result (λ text. text.items ≡ validators_text (lines_at request.now)) }
-{
-    let mut text = Vec::new(alloc);
-    print_field(&mut text, request, IF_NONE_MATCH)?;
-    print_field(&mut text, request, IF_MODIFIED_SINCE)?;
-    Ok(text)
-}
-
-// Prints the lines that the map has under the name.
-fn print_field(text: &mut Vec<u8>, map: &HeaderMap, name: HeaderName) -> Result<(), AllocError>
-    ensures { OnOk result (text.new.items ≡ text.old.items
-        ++ flat_map (line_text name) (lines_at map.now name)) }
-{
-    for line in map.get_all(&name) {
-        print_line(text, &name, line)?;
-    }
-    Ok(())
+    let fields = validation_fields(alloc, &response, received)?;
+    Ok(fields_text(alloc, fields.as_slice())?)
 }

@@ -1,14 +1,13 @@
 //! What a server answers a request from another origin.
-ghost use Rattle.std.specs.Prelude.{◌≡◌, ◌++◌, IfOk, OnOk, flat_map};
-ghost use Rattle.headers_c.specs.Cors.{IsShownAnswer, Shares, SharesBy, WritesShared, kind_number, step_text};
+ghost use Rattle.std.specs.Prelude.{◌≡◌, IfOk};
+ghost use Rattle.headers_c.specs.Cors.{IsShownAnswer, Shares, SharesBy, WritesShared, kind_number};
 
 use crate::cache_control::flag_of;
+use crate::field_lines::fields_text;
 use crate::preconditions::read_method;
 use crate::rules::{Rules, read_policy};
-use headers::{Encoded, Step};
 use headers_c_parts::{DONE, Failure, HashKeys, copy_into, read_map};
 use headers_cors_policy::{CorsAnswer, CorsKind, CorsPolicy};
-use headers_section::print_lines;
 use std::alloc::{AllocError, Global};
 
 /// What a policy says of a request.
@@ -95,7 +94,7 @@ fn show(alloc: Global, answer: &CorsAnswer) -> Result<Shared, AllocError>
         kind: kind_number(answer.kind),
         is_allowed: flag_of(answer.is_allowed),
     };
-    let text = steps_text(alloc, answer.steps.as_slice())?;
+    let text = fields_text(alloc, answer.fields.as_slice())?;
     Ok(Shared { facts, text })
 }
 
@@ -106,25 +105,5 @@ fn kind_number(kind: CorsKind) -> u8
         CorsKind::NoOrigin => 0,
         CorsKind::Plain => 1,
         CorsKind::Preflight => 2,
-    }
-}
-
-fn steps_text(alloc: Global, steps: &[Step]) -> Result<Vec<u8>, AllocError>
-    ensures { IfOk result (λ text. text.items ≡ flat_map step_text steps.now) }
-{
-    let mut text = Vec::new(alloc);
-    for step in steps {
-        print_step(&mut text, step)?;
-    }
-    Ok(text)
-}
-
-// Prints the lines that the step puts.
-fn print_step(text: &mut Vec<u8>, step: &Step) -> Result<(), AllocError>
-    ensures { OnOk result (text.new.items ≡ text.old.items ++ step_text step.now) }
-{
-    match step {
-        Step::Put(Encoded { name, lines }) => print_lines(text, name, lines.as_slice()),
-        Step::Remove(_) => Ok(()),
     }
 }

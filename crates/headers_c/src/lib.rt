@@ -6,6 +6,7 @@ mod cache;
 mod cache_control;
 mod canonical;
 mod cors;
+mod field_lines;
 mod fields;
 mod handshake;
 mod media_type;

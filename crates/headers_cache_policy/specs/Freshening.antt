@@ -1,15 +1,13 @@
 -- What a 304 changes of a stored response (RFC 9111, sections 3.2 and 4.3.4).
-use Rattle.std.specs.Prelude.{◌≡◌, ℕ, Bool, true, false, ◌&&◌, ◌||◌, not, nat_lt, List, [], ◌∷◌, ◌++◌, length}
+use Rattle.std.specs.Prelude.{◌≡◌, ℕ, Bool, true, false, ◌&&◌, ◌||◌, not, nat_lt, List, [], ◌∷◌, length, filter, map}
 use Rattle.std.specs.Prelude.{Option, MatchOption}
 use Rattle.std.specs.Prelude.{bytes_eq, codes, if◌then◌else◌}
-use Rattle.std.specs.Bool.{MatchBool}
 use Rattle.std.specs.List.{list_any}
+use Rattle.http_header.specs.FieldValue.{FieldValue}
+use Rattle.http_header.specs.HeaderMap.{Entries, keys}
 use Rattle.http_header.specs.Token.{lowercase}
-use Rattle.headers.specs.LineMap.{LineMap, run}
-use Rattle.headers.specs.Lines.{Line, lines_of}
+use Rattle.headers.specs.LineMap.{Field, LineMap, fields_of, lines_at}
 use Rattle.headers.specs.declared.Encoded.{Encoded}
-use Rattle.headers.specs.declared.Step.{Step}
-use Rattle.headers.specs.declared.Step.TheVariants.{Put}
 use Rattle.headers_fields.specs.Members.{field_members}
 use Rattle.headers_fields.specs.Scan.{Member}
 use Rattle.headers_fields.specs.Scan.Member.{Whole, Malformed}
@@ -54,23 +52,16 @@ abbrev pub freshened : LineMap → LineMap → LineMap
 freshened stored update name =
     if nat_lt 0 (length (update name)) && not (is_kept update name) then update name else stored name
 
--- the steps update every stored map so
-abbrev pub Freshens : LineMap → List Step → Type 0
-Freshens update steps = (stored : LineMap) (name : List ℕ) → run stored steps name ≡ freshened stored update name
+-- the fields of these names that a stored response takes over from the update: those that aren't kept
+abbrev pub taken : LineMap → List (List ℕ) → List Field
+taken update names = map (λ name. (name, update name)) (filter (λ name. not (is_kept update name)) names)
 
--- the steps by which an update freshens a stored response, if it is about that one
-abbrev pub FreshensIf : LineMap → LineMap → Option (List Step) → Type 0
+-- the fields by which the update freshens a stored response, in the update's order
+abbrev pub freshening_fields : Entries FieldValue → List Field
+freshening_fields update = taken (lines_at update) (keys update)
+
+-- there are fields exactly if the update is about the stored response, and they are those
+abbrev pub FreshensIf : LineMap → Entries FieldValue → Option (List Encoded) → Type 0
 FreshensIf stored update found =
-    MatchOption found (¬ (IsUpdated stored update)) (λ steps. IsUpdated stored update × Freshens update steps)
-
--- the step puts these lines under the name
-abbrev pub PutsLines : List ℕ → List Line → Step → Type 0
-PutsLines name lines step = (e : Encoded) × (step ≡ Put e) × (e.name ≡ name) × (lines_of e.lines.items ≡ lines)
-
--- a step that puts these lines under the name comes after others
-abbrev pub AddsPut : List ℕ → List Line → List Step → List Step → Type 0
-AddsPut name lines old new = (step : Step) × PutsLines name lines step × (new ≡ old ++ step ∷ [])
-
--- one more field of an update is taken over, unless it is kept
-abbrev pub AddsField : Bool → List ℕ → List Line → List Step → List Step → Type 0
-AddsField kept name lines old new = MatchBool kept (new ≡ old) (AddsPut name lines old new)
+    MatchOption found (¬ (IsUpdated stored (lines_at update)))
+    (λ fields. IsUpdated stored (lines_at update) × (fields_of fields ≡ freshening_fields update))

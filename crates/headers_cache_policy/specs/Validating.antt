@@ -1,44 +1,55 @@
 -- How the origin is asked whether a stored response is still good (RFC 9111, section 4.3.1).
-use Rattle.std.specs.Prelude.{◌≡◌, ℕ, List, [], ◌∷◌, Option, Some, None, bytes_eq, codes, if◌then◌else◌}
+use Rattle.std.specs.Prelude.{◌≡◌, ◌≢◌, ◌⊎◌, ℕ, List, [], ◌∷◌, ◌-◌, ◌&&◌, Option, Some, None, codes}
+use Rattle.std.specs.Prelude.{option_and_then, option_map, nat_le, nat_lt, if◌then◌else◌}
 use Rattle.headers.specs.Date.{fixdate}
-use Rattle.headers.specs.LineMap.{LineMap, after_step, run}
-use Rattle.headers.specs.Lines.{Line}
-use Rattle.headers.specs.Shapes.{only_date, only_tag}
-use Rattle.headers.specs.declared.Step.{Step}
+use Rattle.headers.specs.LineMap.{Field, LineMap}
+use Rattle.headers.specs.Lines.{Line, only_line}
+use Rattle.headers.specs.Shapes.{only_tag}
+use Rattle.headers.specs.Text.{trim}
+use Rattle.headers.specs.Typed.{ReadsNothing}
+use Rattle.headers_dates.specs.Calendar.{unix_epoch}
+use Rattle.headers_dates.specs.Date.{timestamp}
 
--- the map with these lines under a name, in place of others
-abbrev pub with_lines : LineMap → List ℕ → List Line → LineMap
-with_lines map name lines other = if bytes_eq name other then lines else map other
-
--- the step does that to every map
-abbrev pub Leaves : List ℕ → List Line → Step → Type 0
-Leaves name lines step = (map : LineMap) (other : List ℕ) → after_step map step other ≡ with_lines map name lines other
-
--- one line, or none
-abbrev pub lines_of_option : Option Line → List Line
-lines_of_option None = []
-lines_of_option (Some line) = line ∷ []
+-- one field line of a value, or none
+abbrev pub lines_of_option : {V : Type 0} → (V → Line) → Option V → List Line
+lines_of_option text None = []
+lines_of_option text (Some value) = text value ∷ []
 
 -- the entity tag of a response, if ETag is one
 abbrev pub tag_lines : LineMap → List Line
-tag_lines response = lines_of_option ((only_tag {V = Line} (λ tag. tag)).value_of (response (codes "etag")))
+tag_lines response =
+    lines_of_option (λ (tag : Line). tag) ((only_tag {V = Line} (λ tag. tag)).value_of (response (codes "etag")))
 
-abbrev pub date_line : Option ℕ → List Line
-date_line None = []
-date_line (Some seconds) = fixdate seconds ∷ []
+-- the only field line of Last-Modified with the date that it is, if it is one (RFC 9110, section 5.6.7)
+abbrev pub dated_line : ℕ → LineMap → Option (Line × ℕ)
+dated_line received response =
+    option_and_then (λ line. option_map (λ second. (line, second)) (timestamp received (trim line)))
+    (only_line (response (codes "last-modified")))
 
--- the date of its last modification, if Last-Modified is one from 1970 on
-abbrev pub date_lines : LineMap → List Line
-date_lines response = date_line ((only_date {V = ℕ} (λ seconds. seconds)).value_of (response (codes "last-modified")))
+-- a date from 1970 to 9999 is sent as an IMF-fixdate, and any other as it came
+abbrev pub sent_date : Line → ℕ → Line
+sent_date line second =
+    if nat_le unix_epoch second && nat_lt (second - unix_epoch) 253_402_300_800 then fixdate (second - unix_epoch)
+    else line
 
--- The request that validates a response: If-None-Match has its entity tag, and If-Modified-Since the date of its last
--- modification. A validator that the response doesn't have isn't sent, and a field of the request's own neither.
-abbrev pub conditional : LineMap → LineMap → LineMap
-conditional request response =
-    with_lines (with_lines request (codes "if-none-match") (tag_lines response)) (codes "if-modified-since")
-    (date_lines response)
+abbrev pub date_lines : ℕ → LineMap → List Line
+date_lines received response =
+    lines_of_option (λ (dated : Line × ℕ). sent_date dated.0 dated.1) (dated_line received response)
 
--- the steps make a conditional request of every request
-abbrev pub Validates : LineMap → List Step → Type 0
-Validates response steps =
-    (request : LineMap) (name : List ℕ) → run request steps name ≡ conditional request response name
+-- The fields by which a request validates a response: If-None-Match has its entity tag, and If-Modified-Since the
+-- date of its Last-Modified. A validator that the response doesn't have isn't sent, nor is the request's own field.
+abbrev pub validation_fields : ℕ → LineMap → List Field
+validation_fields received response =
+    (codes "if-none-match", tag_lines response) ∷ (codes "if-modified-since", date_lines received response) ∷ []
+
+-- the request with these two fields in place of its own, and its other fields
+pub record IsConditional (received : ℕ) (request response validated : LineMap) : Type 0 where
+  pub tag : validated (codes "if-none-match") ≡ tag_lines response
+  pub date : validated (codes "if-modified-since") ≡ date_lines received response
+  pub others : (name : List ℕ) → codes "if-none-match" ≢ name → codes "if-modified-since" ≢ name
+      → validated name ≡ request name
+
+-- field lines are the encoding of the value that others decode to, or there are none if those decode to no value
+abbrev pub IsCanonical : {V : Type 0} → (List Line → V → Type 0) → (V → List Line) → List Line → List Line → Type 0
+IsCanonical {V} reads writes from lines =
+    ((v : V) × reads from v × (lines ≡ writes v)) ⊎ (ReadsNothing reads from × (lines ≡ []))

@@ -21,12 +21,12 @@ pub(crate) fn has_field(message: &HeaderMap, name: HeaderName) -> bool
 }
 
 // The line of a field that has no other line.
-pub(crate) fn only_line(message: &HeaderMap, name: HeaderName) -> Option<&[u8]>
-    ensures { option_map (λ line. line.now) result ≡ only_line (lines_at message.now name) }
+pub(crate) fn only_line(message: &HeaderMap, name: HeaderName) -> Option<&HeaderValue>
+    ensures { option_map (λ line. line.now.bytes) result ≡ only_line (lines_at message.now name) }
 {
     let mut lines = message.get_all(name).iter();
     match (lines.next(), lines.next()) {
-        (Some(line), None) => Some(line.as_bytes()),
+        (Some(line), None) => Some(line),
         _ => None,
     }
 }
@@ -45,7 +45,7 @@ pub(crate) fn have_same_lines(
 pub(crate) fn date(message: &HeaderMap, name: HeaderName, now: u64) -> Option<Timestamp>
     ensures { result ≡ date_in now name (lines_at message.now) }
 {
-    read_date(trim(only_line(message, name)?), now)
+    read_date(trim(only_line(message, name)?.as_bytes()), now)
 }
 
 // The number of Age: 0 without the field, or if it is no number.

@@ -1,15 +1,19 @@
 //! What follows from the definitions alone. A proof cites a law by calling it.
 ghost use Rattle.std.specs.Prelude.{◌≡◌, ◌⊎◌, ◌↔◌, ◌≤◌, ℕ, List, Option, Some, None, codes};
-ghost use Rattle.headers.specs.LineMap.{LineMap};
+ghost use Rattle.http_header.specs.FieldValue.{FieldValue};
+ghost use Rattle.http_header.specs.HeaderMap.{Entries, IsHeaderMap};
+ghost use Rattle.headers.specs.LineMap.{LineMap, lines_at, set_all};
 ghost use Rattle.headers_fields.specs.Directives.{DirectiveParts, IsDirective};
 ghost use Rattle.headers_cache_policy.specs.Age.{age_at};
 ghost use Rattle.headers_cache_policy.specs.Decisions.{Answers, AnswersUnstored, Decides, DecidesBy, IsFromStore};
 ghost use Rattle.headers_cache_policy.specs.Decisions.{IsServedMeanwhile, IsTakenStale, MayComeFromStore, MustBeFresh};
 ghost use Rattle.headers_cache_policy.specs.Directives.{IsMalformed, Says, directive_in};
 ghost use Rattle.headers_cache_policy.specs.Fields.{capped, greatest};
+ghost use Rattle.headers_cache_policy.specs.Freshening.{freshened, freshening_fields};
 ghost use Rattle.headers_cache_policy.specs.Freshness.{HasHeuristic, HasLifetime};
 ghost use Rattle.headers_cache_policy.specs.Requests.{IsSafe, Request};
 ghost use Rattle.headers_cache_policy.specs.Storing.{MayStore};
+ghost use Rattle.headers_cache_policy.specs.Validating.{IsConditional, validation_fields};
 ghost use Rattle.headers_cache_policy.specs.declared.age.Times.{Times};
 ghost use Rattle.headers_cache_policy.specs.declared.decision.Decision.{Decision};
 ghost use Rattle.headers_cache_policy.specs.declared.decision.Decision.TheVariants.{Fetch, Serve};
@@ -144,4 +148,18 @@ pub fn age_never_wraps()
         → capped (age_at times response) ≡ greatest }
     ensures grows { (times : Times) (later : ℕ) (response : LineMap) → times.now ≤ later
         → capped (age_at times response) ≤ capped (age_at (record times { now = later }) response) }
+{}
+
+/// After `set_all` of the validation fields a request has the validators of the response under
+/// If-None-Match and If-Modified-Since, and no other, and each other field as it was.
+pub fn validation_makes_requests_conditional()
+    ensures { (received : ℕ) (request response : LineMap)
+        → IsConditional received request response (set_all request (validation_fields received response)) }
+{}
+
+/// After `set_all` of the freshening fields a stored response has each field of the 304 in place of
+/// its own, but for those that no update changes. (`HeaderMap` ensures `IsHeaderMap` of each map.)
+pub fn freshening_replaces_each_field()
+    ensures { (stored : LineMap) (update : Entries FieldValue) → IsHeaderMap update → (name : List ℕ)
+        → set_all stored (freshening_fields update) name ≡ freshened stored (lines_at update) name }
 {}

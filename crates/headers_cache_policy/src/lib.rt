@@ -2,7 +2,7 @@
 //! is, and what it does with a request that the stored response could answer (RFC 9111, RFC 5861).
 //!
 //! Fields are parsed by the grammar of the RFCs, and what is malformed makes each answer stricter.
-//! Only `validation_steps` and `freshening_steps` allocate.
+//! Only `validation_fields` and `freshening_fields` allocate.
 #![tactic(auto)]
 
 mod age;
@@ -22,10 +22,10 @@ mod vary;
 pub use crate::age::{Times, current_age};
 pub use crate::decision::{Decision, Freshness, decide, decide_by, decide_unstored};
 pub use crate::directives::{Directives, read_directives};
-pub use crate::freshening::freshening_steps;
+pub use crate::freshening::freshening_fields;
 pub use crate::freshness::{heuristic_lifetime, lifetime};
 pub use crate::kind::Kind;
 pub use crate::request::RequestHead;
 pub use crate::storing::may_store;
-pub use crate::validating::validation_steps;
+pub use crate::validating::validation_fields;
 pub use crate::vary::matches;

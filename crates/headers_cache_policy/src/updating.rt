@@ -38,7 +38,7 @@ fn has_same_tag(stored: &HeaderMap, update: &HeaderMap) -> bool
         return true;
     }
     match (only_line(stored, ETAG), only_line(update, ETAG)) {
-        (Some(own), Some(tag)) => is_tag_of(own, tag),
+        (Some(own), Some(tag)) => is_tag_of(own.as_bytes(), tag.as_bytes()),
         _ => false,
     }
 }
@@ -70,7 +70,7 @@ fn has_strong_tag(update: &HeaderMap) -> bool
     ensures { MatchBool result (HasStrongTag (lines_at update.now)) (¬ (HasStrongTag (lines_at update.now))) }
 {
     match only_line(update, ETAG) {
-        Some(tag) => !is_weak(tag),
+        Some(tag) => !is_weak(tag.as_bytes()),
         None => false,
     }
 }

@@ -1,53 +1,107 @@
 //! How the origin is asked whether a stored response is still good.
-ghost use Rattle.std.specs.Prelude.{IfOk, codes};
-ghost use Rattle.headers.specs.LineMap.{lines_at};
-ghost use Rattle.headers_cache_policy.specs.Validating.{Leaves, Validates, date_lines, tag_lines};
+ghost use Rattle.std.specs.Prelude.{◌≡◌, ◌∷◌, [], IfOk, codes, option_map};
+ghost use Rattle.headers.specs.LineMap.{field_of, fields_of, lines_at};
+ghost use Rattle.headers.specs.Lines.{lines_of};
+ghost use Rattle.headers_cache_policy.specs.Validating.{IsCanonical, date_lines, dated_line, sent_date};
+ghost use Rattle.headers_cache_policy.specs.Validating.{tag_lines, validation_fields};
 
-use headers::{ETag, Encoded, HeaderMap, LastModified, Refused, Step, canonical};
-use http_header::{IF_MODIFIED_SINCE, IF_NONE_MATCH};
+use crate::fields::only_line;
+use headers::{
+    ETag, Encoded, Header, HeaderMap, HeaderValue, IfModifiedSince, Refused, canonical, encoding,
+    trim,
+};
+use headers_dates::{Timestamp, read_date};
+use http_header::{IF_MODIFIED_SINCE, IF_NONE_MATCH, LAST_MODIFIED};
 use std::alloc::{AllocError, Global};
 
-/// The steps over a request's map by which the origin is asked whether a stored response is still
-/// good (RFC 9111, section 4.3.1): If-None-Match gets its entity tag, If-Modified-Since the date of
-/// its last modification.
+// The first second of the year 10000, since 1970.
+const END_OF_DATES: u64 = 253_402_300_800;
+
+/// The fields of a request by which the origin is asked whether a stored response is still good (RFC
+/// 9111, section 4.3.1), for `set_all` on the request's own: If-None-Match has the entity tag of the
+/// response, If-Modified-Since the date of its Last-Modified. `received` is the time of receipt, in
+/// seconds since 1970, by which a year of two digits is resolved.
 ///
-/// A validator that the response doesn't have, or that can't be read, isn't sent. The request's own
-/// two fields are replaced or removed, so that 304 speaks of the stored response alone.
-pub fn validation_steps(alloc: Global, response: &HeaderMap) -> Result<Vec<Step>, AllocError>
-    ensures { IfOk result (λ steps. Validates (lines_at response.now) steps.items) }
+/// A validator that the response doesn't have, or that can't be parsed, is a field without field
+/// lines. So the request's own two fields are replaced or removed, and 304 is about the stored
+/// response alone. A date before 1970 is sent as it came, any other as an IMF-fixdate.
+pub fn validation_fields(
+    alloc: Global,
+    response: &HeaderMap,
+    received: u64,
+) -> Result<Vec<Encoded>, AllocError>
+    ensures { IfOk result (λ fields.
+        fields_of fields.items ≡ validation_fields received (lines_at response.now)) }
 {
-    let by_tag = tag_step(alloc, response)?;
-    let by_date = date_step(alloc, response)?;
-    let steps = vec![in alloc; by_tag, by_date]?;
-    Ok(steps)
+    let by_tag = tag_field(alloc, response)?;
+    let by_date = date_field(alloc, response, received)?;
+    Ok(vec![in alloc; by_tag, by_date]?)
 }
 
-// The step that puts the entity tag of a response under If-None-Match.
-fn tag_step(alloc: Global, response: &HeaderMap) -> Result<Step, AllocError>
-    ensures { IfOk result (Leaves (codes "if-none-match") (tag_lines (lines_at response.now))) }
+fn tag_field(alloc: Global, response: &HeaderMap) -> Result<Encoded, AllocError>
+    ensures { IfOk result (λ field. field_of field ≡ (codes "if-none-match", tag_lines (lines_at response.now))) }
 {
-    match canonical::<ETag>(alloc, response) {
-        Ok(Some(Encoded { lines, .. })) => Ok(Step::Put(Encoded {
-            name: IF_NONE_MATCH,
-            lines,
-        })),
-        Ok(None) => Ok(Step::Remove(IF_NONE_MATCH)),
-        Err(Refused::Invalid(_)) => Ok(Step::Remove(IF_NONE_MATCH)),
-        Err(Refused::Memory(refused)) => Err(refused),
+    let lines = canonical_lines::<ETag>(alloc, response)?;
+    Ok(Encoded {
+        name: IF_NONE_MATCH,
+        lines,
+    })
+}
+
+fn date_field(alloc: Global, response: &HeaderMap, received: u64) -> Result<Encoded, AllocError>
+    ensures { IfOk result (λ field.
+        field_of field ≡ (codes "if-modified-since", date_lines received (lines_at response.now))) }
+{
+    match dated_line(response, received) {
+        Some((line, date)) => sent_date(alloc, line, date),
+        None => Ok(Encoded {
+            name: IF_MODIFIED_SINCE,
+            lines: Vec::new(alloc),
+        }),
     }
 }
 
-// The step that puts the date of the last modification of a response under If-Modified-Since.
-fn date_step(alloc: Global, response: &HeaderMap) -> Result<Step, AllocError>
-    ensures { IfOk result (Leaves (codes "if-modified-since") (date_lines (lines_at response.now))) }
+// The only field line of Last-Modified with the date that it is.
+fn dated_line(response: &HeaderMap, received: u64) -> Option<(&HeaderValue, Timestamp)>
+    ensures { option_map (λ dated. (dated.0.now.bytes, dated.1)) result
+        ≡ dated_line received (lines_at response.now) }
 {
-    match canonical::<LastModified>(alloc, response) {
-        Ok(Some(Encoded { lines, .. })) => Ok(Step::Put(Encoded {
+    let line = only_line(response, LAST_MODIFIED)?;
+    match read_date(trim(line.as_bytes()), received) {
+        Some(date) => Some((line, date)),
+        None => None,
+    }
+}
+
+// If-Modified-Since with the date of a line.
+fn sent_date(alloc: Global, line: &HeaderValue, date: Timestamp) -> Result<Encoded, AllocError>
+    ensures { IfOk result (λ field.
+        field_of field ≡ (codes "if-modified-since", sent_date line.now.bytes date ∷ [])) }
+{
+    match date.unix_seconds() {
+        Some(seconds) if seconds < END_OF_DATES => {
+            encoding(alloc, &IfModifiedSince::from_unix_secs(seconds))
+        }
+        _ => Ok(Encoded {
             name: IF_MODIFIED_SINCE,
-            lines,
-        })),
-        Ok(None) => Ok(Step::Remove(IF_MODIFIED_SINCE)),
-        Err(Refused::Invalid(_)) => Ok(Step::Remove(IF_MODIFIED_SINCE)),
+            lines: vec![in alloc; line.clone()?]?,
+        }),
+    }
+}
+
+// The encoding of a header of the response. There is no field line if the response doesn't have the
+// header, or it can't be parsed.
+fn canonical_lines<H: Header>(
+    alloc: Global,
+    response: &HeaderMap,
+) -> Result<Vec<HeaderValue>, AllocError>
+    ensures { IfOk result (λ lines.
+        IsCanonical H.reads H.writes (lines_at response.now H.field_name) (lines_of lines.items)) }
+{
+    match canonical::<H>(alloc, response) {
+        Ok(Some(Encoded { lines, .. })) => Ok(lines),
+        Ok(None) => Ok(Vec::new(alloc)),
+        Err(Refused::Invalid(_)) => Ok(Vec::new(alloc)),
         Err(Refused::Memory(refused)) => Err(refused),
     }
 }

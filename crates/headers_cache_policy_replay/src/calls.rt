@@ -1,8 +1,8 @@
 //! The calls of the cache policy.
-use headers::apply;
+use headers::set_all;
 use headers_cache_policy::{
     Freshness, Kind, RequestHead, Times, current_age, decide, decide_by, decide_unstored,
-    freshening_steps, heuristic_lifetime, lifetime, matches, may_store, validation_steps,
+    freshening_fields, heuristic_lifetime, lifetime, matches, may_store, validation_fields,
 };
 use headers_rows::{Answer, Arguments, Calls, Failure};
 use http::{Method, StatusCode};
@@ -117,23 +117,21 @@ fn call_unstored(arguments: &mut Arguments<'_>, answer: &mut Answer) -> Result<(
     Ok(answer.word(format_args!("{decision:?}"))?)
 }
 
-// REQUEST RESPONSE: the request that validates the response.
+// RECEIVED REQUEST RESPONSE: the request that validates the response.
 fn call_validation(arguments: &mut Arguments<'_>, answer: &mut Answer) -> Result<(), Failure> {
+    let received = arguments.number()?;
     let (mut request, response) = (arguments.map()?, arguments.map()?);
-    apply(
-        &mut request,
-        validation_steps(arguments.alloc(), &response)?,
-    )
-    .map_err(|_| Failure::Memory)?;
+    let fields = validation_fields(arguments.alloc(), &response, received)?;
+    set_all(&mut request, fields).map_err(|_| Failure::Memory)?;
     answer.map(&request)
 }
 
 // STORED UPDATE: the stored fields after the update, if it is about them.
 fn call_freshening(arguments: &mut Arguments<'_>, answer: &mut Answer) -> Result<(), Failure> {
     let (mut stored, update) = (arguments.map()?, arguments.map()?);
-    match freshening_steps(arguments.alloc(), &stored, &update)? {
-        Some(steps) => {
-            apply(&mut stored, steps).map_err(|_| Failure::Memory)?;
+    match freshening_fields(arguments.alloc(), &stored, &update)? {
+        Some(fields) => {
+            set_all(&mut stored, fields).map_err(|_| Failure::Memory)?;
             answer.map(&stored)
         }
         None => Ok(answer.word("not_updated")?),

@@ -1,4 +1,4 @@
--- What browsers make of the settings of a policy.
+-- What browsers make of the fields of a policy.
 use Rattle.std.proofs.Common.{◌≡◌, ◌≢◌, ◌↔◌, ◌⊎◌, ℕ, zero, suc, Bool, true, false, List, [], ◌∷◌, ◌++◌, Option, Some}
 use Rattle.std.proofs.Common.{None, refl, ap, sym, ◌∙◌, subst, inl, inr, arith}
 use Rattle.std.specs.Prelude.{◌&&◌, if◌then◌else◌, bytes_eq, codes, is_some, Contains, IfSome, IsTrue, IsSomeAnd}
@@ -10,7 +10,7 @@ use Rattle.std.proofs.lemmas.Cmp.{nat_list_eq_equiv}
 use Rattle.std.proofs.lemmas.Map.Views.{Contains-from_any, list_any-from_Contains}
 use Rattle.std.proofs.lemmas.Slice.Eq.{bytes_eq-Decides}
 use Rattle.http_header.specs.Token.{lowercase}
-use Rattle.headers.specs.LineMap.{LineMap, run}
+use Rattle.headers.specs.LineMap.{Field, LineMap, fields_of, set_all}
 use Rattle.headers.specs.Lines.{Line}
 use Rattle.headers.specs.ListItem.{method_of, name_of}
 use Rattle.headers.specs.Typed.{HasLine}
@@ -28,7 +28,7 @@ use Rattle.headers_cors_policy.specs.Rules.{AdmitsName, AllowsCredentials, Allow
 use Rattle.headers_cors_policy.specs.Rules.{AllowsRequest, Exposes, IsLawful, IsListLine, IsNamesLine}
 use Rattle.headers_cors_policy.specs.Rules.{IsPolicyOf, ShowsListed}
 use Rattle.headers_cors_policy.specs.Rules.{texts}
-use Rattle.headers_cors_policy.specs.Settings.{filled_line, grant, grant_settings, granted, lines_if, set_all, settings}
+use Rattle.headers_cors_policy.specs.Fields.{fields_sent, filled_line, grant, grant_fields, granted, lines_if}
 use Rattle.headers_cors_policy.specs.declared.kind.CorsKind.{CorsKind}
 use Rattle.headers_cors_policy.specs.declared.kind.CorsKind.TheVariants.{Preflight, Plain, NoOrigin}
 use Rattle.headers_cors_policy.specs.declared.policy.CorsAnswer.{CorsAnswer}
@@ -38,7 +38,6 @@ use Rattle.headers_cors_policy.specs.declared.rules.AllowedNames.{AllowedNames}
 use Rattle.headers_cors_policy.specs.declared.rules.AllowedNames.TheVariants as Names
 use Rattle.headers_cors_policy.specs.declared.rules.CorsRules.{CorsRules}
 use Rattle.headers_cors_policy.proofs.ElementLemmas.{all_extracted, methods_extracted, names_extracted, star_extracted}
-use Rattle.headers_cors_policy.proofs.SettingLemmas.{run_sets}
 
 bytes_equiv : IsEquivalence bytes_eq
 bytes_equiv = nat_list_eq_equiv
@@ -128,18 +127,18 @@ origins_listed rules policy lawful made c e =
 
 -- Vary is no other name
 vary_skips : (b c : Bool) (value : List Line) (m : LineMap) (name : List ℕ) → bytes_eq (codes "vary") name ≡ false
-    → set_all (if b then (if c then [] else (codes "vary", value) ∷ []) else []) m name ≡ m name
+    → set_all m (if b then (if c then [] else (codes "vary", value) ∷ []) else []) name ≡ m name
 vary_skips true true value m name e = refl
 vary_skips true false value m name e = rw e refl
 vary_skips false c value m name e = refl
 
 -- the lines of a response by the line that its origin is granted
 abbrev lines_by : Policy → Bool → Option Line → LineMap → LineMap
-lines_by policy pre line before = set_all (grant_settings policy pre line) before
+lines_by policy pre line before = set_all before (grant_fields policy pre line)
 
 skips_vary : (policy : Policy) (pre : Bool) (sent varying : List Line) (before : LineMap) (name : List ℕ)
     → bytes_eq (codes "vary") name ≡ false
-    → set_all (settings policy pre sent varying) before name ≡ lines_by policy pre (granted policy sent) before name
+    → set_all before (fields_sent policy pre sent varying) name ≡ lines_by policy pre (granted policy sent) before name
 skips_vary policy pre sent varying before name e =
     vary_skips (is_some policy.origins) _ (varying ++ codes "origin" ∷ [])
     (lines_by policy pre (granted policy sent) before) name e
@@ -147,12 +146,10 @@ skips_vary policy pre sent varying before name e =
 -- what the response has after an answer to a request from this origin
 answered : (policy : Policy) (method : List ℕ) (sent response before : LineMap) (answer : CorsAnswer) (origin : Line)
     → IsAnswer policy method sent response answer → sent (codes "origin") ≡ origin ∷ [] → (name : List ℕ)
-    → bytes_eq (codes "vary") name ≡ false → run before answer.steps.items name
+    → bytes_eq (codes "vary") name ≡ false → set_all before (fields_of answer.fields.items) name
     ≡ lines_by policy (is_preflight answer.kind) (grant policy.origins (Some origin)) before name
 answered policy method sent response before answer origin a e name other =
-    run_sets answer.steps.items
-    (settings policy (is_preflight answer.kind) (sent (codes "origin")) (response (codes "vary"))) before before
-    (λ n. refl) a.steps name
+    ap (λ (fields : List Field). set_all before fields name) a.fields
     ∙ skips_vary policy (is_preflight answer.kind) (sent (codes "origin")) (response (codes "vary")) before name other
     ∙ ap (λ (lines : List Line). lines_by policy (is_preflight answer.kind) (granted policy lines) before name) e
 
@@ -160,7 +157,7 @@ answered policy method sent response before answer origin a e name other =
 pub check_is_policy : (rules : CorsRules) (policy : Policy) (method : List ℕ) (sent response before : LineMap)
     (answer : CorsAnswer) (request : Request) → IsLawful rules → IsPolicyOf rules policy
     → IsAnswer policy method sent response answer → sent (codes "origin") ≡ request.origin ∷ []
-    → CorsCheck (run before answer.steps.items) request
+    → CorsCheck (set_all before (fields_of answer.fields.items)) request
     ↔ (AllowsOrigin rules request.origin × AllowsCredentials rules request.credentials)
 check_is_policy rules policy method sent response before answer request lawful made a e =
     let first = answered policy method sent response before answer request.origin a e
@@ -342,7 +339,7 @@ module _ (rules : CorsRules) (policy : Policy) (method : List ℕ) (sent respons
   -- the methods and the names of the response to a preflight
   module _ (p : IsPreflightFor request method sent) where
     passes_method : IsSomeAnd
-        (methods_in request (combined (run before answer.steps.items (codes "access-control-allow-methods"))))
+        (methods_in request (combined (set_all before (fields_of answer.fields.items) (codes "access-control-allow-methods"))))
         (GrantsMethod request)
         ↔ AllowsMethod rules request.method
     passes_method =
@@ -354,7 +351,7 @@ module _ (rules : CorsRules) (policy : Policy) (method : List ℕ) (sent respons
         made.methods
 
     passes_names : IsSomeAnd
-        (extracted (combined (run before answer.steps.items (codes "access-control-allow-headers"))))
+        (extracted (combined (set_all before (fields_of answer.fields.items) (codes "access-control-allow-headers"))))
         (λ listed. (name : Line) → Contains request.unsafe name → GrantsName request listed name)
         ↔ ((name : Line) → Contains request.unsafe name → AllowsName rules name)
     passes_names =
@@ -367,7 +364,7 @@ module _ (rules : CorsRules) (policy : Policy) (method : List ℕ) (sent respons
 
   -- what the response to the request exposes
   passes_exposed : IsSentFor request sent → (name : Line) → IsSomeAnd
-      (extracted (combined (run before answer.steps.items (codes "access-control-expose-headers"))))
+      (extracted (combined (set_all before (fields_of answer.fields.items) (codes "access-control-expose-headers"))))
       (λ listed. ShowsName request listed name)
       ↔ (¬ (IsForbidden name) × ShowsListed rules.exposed name)
   passes_exposed p name =
@@ -383,7 +380,7 @@ module _ (rules : CorsRules) (policy : Policy) (method : List ℕ) (sent respons
 pub preflight_is_policy : (rules : CorsRules) (policy : Policy) (method : List ℕ) (sent response before : LineMap)
     (answer : CorsAnswer) (request : Request) (status : ℕ) → IsLawful rules → IsPolicyOf rules policy
     → IsAnswer policy method sent response answer → IsPreflightFor request method sent → IsOkStatus status
-    → PreflightPasses status (run before answer.steps.items) request ↔ AllowsRequest rules request
+    → PreflightPasses status (set_all before (fields_of answer.fields.items)) request ↔ AllowsRequest rules request
 preflight_is_policy rules policy method sent response before answer request status lawful made a p ok =
     let check = check_is_policy rules policy method sent response before answer request lawful made a p.origin in (
       λ h.
@@ -413,8 +410,8 @@ preflight_is_policy rules policy method sent response before answer request stat
 pub exposed_is_policy : (rules : CorsRules) (policy : Policy) (method : List ℕ) (sent response before : LineMap)
     (answer : CorsAnswer) (request : Request) → IsLawful rules → IsPolicyOf rules policy
     → IsAnswer policy method sent response answer → IsSentFor request sent
-    → CorsCheck (run before answer.steps.items) request → (name : Line)
-    → IsExposed (run before answer.steps.items) request name ↔ Exposes rules name
+    → CorsCheck (set_all before (fields_of answer.fields.items)) request → (name : Line)
+    → IsExposed (set_all before (fields_of answer.fields.items)) request name ↔ Exposes rules name
 exposed_is_policy rules policy method sent response before answer request lawful made a p h name =
     let allows = (check_is_policy rules policy method sent response before answer request lawful made a p.origin).0 h in
     let grants = grants_by rules policy request.origin made allows.0 in

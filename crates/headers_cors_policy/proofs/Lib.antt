@@ -1,7 +1,7 @@
 pub mod CheckLemmas
 pub mod ElementLemmas
+pub mod GrantLemmas
 pub mod RefusalLemmas
 pub mod SameLemmas
-pub mod SettingLemmas
 pub mod VaryLemmas
 pub mod WrittenLemmas

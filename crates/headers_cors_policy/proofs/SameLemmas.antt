@@ -1,20 +1,18 @@
--- Which requests get the same lines.
+-- Which requests get the same fields.
 use Rattle.std.proofs.Common.{◌≡◌, ◌≢◌, ◌⊎◌, ℕ, Bool, true, false, List, [], ◌∷◌, ◌++◌, Option, None, refl, ap, sym}
 use Rattle.std.proofs.Common.{◌∙◌, subst, inl, inr, arith}
 use Rattle.std.specs.Prelude.{bytes_eq, codes}
 use Rattle.std.proofs.lemmas.Slice.Eq.{bytes_eq-Decides}
-use Rattle.headers.specs.LineMap.{LineMap, run}
+use Rattle.headers.specs.LineMap.{LineMap, fields_of}
 use Rattle.headers.specs.Lines.{Line}
 use Rattle.headers.specs.Typed.{HasLine}
-use Rattle.headers.specs.declared.Step.{Step}
 use Rattle.headers_cors_policy.specs.Answer.{AreSame, IsAnswer, allows}
 use Rattle.headers_cors_policy.specs.Kinds.{IsKindOf, is_preflight}
 use Rattle.headers_cors_policy.specs.Policy.{Policy}
-use Rattle.headers_cors_policy.specs.Settings.{Setting, SetAll, granted, grant_settings, set_all, settings, vary}
+use Rattle.headers_cors_policy.specs.Fields.{fields_sent, granted, grant_fields, vary_sent}
 use Rattle.headers_cors_policy.specs.declared.kind.CorsKind.{CorsKind}
 use Rattle.headers_cors_policy.specs.declared.kind.CorsKind.TheVariants.{Preflight, Plain, NoOrigin}
 use Rattle.headers_cors_policy.specs.declared.policy.CorsAnswer.{CorsAnswer}
-use Rattle.headers_cors_policy.proofs.SettingLemmas.{run_sets}
 
 -- requests with the same lines of Origin and Access-Control-Request-Method are of one kind
 pre_once : (method : List ℕ) (r s : LineMap) (k l : CorsKind) → r (codes "origin") ≡ s (codes "origin")
@@ -37,40 +35,33 @@ never_pre method r Preflight other h = absurd (other h.1.0)
 never_pre method r Plain other h = refl
 never_pre method r NoOrigin other h = refl
 
-same_runs : (steps others : List Step) (made given : List Setting) (before : LineMap) → SetAll steps made
-    → SetAll others given → made ≡ given → (name : List ℕ) → run before steps name ≡ run before others name
-same_runs steps others made given before h k e name =
-    run_sets steps made before before (λ n. refl) h name
-    ∙ ap (λ (ss : List Setting). set_all ss before name) e
-    ∙ sym (run_sets others given before before (λ n. refl) k name)
-
 -- answers of one policy for one response, of one kind and one grant, set the same
-pub same_by : (policy : Policy) (m n : List ℕ) (r s response before : LineMap) (a b : CorsAnswer)
+pub same_by : (policy : Policy) (m n : List ℕ) (r s response : LineMap) (a b : CorsAnswer)
     → IsAnswer policy m r response a → IsAnswer policy n s response b → is_preflight a.kind ≡ is_preflight b.kind
-    → granted policy (r (codes "origin")) ≡ granted policy (s (codes "origin")) → (name : List ℕ)
-    → run before a.steps.items name ≡ run before b.steps.items name
-same_by policy m n r s response before a b h k pre grants =
+    → granted policy (r (codes "origin")) ≡ granted policy (s (codes "origin"))
+    → fields_of a.fields.items ≡ fields_of b.fields.items
+same_by policy m n r s response a b h k pre grants =
     let varying = response (codes "vary") in
-    same_runs a.steps.items b.steps.items (settings policy (is_preflight a.kind) (r (codes "origin")) varying)
-    (settings policy (is_preflight b.kind) (s (codes "origin")) varying) before h.steps k.steps
-    (ap (λ (p : Bool). settings policy p (r (codes "origin")) varying) pre
-    ∙ ap (λ (line : Option Line). grant_settings policy (is_preflight b.kind) line ++ vary policy varying) grants)
+    h.fields
+    ∙ ap (λ (p : Bool). fields_sent policy p (r (codes "origin")) varying) pre
+    ∙ ap (λ (line : Option Line). grant_fields policy (is_preflight b.kind) line ++ vary_sent policy varying) grants
+    ∙ sym k.fields
 
-pub same_lines : (policy : Policy) (method : List ℕ) (r s response before : LineMap) (a b : CorsAnswer)
+pub same_lines : (policy : Policy) (method : List ℕ) (r s response : LineMap) (a b : CorsAnswer)
     → IsAnswer policy method r response a → IsAnswer policy method s response b
     → r (codes "origin") ≡ s (codes "origin")
     → r (codes "access-control-request-method") ≡ s (codes "access-control-request-method")
-    → (name : List ℕ) → run before a.steps.items name ≡ run before b.steps.items name
-same_lines policy method r s response before a b h k e f =
-    same_by policy method method r s response before a b h k (pre_once method r s a.kind b.kind e f h.kind k.kind)
+    → fields_of a.fields.items ≡ fields_of b.fields.items
+same_lines policy method r s response a b h k e f =
+    same_by policy method method r s response a b h k (pre_once method r s a.kind b.kind e f h.kind k.kind)
     (ap (granted policy) e)
 
--- if any origin is allowed, all requests of one kind get the same lines
-pub any_lines_same : (policy : Policy) (m n : List ℕ) (r s response before : LineMap) (a b : CorsAnswer)
+-- if any origin is allowed, all requests of one kind get the same fields
+pub any_lines_same : (policy : Policy) (m n : List ℕ) (r s response : LineMap) (a b : CorsAnswer)
     → IsAnswer policy m r response a → IsAnswer policy n s response b → policy.origins ≡ None → a.kind ≡ b.kind
-    → (name : List ℕ) → run before a.steps.items name ≡ run before b.steps.items name
-any_lines_same policy m n r s response before a b h k any kinds =
-    same_by policy m n r s response before a b h k (ap is_preflight kinds) (rw any refl)
+    → fields_of a.fields.items ≡ fields_of b.fields.items
+any_lines_same policy m n r s response a b h k any kinds =
+    same_by policy m n r s response a b h k (ap is_preflight kinds) (rw any refl)
 
 -- a request is of one kind
 kind_once : (method : List ℕ) (r : LineMap) (k l : CorsKind) → IsKindOf method r k → IsKindOf method r l → k ≡ l
@@ -93,7 +84,7 @@ answer_once policy method sent response a b h k =
       kind = kinds;
       allowed = h.allowed ∙ ap (λ (kind : CorsKind). allows kind (granted policy (sent (codes "origin")))) kinds
           ∙ sym k.allowed;
-      steps = λ before name. same_lines policy method sent sent response before a b h k refl refl name;
+      fields = same_lines policy method sent sent response a b h k refl refl;
     }
 
 -- lines, or none

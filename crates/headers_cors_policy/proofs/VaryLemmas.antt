@@ -6,7 +6,7 @@ use Rattle.std.specs.List.{list_any}
 use Rattle.std.proofs.lemmas.Bool.{cases_Bool}
 use Rattle.std.proofs.lemmas.Grind.{flat_map-append}
 use Rattle.std.proofs.lemmas.List.Folds.{list_any-append}
-use Rattle.headers.specs.LineMap.{LineMap, run}
+use Rattle.headers.specs.LineMap.{Field, LineMap, fields_of, set_all}
 use Rattle.headers.specs.Lines.{Line}
 use Rattle.headers_fields.specs.Directives.{is_same_token}
 use Rattle.headers_fields.specs.Members.{field_members, members}
@@ -15,10 +15,9 @@ use Rattle.headers_cors_policy.specs.Answer.{IsAnswer}
 use Rattle.headers_cors_policy.specs.Cache.{Serves, nominates}
 use Rattle.headers_cors_policy.specs.Kinds.{is_preflight}
 use Rattle.headers_cors_policy.specs.Policy.{Policy}
-use Rattle.headers_cors_policy.specs.Settings.{covers_origin, granted, grant_settings, set_all, settings}
+use Rattle.headers_cors_policy.specs.Fields.{covers_origin, granted, grant_fields}
 use Rattle.headers_cors_policy.specs.declared.policy.CorsAnswer.{CorsAnswer}
 use Rattle.headers_cors_policy.proofs.SameLemmas.{never_pre, same_by}
-use Rattle.headers_cors_policy.proofs.SettingLemmas.{run_sets}
 
 or_true : (b : Bool) → (b || true) ≡ true
 or_true true = refl
@@ -54,7 +53,7 @@ varied policy lines =
     else lines
 
 vary_set : (b c : Bool) (value : List Line) (m : LineMap)
-    → set_all (if b then (if c then [] else (codes "vary", value) ∷ []) else []) m (codes "vary")
+    → set_all m (if b then (if c then [] else (codes "vary", value) ∷ []) else []) (codes "vary")
     ≡ (if b then (if c then m (codes "vary") else value) else m (codes "vary"))
 vary_set true true value m = refl
 vary_set true false value m = refl
@@ -62,20 +61,18 @@ vary_set false c value m = refl
 
 vary_after : (policy : Policy) (method : List ℕ) (sent response : LineMap) (answer : CorsAnswer)
     → IsAnswer policy method sent response answer
-    → run response answer.steps.items (codes "vary") ≡ varied policy (response (codes "vary"))
+    → set_all response (fields_of answer.fields.items) (codes "vary") ≡ varied policy (response (codes "vary"))
 vary_after policy method sent response answer a =
-    run_sets answer.steps.items
-    (settings policy (is_preflight answer.kind) (sent (codes "origin")) (response (codes "vary"))) response response
-    (λ n. refl) a.steps (codes "vary")
+    ap (λ (fields : List Field). set_all response fields (codes "vary")) a.fields
     ∙ vary_set (is_some policy.origins) (covers_origin (response (codes "vary")))
     (response (codes "vary") ++ codes "origin" ∷ [])
-    (set_all (grant_settings policy (is_preflight answer.kind) (granted policy (sent (codes "origin")))) response)
+    (set_all response (grant_fields policy (is_preflight answer.kind) (granted policy (sent (codes "origin")))))
 
 -- what Vary said stays, and nothing but `origin` comes after it
 pub vary_stays : (policy : Policy) (method : List ℕ) (sent response : LineMap) (answer : CorsAnswer)
     → IsAnswer policy method sent response answer
-    → (run response answer.steps.items (codes "vary") ≡ response (codes "vary"))
-    ⊎ (run response answer.steps.items (codes "vary") ≡ response (codes "vary") ++ codes "origin" ∷ [])
+    → (set_all response (fields_of answer.fields.items) (codes "vary") ≡ response (codes "vary"))
+    ⊎ (set_all response (fields_of answer.fields.items) (codes "vary") ≡ response (codes "vary") ++ codes "origin" ∷ [])
 vary_stays policy method sent response answer a =
     by (is_some policy.origins) (covers_origin (response (codes "vary")))
     (vary_after policy method sent response answer a)
@@ -114,10 +111,10 @@ same_grant policy r s lines v = by policy.origins refl
 -- a shared cache hands no request a response with another's lines
 pub cache_same : (policy : Policy) (method : List ℕ) (r s response : LineMap) (a b : CorsAnswer)
     → IsAnswer policy method r response a → IsAnswer policy method s response b → method ≢ codes "OPTIONS"
-    → Serves (run response a.steps.items (codes "vary")) r s → (name : List ℕ)
-    → run response a.steps.items name ≡ run response b.steps.items name
+    → Serves (set_all response (fields_of a.fields.items) (codes "vary")) r s
+    → fields_of a.fields.items ≡ fields_of b.fields.items
 cache_same policy method r s response a b h k other v =
-    same_by policy method method r s response response a b h k
+    same_by policy method method r s response a b h k
     (never_pre method r a.kind other h.kind ∙ sym (never_pre method s b.kind other k.kind))
     (same_grant policy r s (response (codes "vary"))
     (subst (λ (lines : List Line). Serves lines r s) (vary_after policy method r response a h) v))

@@ -1,10 +1,10 @@
 -- What a policy answers a request.
 use Rattle.std.specs.Prelude.{◌≡◌, ℕ, Bool, true, List, Option, is_some, codes}
-use Rattle.headers.specs.LineMap.{LineMap, run}
+use Rattle.headers.specs.LineMap.{LineMap, fields_of}
 use Rattle.headers.specs.Lines.{Line}
 use Rattle.headers_cors_policy.specs.Kinds.{IsKindOf, is_preflight}
 use Rattle.headers_cors_policy.specs.Policy.{Policy}
-use Rattle.headers_cors_policy.specs.Settings.{granted, settings, SetAll}
+use Rattle.headers_cors_policy.specs.Fields.{fields_sent, granted}
 use Rattle.headers_cors_policy.specs.declared.kind.CorsKind.{CorsKind}
 use Rattle.headers_cors_policy.specs.declared.kind.CorsKind.TheVariants.{Preflight, Plain, NoOrigin}
 use Rattle.headers_cors_policy.specs.declared.policy.CorsAnswer.{CorsAnswer}
@@ -20,11 +20,11 @@ pub record IsAnswer (policy : Policy) (method : List ℕ) (request response : Li
     : Type 0 where
   pub kind : IsKindOf method request answer.kind
   pub allowed : answer.is_allowed ≡ allows answer.kind (granted policy (request (codes "origin")))
-  pub steps : SetAll answer.steps.items
-      (settings policy (is_preflight answer.kind) (request (codes "origin")) (response (codes "vary")))
+  pub fields : fields_of answer.fields.items
+      ≡ fields_sent policy (is_preflight answer.kind) (request (codes "origin")) (response (codes "vary"))
 
--- answers that say the same, and after whose steps each name has the same lines, whatever it had before
+-- answers that say the same, and set the same fields
 pub record AreSame (a b : CorsAnswer) : Type 0 where
   pub kind : a.kind ≡ b.kind
   pub allowed : a.is_allowed ≡ b.is_allowed
-  pub steps : (before : LineMap) (name : List ℕ) → run before a.steps.items name ≡ run before b.steps.items name
+  pub fields : fields_of a.fields.items ≡ fields_of b.fields.items

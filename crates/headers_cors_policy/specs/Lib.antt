@@ -4,9 +4,9 @@ pub mod Browser
 pub mod Cache
 pub mod Elements
 pub mod Errors
+pub mod Fields
 pub mod Inside
 pub mod Kinds
 pub mod Policy
 pub mod Rules
 pub mod SentOrigins
-pub mod Settings

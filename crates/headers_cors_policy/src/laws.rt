@@ -1,6 +1,6 @@
 //! What follows from the definitions alone. A proof cites a law by calling it.
 ghost use Rattle.std.specs.Prelude.{◌≡◌, ◌≢◌, ◌↔◌, ◌⊎◌, ◌∷◌, [], ◌++◌, ℕ, List, None, IsTrue, codes};
-ghost use Rattle.headers.specs.LineMap.{LineMap, run};
+ghost use Rattle.headers.specs.LineMap.{LineMap, fields_of, set_all};
 ghost use Rattle.headers.specs.Lines.{Line};
 ghost use Rattle.headers_cors_policy.specs.Answer.{AreSame, IsAnswer};
 ghost use Rattle.headers_cors_policy.specs.Browser.{CorsCheck, IsExposed, IsOkStatus, IsPreflightFor, IsSentFor};
@@ -20,19 +20,19 @@ pub fn request_has_a_kind()
     ensures { (method : List ℕ) (sent : LineMap) → (kind : CorsKind) × IsKindOf method sent kind }
 {}
 
-/// A request has at most one answer: two have one kind, allow the same, and set the same lines.
+/// A request has at most one answer: two have one kind, allow the same, and set the same fields.
 pub fn request_has_one_answer()
     ensures { (policy : Policy) (method : List ℕ) (sent response : LineMap) (a b : CorsAnswer)
         → IsAnswer policy method sent response a → IsAnswer policy method sent response b → AreSame a b }
 {}
 
-/// After the steps of an answer, whatever lines the response had before, a browser's CORS check
-/// holds exactly if the rules allow the origin and the credentials.
+/// After `set_all` of the fields of an answer, whatever fields the response had before, a browser's
+/// CORS check holds exactly if the rules allow the origin and the credentials.
 pub fn check_goes_by_rules()
     ensures { (rules : CorsRules) (policy : Policy) (method : List ℕ) (sent response before : LineMap)
         (answer : CorsAnswer) (request : Request) → IsLawful rules → IsPolicyOf rules policy
         → IsAnswer policy method sent response answer → sent (codes "origin") ≡ request.origin ∷ []
-        → CorsCheck (run before answer.steps.items) request
+        → CorsCheck (set_all before (fields_of answer.fields.items)) request
         ↔ (AllowsOrigin rules request.origin × AllowsCredentials rules request.credentials) }
 {}
 
@@ -42,7 +42,7 @@ pub fn preflight_goes_by_rules()
     ensures { (rules : CorsRules) (policy : Policy) (method : List ℕ) (sent response before : LineMap)
         (answer : CorsAnswer) (request : Request) (status : ℕ) → IsLawful rules → IsPolicyOf rules policy
         → IsAnswer policy method sent response answer → IsPreflightFor request method sent → IsOkStatus status
-        → PreflightPasses status (run before answer.steps.items) request ↔ AllowsRequest rules request }
+        → PreflightPasses status (set_all before (fields_of answer.fields.items)) request ↔ AllowsRequest rules request }
 {}
 
 /// Scripts may read exactly those fields of a response that passed the check that the rules expose.
@@ -50,8 +50,8 @@ pub fn exposed_goes_by_rules()
     ensures { (rules : CorsRules) (policy : Policy) (method : List ℕ) (sent response before : LineMap)
         (answer : CorsAnswer) (request : Request) → IsLawful rules → IsPolicyOf rules policy
         → IsAnswer policy method sent response answer → IsSentFor request sent
-        → CorsCheck (run before answer.steps.items) request → (name : Line)
-        → IsExposed (run before answer.steps.items) request name ↔ Exposes rules name }
+        → CorsCheck (set_all before (fields_of answer.fields.items)) request → (name : Line)
+        → IsExposed (set_all before (fields_of answer.fields.items)) request name ↔ Exposes rules name }
 {}
 
 /// An answer says that a request is allowed exactly if the rules allow its origin.
@@ -63,35 +63,35 @@ pub fn allowed_goes_by_rules()
 {}
 
 /// If a response is stored and `Vary` lets it serve another request of its method, that request
-/// would have got the same lines. A cache stores no answer to OPTIONS (RFC 9110, section 9.3.7).
+/// would have got the same fields. A cache stores no answer to OPTIONS (RFC 9110, section 9.3.7).
 pub fn stored_lines_are_own()
     ensures { (policy : Policy) (method : List ℕ) (r s response : LineMap) (a b : CorsAnswer)
         → IsAnswer policy method r response a → IsAnswer policy method s response b → method ≢ codes "OPTIONS"
-        → Serves (run response a.steps.items (codes "vary")) r s → (name : List ℕ)
-        → run response a.steps.items name ≡ run response b.steps.items name }
+        → Serves (set_all response (fields_of a.fields.items) (codes "vary")) r s
+        → fields_of a.fields.items ≡ fields_of b.fields.items }
 {}
 
-/// The lines of `Vary` stay, and at most `origin` comes after them.
+/// The field lines of `Vary` stay, and at most `origin` comes after them.
 pub fn vary_stays()
     ensures { (policy : Policy) (method : List ℕ) (sent response : LineMap) (answer : CorsAnswer)
         → IsAnswer policy method sent response answer
-        → (run response answer.steps.items (codes "vary") ≡ response (codes "vary"))
-        ⊎ (run response answer.steps.items (codes "vary") ≡ response (codes "vary") ++ codes "origin" ∷ []) }
+        → (set_all response (fields_of answer.fields.items) (codes "vary") ≡ response (codes "vary"))
+        ⊎ (set_all response (fields_of answer.fields.items) (codes "vary") ≡ response (codes "vary") ++ codes "origin" ∷ []) }
 {}
 
-/// Two requests of one method with equal lines of `Origin` and `Access-Control-Request-Method` get
-/// the same lines, whatever else they have.
+/// Two requests of one method with equal field lines of `Origin` and
+/// `Access-Control-Request-Method` get the same fields, whatever else they have.
 pub fn lines_go_by_origin()
-    ensures { (policy : Policy) (method : List ℕ) (r s response before : LineMap) (a b : CorsAnswer)
+    ensures { (policy : Policy) (method : List ℕ) (r s response : LineMap) (a b : CorsAnswer)
         → IsAnswer policy method r response a → IsAnswer policy method s response b
         → r (codes "origin") ≡ s (codes "origin")
         → r (codes "access-control-request-method") ≡ s (codes "access-control-request-method")
-        → (name : List ℕ) → run before a.steps.items name ≡ run before b.steps.items name }
+        → fields_of a.fields.items ≡ fields_of b.fields.items }
 {}
 
-/// If any origin is allowed, two requests of one kind get the same lines, whatever their origins.
+/// If any origin is allowed, two requests of one kind get the same fields, whatever their origins.
 pub fn any_origin_gets_equal_lines()
-    ensures { (policy : Policy) (m n : List ℕ) (r s response before : LineMap) (a b : CorsAnswer)
+    ensures { (policy : Policy) (m n : List ℕ) (r s response : LineMap) (a b : CorsAnswer)
         → IsAnswer policy m r response a → IsAnswer policy n s response b → policy.origins ≡ None
-        → a.kind ≡ b.kind → (name : List ℕ) → run before a.steps.items name ≡ run before b.steps.items name }
+        → a.kind ≡ b.kind → fields_of a.fields.items ≡ fields_of b.fields.items }
 {}

@@ -1,8 +1,9 @@
-//! Cross-origin requests: which lines a server's policy gives a response, and that browsers let
+//! Cross-origin requests: which fields a server's policy gives a response, and that browsers let
 //! through exactly what its rules allow (Fetch standard).
 #![tactic(auto)]
 
 mod error;
+mod fields;
 mod kind;
 pub mod laws;
 mod listed;
@@ -11,7 +12,6 @@ mod policy;
 mod refusal;
 mod rules;
 mod sent;
-mod steps;
 mod vary;
 mod written;
 

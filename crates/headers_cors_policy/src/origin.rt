@@ -2,7 +2,7 @@
 ghost use Rattle.std.specs.Prelude.{◌≡◌, IfOk, codes, option_map};
 ghost use Rattle.headers.specs.LineMap.{lines_at};
 ghost use Rattle.headers.specs.Lines.{lines_of, only_line};
-ghost use Rattle.headers_cors_policy.specs.Settings.{grant};
+ghost use Rattle.headers_cors_policy.specs.Fields.{grant};
 
 use crate::listed::is_listed;
 use headers::{HeaderMap, HeaderValue};

@@ -1,22 +1,22 @@
 //! A server's policy, and what it answers.
-ghost use Rattle.std.specs.Prelude.{◌≡◌, ◌&&◌, ◌⊎◌, true, IfErr, IfOk, OnOk, option_map, is_some, codes};
-ghost use Rattle.headers.specs.LineMap.{lines_at};
+ghost use Rattle.std.specs.Prelude.{◌≡◌, ◌&&◌, ◌⊎◌, ◌++◌, true, IfErr, IfOk, OnOk, Some, option_map, is_some, codes};
+ghost use Rattle.headers.specs.LineMap.{field_of, fields_of, lines_at};
 ghost use Rattle.headers_cors_policy.specs.Answer.{allows, IsAnswer};
+ghost use Rattle.headers_cors_policy.specs.Fields.{filled_line, granted, grant_fields, lines_if, vary_sent};
 ghost use Rattle.headers_cors_policy.specs.Policy.{Policy};
 ghost use Rattle.headers_cors_policy.specs.Rules.{HasUnsent, IsErrorOf, IsLawful, IsPolicyOf, texts};
 ghost use Rattle.headers_cors_policy.specs.SentOrigins.{are_sent};
-ghost use Rattle.headers_cors_policy.specs.Settings.{granted, grant_settings, leave_settings, vary, Extends, SetAll};
 
 use crate::error::RulesError;
+use crate::fields::{field, field_if, filled};
 use crate::kind::{CorsKind, kind_of};
 use crate::origin::granted;
 use crate::refusal::refusal;
 use crate::rules::CorsRules;
 use crate::sent::are_sent;
-use crate::steps::{filled, push_line, push_word};
 use crate::vary::push_vary;
 use crate::written::{line_of_age, line_of_exposed, line_of_methods, line_of_names, texts_of};
-use headers::{HeaderMap, HeaderValue, Step};
+use headers::{Encoded, HeaderMap, HeaderValue};
 use http::Method;
 use http_header::{
     ACCESS_CONTROL_ALLOW_CREDENTIALS, ACCESS_CONTROL_ALLOW_HEADERS, ACCESS_CONTROL_ALLOW_METHODS,
@@ -32,8 +32,8 @@ pub struct CorsAnswer {
     pub kind: CorsKind,
     /// Whether the policy allows its origin. A request without an `Origin` is allowed.
     pub is_allowed: bool,
-    /// The steps that put or remove the response's lines.
-    pub steps: Vec<Step>,
+    /// The response's fields, for `set_all`: one without field lines is removed.
+    pub fields: Vec<Encoded>,
 }
 
 /// A server's policy for requests from other origins.
@@ -71,10 +71,9 @@ impl CorsPolicy {
         written_of(alloc, rules)
     }
 
-    /// Answers a request, by its method and its fields. The steps make the response's lines the
-    /// policy's, whatever stood there before, and add `origin` to its `Vary` if the policy lists its
-    /// origins and `Vary` has neither `origin` nor `*`. The list of steps is never empty, so a call for
-    /// any request may run out of memory.
+    /// Answers a request, by its method and its fields. The fields of the answer replace those of the
+    /// response, and add `origin` to its `Vary` if the policy lists its origins and `Vary` has neither
+    /// `origin` nor `*`. There are always fields, so a call for any request may run out of memory.
     pub fn answer(
         &self,
         alloc: Global,
@@ -87,12 +86,12 @@ impl CorsPolicy {
         let kind = kind_of(method, request);
         let granted = self.granted(request)?;
         let is_allowed = is_allowed(kind, &granted);
-        let mut steps = self.grant_steps(alloc, kind.is_preflight(), &granted)?;
-        self.push_vary(alloc, &mut steps, response)?;
+        let mut fields = self.grant_fields(alloc, kind.is_preflight(), granted)?;
+        self.push_vary(alloc, &mut fields, response)?;
         Ok(CorsAnswer {
             kind,
             is_allowed,
-            steps,
+            fields,
         })
     }
 
@@ -101,98 +100,105 @@ impl CorsPolicy {
         ensures { IfOk result (λ line. option_map (λ value. value.bytes) line
             ≡ granted self.now (lines_at request.now (codes "origin"))) }
     {
-        let line = granted(&self.origins, request)?;
-        Ok(line)
+        granted(&self.origins, request)
     }
 
-    // Appends the step of Vary: responses differ by their origins if these are listed.
+    // Appends Vary: responses differ by their origins if these are listed.
     fn push_vary(
         &self,
         alloc: Global,
-        steps: &mut Vec<Step>,
+        fields: &mut Vec<Encoded>,
         response: &HeaderMap,
     ) -> Result<(), AllocError>
-        ensures { OnOk result (Extends steps.old.items steps.new.items
-            (vary self.now (lines_at response.now (codes "vary")))) }
+        ensures { OnOk result (fields_of fields.new.items
+            ≡ fields_of fields.old.items ++ vary_sent self.now (lines_at response.now (codes "vary"))) }
     {
         if self.origins.is_none() {
             return Ok(());
         }
-        push_vary(alloc, steps, response)?;
-        Ok(())
+        push_vary(alloc, fields, response)
     }
 
-    // The steps but for Vary, if this is the line of Access-Control-Allow-Origin.
-    fn grant_steps(
+    // The fields but for Vary, if this is the line of Access-Control-Allow-Origin.
+    fn grant_fields(
         &self,
         alloc: Global,
         is_preflight: bool,
-        granted: &Option<HeaderValue>,
-    ) -> Result<Vec<Step>, AllocError>
-        ensures { IfOk result (λ steps. SetAll steps.items
-            (grant_settings self.now is_preflight (option_map (λ value. value.bytes) granted.now))) }
+        granted: Option<HeaderValue>,
+    ) -> Result<Vec<Encoded>, AllocError>
+        ensures { IfOk result (λ fields. fields_of fields.items
+            ≡ grant_fields self.now is_preflight (option_map (λ value. value.bytes) granted)) }
     {
-        let grants = has_value(granted);
-        let with = both(grants, self.credentials);
-        let shows = both(grants, !is_preflight);
-        let leave = both(grants, is_preflight);
-        let mut steps = Vec::new(alloc);
-        push_line(
-            alloc,
-            &mut steps,
-            ACCESS_CONTROL_ALLOW_ORIGIN,
-            grants,
-            granted.as_ref(),
-        )?;
-        push_word(
-            alloc,
-            &mut steps,
-            ACCESS_CONTROL_ALLOW_CREDENTIALS,
-            with,
-            "true",
-        )?;
-        push_line(
-            alloc,
-            &mut steps,
-            ACCESS_CONTROL_EXPOSE_HEADERS,
-            shows,
-            filled(&self.exposed),
-        )?;
-        self.push_leave(alloc, &mut steps, leave)?;
-        Ok(steps)
+        let grants = has_value(&granted);
+        let leaves = both(grants, is_preflight);
+        let allow_origin = field(alloc, ACCESS_CONTROL_ALLOW_ORIGIN, granted)?;
+        let allow_credentials = self.allow_credentials(alloc, grants)?;
+        let exposed = self.exposed(alloc, both(grants, !is_preflight))?;
+        let methods = self.methods(alloc, leaves)?;
+        let names = self.names(alloc, leaves)?;
+        let max_age = self.max_age(alloc, leaves)?;
+        Ok(vec![in alloc;
+            allow_origin,
+            allow_credentials,
+            exposed,
+            methods,
+            names,
+            max_age,
+        ]?)
     }
 
-    // Appends the steps of what a preflight asks for, if it is granted.
-    fn push_leave(
-        &self,
-        alloc: Global,
-        steps: &mut Vec<Step>,
-        condition: bool,
-    ) -> Result<(), AllocError>
-        ensures { OnOk result (Extends steps.old.items steps.new.items (leave_settings self.now condition)) }
+    fn allow_credentials(&self, alloc: Global, grants: bool) -> Result<Encoded, AllocError>
+        ensures { IfOk result (λ field. field_of field ≡ (
+          codes "access-control-allow-credentials",
+          lines_if (grants && self.now.credentials) (Some (codes "true")),
+        )) }
     {
-        push_line(
+        let line = HeaderValue::from_static("true");
+        let shares = both(grants, self.credentials);
+        field_if(alloc, ACCESS_CONTROL_ALLOW_CREDENTIALS, shares, Some(&line))
+    }
+
+    fn exposed(&self, alloc: Global, shows: bool) -> Result<Encoded, AllocError>
+        ensures { IfOk result (λ field. field_of field ≡ (
+          codes "access-control-expose-headers",
+          lines_if shows (filled_line self.now.exposed),
+        )) }
+    {
+        let line = filled(&self.exposed);
+        field_if(alloc, ACCESS_CONTROL_EXPOSE_HEADERS, shows, line)
+    }
+
+    fn methods(&self, alloc: Global, leaves: bool) -> Result<Encoded, AllocError>
+        ensures { IfOk result (λ field. field_of field ≡ (
+          codes "access-control-allow-methods",
+          lines_if leaves (Some self.now.methods),
+        )) }
+    {
+        field_if(
             alloc,
-            steps,
             ACCESS_CONTROL_ALLOW_METHODS,
-            condition,
+            leaves,
             Some(&self.methods),
-        )?;
-        push_line(
-            alloc,
-            steps,
-            ACCESS_CONTROL_ALLOW_HEADERS,
-            condition,
-            filled(&self.names),
-        )?;
-        push_line(
-            alloc,
-            steps,
-            ACCESS_CONTROL_MAX_AGE,
-            condition,
-            self.max_age.as_ref(),
-        )?;
-        Ok(())
+        )
+    }
+
+    fn names(&self, alloc: Global, leaves: bool) -> Result<Encoded, AllocError>
+        ensures { IfOk result (λ field. field_of field ≡ (
+          codes "access-control-allow-headers",
+          lines_if leaves (filled_line self.now.names),
+        )) }
+    {
+        let line = filled(&self.names);
+        field_if(alloc, ACCESS_CONTROL_ALLOW_HEADERS, leaves, line)
+    }
+
+    fn max_age(&self, alloc: Global, leaves: bool) -> Result<Encoded, AllocError>
+        ensures { IfOk result (λ field. field_of field ≡ (
+          codes "access-control-max-age",
+          lines_if leaves self.now.max_age,
+        )) }
+    {
+        field_if(alloc, ACCESS_CONTROL_MAX_AGE, leaves, self.max_age.as_ref())
     }
 }
 

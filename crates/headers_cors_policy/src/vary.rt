@@ -1,10 +1,10 @@
 //! What a response's `Vary` says, and `origin` added to it.
 ghost use Rattle.std.specs.Prelude.{◌≡◌, ◌∷◌, [], ◌++◌, IfOk, OnOk, codes};
-ghost use Rattle.headers.specs.LineMap.{lines_at};
+ghost use Rattle.headers.specs.LineMap.{fields_of, lines_at};
 ghost use Rattle.headers.specs.Lines.{lines_of};
-ghost use Rattle.headers_cors_policy.specs.Settings.{covers_origin, vary_settings, Extends};
+ghost use Rattle.headers_cors_policy.specs.Fields.{covers_origin, vary_fields};
 
-use headers::{Encoded, HeaderMap, HeaderValue, Step};
+use headers::{Encoded, HeaderMap, HeaderValue};
 use headers_fields::contains_token;
 use http_header::VARY;
 use std::alloc::{AllocError, Global};
@@ -30,19 +30,18 @@ fn lines_with_origin(alloc: Global, response: &HeaderMap) -> Result<Vec<HeaderVa
     Ok(lines)
 }
 
-// Appends the step that adds `origin` to the response's `Vary`, if it isn't there.
+// Appends the response's `Vary` with `origin` after it, if that isn't there.
 pub(crate) fn push_vary(
     alloc: Global,
-    steps: &mut Vec<Step>,
+    fields: &mut Vec<Encoded>,
     response: &HeaderMap,
 ) -> Result<(), AllocError>
-    ensures { OnOk result (Extends steps.old.items steps.new.items
-        (vary_settings (lines_at response.now (codes "vary")))) }
+    ensures { OnOk result (fields_of fields.new.items
+        ≡ fields_of fields.old.items ++ vary_fields (lines_at response.now (codes "vary"))) }
 {
     if response_covers_origin(response) {
         return Ok(());
     }
     let lines = lines_with_origin(alloc, response)?;
-    steps.push(Step::Put(Encoded { name: VARY, lines }))?;
-    Ok(())
+    Ok(fields.push(Encoded { name: VARY, lines })?)
 }

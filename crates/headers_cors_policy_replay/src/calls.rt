@@ -1,6 +1,6 @@
 //! The calls of a policy.
 use crate::rules::read_rules;
-use headers::{HeaderMap, apply};
+use headers::{HeaderMap, set_all};
 use headers_cors_policy::{CorsAnswer, CorsKind, CorsPolicy, RulesError};
 use headers_rows::{Answer, Arguments, Calls, Failure};
 use http::Method;
@@ -39,7 +39,8 @@ fn read_method(arguments: &mut Arguments<'_>) -> Result<Method, Failure> {
     Ok(Method::from_bytes(arguments.alloc(), &bytes)?)
 }
 
-// Answers a request for a response, and adds its fields after the steps.
+// Answers a request for a response, and adds the fields of the response after those of the answer
+// are set.
 fn answer_for(
     policy: &CorsPolicy,
     method: &Method,
@@ -50,9 +51,9 @@ fn answer_for(
     let CorsAnswer {
         kind,
         is_allowed,
-        steps,
+        fields,
     } = policy.answer(answer.alloc(), method, request, response)?;
-    apply(response, steps).map_err(|_| Failure::Memory)?;
+    set_all(response, fields).map_err(|_| Failure::Memory)?;
     answer.word(format_args!("{} {is_allowed}", kind_word(kind)))?;
     answer.map(response)
 }

@@ -1,4 +1,5 @@
 pub mod BoundaryLemmas
+pub mod FieldLemmas
 pub mod HeadLemmas
 pub mod NumeralLemmas
 pub mod OnePlanLemmas
@@ -9,5 +10,4 @@ pub mod RangeSetLemmas
 pub mod SelectionLemmas
 pub mod SomePlanLemmas
 pub mod SomeSelectionLemmas
-pub mod StepLemmas
 pub mod TagLemmas

@@ -1,13 +1,12 @@
--- The status and the header lines of an answer (RFC 9110).
+-- The status and the fields of an answer (RFC 9110).
 use Rattle.std.specs.Prelude.{◌≡◌, ◌≢◌, ℕ, ◌+◌, ◌^◌, ◌<◌, ◌≤◌, ⊤, Bool, nat_lt, List, [], ◌∷◌, length, All, Option}
-use Rattle.std.specs.Prelude.{Some, None, codes, decimal, bytes_eq, option_map, true, false, not}
+use Rattle.std.specs.Prelude.{Some, None, codes, decimal, option_map, true, false, not}
 use Rattle.std.specs.Prelude.{if◌then◌else◌}
 use Rattle.http_header.specs.FieldValue.{FieldValue}
 use Rattle.headers.specs.ContentBytes.{ContentBytes, content_text}
 use Rattle.headers.specs.Date.{fixdate}
-use Rattle.headers.specs.LineMap.{LineMap, after_step}
+use Rattle.headers.specs.LineMap.{LineMap, Field}
 use Rattle.headers.specs.Lines.{Line}
-use Rattle.headers.specs.declared.Step.{Step}
 use Rattle.headers_preconditions.specs.Conditions.{modified_of}
 use Rattle.headers_preconditions.specs.Contents.{is_divisible}
 use Rattle.headers_preconditions.specs.Parts.{part_size}
@@ -124,39 +123,43 @@ type_sent NotModified is_known media_type multipart = None
 type_sent Failed is_known media_type multipart = None
 type_sent Unsatisfiable is_known media_type multipart = None
 
--- ---- which lines stand under each name
+-- ---- the field lines of each field
 
--- one line of a value, or none
+-- one field line of a value, or none
 abbrev pub lines_sent : {V : Type 0} → (V → Line) → Option V → List Line
 lines_sent text None = []
 lines_sent text (Some value) = text value ∷ []
 
--- the names whose lines an answer sets
-abbrev pub own_names : List (List ℕ)
-own_names =
-    codes "etag" ∷ codes "last-modified" ∷ codes "accept-ranges" ∷ codes "content-range" ∷ codes "content-length"
-    ∷ codes "content-type" ∷ []
+-- Content-Encoding without field lines, unless the answer keeps it
+abbrev pub encoding_removed : Plan → Bool → List Field
+encoding_removed plan is_known = if keeps_encoding plan is_known then [] else (codes "content-encoding", []) ∷ []
 
--- the names whose lines an answer sets or removes
+-- The fields of an answer with this plan, each by its section above. One without field lines is absent from the answer:
+-- a server that has set it removes it. `multipart` is the type of several parts.
+abbrev pub fields_sent : Plan → Bool → Resource → Content → FieldValue → List Field
+fields_sent plan is_known resource content multipart =
+    (codes "etag", lines_sent (λ (tag : FieldValue). tag.bytes) (etag_sent plan (etag_of resource)))
+    ∷ (
+      codes "last-modified",
+      lines_sent fixdate (modified_sent plan is_known (etag_of resource) (modified_of resource)),
+    )
+    ∷ (codes "accept-ranges", lines_sent (λ (units : Line). units) (units_sent plan (is_divisible content)))
+    ∷ (codes "content-range", lines_sent content_text (range_sent plan content.len))
+    ∷ (codes "content-length", lines_sent decimal (length_sent plan content.len))
+    ∷ (
+      codes "content-type",
+      lines_sent (λ (line : FieldValue). line.bytes) (type_sent plan is_known content.media_type multipart),
+    )
+    ∷ encoding_removed plan is_known
+
+-- the names of the fields that an answer sets or removes
 abbrev pub sent_names : List (List ℕ)
-sent_names = codes "content-encoding" ∷ own_names
+sent_names =
+    codes "content-encoding" ∷ codes "etag" ∷ codes "last-modified" ∷ codes "accept-ranges" ∷ codes "content-range"
+    ∷ codes "content-length" ∷ codes "content-type" ∷ []
 
--- The lines of an answer with this plan, made of what the map had before, under the names that it sets. `multipart` is
--- the type of several parts. The client knows the representation if it names it in If-Range.
-pub record SetsFields (plan : Plan) (is_known : Bool) (resource : Resource) (content : Content)
-    (multipart : FieldValue) (before after : LineMap) : Type 0 where
-  pub etag : after (codes "etag") ≡ lines_sent (λ (tag : FieldValue). tag.bytes) (etag_sent plan (etag_of resource))
-  pub last_modified : after (codes "last-modified")
-      ≡ lines_sent fixdate (modified_sent plan is_known (etag_of resource) (modified_of resource))
-  pub accept_ranges : after (codes "accept-ranges")
-      ≡ lines_sent (λ (units : Line). units) (units_sent plan (is_divisible content))
-  pub content_range : after (codes "content-range") ≡ lines_sent content_text (range_sent plan content.len)
-  pub content_length : after (codes "content-length") ≡ lines_sent decimal (length_sent plan content.len)
-  pub content_type : after (codes "content-type")
-      ≡ lines_sent (λ (line : FieldValue). line.bytes) (type_sent plan is_known content.media_type multipart)
-  pub others : (name : List ℕ) → All (λ own. own ≢ name) own_names → after name ≡ before name
-
--- the same, with the Content-Encoding that the answer keeps, and each other name as it was
+-- A server's fields with those of an answer in their place: each field of the answer has its own field lines alone,
+-- Content-Encoding is kept or gone, and each other field is as it was.
 pub record SendsFields (plan : Plan) (is_known : Bool) (resource : Resource) (content : Content)
     (multipart : FieldValue) (before after : LineMap) : Type 0 where
   pub etag : after (codes "etag") ≡ lines_sent (λ (tag : FieldValue). tag.bytes) (etag_sent plan (etag_of resource))
@@ -177,18 +180,7 @@ abbrev pub IsSized : Plan → Type 0
 IsSized (Single part) = (part.first ≤ part.last) × (part.last + 1 < 2 ^ 64)
 IsSized plan = ⊤
 
--- ---- one step for each name
-
--- the map with these lines under the name, of which there may be none
-abbrev pub with_lines : LineMap → List ℕ → List Line → LineMap
-with_lines before name lines other = if bytes_eq name other then lines else before other
-
--- the step leaves these lines under the name, and other names as they were
-abbrev pub IsStepTo : List ℕ → List Line → Step → Type 0
-IsStepTo name lines step = (before : LineMap) (other : List ℕ) → after_step before step other
-    ≡ with_lines before name lines other
-
--- the lines that are written of a value, or none
+-- the field lines of a header's encoding, or none
 abbrev pub written : {V : Type 0} → (V → List Line) → Option V → List Line
 written writes None = []
 written writes (Some value) = writes value

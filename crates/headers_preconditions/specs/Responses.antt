@@ -1,23 +1,22 @@
 -- The answer to a request for a representation.
 use Rattle.std.specs.Prelude.{◌≡◌, ◌⊎◌, ℕ, List, Option, Some, None}
 use Rattle.http_header.specs.FieldValue.{FieldValue}
-use Rattle.headers.specs.LineMap.{LineMap, run}
+use Rattle.headers.specs.LineMap.{LineMap, fields_of}
 use Rattle.headers_preconditions.specs.Contents.{divisible_len, limits_of}
-use Rattle.headers_preconditions.specs.Fields.{is_known_by, status_of, SendsFields}
+use Rattle.headers_preconditions.specs.Fields.{fields_sent, is_known_by, status_of}
 use Rattle.headers_preconditions.specs.Plans.{IsPlan, IsPlanned, ReadsSome}
 use Rattle.headers_preconditions.specs.declared.content.Content.{Content}
 use Rattle.headers_preconditions.specs.declared.plan.Plan.{Plan}
 use Rattle.headers_preconditions.specs.declared.response.Response.{Response}
 use Rattle.headers_preconditions.specs.declared.resource.Resource.{Resource}
 
--- it has the plan of the request, the status of the plan, and steps that leave the lines of the plan on every map
+-- it has the plan of the request, and the status and the fields of the plan
 pub record IsResponse (present : ℕ) (method : List ℕ) (request : LineMap) (resource : Resource) (content : Content)
     (multipart : FieldValue) (response : Response) : Type 0 where
   pub plan : IsPlanned present method request resource (divisible_len content) (limits_of content) (Some response.plan)
   pub status : response.status ≡ status_of response.plan
-  pub fields : (before : LineMap)
-      → SendsFields response.plan (is_known_by request) resource content multipart before
-      (run before response.steps.items)
+  pub fields : fields_of response.fields.items
+      ≡ fields_sent response.plan (is_known_by request) resource content multipart
 
 abbrev pub IsAnswered : ℕ → List ℕ → LineMap → Resource → Content → FieldValue → Option Response → Type 0
 IsAnswered present method request resource content multipart None =

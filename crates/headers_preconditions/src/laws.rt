@@ -1,10 +1,12 @@
 //! What follows from the definitions alone. A proof cites a law by calling it.
-ghost use Rattle.std.specs.Prelude.{◌≡◌, ◌+◌, ◌*◌, ◌<◌, ◌≤◌, ◌↔◌, ℕ, List, Option, [], ◌∷◌, IsTrue, codes, false};
+ghost use Rattle.std.specs.Prelude.{◌≡◌, ◌+◌, ◌*◌, ◌<◌, ◌≤◌, ◌↔◌, ℕ, Bool, List, Option, [], ◌∷◌, IsTrue, codes, false};
 ghost use Rattle.std.specs.Prelude.{length, sum_by, true};
 ghost use Rattle.headers.specs.EntityTag.{AreTags, StronglyEqual, WeaklyEqual};
 ghost use Rattle.headers.specs.EntityTagRange.{star};
-ghost use Rattle.headers.specs.LineMap.{LineMap, remove};
+ghost use Rattle.http_header.specs.FieldValue.{FieldValue};
+ghost use Rattle.headers.specs.LineMap.{LineMap, remove, set_all};
 ghost use Rattle.headers.specs.Lines.{Line};
+ghost use Rattle.headers_preconditions.specs.Fields.{SendsFields, fields_sent};
 ghost use Rattle.headers_preconditions.specs.Parts.{AreCoalesced, part_size};
 ghost use Rattle.headers_preconditions.specs.Plans.{HasPlan, IsPlanned, IsSamePlan};
 ghost use Rattle.headers_preconditions.specs.Preconditions.{Answers};
@@ -12,6 +14,7 @@ ghost use Rattle.headers_preconditions.specs.Selection.{AsksFor, HasSelection, I
 ghost use Rattle.headers_preconditions.specs.Limits.{are_too_many};
 ghost use Rattle.headers_preconditions.specs.Tags.{are_equal, names};
 ghost use Rattle.headers_preconditions.specs.declared.selection.Selection.{Selection};
+ghost use Rattle.headers_preconditions.specs.declared.content.Content.{Content};
 ghost use Rattle.headers_preconditions.specs.declared.limits.RangeLimits.{RangeLimits};
 ghost use Rattle.headers_preconditions.specs.declared.part.Part.{Part};
 ghost use Rattle.headers_preconditions.specs.declared.plan.Plan.{Plan};
@@ -94,11 +97,21 @@ pub fn request_has_one_plan()
 {}
 
 /// A HEAD has the plan that a GET of the same request without Range has, and no other. So it has the
-/// same status and header lines, which go by the plan.
+/// same status and fields, which are determined by the plan.
 #[tactic(auto, using(crate::proofs::HeadLemmas::head_as_get))]
 pub fn head_is_planned_as_get()
     ensures { (present : ℕ) (request : LineMap) (resource : Resource) (len : ℕ) (limits : RangeLimits)
         (plan : Option Plan)
         → IsPlanned present (codes "HEAD") request resource len limits plan
         ↔ IsPlanned present (codes "GET") (remove request (codes "range")) resource len limits plan }
+{}
+
+/// After `set_all` of a response's fields, whatever fields the server had set, ETag, Last-Modified,
+/// Accept-Ranges, Content-Range, Content-Length and Content-Type have the field lines that RFC 9110
+/// wants of the plan, and no other; Content-Encoding is kept or gone; and each other field is as it
+/// was.
+pub fn response_sets_its_fields()
+    ensures { (plan : Plan) (is_known : Bool) (resource : Resource) (content : Content) (multipart : FieldValue)
+        (before : LineMap) → SendsFields plan is_known resource content multipart before
+        (set_all before (fields_sent plan is_known resource content multipart)) }
 {}

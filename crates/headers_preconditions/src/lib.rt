@@ -4,6 +4,7 @@
 
 mod boundary;
 mod content;
+mod fields;
 pub mod laws;
 mod limits;
 mod part;
@@ -13,7 +14,6 @@ mod range_set;
 mod resource;
 mod response;
 mod selection;
-mod steps;
 mod tags;
 
 pub use crate::boundary::{Boundary, InvalidBoundary};
@@ -21,7 +21,7 @@ pub use crate::content::Content;
 pub use crate::limits::RangeLimits;
 pub use crate::part::Part;
 pub use crate::plan::{Plan, plan_answer};
-pub use crate::precondition::{Precondition, evaluate};
+pub use crate::precondition::{Precondition, evaluate, is_get_or_head};
 pub use crate::resource::{Resource, Validators};
-pub use crate::response::{Response, respond};
+pub use crate::response::{Response, is_known_by, respond};
 pub use crate::selection::{Selection, select};

@@ -83,7 +83,9 @@ fn evaluate_steps(
     Precondition::Perform
 }
 
-pub(crate) fn is_get_or_head(method: &Method) -> bool
+/// Whether the method is GET or HEAD, which read the representation (RFC 9110, sections 9.3.1 and
+/// 9.3.2).
+pub fn is_get_or_head(method: &Method) -> bool
     ensures { MatchBool result (IsGetOrHead method.now) (¬ (IsGetOrHead method.now)) }
 {
     *method == Method::GET || *method == Method::HEAD
@@ -135,10 +137,7 @@ fn modified_of(resource: &Resource) -> Option<u64>
 {
     match resource {
         Resource::Missing => None,
-        Resource::Current(validators) => match &validators.last_modified {
-            Some(modified) => Some(modified.unix_secs()),
-            None => None,
-        },
+        Resource::Current(validators) => Some(validators.last_modified?.unix_secs()),
     }
 }
 
@@ -146,10 +145,7 @@ fn modified_of(resource: &Resource) -> Option<u64>
 fn date_in(field: &GetAll<'_, HeaderValue>, present: u64) -> Option<Timestamp>
     ensures { result ≡ date_in present (lines_of field.now) }
 {
-    match only_text(field) {
-        Some(text) => read_date(text, present),
-        None => None,
-    }
+    read_date(only_text(field)?, present)
 }
 
 // Whether If-Modified-Since is true, or doesn't count.

@@ -8,7 +8,7 @@ use crate::boundary::Boundary;
 use crate::content::Content;
 use crate::plan::{Plan, plan_answer};
 use crate::resource::Resource;
-use headers::{HeaderMap, Step};
+use headers::{Encoded, HeaderMap};
 use http::{Method, StatusCode};
 use http_header::IF_RANGE;
 use std::alloc::{AllocError, Global};
@@ -20,9 +20,10 @@ pub struct Response {
     pub plan: Plan,
     /// The status.
     pub status: StatusCode,
-    /// The header lines, as steps over the map of the answer: they set ETag, Last-Modified,
-    /// Accept-Ranges, Content-Range, Content-Length and Content-Type.
-    pub steps: Vec<Step>,
+    /// The fields, for `set_all` on those that the server has set: ETag, Last-Modified, Accept-Ranges,
+    /// Content-Range, Content-Length and Content-Type, each without field lines where the answer
+    /// doesn't have it, and Content-Encoding without field lines where it has to go.
+    pub fields: Vec<Encoded>,
 }
 
 /// Answers a GET or a HEAD of a current representation, by its preconditions and its ranges (RFC
@@ -30,9 +31,10 @@ pub struct Response {
 /// answered as a GET without `Range`, but for the content. `present` is the time, in seconds since
 /// the start of 1970.
 ///
-/// After the steps each of the six names has the lines that RFC 9110 wants of it (sections 14.3,
-/// 14.4, 15.3.7, 15.4.5 and 15.5.17), and no other, whatever the map had. Content-Encoding stays
-/// where the answer carries the representation, and goes where it doesn't. Other names stay.
+/// The fields of the answer are those that RFC 9110 wants (sections 14.3, 14.4, 15.3.7, 15.4.5 and
+/// 15.5.17). After `set_all` each of the six has its own field lines alone, whatever the map had.
+/// Content-Encoding stays where the answer carries the representation, and goes where it doesn't.
+/// All other fields stay.
 ///
 /// `None` if the preconditions let a request go on that isn't a GET or a HEAD of a current
 /// representation: the server performs its method, and answers it as it does without preconditions.
@@ -55,16 +57,17 @@ pub fn respond(
     let Some(plan) = plan_answer(alloc, method, request, resource, present, len, &limits)? else {
         return Ok(None);
     };
-    let steps = plan.steps(alloc, is_known_by(request), resource, content, boundary)?;
+    let fields = plan.fields(alloc, is_known_by(request), resource, content, boundary)?;
     Ok(Some(Response {
         status: plan.status(),
         plan,
-        steps,
+        fields,
     }))
 }
 
-// Whether the client knows a representation, which it names in If-Range.
-fn is_known_by(request: &HeaderMap) -> bool
+/// Whether the client of a request knows a representation, which it names in If-Range (RFC 9110,
+/// section 13.1.5).
+pub fn is_known_by(request: &HeaderMap) -> bool
     ensures { result ≡ is_known_by (lines_at request.now) }
 {
     request.get_all(IF_RANGE).iter().next().is_some()

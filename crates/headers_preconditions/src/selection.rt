@@ -95,18 +95,14 @@ fn applying_set<'a>(
     if *method != Method::GET || len == 0 || !if_range_lets(request, current, present) {
         return None;
     }
-    let set = set_asked(request)?;
-    Some(set)
+    set_asked(request)
 }
 
 // The range-set of the only line of Range, if its unit is bytes and it is valid.
 fn set_asked(request: &HeaderMap) -> Option<&[u8]>
     ensures { option_map (λ set. set.now) result ≡ set_asked (lines_at request.now) }
 {
-    match only_text(&request.get_all(RANGE)) {
-        Some(text) => range_set_of(text),
-        None => None,
-    }
+    range_set_of(only_text(&request.get_all(RANGE))?)
 }
 
 fn range_set_of(text: &[u8]) -> Option<&[u8]>

@@ -39,10 +39,7 @@ pub(crate) fn only_value<'a>(field: &GetAll<'a, HeaderValue>) -> Option<&'a Head
 pub(crate) fn only_text<'a>(field: &GetAll<'a, HeaderValue>) -> Option<&'a [u8]>
     ensures { option_map (λ text. text.now) result ≡ option_map trim (only_line (lines_of field.now)) }
 {
-    match only_value(field) {
-        Some(value) => Some(trim(value.as_bytes())),
-        None => None,
-    }
+    Some(trim(only_value(field)?.as_bytes()))
 }
 
 pub(crate) fn is_tag(text: &[u8]) -> bool

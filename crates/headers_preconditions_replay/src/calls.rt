@@ -3,7 +3,7 @@
 //! A row names a method, the fields of a request, and a resource: `missing`, or an entity tag, the
 //! second of its last modification, and `strong` or `weak` for that date. A tag or a second that it
 //! doesn't have is `(none)`. Unless the row says it, the time is the start of 2026.
-use headers::{HeaderMap, HeaderValue, LastModified, apply};
+use headers::{HeaderMap, HeaderValue, LastModified, set_all};
 use headers_preconditions::{
     Boundary, Content, Part, Precondition, RangeLimits, Resource, Response, Selection, Validators,
     evaluate, respond, select,
@@ -130,14 +130,14 @@ fn read_content(
     })
 }
 
-// The status, and the fields that the steps leave of a map.
+// The status, and the fields of a map after those of the response are set.
 fn show_response(
     response: Response,
     mut fields: HeaderMap,
     answer: &mut Answer,
 ) -> Result<(), Failure> {
     answer.word(response.status.as_u16())?;
-    apply(&mut fields, response.steps).map_err(|_| Failure::Memory)?;
+    set_all(&mut fields, response.fields).map_err(|_| Failure::Memory)?;
     answer.map(&fields)
 }
 

@@ -1,5 +1,5 @@
 -- What is known of an answer to a read of a file.
-use Rattle.std.proofs.Common.{◌≡◌, ℕ, List, [], length, Some, None, arith, subst}
+use Rattle.std.proofs.Common.{◌≡◌, ℕ, List, [], length, Option, Some, None, MatchBool, arith, is_some, subst}
 use Rattle.std.proofs.lemmas.List.Elements.{All-head}
 use Rattle.http_header.specs.FieldValue.{FieldValue}
 use Rattle.headers.specs.LineMap.{LineMap}
@@ -51,8 +51,7 @@ IsAnswerOf-from_response present method request file resource content kind digit
           (subst (λ (c : Content). IsResponse present method request resource c kind answer) same_content h),
     )
 
-pub Occurs-from_found : (content bytes : List ℕ) (k : ℕ) → FindsNeedle content bytes 0 (Some k) → Occurs bytes content
-Occurs-from_found content bytes k h = (k, h.1)
-
-pub Occurs-from_none : (content bytes : List ℕ) → FindsNeedle content bytes 0 None → ¬ (Occurs bytes content)
-Occurs-from_none content bytes h o = h o.0 (omega arith) (omega (arith, o.1.fits)) o.1
+pub Occurs-from_find : (content bytes : List ℕ) (found : Option ℕ) → FindsNeedle content bytes 0 found
+    → MatchBool (is_some found) (Occurs bytes content) (¬ (Occurs bytes content))
+Occurs-from_find content bytes (Some k) h = (k, h.1)
+Occurs-from_find content bytes None h = λ o. h o.0 (omega arith) (omega (arith, o.1.fits)) o.1

@@ -1,43 +1,44 @@
 -- A request has one response at most.
 use Rattle.std.proofs.Common.{◌≡◌, ℕ, Bool, true, List, [], ◌∷◌, ◌++◌, length, Option, Some, None, refl}
 use Rattle.std.proofs.Common.{sym, ap, subst, ◌∙◌, inl, inr}
-use Rattle.std.specs.Prelude.{codes, decimal}
+use Rattle.std.specs.Prelude.{codes, flat_map, if◌then◌else◌, not}
 use Rattle.http.specs.declared.request.Request.{Request}
 use Rattle.http.specs.Request.{head_of}
 use Rattle.http_header.specs.FieldValue.{FieldValue}
 use Rattle.http_uri.specs.Uri.{uri_path, uri_query}
 use Rattle.http_server.specs.declared.response.Response.{Response}
 use Rattle.http1.specs.Fields.{Header}
-use Rattle.headers.specs.ContentBytes.{content_text}
 use Rattle.headers.specs.Date.{fixdate}
-use Rattle.headers.specs.LineMap.{LineMap, lines_at, run}
+use Rattle.headers.specs.LineMap.{Field, LineMap, lines_at}
 use Rattle.headers.specs.Lines.{Line}
 use Rattle.headers_cors_policy.proofs.SameLemmas.{same_lines}
 use Rattle.headers_cors_policy.specs.Policy.{Policy}
-use Rattle.headers_preconditions.specs.Fields.{etag_sent, is_known_by, length_sent, lines_sent, modified_sent}
-use Rattle.headers_preconditions.specs.Fields.{range_sent, type_sent, units_sent, unless_known}
+use Rattle.headers_preconditions.specs.Conditions.{modified_of}
+use Rattle.headers_preconditions.specs.Contents.{is_divisible}
+use Rattle.headers_preconditions.specs.Fields.{etag_of, fields_sent, is_known_by, lines_sent, unless_known}
 use Rattle.headers_preconditions.specs.Limits.{usual_limits}
 use Rattle.headers_preconditions.specs.Plans.{IsSamePlan}
+use Rattle.headers_preconditions.specs.declared.content.Content.{Content}
 use Rattle.headers_preconditions.specs.declared.part.Part.{Part}
 use Rattle.headers_preconditions.specs.declared.plan.Plan.{Plan}
 use Rattle.headers_preconditions.specs.declared.plan.Plan.TheVariants.{NotModified, Failed, Full, Single, Multiple}
 use Rattle.headers_preconditions.specs.declared.plan.Plan.TheVariants.{Unsatisfiable}
+use Rattle.headers_preconditions.specs.declared.resource.Resource.{Resource}
 use Rattle.headers_preconditions.specs.declared.response.Response.{Response as Answer}
 use Rattle.headers_preconditions.proofs.OnePlanLemmas.{one_plan}
 use Rattle.headers_serve.specs.Answer.{AnswersBehind, AnswersEntry, AnswersFile, AnswersOther, Carries, IsAnswerAt}
 use Rattle.headers_serve.specs.Answer.{IsAnswerOf, IsSendable, LeadsTo, body_sent, cache_sent, coding_sent, date_fields}
 use Rattle.headers_serve.specs.Answer.{clock, is_several}
 use Rattle.headers_serve.specs.Cors.{IsShared}
-use Rattle.headers_serve.specs.File.{boundary_of, resource_of, tag_of}
+use Rattle.headers_serve.specs.File.{boundary_of, content_of, resource_of}
 use Rattle.headers_serve.specs.Multipart.{multipart}
 use Rattle.headers_serve.specs.Redirect.{AnswersFolder}
-use Rattle.headers_serve.specs.Response.{IsSameResponse, IsWith, fields_sent, no_lines}
+use Rattle.headers_serve.specs.Response.{IsSameResponse, IsWith, headers_of, lines_under, no_lines}
 use Rattle.headers_serve.specs.Representations.{IsServedAt}
 use Rattle.headers_serve.specs.declared.coding.Coding.{Coding}
 use Rattle.headers_serve.specs.declared.file.Entry.{Entry}
 use Rattle.headers_serve.specs.declared.file.Entry.TheVariants.{Missing, Forbidden, Folder, Readable}
 use Rattle.headers_serve.specs.declared.file.File.{File}
-use Rattle.headers_serve.proofs.FieldLemmas.{SendSame, cors_same, fields_from_same}
 use Rattle.headers_serve.proofs.PlanLemmas.{same_by_plan}
 use Rattle.headers_serve.proofs.RepresentationLemmas.{served_once}
 
@@ -51,16 +52,29 @@ with_same before code sent content r s h k =
 sendable_as : (file : File) (p q : Plan) → is_several p ≡ is_several q → IsSendable file p → IsSendable file q
 sendable_as file p q e h = λ several. h (e ∙ several)
 
--- the type of several parts is written alike
-type_same : (plan : Plan) (is_known : Bool) (media_type : Option FieldValue) (x y : FieldValue) → x.bytes ≡ y.bytes
-    → lines_sent (λ (line : FieldValue). line.bytes) (type_sent plan is_known media_type x)
-    ≡ lines_sent (λ (line : FieldValue). line.bytes) (type_sent plan is_known media_type y)
-type_same Full is_known media_type x y e = refl
-type_same (Single part) is_known media_type x y e = refl
-type_same (Multiple parts) is_known media_type x y e = ap (λ (line : List ℕ). line ∷ []) e
-type_same NotModified is_known media_type x y e = refl
-type_same Failed is_known media_type x y e = refl
-type_same Unsatisfiable is_known media_type x y e = refl
+-- the fields of several parts are the same whatever the parts are: this field line has their type
+abbrev several_fields : Bool → Resource → Content → Line → List Field
+several_fields is_known resource content multipart =
+    (codes "etag", lines_sent (λ (tag : FieldValue). tag.bytes) (etag_of resource))
+    ∷ (codes "last-modified", lines_sent fixdate (unless_known is_known (modified_of resource)))
+    ∷ (
+      codes "accept-ranges",
+      lines_sent (λ (units : Line). units) (if is_divisible content then Some (codes "bytes") else None),
+    )
+    ∷ (codes "content-range", [])
+    ∷ (codes "content-length", [])
+    ∷ (codes "content-type", multipart ∷ [])
+    ∷ (if not is_known then [] else (codes "content-encoding", []) ∷ [])
+
+-- two values of the same bytes name the same type of several parts
+sent_same : (plan : Plan) (is_known : Bool) (resource : Resource) (content : Content) (x y : FieldValue)
+    → x.bytes ≡ y.bytes → fields_sent plan is_known resource content x ≡ fields_sent plan is_known resource content y
+sent_same Full is_known resource content x y e = refl
+sent_same (Single part) is_known resource content x y e = refl
+sent_same (Multiple parts) is_known resource content x y e = ap (several_fields is_known resource content) e
+sent_same NotModified is_known resource content x y e = refl
+sent_same Failed is_known resource content x y e = refl
+sent_same Unsatisfiable is_known resource content x y e = refl
 
 -- several parts go without Content-Encoding
 abbrev coding_several : Option Coding → List Header
@@ -88,68 +102,39 @@ module _ (present : ℕ) (method : List ℕ) (request : LineMap) (file : File) (
   several_same : is_several a.plan ≡ is_several b.plan
   several_same = by_plan is_several (λ _. true) (λ _. refl)
 
-  sent_same : SendSame (run no_lines a.steps.items) (run no_lines b.steps.items)
-  sent_same =
-      let s = h.2.fields no_lines in
-      let t = k.2.fields no_lines in
+  fields_sent_same : headers_of a.fields.items ≡ headers_of b.fields.items
+  fields_sent_same =
+      let resource = resource_of file in
+      let content = content_of file in
       let is_known = is_known_by request in
-      let etag = tag_of file in
-      let media_type : Option FieldValue = Some file.media_type in
-      record {
-        etag =
-            s.etag
-            ∙ by_plan (λ plan. lines_sent (λ (tag : FieldValue). tag.bytes) (etag_sent plan etag))
-            (λ _. lines_sent (λ (tag : FieldValue). tag.bytes) etag) (λ _. refl)
-            ∙ sym t.etag;
-        last_modified =
-            s.last_modified
-            ∙ by_plan (λ plan. lines_sent fixdate (modified_sent plan is_known etag file.modified))
-            (λ _. lines_sent fixdate (unless_known is_known file.modified)) (λ _. refl)
-            ∙ sym t.last_modified;
-        accept_ranges =
-            s.accept_ranges
-            ∙ by_plan (λ plan. lines_sent (λ (units : Line). units) (units_sent plan true))
-            (λ _. codes "bytes" ∷ []) (λ _. refl)
-            ∙ sym t.accept_ranges;
-        content_range =
-            s.content_range
-            ∙ by_plan (λ plan. lines_sent content_text (range_sent plan (Some (length file.content)))) (λ _. [])
-            (λ _. refl)
-            ∙ sym t.content_range;
-        content_length =
-            s.content_length
-            ∙ by_plan (λ plan. lines_sent decimal (length_sent plan (Some (length file.content)))) (λ _. []) (λ _. refl)
-            ∙ sym t.content_length;
-        content_type =
-            s.content_type
-            ∙ type_same a.plan is_known media_type h.0 k.0 (h.1 ∙ sym k.1)
-            ∙ by_plan
-            (λ plan. lines_sent (λ (line : FieldValue). line.bytes) (type_sent plan is_known media_type k.0))
-            (λ _. k.0.bytes ∷ []) (λ _. refl)
-            ∙ sym t.content_type;
-      }
+      ap (flat_map lines_under)
+      (h.2.fields
+      ∙ sent_same a.plan is_known resource content h.0 k.0 (h.1 ∙ sym k.1)
+      ∙ by_plan (λ plan. fields_sent plan is_known resource content k.0)
+      (λ _. several_fields is_known resource content k.0.bytes) (λ _. refl)
+      ∙ sym k.2.fields)
 
   module _ (before : List Header) (cache_control : Option FieldValue) (r s : Response)
       (x : Carries before cache_control (is_known_by request) file a r)
       (y : Carries before cache_control (is_known_by request) file b s) where
     fields_same : before ++ cache_sent a.plan cache_control ++ coding_sent a.plan (is_known_by request) file.coding
-        ++ fields_sent (run no_lines a.steps.items)
+        ++ headers_of a.fields.items
         ≡ before ++ cache_sent b.plan cache_control ++ coding_sent b.plan (is_known_by request) file.coding
-        ++ fields_sent (run no_lines b.steps.items)
+        ++ headers_of b.fields.items
     fields_same =
         ap
         (λ (l : List Header). before ++ l ++ coding_sent a.plan (is_known_by request) file.coding
-        ++ fields_sent (run no_lines a.steps.items))
+        ++ headers_of a.fields.items)
         (by_plan (λ plan. cache_sent plan cache_control) (λ _. cache_sent Full cache_control) (λ _. refl))
         ∙ ap
         (λ (l : List Header). before ++ cache_sent b.plan cache_control ++ l
-        ++ fields_sent (run no_lines a.steps.items))
+        ++ headers_of a.fields.items)
         (by_plan (λ plan. coding_sent plan (is_known_by request) file.coding)
         (λ _. coding_several file.coding) (several_alike (is_known_by request) file.coding))
         ∙ ap
         (λ (l : List Header). before ++ cache_sent b.plan cache_control
         ++ coding_sent b.plan (is_known_by request) file.coding ++ l)
-        (fields_from_same (run no_lines a.steps.items) (run no_lines b.steps.items) sent_same)
+        fields_sent_same
 
     carried_same : IsSameResponse r s
     carried_same = (
@@ -263,9 +248,9 @@ shared_once : (cors : Option Policy) (request : Request (List ℕ)) (f g : List 
 shared_once None request f g x y = x ∙ sym y
 shared_once (Some policy) request f g x y =
     x.2
-    ∙ cors_same (run no_lines x.0.steps.items) (run no_lines y.0.steps.items)
+    ∙ ap (flat_map lines_under)
     (same_lines policy (head_of request).method (lines_at (head_of request).headers)
-    (lines_at (head_of request).headers) no_lines no_lines x.0 y.0 x.1 y.1 refl refl)
+    (lines_at (head_of request).headers) no_lines x.0 y.0 x.1 y.1 refl refl)
     ∙ sym y.2
 
 pub one_response : (now : Option ℕ) (cors : Option Policy) (negotiates : Bool) (cache_control : Option FieldValue)

@@ -6,9 +6,9 @@ use Rattle.std.specs.Prelude.{codes, get_or, map}
 use Rattle.headers.specs.LineMap.{LineMap}
 use Rattle.headers.specs.Lines.{Line}
 use Rattle.headers_negotiation.specs.Choice.{Chooses}
-use Rattle.headers_negotiation.specs.Codings.{coding_preference, unlisted_coding}
-use Rattle.headers_negotiation.specs.Quality.{QualityIn}
-use Rattle.headers_negotiation.proofs.LawLemmas.{one_choice, takes_first}
+use Rattle.headers_negotiation.specs.Codings.{encoding_quality}
+use Rattle.headers_negotiation.specs.Qualities.{quality_in}
+use Rattle.headers_negotiation.proofs.LawLemmas.{chooses_first, chooses_one}
 use Rattle.headers_serve.specs.Answer.{LeadsTo}
 use Rattle.headers_serve.specs.Codings.{coding_suffix}
 use Rattle.headers_serve.specs.Path.{Names}
@@ -47,7 +47,7 @@ module _ (look : List ℕ → Entry) where
   module _ (request : LineMap) (path : List ℕ) (file : File) where
     abbrev Prefers : List File → Option ℕ → Type 0
     Prefers offers choice =
-        Chooses (QualityIn coding_preference unlisted_coding (request (codes "accept-encoding"))) (map name_of offers)
+        Chooses (quality_in encoding_quality (request (codes "accept-encoding"))) (map name_of offers)
         choice
 
     at_place : (offers : List File) (p q : ℕ) (c d : File) → p ≡ q → q < length offers → c ≡ get_or offers p c
@@ -59,7 +59,7 @@ module _ (look : List ℕ → Entry) where
     represents_once c d h k =
         let offers : h.0 ≡ k.0 = offers_once path file h.0 k.0 h.1 k.1 in
         let choice : h.2.0 ≡ k.2.0 =
-        one_choice (QualityIn coding_preference unlisted_coding (request (codes "accept-encoding"))) (map name_of k.0)
+        chooses_one (quality_in encoding_quality (request (codes "accept-encoding"))) (map name_of k.0)
         h.2.0 k.2.0 (subst (λ (l : List File). Prefers l h.2.0) offers h.2.1) k.2.1 in
         at_place k.0 (place_of h.2.0) (place_of k.2.0) c d (ap place_of choice) k.2.2
         (subst (λ (l : List File). c ≡ get_or l (place_of h.2.0) c) offers h.2.3) k.2.3
@@ -72,9 +72,9 @@ module _ (look : List ℕ → Entry) where
         let offers = (own ∷ offered file.media_type Brotli h.1.brotli) ++ offered file.media_type Gzip h.1.gzip in
         let prefers : Prefers offers h.2.0 = subst (λ (l : List File). Prefers l h.2.0) h.1.are h.2.1 in
         let first : h.2.0 ≡ Some 0 =
-        takes_first coding_preference unlisted_coding (map name_of offers) h.2.0
+        chooses_first encoding_quality (map name_of offers) h.2.0
         (subst
-        (λ (lines : List Line). Chooses (QualityIn coding_preference unlisted_coding lines) (map name_of offers) h.2.0)
+        (λ (lines : List Line). Chooses (quality_in encoding_quality lines) (map name_of offers) h.2.0)
         silent prefers) in
         at_place offers (place_of h.2.0) 0 c own (ap place_of first)
         (subst (λ (l : List File). 0 < length l) h.1.are (subst (λ (n : ℕ). n < length h.0) (ap place_of first) h.2.2))

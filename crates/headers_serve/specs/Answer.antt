@@ -10,7 +10,7 @@ use Rattle.http_server.specs.declared.response.Response.{Response}
 use Rattle.http_server.specs.Response.{fields_of}
 use Rattle.http1.specs.Fields.{Header}
 use Rattle.headers.specs.Date.{fixdate}
-use Rattle.headers.specs.LineMap.{LineMap, lines_at, run}
+use Rattle.headers.specs.LineMap.{LineMap, lines_at}
 use Rattle.headers_cors_policy.specs.Policy.{Policy}
 use Rattle.headers_preconditions.specs.Boundaries.{multipart_type}
 use Rattle.headers_preconditions.specs.Fields.{is_known_by}
@@ -28,7 +28,7 @@ use Rattle.headers_serve.specs.Parts.{Occurs, part_bytes}
 use Rattle.headers_serve.specs.Path.{Names}
 use Rattle.headers_serve.specs.Redirect.{AnswersFolder}
 use Rattle.headers_serve.specs.Representations.{IsServedAt}
-use Rattle.headers_serve.specs.Response.{IsWith, fields_sent, no_lines}
+use Rattle.headers_serve.specs.Response.{IsWith, headers_of}
 use Rattle.headers_serve.specs.declared.coding.Coding.{Coding}
 use Rattle.headers_serve.specs.declared.coding.Coding.TheVariants.{Identity, Brotli, Gzip}
 use Rattle.headers_serve.specs.declared.file.Entry.{Entry}
@@ -135,7 +135,7 @@ pub record Carries (before : List Header) (cache_control : Option FieldValue) (i
   pub status : response.status ≡ answer.status
   pub headers : fields_of response
       ≡ before ++ cache_sent answer.plan cache_control ++ coding_sent answer.plan is_known file.coding
-      ++ fields_sent (run no_lines answer.steps.items)
+      ++ headers_of answer.fields.items
   pub body : response.body.items ≡ body_sent file answer.plan
 
 -- the response to a read of the file

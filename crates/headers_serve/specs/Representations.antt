@@ -4,8 +4,8 @@ use Rattle.std.specs.Prelude.{Option, Some, None}
 use Rattle.http_header.specs.FieldValue.{FieldValue, plain_value}
 use Rattle.headers.specs.LineMap.{LineMap}
 use Rattle.headers_negotiation.specs.Choice.{Chooses}
-use Rattle.headers_negotiation.specs.Codings.{coding_preference, unlisted_coding}
-use Rattle.headers_negotiation.specs.Quality.{QualityIn}
+use Rattle.headers_negotiation.specs.Codings.{encoding_quality}
+use Rattle.headers_negotiation.specs.Qualities.{quality_in}
 use Rattle.headers_serve.specs.Codings.{coding_name, coding_suffix}
 use Rattle.headers_serve.specs.Path.{is_plain}
 use Rattle.headers_serve.specs.declared.coding.Coding.{Coding}
@@ -59,7 +59,7 @@ abbrev pub Represents : (List ℕ → Entry → Type 0) → LineMap → List ℕ
 Represents has request path file chosen =
     (offers : List File) × AreOffers has path file offers
     × ((choice : Option ℕ)
-    × Chooses (QualityIn coding_preference unlisted_coding (request (codes "accept-encoding"))) (map name_of offers)
+    × Chooses (quality_in encoding_quality (request (codes "accept-encoding"))) (map name_of offers)
     choice
     × (place_of choice < length offers) × (chosen ≡ get_or offers (place_of choice) chosen))
 

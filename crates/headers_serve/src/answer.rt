@@ -24,14 +24,8 @@ pub(crate) fn boundary_of(alloc: Global, file: &File) -> Result<String, AllocErr
     ensures { IfOk result (λ text. string_bytes text ≡ boundary_of file.now) }
 {
     match file.digest {
-        Some(digest) => {
-            let digits = hex::encode(alloc, digest)?;
-            Ok(digits)
-        }
-        None => {
-            let text = String::from_str(alloc, "part-of-a-file")?;
-            Ok(text)
-        }
+        Some(digest) => Ok(hex::encode(alloc, digest)?),
+        None => Ok(String::from_str(alloc, "part-of-a-file")?),
     }
 }
 
@@ -66,10 +60,7 @@ fn tag_of(alloc: Global, file: &File, boundary: &str) -> Result<Option<ETag>, Al
     ensures { IfOk result (λ tag. tag ≡ tag_of file.now) }
 {
     match file.digest {
-        Some(_) => {
-            let tag = strong_tag(alloc, boundary)?;
-            Ok(Some(tag))
-        }
+        Some(_) => Ok(Some(strong_tag(alloc, boundary)?)),
         None => Ok(None),
     }
 }
@@ -136,10 +127,7 @@ fn answer_by(
 fn occurs(bytes: &[u8], content: &[u8]) -> bool
     ensures { MatchBool result (Occurs bytes.now content.now) (¬ (Occurs bytes.now content.now)) }
 {
-    match memmem::find(content, bytes) {
-        Some(_) => true,
-        None => false,
-    }
+    memmem::find(content, bytes).is_some()
 }
 
 fn is_encoded(file: &File) -> bool

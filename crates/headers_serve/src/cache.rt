@@ -6,7 +6,7 @@ ghost use Rattle.headers_serve.specs.Answer.{encoding_sent, is_reusable};
 
 use crate::coding::Coding;
 use headers::HeaderValue;
-use headers_negotiation::AcceptEncoding;
+use headers_negotiation::{AcceptEncoding, varies_by};
 use headers_preconditions::Plan;
 use http_header::{CACHE_CONTROL, CONTENT_ENCODING, VARY};
 use http_server::Response;
@@ -27,10 +27,7 @@ fn put_value(value: &Option<HeaderValue>, response: &mut Response) -> Result<(),
     ensures body { response.new.body ≡ response.old.body }
 {
     match value {
-        Some(value) => {
-            response.add_header(CACHE_CONTROL, value.clone()?)?;
-            Ok(())
-        }
+        Some(value) => response.add_header(CACHE_CONTROL, value.clone()?),
         None => Ok(()),
     }
 }
@@ -48,8 +45,7 @@ pub(crate) fn put_cache_control(
     if !is_reusable(plan) {
         return Ok(());
     }
-    put_value(value, response)?;
-    Ok(())
+    put_value(value, response)
 }
 
 // Adds Content-Encoding, if the coding changes a content.
@@ -59,10 +55,7 @@ fn put_name(coding: Coding, response: &mut Response) -> Result<(), AllocError>
 {
     match coding {
         Coding::Identity => Ok(()),
-        Coding::Brotli | Coding::Gzip => {
-            response.add_header(CONTENT_ENCODING, coding.name())?;
-            Ok(())
-        }
+        Coding::Brotli | Coding::Gzip => response.add_header(CONTENT_ENCODING, coding.name()),
     }
 }
 
@@ -78,14 +71,8 @@ fn put_encoding(
     ensures body { response.new.body ≡ response.old.body }
 {
     match plan {
-        Plan::Full => {
-            put_name(coding, response)?;
-            Ok(())
-        }
-        Plan::Single(_) if !is_known => {
-            put_name(coding, response)?;
-            Ok(())
-        }
+        Plan::Full => put_name(coding, response),
+        Plan::Single(_) if !is_known => put_name(coding, response),
         Plan::Single(_)
         | Plan::Multiple(_)
         | Plan::NotModified
@@ -107,7 +94,7 @@ fn put_negotiated(
 {
     match coding {
         Some(coding) => {
-            response.add_header(VARY, AcceptEncoding::varies_by())?;
+            response.add_header(VARY, varies_by::<AcceptEncoding>())?;
             put_encoding(coding, plan, is_known, response)?;
             Ok(())
         }

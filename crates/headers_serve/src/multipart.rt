@@ -42,16 +42,14 @@ fn push_opening(boundary: &str, body: &mut Rope) -> Result<(), AllocError>
 {
     body.put_slice(b"--")?;
     body.put_slice(boundary.as_bytes())?;
-    body.put_slice(b"\r\n")?;
-    Ok(())
+    body.put_slice(b"\r\n")
 }
 
 fn push_media_type(media_type: &HeaderValue, body: &mut Rope) -> Result<(), AllocError>
     ensures { OnOk result (body.new.items ≡ body.old.items ++ header_line (codes "content-type") media_type.now.bytes) }
 {
     let name = CONTENT_TYPE;
-    push_line(body, &name, media_type)?;
-    Ok(())
+    push_line(body, &name, media_type)
 }
 
 // Appends a part's header lines.
@@ -61,8 +59,7 @@ fn push_fields(alloc: Global, part: Part, file: &File, body: &mut Rope) -> Resul
 {
     push_media_type(&file.media_type, body)?;
     let len = file.content.len() as u64;
-    push_header(alloc, body, &part.content_range(len))?;
-    Ok(())
+    push_header(alloc, body, &part.content_range(len))
 }
 
 // Appends a part's bytes.
@@ -72,8 +69,7 @@ fn push_bytes(bytes: Bytes, body: &mut Rope) -> Result<(), AllocError>
 {
     body.put_slice(b"\r\n")?;
     body.push(bytes)?;
-    body.put_slice(b"\r\n")?;
-    Ok(())
+    body.put_slice(b"\r\n")
 }
 
 // Appends what follows the last part.
@@ -83,8 +79,7 @@ fn push_closing(boundary: &str, body: &mut Rope) -> Result<(), AllocError>
 {
     body.put_slice(b"--")?;
     body.put_slice(boundary.as_bytes())?;
-    body.put_slice(b"--\r\n")?;
-    Ok(())
+    body.put_slice(b"--\r\n")
 }
 
 // Appends one part, after the boundary and its header lines.
@@ -102,8 +97,7 @@ fn push_part(
     push_opening(boundary, body)?;
     push_fields(alloc, part, file, body)?;
     let bytes = slice_of(file, part)?;
-    push_bytes(bytes, body)?;
-    Ok(())
+    push_bytes(bytes, body)
 }
 
 // Appends the parts and the end.
@@ -120,8 +114,7 @@ pub(crate) fn push_parts(
     for part in parts {
         push_part(alloc, boundary, *part, file, body)?;
     }
-    push_closing(boundary, body)?;
-    Ok(())
+    push_closing(boundary, body)
 }
 
 // The bytes of a part of a file.

@@ -3,8 +3,8 @@ ghost use Rattle.std.specs.Prelude.{◌≡◌, ◌<◌, ◌++◌, ◌∷◌, ℕ
 ghost use Rattle.std.specs.Prelude.{get_or};
 ghost use Rattle.headers.specs.LineMap.{lines_at};
 ghost use Rattle.headers_negotiation.specs.Choice.{Chooses};
-ghost use Rattle.headers_negotiation.specs.Codings.{coding_preference, unlisted_coding};
-ghost use Rattle.headers_negotiation.specs.Quality.{QualityIn};
+ghost use Rattle.headers_negotiation.specs.Codings.{encoding_quality};
+ghost use Rattle.headers_negotiation.specs.Qualities.{quality_in};
 ghost use Rattle.headers_serve.specs.Codings.{coding_suffix};
 ghost use Rattle.headers_serve.specs.Representations.{AreOffers, IsServedAt, IsServedFor, Represents, StandsAt};
 ghost use Rattle.headers_serve.specs.Representations.{name_of, offered};
@@ -15,7 +15,7 @@ use crate::file::{Entry, File};
 use crate::path::is_plain;
 use crate::store::Store;
 use headers::{HeaderMap, HeaderValue};
-use headers_negotiation::AcceptEncoding;
+use headers_negotiation::{AcceptEncoding, negotiate};
 use std::alloc::{AllocError, Global};
 
 // A stored content as a representation of this media type.
@@ -142,12 +142,11 @@ fn chosen_place(
     offers: &[File],
 ) -> Result<Option<usize>, AllocError>
     ensures { IfOk result (Chooses
-        (QualityIn coding_preference unlisted_coding (lines_at request.now (codes "accept-encoding")))
+        (quality_in encoding_quality (lines_at request.now (codes "accept-encoding")))
         (map name_of offers.now)) }
 {
     let names = names_of(alloc, offers)?;
-    let choice = AcceptEncoding::negotiate(alloc, request, names.as_slice())?;
-    Ok(choice)
+    Ok(negotiate::<AcceptEncoding>(request, names.as_slice()))
 }
 
 // The offer at a place, where the first stands for none.

@@ -15,7 +15,7 @@ ghost use Rattle.headers_serve.specs.Parts.{Fits};
 use crate::answer::{answer_read, boundary_of};
 use crate::cache::{put_cache_control, put_coding};
 use crate::cors::put_shared;
-use crate::fields::{date_of, put_date, put_fields};
+use crate::fields::{add_fields, date_of, put_date};
 use crate::file::{Entry, File};
 use crate::multipart::{push_parts, slice_of};
 use crate::path::store_path;
@@ -25,9 +25,9 @@ use crate::store::Store;
 use bytes::Bytes;
 use headers::{Date, HeaderMap, HeaderValue};
 use headers_cors_policy::CorsPolicy;
-use headers_preconditions::Plan;
+use headers_preconditions::{Plan, is_get_or_head, is_known_by};
 use http::{Method, Request, StatusCode};
-use http_header::{ALLOW, IF_RANGE};
+use http_header::ALLOW;
 use http_server::{Response, Rope, Service};
 use std::alloc::{AllocError, Global};
 
@@ -44,12 +44,6 @@ pub struct FileService<S: Store> {
     pub negotiates: bool,
     /// What answers say to requests from other origins, if they say anything.
     pub cors: Option<CorsPolicy>,
-}
-
-fn is_read(method: &Method) -> bool
-    ensures { MatchBool result (IsGetOrHead method.now) (¬ (IsGetOrHead method.now)) }
-{
-    *method == Method::GET || *method == Method::HEAD
 }
 
 fn is_options(method: &Method) -> bool
@@ -74,27 +68,15 @@ fn put_body(
     match plan {
         Plan::Full => {
             let content = file.content.clone()?;
-            body.push(content)?;
-            Ok(())
+            body.push(content)
         }
         Plan::Single(part) => {
             let bytes = slice_of(file, *part)?;
-            body.push(bytes)?;
-            Ok(())
+            body.push(bytes)
         }
-        Plan::Multiple(parts) => {
-            push_parts(alloc, boundary, parts.as_slice(), file, body)?;
-            Ok(())
-        }
+        Plan::Multiple(parts) => push_parts(alloc, boundary, parts.as_slice(), file, body),
         Plan::NotModified | Plan::Failed | Plan::Unsatisfiable => Ok(()),
     }
-}
-
-// Whether the client knows a representation, which it names in If-Range.
-fn is_known_by(request: &HeaderMap) -> bool
-    ensures { result ≡ is_known_by (lines_at request.now) }
-{
-    request.get_all(IF_RANGE).iter().next().is_some()
 }
 
 // Fills a response with an answer to a read of a file.
@@ -118,8 +100,7 @@ fn carry(
     put_coding(file.coding, &answer.plan, is_known, response)?;
     put_body(alloc, boundary, &answer.plan, file, &mut response.body)?;
     response.status = answer.status;
-    put_fields(alloc, answer.steps, response)?;
-    Ok(())
+    add_fields(response, answer.fields)
 }
 
 // Answers a GET or a HEAD of a file.
@@ -266,7 +247,7 @@ fn answer<S: Store>(
     ensures { OnOk result (AnswersBehind present (fields_of response.old) negotiates cache_control.now
         (S.has store.now) request.now response.new) }
 {
-    if !is_read(request.method()) {
+    if !is_get_or_head(request.method()) {
         answer_other(request.method(), response)?;
         return Ok(());
     }

@@ -4,7 +4,7 @@ use Rattle.headers.specs.LineMap.{lines_at}
 use Rattle.headers.specs.Lines.{lines_of, only_line}
 use Rattle.std.specs.List.{list_any}
 use Rattle.http_header.specs.FieldValue.{FieldValue}
-use Rattle.headers_cors_policy.proofs.SettingLemmas.{granted_by}
+use Rattle.headers_cors_policy.proofs.GrantLemmas.{granted_by}
 use Rattle.headers_cors_policy.proofs.origin.granted.Goals as goal
 
 pub returns-in_ok-clone : goal.returns-in_ok-clone

@@ -4,7 +4,7 @@ use Rattle.std.specs.Prelude.{option_map}
 use Rattle.http_header.specs.FieldValue.{FieldValue}
 use Rattle.headers.specs.Lines.{lines_of}
 use Rattle.headers_cors_policy.specs.SentOrigins.{is_sent}
-use Rattle.headers_cors_policy.proofs.SettingLemmas.{sent_by}
+use Rattle.headers_cors_policy.proofs.GrantLemmas.{sent_by}
 use Rattle.headers_cors_policy.proofs.sent.are_sent.Goals as goal
 
 pub returns-in-Some : goal.returns-in-Some

@@ -1,7 +1,7 @@
-use Rattle.std.proofs.Common.{rules, ◌≡◌, false, sym, ◌∙◌, codes}
-use Rattle.headers.specs.LineMap.{lines_at}
-use Rattle.headers_cors_policy.specs.Settings.{covers_origin}
-use Rattle.headers_cors_policy.proofs.SettingLemmas.{extends, put_behind}
+use Rattle.std.proofs.Common.{◌≡◌, false, List, [], ◌∷◌, ◌++◌, sym, ap, ◌∙◌, codes}
+use Rattle.std.proofs.lemmas.List.{map-append}
+use Rattle.headers.specs.LineMap.{Field, field_of, fields_of, lines_at}
+use Rattle.headers_cors_policy.specs.Fields.{covers_origin}
 use Rattle.headers_cors_policy.proofs.vary.push_vary.Goals as goal
 
 pub returns : goal.returns
@@ -9,4 +9,5 @@ returns c =
     let none : covers_origin (lines_at c.args.response.now (codes "vary")) ≡ false =
     sym c.response_covers_origin.ensures ∙ c.if-response_covers_origin.false in
     rw none (rw (c.in_ok-push.ensures.items)
-    (extends _ _ _ (search rules, c.in_ok-lines.ensures, put_behind (codes "vary") _ (codes "origin"))))
+    (map-append field_of c.args.fields.now.items _
+    ∙ ap (λ lines. fields_of c.args.fields.now.items ++ (codes "vary", lines) ∷ []) c.in_ok-lines.ensures))

@@ -6,14 +6,14 @@ use Rattle.headers_preconditions.specs.Responses.{IsPlannedAtAll}
 use Rattle.headers_preconditions.proofs.PlanLemmas.{sized-from_plan}
 use Rattle.headers_preconditions.proofs.response.respond.Goals as goal
 
-pub steps-requires : goal.steps-requires
-steps-requires c =
+pub fields-requires : goal.fields-requires
+fields-requires c =
     sized-from_plan c.args.present c.args.method.now (lines_at c.args.request.now) c.args.resource.now
     c.divisible_len-len.result c.limits-limits.result c.in-Some.plan (rw c.in-Some.is at c.in_ok-plan.ensures.plan)
     (search rules)
 
-pub returns-in_err-steps-clause-memory : goal.returns-in_err-steps-clause-memory
-returns-in_err-steps-clause-memory c =
+pub returns-in_err-fields-clause-memory : goal.returns-in_err-fields-clause-memory
+returns-in_err-fields-clause-memory c =
     let planned = rw c.in-Some.is at c.in_ok-plan.ensures.plan in
     let own : IsPlan c.args.present c.args.method.now (lines_at c.args.request.now) c.args.resource.now
     (divisible_len c.args.content.now) (limits_of c.args.content.now) c.in-Some.plan =
@@ -28,5 +28,5 @@ returns-clause-answer c =
     record {
       plan = rw (c.divisible_len-len.ensures, c.limits-limits.ensures) at planned;
       status = c.status.ensures;
-      fields = rw c.is_known_by.ensures at c.in_ok-steps.ensures;
+      fields = rw c.is_known_by.ensures at c.in_ok-fields.ensures;
     }

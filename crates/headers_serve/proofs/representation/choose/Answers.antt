@@ -1,8 +1,8 @@
 use Rattle.std.proofs.Common.{List, map, codes, subst}
 use Rattle.headers.specs.LineMap.{lines_at}
 use Rattle.headers_negotiation.specs.Choice.{Chooses}
-use Rattle.headers_negotiation.specs.Codings.{coding_preference, unlisted_coding}
-use Rattle.headers_negotiation.specs.Quality.{QualityIn}
+use Rattle.headers_negotiation.specs.Codings.{encoding_quality}
+use Rattle.headers_negotiation.specs.Qualities.{quality_in}
 use Rattle.headers_serve.specs.Representations.{name_of}
 use Rattle.headers_serve.specs.declared.file.File.{File}
 use Rattle.headers_serve.proofs.representation.choose.Goals as goal
@@ -15,7 +15,7 @@ returns g c =
       (
         c.in_ok-choice.choice,
         subst
-            (λ (offers : List File). Chooses (QualityIn coding_preference unlisted_coding lines) (map name_of offers)
+            (λ (offers : List File). Chooses (quality_in encoding_quality lines) (map name_of offers)
             c.in_ok-choice.choice)
             c.as_slice.ensures.value c.in_ok-choice.ensures,
         c.take-chosen.ensures.within,

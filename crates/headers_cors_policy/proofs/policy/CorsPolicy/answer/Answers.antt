@@ -1,5 +1,7 @@
-use Rattle.std.proofs.Common.{ap, ◌∙◌}
+use Rattle.std.proofs.Common.{List, ◌++◌, ap, codes, ◌∙◌}
+use Rattle.headers.specs.LineMap.{Field, lines_at}
 use Rattle.headers_cors_policy.specs.Answer.{allows}
+use Rattle.headers_cors_policy.specs.Fields.{vary_sent}
 use Rattle.headers_cors_policy.proofs.policy.CorsPolicy.answer.Goals as goal
 
 pub returns : goal.returns
@@ -7,6 +9,10 @@ returns c =
     record {
       kind = c.kind_of-kind.ensures;
       allowed = c.is_allowed-is_allowed.ensures ∙ ap (allows c.kind_of-kind.result) c.in_ok-granted.ensures;
-      steps = rw (← c.in_ok-granted.ensures) (rw (← c.is_preflight.ensures)
-          (c.in_ok-push_vary.ensures _ c.in_ok-steps.ensures));
+      fields =
+          rw (← c.in_ok-granted.ensures) (rw (← c.is_preflight.ensures)
+          (c.in_ok-push_vary.ensures
+          ∙ ap
+          (λ (fields : List Field). fields ++ vary_sent c.args.self.now (lines_at c.args.response.now (codes "vary")))
+          c.in_ok-fields.ensures));
     }

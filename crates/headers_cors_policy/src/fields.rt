@@ -1,0 +1,57 @@
+//! Fields of one field line, or none.
+ghost use Rattle.std.specs.Prelude.{◌≡◌, IfOk, is_some, option_map};
+ghost use Rattle.headers.specs.LineMap.{field_of};
+ghost use Rattle.headers_cors_policy.specs.Fields.{filled_line, lines_if};
+
+use headers::{Encoded, HeaderName, HeaderValue};
+use std::alloc::{AllocError, Global};
+
+// The line, if it isn't empty.
+pub(crate) fn filled(line: &HeaderValue) -> Option<&HeaderValue>
+    ensures { option_map (λ value. value.now.bytes) result ≡ filled_line line.now.bytes }
+{
+    if line.as_bytes().is_empty() {
+        None
+    } else {
+        Some(line)
+    }
+}
+
+// The field of this line, or without field lines if there is none.
+pub(crate) fn field(
+    alloc: Global,
+    name: HeaderName,
+    line: Option<HeaderValue>,
+) -> Result<Encoded, AllocError>
+    ensures { IfOk result (λ field.
+        field_of field ≡ (
+          name,
+          lines_if (is_some (option_map (λ value. value.bytes) line))
+              (option_map (λ value. value.bytes) line),
+        )) }
+{
+    let mut lines = Vec::new(alloc);
+    if let Some(line) = line {
+        lines.push(line)?;
+    }
+    Ok(Encoded { name, lines })
+}
+
+// The same of a copy of the line, if the condition holds.
+pub(crate) fn field_if(
+    alloc: Global,
+    name: HeaderName,
+    condition: bool,
+    line: Option<&HeaderValue>,
+) -> Result<Encoded, AllocError>
+    ensures { IfOk result (λ field.
+        field_of field ≡ (name, lines_if condition (option_map (λ value. value.now.bytes) line.entry))) }
+{
+    match line {
+        Some(line) if condition => {
+            let copy = line.clone()?;
+            field(alloc, name, Some(copy))
+        }
+        _ => field(alloc, name, None),
+    }
+}

@@ -1,0 +1,252 @@
+//! The fields of an answer.
+ghost use Rattle.std.specs.Prelude.{◌≡◌, [], IfOk, codes, decimal, option_copied};
+ghost use Rattle.http_header.specs.FieldValue.{FieldValue};
+ghost use Rattle.headers.specs.ContentBytes.{content_text};
+ghost use Rattle.headers.specs.Date.{fixdate};
+ghost use Rattle.headers.specs.LineMap.{field_of, fields_of};
+ghost use Rattle.headers.specs.Lines.{Line};
+ghost use Rattle.headers_preconditions.specs.Conditions.{modified_of};
+ghost use Rattle.headers_preconditions.specs.Fields.{etag_of, etag_sent, modified_sent, units_sent, range_sent};
+ghost use Rattle.headers_preconditions.specs.Fields.{length_sent, type_sent, lines_sent, fields_sent, IsSized};
+ghost use Rattle.headers_preconditions.specs.Fields.{keeps_encoding, written};
+ghost use Rattle.headers_preconditions.specs.Contents.{is_divisible};
+
+use crate::boundary::Boundary;
+use crate::content::Content;
+use crate::plan::Plan;
+use crate::resource::Resource;
+use headers::{
+    AcceptRanges, ContentLength, ContentRange, ETag, Encoded, Header, HeaderName, HeaderValue,
+    LastModified, encoding,
+};
+use http_header::{CONTENT_ENCODING, CONTENT_TYPE};
+use std::alloc::{AllocError, Global};
+
+// The field of this name without field lines.
+fn absent(alloc: Global, name: HeaderName) -> Encoded
+    ensures { field_of result ≡ (name, []) }
+{
+    Encoded {
+        name,
+        lines: Vec::new(alloc),
+    }
+}
+
+// The field of a header, which is absent without one.
+fn field<H: Header>(alloc: Global, header: Option<&H>) -> Result<Encoded, AllocError>
+    ensures { IfOk result (λ field. field_of field ≡ (H.field_name, written H.writes (option_copied header.entry))) }
+{
+    match header {
+        Some(header) => encoding(alloc, header),
+        None => Ok(absent(alloc, H::name())),
+    }
+}
+
+impl Plan {
+    /// The fields of the answer (RFC 9110, sections 14.3, 14.4, 15.3.7, 15.4.5 and 15.5.17): ETag,
+    /// Last-Modified, Accept-Ranges, Content-Range, Content-Length and Content-Type, and
+    /// Content-Encoding, without field lines, unless the answer has the header fields of the
+    /// representation. A client that knows the representation isn't told its date, its type and its
+    /// coding again.
+    pub(crate) fn fields(
+        &self,
+        alloc: Global,
+        is_known: bool,
+        resource: &Resource,
+        content: &Content,
+        boundary: &Boundary,
+    ) -> Result<Vec<Encoded>, AllocError>
+        requires { IsSized self.now }
+        ensures { IfOk result (λ fields. fields_of fields.items
+            ≡ fields_sent self.now is_known resource.now content.now boundary.now) }
+    {
+        let etag = self.etag(alloc, resource)?;
+        let last_modified = self.last_modified(alloc, is_known, resource)?;
+        let accept_ranges = self.accept_ranges(alloc, content)?;
+        let content_range = self.content_range(alloc, content.len)?;
+        let content_length = self.content_length(alloc, content.len)?;
+        let content_type = self.content_type(alloc, is_known, content, boundary)?;
+        let mut fields = vec![in alloc;
+            etag,
+            last_modified,
+            accept_ranges,
+            content_range,
+            content_length,
+            content_type,
+        ]?;
+        if self.keeps_encoding(is_known) {
+            return Ok(fields);
+        }
+        fields.push(absent(alloc, CONTENT_ENCODING))?;
+        Ok(fields)
+    }
+
+    // Whether Content-Encoding stays as the server set it.
+    fn keeps_encoding(&self, is_known: bool) -> bool
+        ensures { result ≡ keeps_encoding self.now is_known }
+    {
+        match self {
+            Plan::Full => true,
+            Plan::Single(_) | Plan::Multiple(_) => !is_known,
+            Plan::NotModified | Plan::Failed | Plan::Unsatisfiable => false,
+        }
+    }
+
+    fn etag(&self, alloc: Global, resource: &Resource) -> Result<Encoded, AllocError>
+        ensures { IfOk result (λ field. field_of field ≡ (
+          codes "etag",
+          lines_sent (λ (tag : FieldValue). tag.bytes) (etag_sent self.now (etag_of resource.now)),
+        )) }
+    {
+        field(alloc, self.etag_sent(resource))
+    }
+
+    fn last_modified(
+        &self,
+        alloc: Global,
+        is_known: bool,
+        resource: &Resource,
+    ) -> Result<Encoded, AllocError>
+        ensures { IfOk result (λ field. field_of field ≡ (
+          codes "last-modified",
+          lines_sent fixdate (modified_sent self.now is_known (etag_of resource.now) (modified_of resource.now)),
+        )) }
+    {
+        field(alloc, self.modified_sent(is_known, resource).as_ref())
+    }
+
+    fn accept_ranges(&self, alloc: Global, content: &Content) -> Result<Encoded, AllocError>
+        ensures { IfOk result (λ field. field_of field ≡ (
+          codes "accept-ranges",
+          lines_sent (λ (units : Line). units) (units_sent self.now (is_divisible content.now)),
+        )) }
+    {
+        field(alloc, self.units_sent(content.is_divisible()).as_ref())
+    }
+
+    fn content_range(&self, alloc: Global, len: Option<u64>) -> Result<Encoded, AllocError>
+        ensures { IfOk result (λ field. field_of field ≡ (
+          codes "content-range",
+          lines_sent content_text (range_sent self.now len),
+        )) }
+    {
+        field(alloc, self.range_sent(len).as_ref())
+    }
+
+    fn content_length(&self, alloc: Global, len: Option<u64>) -> Result<Encoded, AllocError>
+        requires { IsSized self.now }
+        ensures { IfOk result (λ field. field_of field ≡ (
+          codes "content-length",
+          lines_sent decimal (length_sent self.now len),
+        )) }
+    {
+        let sent = self.length_sent(len).map(ContentLength);
+        field(alloc, sent.as_ref())
+    }
+
+    fn content_type(
+        &self,
+        alloc: Global,
+        is_known: bool,
+        content: &Content,
+        boundary: &Boundary,
+    ) -> Result<Encoded, AllocError>
+        ensures { IfOk result (λ field. field_of field ≡ (
+          codes "content-type",
+          lines_sent (λ (line : FieldValue). line.bytes)
+              (type_sent self.now is_known content.now.media_type boundary.now),
+        )) }
+    {
+        let Some(line) = self.type_sent(is_known, content, boundary) else {
+            return Ok(absent(alloc, CONTENT_TYPE));
+        };
+        let lines = vec![in alloc; line.clone()?]?;
+        Ok(Encoded {
+            name: CONTENT_TYPE,
+            lines,
+        })
+    }
+
+    fn etag_sent<'a>(&self, resource: &'a Resource) -> Option<&'a ETag>
+        ensures { option_copied result ≡ etag_sent self.now (etag_of resource.now) }
+    {
+        match self {
+            Plan::Full | Plan::Single(_) | Plan::Multiple(_) | Plan::NotModified => {
+                etag_of(resource)
+            }
+            Plan::Failed | Plan::Unsatisfiable => None,
+        }
+    }
+
+    fn modified_sent(&self, is_known: bool, resource: &Resource) -> Option<LastModified>
+        ensures { result ≡ modified_sent self.now is_known (etag_of resource.now) (modified_of resource.now) }
+    {
+        let Resource::Current(current) = resource else {
+            return None;
+        };
+        match self {
+            Plan::Full => current.last_modified,
+            Plan::Single(_) | Plan::Multiple(_) if !is_known => current.last_modified,
+            Plan::NotModified if current.etag.is_none() => current.last_modified,
+            _ => None,
+        }
+    }
+
+    fn units_sent(&self, divisible: bool) -> Option<AcceptRanges>
+        ensures { result ≡ units_sent self.now divisible }
+    {
+        match self {
+            Plan::NotModified | Plan::Failed => None,
+            _ if divisible => Some(AcceptRanges::bytes()),
+            _ => None,
+        }
+    }
+
+    fn range_sent(&self, len: Option<u64>) -> Option<ContentRange>
+        ensures { result ≡ range_sent self.now len }
+    {
+        match (self, len) {
+            (Plan::Single(part), Some(len)) => Some(part.content_range(len)),
+            (Plan::Unsatisfiable, Some(len)) => Some(ContentRange::unsatisfied_bytes(len)),
+            _ => None,
+        }
+    }
+
+    // The bytes of the content, where they are known.
+    fn length_sent(&self, len: Option<u64>) -> Option<u64>
+        requires { IsSized self.now }
+        ensures { result ≡ length_sent self.now len }
+    {
+        match self {
+            Plan::Full => len,
+            Plan::Single(part) => Some(part.size()),
+            Plan::Failed | Plan::Unsatisfiable => Some(0),
+            Plan::Multiple(_) | Plan::NotModified => None,
+        }
+    }
+
+    fn type_sent<'a>(
+        &self,
+        is_known: bool,
+        content: &'a Content,
+        boundary: &'a Boundary,
+    ) -> Option<&'a HeaderValue>
+        ensures { option_copied result ≡ type_sent self.now is_known content.now.media_type boundary.now }
+    {
+        match self {
+            Plan::Full => content.media_type.as_ref(),
+            Plan::Single(_) if !is_known => content.media_type.as_ref(),
+            Plan::Multiple(_) => Some(boundary.content_type()),
+            _ => None,
+        }
+    }
+}
+
+fn etag_of(resource: &Resource) -> Option<&ETag>
+    ensures { option_copied result ≡ etag_of resource.now }
+{
+    match resource {
+        Resource::Missing => None,
+        Resource::Current(current) => current.etag.as_ref(),
+    }
+}
