@@ -1,0 +1,13 @@
+mod ForwardLemmas
+mod HostLemmas
+mod LoopLemmas
+mod NextLemmas
+mod NumberLemmas
+mod OneLemmas
+mod OutcomeLemmas
+mod PairLemmas
+mod ReceivedLemmas
+mod RecipientLemmas
+mod ResponseLemmas
+mod SureLemmas
+mod ViaLemmas

@@ -1,0 +1,37 @@
+-- Gateways in a row, each of which forwards what it received from the one before.
+use Rattle.std.specs.Prelude.{◌≡◌, ◌≢◌, ℕ, false, List, [], ◌∷◌, ◌++◌, All, codes, ⊤}
+use Rattle.headers_gateway.specs.FieldLines.{fields_of, lines_under}
+use Rattle.headers_gateway.specs.Forwarding.{IsEndToEnd, IsHopByHop, own_names}
+use Rattle.headers_gateway.specs.HopByHop.{is_known}
+use Rattle.headers_gateway.specs.Requests.{IsForwarded, Request}
+use Rattle.headers_gateway.specs.Via.{via_line}
+use Rattle.headers_gateway.specs.declared.gateway.Gateway.{Gateway}
+use Rattle.headers_gateway.specs.declared.request.ForwardedRequest.{ForwardedRequest}
+
+-- the next request has the method and the field lines that were forwarded, under each name
+pub record IsReceivedAs (forwarded : List ℕ) (sent : ForwardedRequest) (next : Request) : Type 0 where
+  pub method : next.method ≡ forwarded
+  pub fields : (name : List ℕ) → next.fields name ≡ lines_under (fields_of sent.fields.items) name
+
+-- some gateway that receives the first request forwards it, and the second is what the next gateway receives
+pub record IsForwardedAs (request next : Request) : Type 0 where
+  pub gateway : Gateway
+  pub sent : ForwardedRequest
+  pub forwarded : IsForwarded gateway request sent
+  pub received : IsReceivedAs request.method sent next
+
+-- what each gateway of a row forwards, from a request on
+abbrev pub IsChain : Request → List Request → Type 0
+IsChain request [] = ⊤
+IsChain request (next ∷ rest) = IsForwardedAs request next × IsChain next rest
+
+-- what the second of two gateways sends is what one gateway would send that adds two field lines to Via
+pub record IsOneGateway (first second : Gateway) (request next : Request) (sent : ForwardedRequest) : Type 0 where
+  pub end_to_end : (name : List ℕ) → IsEndToEnd first request.fields name
+      → is_known second.consumes_credentials name ≡ false → All (λ own. own ≢ name) own_names
+      → lines_under (fields_of sent.fields.items) name ≡ request.fields name
+  pub hop_by_hop : (name : List ℕ) → IsHopByHop first request.fields name → All (λ own. own ≢ name) own_names
+      → lines_under (fields_of sent.fields.items) name ≡ []
+  pub via : lines_under (fields_of sent.fields.items) (codes "via")
+      ≡ request.fields (codes "via")
+      ++ via_line request.protocol first.pseudonym ∷ via_line next.protocol second.pseudonym ∷ []

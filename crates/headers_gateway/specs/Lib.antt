@@ -1,0 +1,14 @@
+pub mod Chain
+pub mod FieldLines
+pub mod Forwarding
+pub mod Framing
+pub mod HopByHop
+pub mod Hops
+pub mod Hosts
+pub mod Messages
+pub mod Outcomes
+pub mod Recipients
+pub mod Rejections
+pub mod Requests
+pub mod Responses
+pub mod Via

@@ -1,0 +1,38 @@
+//! How often a request may still be forwarded.
+ghost use Rattle.std.specs.Prelude.{◌≡◌, IfOk, OnErr};
+ghost use Rattle.headers.specs.LineMap.{lines_at};
+ghost use Rattle.headers_gateway.specs.Hops.{HasHops, HasInvalidHops, counts_hops};
+
+use headers::HeaderMap;
+use headers_fields::{Malformed, number};
+use http::Method;
+use http_header::MAX_FORWARDS;
+
+// Whether Max-Forwards counts for the method.
+fn counts_hops(method: &Method) -> bool
+    ensures { result ≡ counts_hops method.now }
+{
+    let method = method.as_str();
+    method == "OPTIONS" || method == "TRACE"
+}
+
+/// The number in Max-Forwards, if it counts and is there.
+pub(crate) fn hops_of(method: &Method, fields: &HeaderMap) -> Result<Option<u64>, Malformed>
+    ensures ok { IfOk result (HasHops method.now (lines_at fields.now)) }
+    ensures err { OnErr result (HasInvalidHops method.now (lines_at fields.now)) }
+{
+    if !counts_hops(method) {
+        return Ok(None);
+    }
+    let mut lines = fields.get_all(MAX_FORWARDS).iter();
+    let Some(line) = lines.next() else {
+        return Ok(None);
+    };
+    if lines.next().is_some() {
+        return Err(Malformed);
+    }
+    match number(line.as_bytes()) {
+        Some(hops) => Ok(Some(hops)),
+        None => Err(Malformed),
+    }
+}

@@ -1,0 +1,32 @@
+//! What a gateway forwards of a request and of a response, as data (RFC 9110, section 7.6; RFC 9112,
+//! section 6).
+//!
+//! The decisions allocate nothing. Only the forwarded field lines do.
+#![tactic(auto)]
+
+mod field_line;
+mod framing;
+mod gateway;
+mod hop_by_hop;
+mod hops;
+mod host;
+pub mod laws;
+mod message;
+mod own;
+mod protocol;
+mod received;
+mod rejection;
+mod request;
+mod response;
+mod via;
+
+pub use crate::field_line::FieldLine;
+pub use crate::framing::Framing;
+pub use crate::gateway::Gateway;
+pub use crate::protocol::Protocol;
+pub use crate::rejection::Rejection;
+pub use crate::request::{ForwardedRequest, RequestHead, RequestOutcome, forward_request};
+pub use crate::response::{
+    Content, ForwardedResponse, ResponseHead, ResponseOutcome, forward_response,
+};
+pub use crate::via::{InvalidPseudonym, Pseudonym};
