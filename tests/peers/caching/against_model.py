@@ -1,0 +1,95 @@
+"""The library and the program of test cases beside the model of RFC 9111 on random inputs."""
+import json
+from collections.abc import Callable
+from dataclasses import asdict
+from typing import Any
+
+from caching import generate, model
+from common import products, rows
+from common.comparison import Comparison
+from common.fields import Fields, section
+
+
+def permitted(call: Callable[[], Any]) -> Any:
+    try:
+        return call()
+    except model.Malformed:
+        return None
+
+
+def shown(case: generate.Case, *parts: str) -> Callable[[], str]:
+    """The parts of a case that count for a call."""
+    return lambda: json.dumps({name: value for name, value in asdict(case).items() if name in parts})
+
+
+def trimmed(fields: Fields) -> Fields:
+    return [(name, value.strip(" \t")) for name, value in fields]
+
+
+def by_library(cases: list[generate.Case], comparison: Comparison) -> None:
+    headers = products.library()
+
+    def given(call: Callable[..., Any], *arguments: Any) -> Any:
+        try:
+            return call(*arguments)
+        except headers.Refused:
+            return "(refused)"
+
+    for case in cases:
+        stored, request, response = map(section, (case.stored, case.request, case.response))
+        times = (case.asked, case.received, case.now)
+        moments, method, is_shared = headers.Moments(*times), case.method.encode(), case.is_shared
+        comparison.add(
+            "may_store",
+            permitted(lambda: {
+                model.may_store(case.stored_method, case.status, case.request, case.response, is_shared)}),
+            given(headers.may_store, case.stored_method.encode(), request, case.status, response, is_shared),
+            shown(case, "stored_method", "status", "request", "response", "is_shared"))
+        comparison.add(
+            "lifetime", permitted(lambda: model.lifetimes(case.response, case.received, is_shared)),
+            given(headers.lifetime, response, case.received, is_shared),
+            shown(case, "response", "received", "is_shared"))
+        comparison.add(
+            "current_age", permitted(lambda: model.current_ages(case.response, *times)),
+            given(headers.current_age, response, moments), shown(case, "response", "asked", "received", "now"))
+        comparison.add(
+            "decide",
+            permitted(lambda: model.decisions(
+                case.stored_method, case.stored, case.method, case.request, case.response, *times, is_shared)),
+            given(headers.decide, case.stored_method.encode(), stored, method, request, response, moments, is_shared),
+            shown(case, *asdict(case)))
+        comparison.add(
+            "validators", [sorted(model.validators(case.response, case.received))],
+            sorted((name.decode(), value.decode("latin-1"))
+                   for name, value in given(headers.validators, response, case.received)),
+            shown(case, "response", "received"))
+
+
+def number(text: str) -> int | None:
+    return None if text == "(none)" else int(text)
+
+
+def by_program(cases: list[generate.Case], comparison: Comparison) -> None:
+    """The calls that the library for C lacks."""
+    calls, wanted = [], []
+    for case in cases:
+        stored, request, response = map(trimmed, (case.stored, case.request, case.response))
+        kind = "shared" if case.is_shared else "private"
+        words = rows.map_words(response)
+        calls.append(" ".join(["heuristic_lifetime", kind, str(case.status), str(case.received), *words]))
+        guess = permitted(lambda: model.heuristics(case.status, response, case.received, case.is_shared))
+        wanted.append(("heuristic_lifetime", guess, number))
+        calls.append(" ".join(["matches", *rows.map_words(stored), "(/)", *rows.map_words(request), "(/)", *words]))
+        matches = permitted(lambda: model.vary_matches(stored, request, response))
+        wanted.append(("matches", matches, lambda it: it == "true"))
+    answers = rows.answers(products.program("headers_cache_policy"), calls)
+    for call, (name, expected, read), answer in zip(calls, wanted, answers):
+        comparison.add(name, expected, read(answer), lambda: call)
+
+
+def compare(seed: int, count: int) -> Comparison:
+    comparison = Comparison()
+    cases = list(generate.cases(seed, count))
+    by_library(cases, comparison)
+    by_program(cases, comparison)
+    return comparison

@@ -1,0 +1,94 @@
+"""Runs the parts, and writes what they show into docs/BESIDE_PEERS.md. `run` calls it, and says what is built and
+installed.
+
+    judge.py [--inputs N] [--seed N] [--table FILE] WORK PART..
+
+A part's section of the table is replaced if all its peers are here. The last lines are one for each part; the status
+is 0 exactly if nothing was wrong.
+"""
+import argparse
+import importlib
+import itertools
+import re
+import sys
+import time
+import traceback
+from pathlib import Path
+
+from common.part import Context, Part
+
+PARTS = ("caching", "conditional", "negotiation", "cors", "handshake")
+TITLE = "# Beside caches, servers, libraries and browsers"
+HEAD = """
+Each decision of this repository and its peers get the same inputs. A model of the standard judges both: a
+second reading of its text, in Python (`tests/peers`). Expected values come from the RFCs and from the peers, never
+from ours. The inputs of the models have escapes and bytes past ASCII.
+
+`tests/peers/run` wrote this page. It installs the peers from Debian, runs them at 127.0.0.1, and takes some ten
+minutes. It needs no proof, so a changed decision can be tried first.
+"""
+
+
+def run_part(name: str, context: Context) -> Part:
+    """A part, or if it breaks off one that says where."""
+    try:
+        return importlib.import_module(f"{name}.part").run(context)
+    except Exception:
+        part = Part(name)
+        part.faults.append(f"it broke off: {traceback.format_exc()}")
+        part.missing.append("the rest of the part")
+        return part
+
+
+def paragraphs(lines: list[str]) -> list[str]:
+    """The lines of a section, with each paragraph on one line."""
+    found = []
+    for is_text, group in itertools.groupby(lines, lambda it: bool(it) and not it.startswith("|")):
+        found += [" ".join(group)] if is_text else list(group)
+    return found
+
+
+def sections_of(text: str) -> dict[str, str]:
+    """The sections of a page by their titles."""
+    parts = re.split(r"^## (.*)\n", text, flags=re.MULTILINE)
+    return dict(zip(parts[1::2], (it.strip() for it in parts[2::2])))
+
+
+def write_table(path: Path, parts: list[Part]) -> None:
+    sections = sections_of(path.read_text("utf-8")) if path.exists() else {}
+    for part in parts:
+        if part.section and not part.missing:
+            sections[part.title] = "\n".join(paragraphs(part.section)).strip()
+    head = "\n".join(paragraphs(HEAD.strip().split("\n")))
+    text = "\n\n".join([TITLE, head, *(f"## {title}\n\n{body}" for title, body in sections.items())])
+    path.write_text(text + "\n", "utf-8")
+
+
+def main() -> int:
+    words = argparse.ArgumentParser()
+    words.add_argument("--inputs", type=int, default=100_000, help="how many inputs each model is given")
+    words.add_argument("--seed", type=int, default=1)
+    words.add_argument("--table", type=Path, default=Path(__file__).resolve().parents[2] / "docs/BESIDE_PEERS.md")
+    words.add_argument("work", type=Path)
+    words.add_argument("parts", nargs="*", choices=PARTS, metavar="PART")
+    given = words.parse_args()
+    parts, lines = [], []
+    for name in given.parts or PARTS:
+        began = time.time()
+        work = given.work / name
+        work.mkdir()
+        work.chmod(0o755)
+        part = run_part(name, Context(work, given.inputs, given.seed))
+        parts.append(part)
+        for fault in part.faults:
+            print(f"{name}: {fault}", flush=True)
+        verdict = "held" if not part.faults else "failed"
+        missing = f"; missing: {'; '.join(dict.fromkeys(part.missing))}" if part.missing else ""
+        lines.append(f"{name}: {verdict}: {'; '.join(part.counts)}{missing} ({time.time() - began:.0f} s)")
+    write_table(given.table, parts)
+    print("\n".join(lines))
+    return 1 if any(part.faults for part in parts) else 0
+
+
+if __name__ == "__main__":
+    sys.exit(main())
