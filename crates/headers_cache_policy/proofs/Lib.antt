@@ -5,7 +5,6 @@ pub mod ExistenceLemmas
 pub mod FieldLemmas
 pub mod FresheningLemmas
 pub mod FreshnessLemmas
-pub mod ReadingLemmas
 pub mod StrictLemmas
 pub mod ValidatingLemmas
 pub mod VaryLemmas

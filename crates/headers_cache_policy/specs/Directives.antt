@@ -1,45 +1,21 @@
 -- What Cache-Control directs (RFC 9111, section 5.2, and RFC 5861).
-use Rattle.std.specs.Prelude.{◌≡◌, ℕ, ◌-◌, true, false, ◌&&◌, ◌||◌, List, [], ◌∷◌, length, take, drop, Any}
-use Rattle.std.specs.Prelude.{Option, Some, None, IsSomeAnd, IsTrue, option_and_then, option_map, unwrap_or, bytes_eq}
+use Rattle.std.specs.Prelude.{◌≡◌, ℕ, true, false, ◌||◌, List, [], ◌∷◌, Any}
+use Rattle.std.specs.Prelude.{Option, Some, None, IsSomeAnd, IsTrue, option_and_then, option_map, unwrap_or}
 use Rattle.std.specs.Prelude.{codes, if◌then◌else◌}
 use Rattle.std.specs.Option.{option_map_or, option_or}
-use Rattle.std.specs.List.{prefix_len}
-use Rattle.http_header.specs.Token.{is_token_byte}
 use Rattle.headers.specs.LineMap.{LineMap}
-use Rattle.headers_fields.specs.Directives.{DirectiveParts, directive_text, is_directive, is_named}
+use Rattle.headers_fields.specs.Directives.{DirectiveParts, directive_in, is_named}
 use Rattle.headers_fields.specs.Members.{field_members}
 use Rattle.headers_fields.specs.Numbers.{number_within}
 use Rattle.headers_fields.specs.Scan.{Member}
 use Rattle.headers_fields.specs.Scan.Member.{Whole, Malformed}
-use Rattle.headers_fields.specs.Values.{ValueParts, is_token, octets_of}
-use Rattle.headers_fields.specs.Values.ValueParts.{TokenText, QuotedText}
+use Rattle.headers_fields.specs.Values.{octets_of}
 use Rattle.headers_cache_policy.specs.Fields.{greatest}
 use Rattle.headers_cache_policy.specs.declared.directives.Directives.{Directives}
 
 -- the members of the field in all its lines, each line by itself
 abbrev pub members : LineMap → List Member
 members message = field_members true (message (codes "cache-control"))
-
--- the value that a text is, if it is one at all: a token, or what is between the quotes at its ends
-abbrev pub value_of : List ℕ → ValueParts
-value_of text = if is_token text then TokenText text else QuotedText (take (length text - 2) (drop 1 text))
-
-abbrev pub argument_of : List ℕ → Option ValueParts
-argument_of [] = None
-argument_of (b ∷ text) = Some (value_of text)
-
--- the directive that a text is, if it is one at all: the token that it begins with, and what follows the next byte
-abbrev pub parts_of : List ℕ → DirectiveParts
-parts_of text =
-    record {
-      name = take (prefix_len is_token_byte text) text;
-      argument = argument_of (drop (prefix_len is_token_byte text) text);
-    }
-
--- the directive that a text is, if it is one: then it is written as these parts are (section 5.2)
-unfoldable pub directive_in : List ℕ → Option DirectiveParts
-directive_in text =
-    if is_directive (parts_of text) && bytes_eq text (directive_text (parts_of text)) then Some (parts_of text) else None
 
 -- the directive that a member is
 abbrev pub said_in : Member → Option DirectiveParts

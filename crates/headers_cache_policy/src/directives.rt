@@ -5,12 +5,12 @@ ghost use Rattle.headers_fields.specs.Directives.{directive_parts};
 ghost use Rattle.headers_fields.specs.Members.{member_of};
 ghost use Rattle.headers_fields.specs.Numbers.{number_within};
 ghost use Rattle.headers_fields.specs.Values.{octets_of, value_parts};
-ghost use Rattle.headers_cache_policy.specs.Directives.{directed, directive_in, directs, nothing, said_in, seconds_if};
+ghost use Rattle.headers_cache_policy.specs.Directives.{directed, directs, nothing, said_in, seconds_if};
 ghost use Rattle.headers_cache_policy.specs.Fields.{greatest};
 ghost use Rattle.headers_cache_policy.specs.Directives.{strictest, with_later};
 
 use headers::HeaderMap;
-use headers_fields::{Directive, FieldMembers, Malformed, read_directive};
+use headers_fields::{Directive, FieldMembers, Malformed, directive_in};
 use http_header::CACHE_CONTROL;
 
 /// What Cache-Control directs a cache (RFC 9111, section 5.2, and RFC 5861). Numbers are seconds.
@@ -74,16 +74,6 @@ fn said_in<'a>(member: Result<&'a [u8], Malformed>) -> Option<Directive<'a>>
 {
     match member {
         Ok(text) => directive_in(text),
-        Err(Malformed) => None,
-    }
-}
-
-// The directive that a text is.
-fn directive_in(text: &[u8]) -> Option<Directive<'_>>
-    ensures { option_map directive_parts result ≡ directive_in text.now }
-{
-    match read_directive(text) {
-        Ok(directive) => Some(directive),
         Err(Malformed) => None,
     }
 }

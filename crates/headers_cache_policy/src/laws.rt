@@ -3,11 +3,10 @@ ghost use Rattle.std.specs.Prelude.{◌≡◌, ◌⊎◌, ◌↔◌, ◌≤◌, 
 ghost use Rattle.http_header.specs.FieldValue.{FieldValue};
 ghost use Rattle.http_header.specs.HeaderMap.{Entries, IsHeaderMap};
 ghost use Rattle.headers.specs.LineMap.{LineMap, lines_at, set_all};
-ghost use Rattle.headers_fields.specs.Directives.{DirectiveParts, IsDirective};
 ghost use Rattle.headers_cache_policy.specs.Age.{age_at};
 ghost use Rattle.headers_cache_policy.specs.Decisions.{Answers, AnswersUnstored, Decides, DecidesBy, IsFromStore};
 ghost use Rattle.headers_cache_policy.specs.Decisions.{IsServedMeanwhile, IsTakenStale, MayComeFromStore, MustBeFresh};
-ghost use Rattle.headers_cache_policy.specs.Directives.{IsMalformed, Says, directive_in};
+ghost use Rattle.headers_cache_policy.specs.Directives.{IsMalformed, Says};
 ghost use Rattle.headers_cache_policy.specs.Fields.{capped, greatest};
 ghost use Rattle.headers_cache_policy.specs.Freshening.{freshened, freshening_fields};
 ghost use Rattle.headers_cache_policy.specs.Freshness.{HasHeuristic, HasLifetime};
@@ -21,13 +20,6 @@ ghost use Rattle.headers_cache_policy.specs.declared.decision.Freshness.{Freshne
 ghost use Rattle.headers_cache_policy.specs.declared.directives.Directives.{Directives};
 ghost use Rattle.headers_cache_policy.specs.declared.kind.Kind.{Kind};
 ghost use Rattle.headers_cache_policy.specs.declared.kind.Kind.TheVariants.{Shared};
-
-/// A text is the directive that the grammar parses, and no other (RFC 9111, section 5.2): where the
-/// definitions of this crate speak of directives, they mean those of `headers_fields`.
-pub fn directives_follow_the_grammar()
-    ensures { (text : List ℕ) (directive : DirectiveParts) → directive_in text ≡ Some directive
-        ↔ IsDirective text directive }
-{}
 
 /// Each response has exactly one lifetime, or none by exactly one reading: the cases of
 /// `HasLifetime` cover each response and exclude each other. `lifetime` returns it.

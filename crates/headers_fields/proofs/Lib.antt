@@ -1,4 +1,5 @@
 mod CommentLemmas
+mod DirectiveInLemmas
 mod DirectiveLemmas
 mod FieldLemmas
 mod GrammarLemmas

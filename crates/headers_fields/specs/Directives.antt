@@ -1,7 +1,8 @@
 -- Directives and parameters: a name, and maybe a value (RFC 9111, section 5.2; RFC 9110, section 5.6.6).
-use Rattle.std.specs.Prelude.{◌≡◌, ℕ, Bool, true, false, ◌&&◌, List, [], ◌∷◌, ◌++◌, map, find, Option, None, Some}
-use Rattle.std.specs.Prelude.{option_map, if◌then◌else◌}
-use Rattle.std.specs.List.{list_all}
+use Rattle.std.specs.Prelude.{◌≡◌, ℕ, ◌-◌, Bool, true, false, ◌&&◌, List, [], ◌∷◌, ◌++◌, length, take, drop, map, find}
+use Rattle.std.specs.Prelude.{Option, None, Some, option_map, bytes_eq, if◌then◌else◌}
+use Rattle.std.specs.List.{list_all, prefix_len}
+use Rattle.http_header.specs.Token.{is_token_byte}
 use Rattle.headers_syntax.specs.AsciiCase.{same_name}
 use Rattle.headers_syntax.specs.Lines.{Line}
 use Rattle.headers_syntax.specs.Text.{trim}
@@ -10,6 +11,7 @@ use Rattle.headers_fields.specs.Scan.{Member, pieces}
 use Rattle.headers_fields.specs.Scan.Member.{Whole, Malformed}
 use Rattle.headers_fields.specs.Members.{field_members, members_of}
 use Rattle.headers_fields.specs.Values.{ValueParts, is_token, is_value, value_text, value_parts}
+use Rattle.headers_fields.specs.Values.ValueParts.{TokenText, QuotedText}
 use Rattle.headers_fields.specs.declared.directives.Directive.{Directive}
 use Rattle.headers_fields.specs.declared.scan.State.TheVariants.{Outside}
 
@@ -41,6 +43,28 @@ is_directive d = is_token d.name && is_argument d.argument
 pub record IsDirective (text : List ℕ) (d : DirectiveParts) : Type 0 where
   pub valid : is_directive d ≡ true
   pub written : text ≡ directive_text d
+
+-- the value that a text is, if it is one at all: a token, or what is between the quotes at its ends
+abbrev pub value_at : List ℕ → ValueParts
+value_at text = if is_token text then TokenText text else QuotedText (take (length text - 2) (drop 1 text))
+
+abbrev pub argument_at : List ℕ → Option ValueParts
+argument_at [] = None
+argument_at (b ∷ text) = Some (value_at text)
+
+-- the directive that a text is, if it is one at all: the token that it begins with, and what follows the next byte
+abbrev pub parts_at : List ℕ → DirectiveParts
+parts_at text =
+    record {
+      name = take (prefix_len is_token_byte text) text;
+      argument = argument_at (drop (prefix_len is_token_byte text) text);
+    }
+
+-- the directive that a text is, if it is one: then it is written as these parts are
+unfoldable pub directive_in : List ℕ → Option DirectiveParts
+directive_in text =
+    if is_directive (parts_at text) && bytes_eq text (directive_text (parts_at text)) then Some (parts_at text)
+    else None
 
 -- the text behind a name is that argument
 pub record IsArgument (text : List ℕ) (a : Option ValueParts) : Type 0 where

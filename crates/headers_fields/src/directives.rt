@@ -2,7 +2,8 @@
 ghost use Rattle.std.specs.Prelude.{◌≡◌, ◌≤◌, length, MatchResult, Option, option_map};
 ghost use Rattle.std.specs.List.{prefix_len};
 ghost use Rattle.http_header.specs.Token.{is_token_byte};
-ghost use Rattle.headers_fields.specs.Directives.{DirectiveParts, IsArgument, IsDirective, directive_parts, is_named};
+ghost use Rattle.headers_fields.specs.Directives.{DirectiveParts, IsArgument, IsDirective, directive_in, directive_parts};
+ghost use Rattle.headers_fields.specs.Directives.{is_named};
 ghost use Rattle.headers_fields.specs.Values.{ValueParts, value_parts};
 
 use crate::error::Malformed;
@@ -65,6 +66,16 @@ pub fn read_directive(text: &[u8]) -> Result<Directive<'_>, Malformed>
             argument,
         }),
         Err(Malformed) => Err(Malformed),
+    }
+}
+
+/// The directive that a text is, if it is one.
+pub fn directive_in(text: &[u8]) -> Option<Directive<'_>>
+    ensures { option_map directive_parts result ≡ directive_in text.now }
+{
+    match read_directive(text) {
+        Ok(directive) => Some(directive),
+        Err(Malformed) => None,
     }
 }
 

@@ -1,5 +1,7 @@
 //! What follows from the definitions alone. A proof cites a law by calling it.
+ghost use Rattle.std.specs.Prelude.{◌≡◌, ◌↔◌, ℕ, List, Some};
 ghost use Rattle.headers_fields.specs.Comments.{CommentsParseOneWay};
+ghost use Rattle.headers_fields.specs.Directives.{DirectiveParts, IsDirective, directive_in};
 ghost use Rattle.headers_fields.specs.Laws.{HasAReading, JoinKeepsMembers, KeepsMembersBefore, MalformedComesLast};
 ghost use Rattle.headers_fields.specs.Laws.{DirectivesParseOneWay, JoinKeepsDirectives, MalformedIsClearOfNone};
 ghost use Rattle.headers_fields.specs.Laws.{ParsesOneWay, PartsAreWhole, QuotedTextsAreOctets, QuotedTextsParse};
@@ -62,6 +64,12 @@ pub fn quoted_strings_parse()
 /// What is parsed as a quoted-string is one by the grammar.
 pub fn quoted_strings_have_octets()
     ensures { QuotedTextsAreOctets }
+{}
+
+/// A text is the directive that the grammar parses, and no other (RFC 9111, section 5.2).
+pub fn directives_follow_the_grammar()
+    ensures { (text : List ℕ) (directive : DirectiveParts) → directive_in text ≡ Some directive
+        ↔ IsDirective text directive }
 {}
 
 /// A text is one directive at most, and a field one list of directives.

@@ -18,7 +18,7 @@ mod values;
 mod weights;
 
 pub use crate::comments::skip_comment;
-pub use crate::directives::{Directive, read_directive};
+pub use crate::directives::{Directive, directive_in, read_directive};
 pub use crate::error::Malformed;
 pub use crate::field::{are_tokens, contains_token, find_directive, is_clear_of};
 pub use crate::members::{FieldMembers, Members, is_well_formed};

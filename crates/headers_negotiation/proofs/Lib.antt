@@ -1,5 +1,4 @@
 pub mod ChoiceLemmas
-mod DirectiveLemmas
 mod ElementLemmas
 mod LanguageLemmas
 pub mod LawLemmas

@@ -3,25 +3,16 @@ ghost use Rattle.std.specs.Prelude.{◌≡◌, option_map};
 ghost use Rattle.headers_fields.specs.Directives.{directive_parts};
 ghost use Rattle.headers_fields.specs.Members.{member_of};
 ghost use Rattle.headers_fields.specs.Values.{value_parts};
-ghost use Rattle.headers_negotiation.specs.Parameters.{directive_in, is_same_parameter, is_same_value, is_weight};
-ghost use Rattle.headers_negotiation.specs.Parameters.{parameter_of, parameter_parts, with_value};
+ghost use Rattle.headers_negotiation.specs.Parameters.{is_same_parameter, is_same_value, is_weight, parameter_of};
+ghost use Rattle.headers_negotiation.specs.Parameters.{parameter_parts, with_value};
 
-use headers_fields::{Directive, Malformed, Value, read_directive};
+use headers_fields::{Directive, Malformed, Value, directive_in};
 
 /// A name and a value.
 #[derive(Clone, Copy)]
 pub(crate) struct Parameter<'a> {
     pub(crate) name: &'a [u8],
     pub(crate) value: Value<'a>,
-}
-
-fn directive_in(text: &[u8]) -> Option<Directive<'_>>
-    ensures { option_map directive_parts result ≡ directive_in text.now }
-{
-    match read_directive(text) {
-        Ok(directive) => Some(directive),
-        Err(Malformed) => None,
-    }
 }
 
 // The parameter that a directive is. A name alone is none.

@@ -1,7 +1,7 @@
 use Rattle.std.proofs.Common.{sym}
 use Rattle.headers_fields.specs.Directives.{directive_parts}
-use Rattle.headers_negotiation.proofs.DirectiveLemmas.{directive_in-from, directive_in-none}
-use Rattle.headers_negotiation.proofs.parameter.directive_in.Goals as goal
+use Rattle.headers_fields.proofs.DirectiveInLemmas.{directive_in-from, directive_in-none}
+use Rattle.headers_fields.proofs.directives.directive_in.Goals as goal
 
 pub returns-in-Ok : goal.returns-in-Ok
 returns-in-Ok c =

@@ -9,11 +9,10 @@ use Rattle.std.proofs.lemmas.Slice.Eq.{bytes_eq-Decides}
 use Rattle.std.proofs.Math.Seq.{drop-append_seam, take-append_seam}
 use Rattle.http_header.specs.Token.{is_token_byte}
 use Rattle.headers_fields.specs.Directives.{DirectiveParts, IsDirective, argument_text, directive_text, equals}
-use Rattle.headers_fields.specs.Directives.{is_argument, is_directive}
+use Rattle.headers_fields.specs.Directives.{argument_at, directive_in, is_argument, is_directive, parts_at, value_at}
 use Rattle.headers_fields.specs.Grammar.{quote}
 use Rattle.headers_fields.specs.Values.{ValueParts, is_token, is_value, value_text}
 use Rattle.headers_fields.specs.Values.ValueParts.{TokenText, QuotedText}
-use Rattle.headers_negotiation.specs.Parameters.{argument_at, directive_in, parts_at, value_at}
 
 -- the text begins with no byte of a token
 abbrev pub Stops : List ℕ → Type 0
