@@ -1,5 +1,6 @@
 -- What the directives of a field direct, one after the other.
-use Rattle.std.proofs.Common.{◌≡◌, ◌∙◌, ℕ, zero, suc, ◌<◌, Bool, true, false, List, [], ◌∷◌, Any, Option, Some, None, length}
+use Rattle.std.proofs.Common.{◌≡◌, ◌∙◌, ℕ, zero, suc, ◌<◌, Bool, true, false, List, [], ◌∷◌, Any, Option, Some, None}
+use Rattle.std.proofs.Common.{length}
 use Rattle.std.proofs.Common.{get_or, refl, sym, ap, subst, inl, inr, arith}
 use Rattle.std.specs.Prelude.{⊤, ◌||◌, IsTrue, IsSomeAnd, option_map, codes}
 use Rattle.std.specs.Option.{option_map_or, option_or}
@@ -42,7 +43,8 @@ with_later-assoc a b c =
 
 -- what the members that are left make of what was directed before them
 abbrev pub directed_after : Directives → List Member → Directives
-directed_after first left = option_map_or (λ directives. with_later first (directed_by directives)) (all_said left) strictest
+directed_after first left =
+    option_map_or (λ directives. with_later first (directed_by directives)) (all_said left) strictest
 
 or_false : (a : Bool) → (a || false) ≡ a
 or_false true = refl
@@ -87,7 +89,8 @@ directed-next first directive member left e = rw e (by (all_said left))
     by : (o : Option (List DirectiveParts))
         → option_map_or (λ directives. with_later first (directed_by directives))
         (option_map (λ rest. directive ∷ rest) o) strictest
-        ≡ option_map_or (λ directives. with_later (with_later first (directs directive)) (directed_by directives)) o strictest
+        ≡ option_map_or (λ directives. with_later (with_later first (directs directive)) (directed_by directives)) o
+        strictest
     by None = refl
     by (Some rest) = with_later-assoc first (directs directive) (directed_by rest)
 
@@ -164,15 +167,18 @@ finds_at name (member ∷ left) (suc k) y low e h =
     finds_rest name member left (finds_at name left k y (omega (arith, low)) e h)
 
 -- what is said, is directed: each flag is set if some directive has its name
-flag_no_store : (directives : List DirectiveParts) → (directed_by directives).no_store ≡ list_any (is_named (codes "no-store")) directives
+flag_no_store : (directives : List DirectiveParts)
+    → (directed_by directives).no_store ≡ list_any (is_named (codes "no-store")) directives
 flag_no_store [] = refl
 flag_no_store (d ∷ ds) = ap (λ (b : Bool). is_named (codes "no-store") d || b) (flag_no_store ds)
 
-flag_private : (directives : List DirectiveParts) → (directed_by directives).private ≡ list_any (is_named (codes "private")) directives
+flag_private : (directives : List DirectiveParts)
+    → (directed_by directives).private ≡ list_any (is_named (codes "private")) directives
 flag_private [] = refl
 flag_private (d ∷ ds) = ap (λ (b : Bool). is_named (codes "private") d || b) (flag_private ds)
 
-flag_no_cache : (directives : List DirectiveParts) → (directed_by directives).no_cache ≡ list_any (is_named (codes "no-cache")) directives
+flag_no_cache : (directives : List DirectiveParts)
+    → (directed_by directives).no_cache ≡ list_any (is_named (codes "no-cache")) directives
 flag_no_cache [] = refl
 flag_no_cache (d ∷ ds) = ap (λ (b : Bool). is_named (codes "no-cache") d || b) (flag_no_cache ds)
 
@@ -247,7 +253,8 @@ pub unsaid_must_understand : (message : LineMap) → ¬ (Says (codes "must-under
     → (directed message).must_understand ≡ false
 unsaid_must_understand message n = by (all_said (members message)) refl
   where
-    by : (o : Option (List DirectiveParts)) → all_said (members message) ≡ o → (directed message).must_understand ≡ false
+    by : (o : Option (List DirectiveParts)) → all_said (members message) ≡ o
+        → (directed message).must_understand ≡ false
     by None e = rw e refl
     by (Some directives) e =
         elim (cases_Bool (list_any (is_named (codes "must-understand")) directives)) [

@@ -91,15 +91,18 @@ module _ (kind : Kind) (asks tells : Directives) (freshness : Freshness) where
   decide_servable : IsDecidable (IsServable asks tells freshness)
   decide_servable =
       decide_both (decide_both (decide_Bool asks.no_cache false) (decide_Bool tells.no_cache false))
-      (decide_both (decide_IfSome asks.max_age (λ limit. freshness.age ≤ limit) (λ limit. decide_le freshness.age limit))
+      (decide_both
+      (decide_IfSome asks.max_age (λ limit. freshness.age ≤ limit) (λ limit. decide_le freshness.age limit))
       (decide_IfSome asks.min_fresh (λ least. freshness.age + least ≤ freshness.lifetime)
       (λ least. decide_le (freshness.age + least) freshness.lifetime)))
 
   decide_within : (o : Option ℕ) → IsDecidable (IsSomeAnd o (λ limit. staleness freshness ≤ limit))
-  decide_within o = decide_IsSomeAnd o (λ limit. staleness freshness ≤ limit) (λ limit. decide_le (staleness freshness) limit)
+  decide_within o =
+      decide_IsSomeAnd o (λ limit. staleness freshness ≤ limit) (λ limit. decide_le (staleness freshness) limit)
 
   decide_if_within : (o : Option ℕ) → IsDecidable (IfSome o (λ limit. staleness freshness ≤ limit))
-  decide_if_within o = decide_IfSome o (λ limit. staleness freshness ≤ limit) (λ limit. decide_le (staleness freshness) limit)
+  decide_if_within o =
+      decide_IfSome o (λ limit. staleness freshness ≤ limit) (λ limit. decide_le (staleness freshness) limit)
 
   decide_meanwhile : IsDecidable (MayServeMeanwhile kind asks tells freshness)
   decide_meanwhile =
@@ -130,7 +133,8 @@ module _ (kind : Kind) (asks tells : Directives) (freshness : Freshness) where
   unserved n = some_unserved n asks.only_if_cached refl decide_on_error
 
   some_served : IsServable asks tells freshness → IsDecidable (IsFresh freshness)
-      → IsDecidable (MayServeMeanwhile kind asks tells freshness) → IsDecidable (MayServeStale kind asks tells freshness)
+      → IsDecidable (MayServeMeanwhile kind asks tells freshness)
+      → IsDecidable (MayServeStale kind asks tells freshness)
       → (decision : Decision) × Answers kind asks tells freshness decision
   some_served s (inl fresh) m t = (Serve, (s, fresh))
   some_served s (inr stale) (inl meanwhile) t = (ServeAndRevalidate, (s, stale, meanwhile))
@@ -152,7 +156,10 @@ module _ (kind : Kind) (asks tells : Directives) (freshness : Freshness) where
 
 decide_member : (m n : Member) → IsDecidable (m ≡ n)
 decide_member (Whole s) (Whole t) =
-    elim (decide_bytes s t) [ inl e ↦ inl (ap (λ (u : List ℕ). Whole u) e) | inr n ↦ inr (λ e. let f : s ≡ t = cc e in n f) ]
+    elim (decide_bytes s t) [
+      | inl e ↦ inl (ap (λ (u : List ℕ). Whole u) e)
+      | inr n ↦ inr (λ e. let f : s ≡ t = cc e in n f)
+    ]
 decide_member (Whole s) Malformed = inr (λ e. absurd (cc e))
 decide_member Malformed (Whole t) = inr (λ e. absurd (cc e))
 decide_member Malformed Malformed = inl refl
@@ -190,7 +197,8 @@ decide_get_or_head method = decide_either (decide_bytes method (codes "GET")) (d
 
 decide_suits : (stored request : Request) (response : LineMap) → IsDecidable (Suits stored request response)
 decide_suits stored request response =
-    elim (decide_both allowed (decide_All (Agree stored.fields request.fields) (decide_agree stored.fields request.fields)
+    elim (decide_both allowed
+    (decide_All (Agree stored.fields request.fields) (decide_agree stored.fields request.fields)
     (field_members true (response (codes "vary"))))) [
       | inl h ↦ inl (record { method = h.0; fields = h.1 })
       | inr n ↦ inr (λ h. n (h.method, h.fields))

@@ -81,7 +81,8 @@ module _ (kind : Kind) (received : ℕ) (response : LineMap) (malformed : IsMalf
 abbrev pub AsksTheOrigin : Directives → Directives → Type 0
 AsksTheOrigin asks tells = (asks.no_cache ≡ true) ⊎ (tells.no_cache ≡ true)
 
-no_usable : (asks tells : Directives) → AsksTheOrigin asks tells → (asks.no_cache ≡ false) × (tells.no_cache ≡ false) → ⊥
+no_usable : (asks tells : Directives) → AsksTheOrigin asks tells
+    → (asks.no_cache ≡ false) × (tells.no_cache ≡ false) → ⊥
 no_usable asks tells (inl e) h = let f = h.0 in absurd (cc (e, f))
 no_usable asks tells (inr e) h = let f = h.1 in absurd (cc (e, f))
 
@@ -109,7 +110,8 @@ unstored_not_served request Unavailable h (inr e) = absurd (cc e)
 unstored_not_served request Fetch h (inl s) = s
 unstored_not_served request Fetch h (inr e) = absurd (cc e)
 
-module _ (kind : Kind) (stored request : Request) (response : LineMap) (freshness : Freshness) (decision : Decision) where
+module _ (kind : Kind) (stored request : Request) (response : LineMap) (freshness : Freshness)
+    (decision : Decision) where
   decided_not_served : AsksTheOrigin (directed request.fields) (directed response)
       → DecidesBy kind stored request response freshness decision → ¬ (MayComeFromStore decision)
   decided_not_served n (inl h) s =
@@ -166,7 +168,8 @@ head_answers_no_get : (stored method : List ℕ) → stored ≡ codes "HEAD" →
 head_answers_no_get stored method e f (inl h) = let g = h.0 in absurd (cc (e, g))
 head_answers_no_get stored method e f (inr h) = let g = h.1 in absurd (cc (f, g))
 
-module _ (kind : Kind) (stored request : Request) (response : LineMap) (freshness : Freshness) (decision : Decision) where
+module _ (kind : Kind) (stored request : Request) (response : LineMap) (freshness : Freshness)
+    (decision : Decision) where
   pub written : ¬ (IsSafe request.method) → DecidesBy kind stored request response freshness decision
       → decision ≡ Fetch
   written n (inl h) = absurd (n (allowed_is_safe stored.method request.method h.0.method))

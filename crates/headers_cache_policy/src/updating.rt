@@ -3,7 +3,8 @@ ghost use Rattle.std.specs.Prelude.{◌≡◌, ◌≢◌, All, true, codes};
 ghost use Rattle.std.specs.Bool.{MatchBool};
 ghost use Rattle.headers.specs.LineMap.{lines_at};
 ghost use Rattle.headers_fields.specs.Members.{field_members, member_of};
-ghost use Rattle.headers_cache_policy.specs.Updating.{HasSameDate, HasSameTag, HasStrongTag, HasValidator, IsOption, IsTagOf};
+ghost use Rattle.headers_cache_policy.specs.Updating.{HasSameDate, HasSameTag, HasStrongTag, HasValidator, IsOption};
+ghost use Rattle.headers_cache_policy.specs.Updating.{IsTagOf};
 ghost use Rattle.headers_cache_policy.specs.Updating.{IsUpdated, is_weak, opaque_of};
 
 use crate::fields::{has_field, have_same_lines, only_line};

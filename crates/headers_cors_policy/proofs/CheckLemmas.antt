@@ -339,7 +339,8 @@ module _ (rules : CorsRules) (policy : Policy) (method : List ℕ) (sent respons
   -- the methods and the names of the response to a preflight
   module _ (p : IsPreflightFor request method sent) where
     passes_method : IsSomeAnd
-        (methods_in request (combined (set_all before (fields_of answer.fields.items) (codes "access-control-allow-methods"))))
+        (methods_in request
+        (combined (set_all before (fields_of answer.fields.items) (codes "access-control-allow-methods"))))
         (GrantsMethod request)
         ↔ AllowsMethod rules request.method
     passes_method =

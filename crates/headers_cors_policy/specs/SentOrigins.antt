@@ -1,4 +1,5 @@
--- Which texts browsers send as origins (HTML standard, "ASCII serialization of an origin"; URL standard, "URL serializing").
+-- Which texts browsers send as origins (HTML standard, "ASCII serialization of an origin"; URL standard, "URL
+-- serializing").
 use Rattle.std.specs.Prelude.{ℕ, Bool, true, false, not, ◌&&◌, ◌||◌, ◌==◌, nat_lt, List, Option, Some, None, length}
 use Rattle.std.specs.Prelude.{bytes_eq, codes, slice_index}
 use Rattle.std.specs.Char.{is_ascii_uppercase}

@@ -42,7 +42,8 @@ pub fn preflight_goes_by_rules()
     ensures { (rules : CorsRules) (policy : Policy) (method : List ℕ) (sent response before : LineMap)
         (answer : CorsAnswer) (request : Request) (status : ℕ) → IsLawful rules → IsPolicyOf rules policy
         → IsAnswer policy method sent response answer → IsPreflightFor request method sent → IsOkStatus status
-        → PreflightPasses status (set_all before (fields_of answer.fields.items)) request ↔ AllowsRequest rules request }
+        → PreflightPasses status (set_all before (fields_of answer.fields.items)) request
+        ↔ AllowsRequest rules request }
 {}
 
 /// Scripts may read exactly those fields of a response that passed the check that the rules expose.
@@ -76,7 +77,8 @@ pub fn vary_stays()
     ensures { (policy : Policy) (method : List ℕ) (sent response : LineMap) (answer : CorsAnswer)
         → IsAnswer policy method sent response answer
         → (set_all response (fields_of answer.fields.items) (codes "vary") ≡ response (codes "vary"))
-        ⊎ (set_all response (fields_of answer.fields.items) (codes "vary") ≡ response (codes "vary") ++ codes "origin" ∷ []) }
+        ⊎ (set_all response (fields_of answer.fields.items) (codes "vary")
+        ≡ response (codes "vary") ++ codes "origin" ∷ []) }
 {}
 
 /// Two requests of one method with equal field lines of `Origin` and

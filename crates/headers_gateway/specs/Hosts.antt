@@ -1,5 +1,6 @@
 -- The value of Host: uri-host [ ":" port ] (RFC 9110, section 7.2; RFC 3986, sections 3.2.2 and 3.2.3).
-use Rattle.std.specs.Prelude.{ℕ, ◌==◌, Bool, true, false, ◌||◌, ◌&&◌, not, List, [], ◌∷◌, Option, Some, None, if◌then◌else◌}
+use Rattle.std.specs.Prelude.{ℕ, ◌==◌, Bool, true, false, ◌||◌, ◌&&◌, not, List, [], ◌∷◌, Option, Some, None}
+use Rattle.std.specs.Prelude.{if◌then◌else◌}
 use Rattle.std.specs.Char.{is_ascii_alphanumeric, is_ascii_digit}
 use Rattle.std.specs.Option.{option_map_or}
 use Rattle.headers.specs.Lines.{Line}

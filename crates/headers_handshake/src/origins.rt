@@ -11,7 +11,7 @@ use http_header::ORIGIN;
 /// The origins from which a server takes handshakes (RFC 6455, section 10.2).
 ///
 /// A browser names the origin of the script that opens a connection in `Origin`, and sends the
-/// user's cookies along. A server that goes by cookies lists its own origins, or any site's script
+/// user's cookies along. A server that relies on cookies lists its own origins, or any site's script
 /// acts for its users (cross-site WebSocket hijacking).
 #[derive(Debug, Drop)]
 pub enum Origins {

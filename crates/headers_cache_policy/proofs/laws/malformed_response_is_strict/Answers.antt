@@ -1,4 +1,5 @@
-use Rattle.headers_cache_policy.proofs.StrictLemmas.{malformed_is_not_guessed, malformed_is_stale, malformed_is_validated}
+use Rattle.headers_cache_policy.proofs.StrictLemmas.{malformed_is_not_guessed, malformed_is_stale}
+use Rattle.headers_cache_policy.proofs.StrictLemmas.{malformed_is_validated}
 use Rattle.headers_cache_policy.proofs.StrictLemmas.{malformed_not_stored}
 use Rattle.headers_cache_policy.proofs.laws.malformed_response_is_strict.Goals as goal
 
@@ -11,7 +12,8 @@ returns-clause-lifetime c =
 
 pub returns-clause-guess : goal.returns-clause-guess
 returns-clause-guess c =
-    λ kind status received response guess malformed. malformed_is_not_guessed kind received response malformed status guess
+    λ kind status received response guess malformed.
+    malformed_is_not_guessed kind received response malformed status guess
 
 pub returns-clause-validated : goal.returns-clause-validated
 returns-clause-validated c =

@@ -12,7 +12,8 @@ returns g c =
     let has = g.S.Store.has c.args.store.now in
     let entry = c.in_ok-entry.entry in
     inl (
-      subst (λ (method : List ℕ). IsGetOrHead method) c.method.ensures (rw c.if-not-is_get_or_head.false at c.is_get_or_head.ensures),
+      subst (λ (method : List ℕ). IsGetOrHead method) c.method.ensures
+          (rw c.if-not-is_get_or_head.false at c.is_get_or_head.ensures),
       (
         entry,
         subst
