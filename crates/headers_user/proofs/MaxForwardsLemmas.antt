@@ -23,13 +23,19 @@ refuses : {E : Type 0} (lines : List Line) (refused : Refused E) → RefusesNumb
 refuses lines (Invalid e) none = elim [ None ↦ λ read. read | Some hops ↦ none hops ]
 refuses lines (Memory e) none = tt
 
-pub OfLines-refused : {S A E : Type 0} {shown : A → FieldValue} {steps : S → Option A → S → Type 0} {s t : S}
-    (refused : Refused E) → OfLines shown steps s t (RefusesNumber refused)
-    → OfLines shown steps s t (RefusesHeader refused)
-OfLines-refused refused seen =
+-- what is weaker holds of the lines too
+pub OfLines-by : {S A : Type 0} {shown : A → FieldValue} {steps : S → Option A → S → Type 0} {s t : S}
+    {P Q : List Line → Type 0} → OfLines shown steps s t P → ((lines : List Line) → P lines → Q lines)
+    → OfLines shown steps s t Q
+OfLines-by seen follows =
     record {
       items = seen.items;
       ended = seen.ended;
       calls = seen.calls;
-      holds = λ rest e. refuses _ refused (seen.holds rest e);
+      holds = λ rest e. follows _ (seen.holds rest e);
     }
+
+pub OfLines-refused : {S A E : Type 0} {shown : A → FieldValue} {steps : S → Option A → S → Type 0} {s t : S}
+    (refused : Refused E) → OfLines shown steps s t (RefusesNumber refused)
+    → OfLines shown steps s t (RefusesHeader refused)
+OfLines-refused refused seen = OfLines-by seen (λ lines. refuses lines refused)
