@@ -26,9 +26,25 @@
 #include <stddef.h>
 #include <stdint.h>
 
+/* The version of this file. `typed_headers_version` returns that of the library. */
+#define TYPED_HEADERS_VERSION_MAJOR 1
+#define TYPED_HEADERS_VERSION_MINOR 0
+#define TYPED_HEADERS_VERSION_PATCH 0
+#define TYPED_HEADERS_VERSION "1.0.0"
+
 #ifdef __cplusplus
 extern "C" {
 #endif
+
+/*
+ * The version of the library, as "1.0.0". A program that was built with version 1.N runs with each library of version
+ * 1.M where M is at least N: no call goes away or changes its parameters, and no struct of this file grows. A call that
+ * is to take or give more gets a new name.
+ */
+const char *typed_headers_version(void);
+
+/* What a status means, in a few words. The text is never freed. */
+const char *typed_headers_status_text(uint8_t status);
 
 /* How a call ends. */
 enum typed_headers_status {
@@ -267,8 +283,9 @@ uint8_t typed_headers_evaluate(const uint8_t *method, size_t method_length, cons
  * Which part of the target's representation, of `length` bytes, a request selects (RFC 9110, sections 13.2.2 and 14.2):
  * `*answer` is 200 if all of it, 206 if the ranges that are written, 416 if none. The ranges are in order, and more than
  * 80 positions lie between two of them. Range is ignored if there are more than 100 ranges, or if 512 bytes for each of
- * several are more than `length`: so no answer is longer than twice the representation. Of the section the fields Range and If-Range count. The room and `*written`
- * count ranges; `*answer` is given also if they don't fit. A server asks this once `typed_headers_evaluate` gave 0.
+ * several are more than `length`: so no answer is longer than twice the representation. Of the section the fields Range
+ * and If-Range count. The room and `*written` count ranges; `*answer` is given also if they don't fit. A server asks
+ * this once `typed_headers_evaluate` gave 0.
  *
  * Absent: the target has no representation. Refused and too large: as for `typed_headers_evaluate`.
  */

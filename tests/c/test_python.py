@@ -5,10 +5,12 @@
 
 import re
 import sys
+from datetime import datetime, timedelta, timezone
 
 import typed_headers as headers
 
 REFUSED = "(refused)"
+EPOCH = datetime(1970, 1, 1, tzinfo=timezone.utc)
 
 
 def decode(word):
@@ -17,54 +19,67 @@ def decode(word):
     return re.sub(rb"%(..)", lambda found: bytes([int(found[1], 16)]), word.encode())
 
 
-def answer(call, *arguments):
+def answer(call, *arguments, **named):
     try:
-        return call(*arguments)
-    except headers.Refused:
+        return call(*arguments, **named)
+    except headers.HeaderError:
         return REFUSED
 
 
+def decoded(call, words):
+    """What the field lines give, or `None` without any. A line that no field value is, is rejected as any other."""
+    return answer(call, *map(decode, words)) if words else None
+
+
 def number(call, words, wanted):
-    given = answer(call, headers.lines(map(decode, words)))
+    given = decoded(call, words)
     if wanted[0] == REFUSED:
         return given == (REFUSED if words else None)
+    if isinstance(given, datetime):
+        given = (given - EPOCH) // timedelta(seconds=1)
     return given == int(wanted[2])
 
 
 def media_type(words, wanted):
-    given = answer(headers.media_type, headers.lines(map(decode, words)))
-    return given == ((REFUSED if words else None) if wanted[0] == REFUSED else decode(wanted[1]))
+    given = decoded(headers.MediaType.parse, words)
+    if wanted[0] == REFUSED:
+        return given == (REFUSED if words else None)
+    return str(given).encode("latin-1") == decode(wanted[1])
 
 
 def canonical(words, wanted):
-    given = answer(headers.canonical, decode(words[0]))
+    given = answer(headers.canonical_section, decode(words[0]))
     if wanted[0] == "not-a-field":
         return given == REFUSED
-    return given == (decode(wanted[1]), wanted[0] == "some-refused")
+    marked = any(line.startswith("! ") for line in given.split("\n"))
+    return (given.encode("latin-1"), marked) == (decode(wanted[1]), wanted[0] == "some-refused")
 
 
 def compare(words, wanted):
-    tags = list(map(decode, words))
-    return (headers.strong_eq(*tags), headers.weak_eq(*tags)) == (wanted[0] == "true", wanted[1] == "true")
+    one, other = (headers.ETag.parse(decode(word)) for word in words)
+    given = (one.matches_strongly(other), one.matches_weakly(other))
+    return given == (wanted[0] == "true", wanted[1] == "true")
 
 
 def cache_control(words, wanted):
-    given = answer(headers.cache_control, headers.lines(map(decode, words)))
+    given = decoded(headers.CacheControl.parse, words)
     if not words or wanted[0] == REFUSED:
         return given == (REFUSED if words else None)
-    flags = [given.no_cache, given.no_store, given.no_transform, given.only_if_cached, given.is_public]
-    flags += [given.is_private, given.immutable, given.must_revalidate, given.must_understand]
+    flags = [given.no_cache, given.no_store, given.no_transform, given.only_if_cached, given.public]
+    flags += [given.private, given.immutable, given.must_revalidate, given.must_understand]
+    seconds = [given.max_age, given.max_stale, given.min_fresh, given.s_maxage]
     shown = [str(flag).lower() for flag in flags]
-    shown += ["(none)" if it is None else str(it) for it in given[:4]]
+    shown += ["(none)" if it is None else str(it) for it in seconds]
     return shown == wanted[2:]
 
 
 def ranges(words, wanted):
-    given = answer(headers.ranges, headers.lines(map(decode, words[1:])), int(words[0]))
+    given = decoded(headers.Range.parse, words[1:])
     if wanted[0] == REFUSED:
         return given == (REFUSED if words[1:] else None)
     bounds = [int(word[1:]) for word in wanted[1:]]
-    return given == list(zip(bounds[::2], bounds[1::2]))
+    found = [(it.first, it.last) for it in given.satisfiable(int(words[0]))]
+    return found == list(zip(bounds[::2], bounds[1::2]))
 
 
 def fields(words):
@@ -89,46 +104,47 @@ def request(words):
     return decode(words[0]), sent, left
 
 
-def known(resource):
-    return {
-        "etag": b"" if resource[0] == "(none)" else decode(resource[0]),
-        "last_modified": None if resource[1] == "(none)" else int(resource[1]),
-    }
+def known(resource, **named):
+    etag = None if resource[0] == "(none)" else decode(resource[0]).decode("latin-1")
+    return headers.Target(etag, None if resource[1] == "(none)" else int(resource[1]), **named)
 
 
 def evaluate(words, wanted):
     method, sent, resource = request(words)
-    target = {"exists": False} if resource[0] == "missing" else known(resource)
-    return headers.evaluate(method, sent, **target).name.lower() == wanted[0]
+    target = headers.Target(exists=False) if resource[0] == "missing" else known(resource)
+    return headers.evaluate(method, sent, target).name.lower() == wanted[0]
 
 
 def select(words, wanted):
     method, sent, target = request(words)
-    is_strong = target[2] == "strong"
-    given = headers.select(method, sent, int(target[3]), **known(target), is_date_strong=is_strong)
+    given = headers.select(method, sent, known(target, is_date_strong=target[2] == "strong"), int(target[3]))
     if wanted[0] in ("whole", "unsatisfiable"):
-        return given == (200 if wanted[0] == "whole" else 416, [])
-    return given == (206, [tuple(map(int, part.split("-"))) for part in wanted])
+        return given == headers.Selection(200 if wanted[0] == "whole" else 416)
+    parts = (headers.ByteRange(*map(int, part.split("-"))) for part in wanted)
+    return given == headers.Selection(206, tuple(parts))
 
 
 def rules(words):
     """The rules of a row, or `None` if they can't be said: a list of the one value `*`, which is any here, or any name
     with `authorization`."""
     found, left = fields(words)
-    listed = {name: [value for other, value in found if other == name] for name, _ in found}
+    listed = {name: [value.decode("latin-1") for other, value in found if other == name] for name, _ in found}
     names = (b"origins", b"methods", b"names", b"exposed")
-    if any(listed.get(name) == [b"*"] for name in names) or b"names-and-authorization" in listed.get(b"any", []):
+    is_any = listed.get(b"any", [])
+    if any(listed.get(name) == ["*"] for name in names) or "names-and-authorization" in is_any:
         return None, left
-    lists = [headers.ANY if name in listed.get(b"any", []) else listed.get(name, []) for name in names]
+    lists = ["*" if name.decode() in is_any else listed.get(name, []) for name in names]
     max_age = int(listed[b"max-age"][0]) if b"max-age" in listed else None
-    return headers.CorsRules(*lists, max_age, b"credentials" in listed), left
+    return {
+        **dict(zip(("origins", "methods", "headers", "exposed"), lists)),
+        "max_age": max_age,
+        "credentials": b"credentials" in listed,
+    }, left
 
 
 def cors_new(words, wanted):
     given, _ = rules(words)
-    if given is None:
-        return True
-    return (answer(headers.cors_answer, given, b"GET", b"") == REFUSED) == (wanted[0] != "made")
+    return given is None or (answer(headers.CorsPolicy, **given) == REFUSED) == (wanted[0] != "made")
 
 
 def cors_answer(words, wanted):
@@ -137,52 +153,51 @@ def cors_answer(words, wanted):
         return True
     method, sent, left = request(left)
     before, _ = section(left)
-    shared = answer(headers.cors_answer, given, method, sent, before)
-    if wanted[0] == REFUSED:
-        return shared == REFUSED
-    after = [(name, value) for name, value in fields(left)[0] if name not in headers.CORS_FIELDS]
-    if any(name == b"vary" for name, _ in shared.fields):
-        after = [(name, value) for name, value in after if name != b"vary"]
+    policy = answer(headers.CorsPolicy, **given)
+    shared = REFUSED if policy == REFUSED else answer(policy.answer, method, sent, before)
+    if REFUSED in (wanted[0], shared):
+        return shared == REFUSED == wanted[0]
+    sent = [(name.decode(), value.decode("latin-1")) for name, value in fields(left)[0]]
     kind = shared.kind.name.lower().replace("_", "-")
-    seen = sorted(after + shared.fields, key=lambda field: field[0])
-    return (kind, shared.is_allowed, seen) == (wanted[0], wanted[1] == "true", fields(wanted[2:])[0])
+    seen = sorted(shared.apply(sent), key=lambda field: field[0])
+    hoped = [(name.decode(), value.decode("latin-1")) for name, value in fields(wanted[2:])[0]]
+    return (kind, shared.is_allowed, seen) == (wanted[0], wanted[1] == "true", hoped)
 
 
 def may_store(words, wanted):
     sent, left = section(words[3:])
-    stored = headers.may_store(decode(words[1]), sent, int(words[2]), section(left)[0], words[0] == "shared")
+    response = section(left)[0]
+    stored = headers.may_store(decode(words[1]), sent, int(words[2]), response, shared=words[0] == "shared")
     return stored == (wanted[0] == "true")
 
 
 def lifetime(words, wanted):
-    given = headers.lifetime(section(words[2:])[0], int(words[1]), words[0] == "shared")
+    given = headers.lifetime(section(words[2:])[0], int(words[1]), shared=words[0] == "shared")
     return given == (None if wanted[0] == "(none)" else int(wanted[0]))
 
 
 def current_age(words, wanted):
-    moments = headers.Moments(*map(int, words[:3]))
-    return headers.current_age(section(words[3:])[0], moments) == int(wanted[0])
+    times = headers.Times(*map(int, words[:3]))
+    return headers.current_age(section(words[3:])[0], times) == int(wanted[0])
 
 
 def decide(words, wanted):
-    moments = headers.Moments(*map(int, words[1:4]))
+    times = headers.Times(*map(int, words[1:4]))
     stored_method, *left = words[4:]
     stored, left = section(left)
     method, *left = left
     sent, left = section(left)
-    methods = decode(stored_method), decode(method)
-    decision = headers.decide(
-        methods[0], stored, methods[1], sent, section(left)[0], moments, words[0] == "shared"
-    )
+    response = section(left)[0]
+    is_shared = words[0] == "shared"
+    decision = headers.decide(decode(stored_method), stored, decode(method), sent, response, times, shared=is_shared)
     return decision.name == re.sub(r"(?<!^)(?=[A-Z])", "_", wanted[0]).upper()
 
 
 def validators(words, wanted):
     _, left = section(words[1:])
-    names = (b"if-none-match", b"if-modified-since")
-    found = fields(wanted)[0]
+    found = [(name.decode(), value.decode("latin-1")) for name, value in fields(wanted)[0]]
     given = headers.validators(section(left)[0], int(words[0]))
-    return given == [it for name in names for it in found if it[0] == name]
+    return list(given) == [it for name in ("if-none-match", "if-modified-since") for it in found if it[0] == name]
 
 
 CALLS = {
@@ -223,7 +238,7 @@ def main(names):
                 if not CALLS[words[0]](words[1:], wanted.split(" ")):
                     wrong += 1
                     print(f"{name}:{place}: {words[0]}: wanted {wanted}")
-    assert headers.websocket_accept(b"dGhlIHNhbXBsZSBub25jZQ==") == b"s3pPLMBiTxaQ9kYGzzhZRbK+xOo="
+    assert headers.websocket_accept(b"dGhlIHNhbXBsZSBub25jZQ==") == "s3pPLMBiTxaQ9kYGzzhZRbK+xOo="
     print(f"{rows} rows from Python, {wrong} answered otherwise")
     return 1 if wrong or not rows else 0
 

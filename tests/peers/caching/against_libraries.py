@@ -34,11 +34,11 @@ LIBRARIES = {"http-cache-semantics": by_node, "pquerna/cachecontrol": by_go}
 def by_ours(case: generate.Case) -> tuple[bool, bool] | None:
     headers = products.library()
     stored, request, response = map(section, (case.stored, case.request, case.response))
-    method, moments = case.stored_method.encode(), headers.Moments(case.asked, case.received, case.now)
+    method, times = case.stored_method, headers.Times(case.asked, case.received, case.now)
     try:
-        stores = headers.may_store(method, stored, case.status, response, case.is_shared)
-        decision = headers.decide(method, stored, method, request, response, moments, case.is_shared)
-    except headers.Refused:
+        stores = headers.may_store(method, stored, case.status, response, shared=case.is_shared)
+        decision = headers.decide(method, stored, method, request, response, times, shared=case.is_shared)
+    except headers.HeaderError:
         return None
     return stores, int(decision) in (model.SERVE, model.SERVE_AND_REVALIDATE, model.SERVE_STALE)
 

@@ -29,39 +29,39 @@ def trimmed(fields: Fields) -> Fields:
 def by_library(cases: list[generate.Case], comparison: Comparison) -> None:
     headers = products.library()
 
-    def given(call: Callable[..., Any], *arguments: Any) -> Any:
+    def given(call: Callable[..., Any], *arguments: Any, **named: Any) -> Any:
         try:
-            return call(*arguments)
-        except headers.Refused:
+            return call(*arguments, **named)
+        except headers.HeaderError:
             return "(refused)"
 
     for case in cases:
         stored, request, response = map(section, (case.stored, case.request, case.response))
         times = (case.asked, case.received, case.now)
-        moments, method, is_shared = headers.Moments(*times), case.method.encode(), case.is_shared
+        is_shared = case.is_shared
         comparison.add(
             "may_store",
             permitted(lambda: {
                 model.may_store(case.stored_method, case.status, case.request, case.response, is_shared)}),
-            given(headers.may_store, case.stored_method.encode(), request, case.status, response, is_shared),
+            given(headers.may_store, case.stored_method, request, case.status, response, shared=is_shared),
             shown(case, "stored_method", "status", "request", "response", "is_shared"))
         comparison.add(
             "lifetime", permitted(lambda: model.lifetimes(case.response, case.received, is_shared)),
-            given(headers.lifetime, response, case.received, is_shared),
+            given(headers.lifetime, response, case.received, shared=is_shared),
             shown(case, "response", "received", "is_shared"))
         comparison.add(
             "current_age", permitted(lambda: model.current_ages(case.response, *times)),
-            given(headers.current_age, response, moments), shown(case, "response", "asked", "received", "now"))
+            given(headers.current_age, response, headers.Times(*times)), shown(case, "response", "asked", "received", "now"))
         comparison.add(
             "decide",
             permitted(lambda: model.decisions(
                 case.stored_method, case.stored, case.method, case.request, case.response, *times, is_shared)),
-            given(headers.decide, case.stored_method.encode(), stored, method, request, response, moments, is_shared),
+            given(headers.decide, case.stored_method, stored, case.method, request, response, headers.Times(*times),
+                  shared=is_shared),
             shown(case, *asdict(case)))
         comparison.add(
             "validators", [sorted(model.validators(case.response, case.received))],
-            sorted((name.decode(), value.decode("latin-1"))
-                   for name, value in given(headers.validators, response, case.received)),
+            sorted(given(headers.validators, response, case.received)),
             shown(case, "response", "received"))
 
 

@@ -48,11 +48,11 @@ class Entry:
     asked: int
     received: int
 
-    def moments(self) -> Any:
-        return headers.Moments(self.asked, self.received, int(time.time()))
+    def times(self) -> Any:
+        return headers.Times(self.asked, self.received)
 
     def age(self) -> int:
-        return headers.current_age(section(self.fields), self.moments())
+        return headers.current_age(section(self.fields), self.times())
 
 
 class Store:
@@ -70,10 +70,9 @@ class Store:
     def decide(self, entry: Entry, method: str, request: Fields) -> Any:
         """The decision, with a guessed lifetime if the origin states none."""
         response = section(entry.fields)
-        found = headers.decide(entry.method.encode(), section(entry.request), method.encode(), section(request),
-                               response,
-                               entry.moments(), self.is_shared)
-        if found == Decision.FETCH or headers.lifetime(response, entry.received, self.is_shared) is not None:
+        found = headers.decide(entry.method, section(entry.request), method, section(request), response,
+                               entry.times(), shared=self.is_shared)
+        if found == Decision.FETCH or headers.lifetime(response, entry.received, shared=self.is_shared) is not None:
             return found
         words = rows.map_words(entry.fields)
         guess = row("heuristic_lifetime", self.kind, str(entry.status), str(entry.received), *words)
@@ -84,8 +83,8 @@ class Store:
 
     def put(self, target: str, new: Entry) -> None:
         """Stores a response in place of those that could answer its request."""
-        if not headers.may_store(new.method.encode(), section(new.request), new.status, section(new.fields),
-                                 self.is_shared):
+        if not headers.may_store(new.method, section(new.request), new.status, section(new.fields),
+                                 shared=self.is_shared):
             return
         with self.lock:
             kept = [it for it in self.entries.get(target, ()) if it.method != new.method
@@ -183,9 +182,8 @@ class Proxy(BaseHTTPRequestHandler):
         """Asks the origin, by a condition if there is an entry, stores what comes and answers with it."""
         sent = request
         if entry is not None:
-            own = [(name.decode(), value.decode("latin-1")) for name,
-                   value in headers.validators(section(entry.fields), entry.received)]
-            sent = [it for it in request if it[0].lower() not in CONDITIONS] + own
+            own = headers.validators(section(entry.fields), entry.received)
+            sent = [it for it in request if it[0].lower() not in CONDITIONS] + list(own)
         try:
             fetched = ask_origin(self.origin, self.command, self.path, sent, body)
         except (OSError, http.client.HTTPException):
@@ -221,20 +219,20 @@ class Proxy(BaseHTTPRequestHandler):
         fields = [it for it in entry.fields if it[0] != "age"] + [("age", str(entry.age()))]
         if entry.status == 200:
             known = dict(fields)
-            etag = known.get("etag", "").encode("latin-1")
             modified = valid_date(known.get("last-modified") or known.get("date") or "", int(time.time()))
+            target = headers.Target(known.get("etag"), modified)
             asked = section(it for it in request if it[0].lower() in CONDITIONS)
             try:
-                if headers.evaluate(self.command.encode(), asked, etag, modified) == 304:
+                if headers.evaluate(self.command, asked, target) == 304:
                     return self.send(304, fields)
-                status, parts = headers.select(self.command.encode(), asked, len(entry.body), etag, modified)
-            except headers.Refused:  # an entity tag that is none
-                status, parts = 200, []
-            if status == 206 and len(parts) == 1:
-                first, last = parts[0]
+                selected = headers.select(self.command, asked, target, len(entry.body))
+            except headers.HeaderError:  # an entity tag that is none
+                selected = headers.Selection(200)
+            if len(selected.ranges) == 1:
+                (part,) = selected.ranges
                 fields = [it for it in fields if it[0] != "content-length"]
-                fields.append(("content-range", f"bytes {first}-{last}/{len(entry.body)}"))
-                return self.send(206, fields, entry.body[first : last + 1])
+                fields.append(("content-range", str(headers.ContentRange(part, len(entry.body)))))
+                return self.send(206, fields, entry.body[part.slice])
         return self.send(entry.status, fields, entry.body)
 
     def send(self, status: int, fields: Fields, body: bytes = b"") -> None:

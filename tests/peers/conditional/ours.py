@@ -8,15 +8,14 @@ def answer(method: str, lines: Fields, etag: str | None, modified: int | None, l
            now: int) -> Answer:
     """Status and parts. A header section that the library refuses is answered by 400, as by a server that reads it."""
     headers = products.library()
-    request = (method.encode(), section(lines))
-    tag = (etag or "").encode("latin-1")
+    request = (method, section(lines), headers.Target(etag, modified, is_date_strong=is_date_strong))
     try:
-        before = headers.evaluate(*request, tag, modified, present=now)
+        before = headers.evaluate(*request, now)
         if before != headers.Precondition.PERFORM:
             return int(before), ()
         if method not in ("GET", "HEAD"):
             return 200, ()
-        status, parts = headers.select(*request, length, tag, modified, is_date_strong, present=now)
-    except headers.Refused:
+        selected = headers.select(*request, length, now)
+    except headers.HeaderError:
         return 400, ()
-    return status, joined(parts)
+    return selected.status, joined((it.first, it.last) for it in selected.ranges)

@@ -1,0 +1,3 @@
+"""The version, which tools/version writes."""
+
+VERSION = "1.0.0"

@@ -1,0 +1,228 @@
+"""Header sections: the fields of a message, whatever form a framework has them in."""
+
+from datetime import datetime
+from typing import Iterable, Iterator, List, Mapping, Optional, Sequence, Tuple, Union
+
+from . import _library
+from ._library import Text
+from ._names import FIELDS
+from .errors import InvalidField
+from .values import (
+    CacheControl,
+    ContentRange,
+    ETag,
+    MediaType,
+    Range,
+    ReferrerPolicy,
+    RetryAfter,
+    StrictTransportSecurity,
+    age,
+    content_length,
+    date,
+    expires,
+    last_modified,
+)
+
+__all__ = ["Headers", "HeadersLike", "canonical_field", "canonical_section"]
+
+#: Names and values of fields.
+Fields = List[Tuple[str, str]]
+
+
+def canonical_field(name: Text, *lines: Text) -> List[str]:
+    """The canonical field lines of a field.
+
+    They are those that the decoded value encodes to. If `name` is none of the 49 names that the library knows, they are
+    the field lines as they came, without the white space at their ends. `InvalidField` if the lines encode no value.
+
+    >>> canonical_field("Cache-Control", "no-cache, MAX-AGE=060")
+    ['no-cache, max-age=60']
+    >>> canonical_field("If-None-Match", '"a"', 'W/"b"')
+    ['"a", W/"b"']
+    """
+    field = _library.to_str(_library.to_bytes(name, "name")).lower()
+    given = _library.to_lines(field, lines)
+    if field in FIELDS:
+        return [_library.to_str(line) for line in _library.canonical_lines(field, given)]
+    _library.canonical_text(_field_of(field, b""))
+    return [_library.to_str(line.strip(b" \t")) for line in given]
+
+
+def canonical_section(section: "HeadersLike") -> str:
+    """The canonical text of a header section (RFC 9112, section 5).
+
+    Each name has its field lines together, where the first one was. A name whose field lines are rejected is the line
+    `! NAME`. `InvalidSection` if a line is no field.
+
+    >>> canonical_section([("Age", "+007"), ("Date", "yesterday"), ("X-Any", "thing")])
+    'age: 7\\n! date\\nx-any: thing\\n'
+    """
+    return _library.to_str(_library.canonical_text(Headers(section).section))
+
+
+def _field_of(name: Text, value: Text) -> bytes:
+    """The line of a section for a field."""
+    given = _library.to_bytes(name, "name")
+    if not given or any(byte in given for byte in b":\r\n"):
+        raise InvalidField(_library.to_str(given), "this is no field name (RFC 9110, section 5.1)")
+    (line,) = _library.to_lines(_library.to_str(given).lower(), [value])
+    return given + b": " + line + b"\n"
+
+
+class Headers:
+    """The header fields of a message, to read.
+
+    It takes a header section as text, a mapping of names to values, or pairs of a name and a value, as frameworks
+    have them. A field that is absent is `None`. A field whose lines encode no value raises `InvalidField`.
+
+    >>> headers = Headers({"Content-Length": "42", "ETag": '"a"', "Cache-Control": "no-cache, max-age=60"})
+    >>> headers.content_length
+    42
+    >>> headers.etag
+    ETag(opaque='a', weak=False)
+    >>> headers.cache_control.max_age
+    60
+    >>> headers.age is None
+    True
+    >>> Headers("Age: 7\\r\\nAge: 8\\r\\n").lines("age")
+    ('7', '8')
+    """
+
+    #: The header section as bytes: a line for each field.
+    section: bytes
+
+    def __init__(self, fields: "HeadersLike" = ()) -> None:
+        if isinstance(fields, Headers):
+            self.section = fields.section
+        elif isinstance(fields, (str, bytes, bytearray, memoryview)):
+            self.section = _library.to_bytes(fields, "the header section")
+        elif isinstance(fields, Mapping):
+            pairs = ((name, value) for name, given in fields.items() for value in _values(given))
+            self.section = b"".join(_field_of(name, value) for name, value in pairs)
+        else:
+            self.section = b"".join(_field_of(name, value) for name, value in fields)
+
+    def __repr__(self) -> str:
+        return f"Headers({list(self)!r})"
+
+    def __eq__(self, other: object) -> bool:
+        return isinstance(other, Headers) and list(self) == list(other)
+
+    def __hash__(self) -> int:
+        return hash(tuple(self))
+
+    def __iter__(self) -> Iterator[Tuple[str, str]]:
+        """The names, in lower case, and values, in order."""
+        for line in self.section.split(b"\n"):
+            line = line[:-1] if line.endswith(b"\r") else line
+            if not line:
+                return
+            name, _, value = line.partition(b":")
+            yield _library.to_str(name).lower(), _library.to_str(value.strip(b" \t"))
+
+    def __contains__(self, name: object) -> bool:
+        return isinstance(name, str) and bool(self.lines(name))
+
+    def lines(self, name: str) -> Sequence[str]:
+        """The field lines of a name, without the white space at their ends."""
+        field = name.lower()
+        return tuple(value for other, value in self if other == field)
+
+    def canonical(self, name: str) -> Optional[List[str]]:
+        """The canonical field lines of a name, or `None` if it has none: see `canonical_field`."""
+        lines = self.lines(name)
+        return canonical_field(name, *lines) if lines else None
+
+    @property
+    def age(self) -> Optional[int]:
+        """The seconds of `Age`."""
+        lines = self.lines("age")
+        return age(*lines) if lines else None
+
+    @property
+    def cache_control(self) -> Optional[CacheControl]:
+        """The directives of `Cache-Control`."""
+        lines = self.lines("cache-control")
+        return CacheControl.parse(*lines) if lines else None
+
+    @property
+    def content_length(self) -> Optional[int]:
+        """The bytes of `Content-Length`."""
+        lines = self.lines("content-length")
+        return content_length(*lines) if lines else None
+
+    @property
+    def content_range(self) -> Optional[ContentRange]:
+        """The range of `Content-Range`."""
+        lines = self.lines("content-range")
+        return ContentRange.parse(*lines) if lines else None
+
+    @property
+    def content_type(self) -> Optional[MediaType]:
+        """The media type of `Content-Type`."""
+        lines = self.lines("content-type")
+        return MediaType.parse(*lines) if lines else None
+
+    @property
+    def date(self) -> Optional[datetime]:
+        """The time of `Date`."""
+        lines = self.lines("date")
+        return date(*lines) if lines else None
+
+    @property
+    def etag(self) -> Optional[ETag]:
+        """The entity tag of `ETag`."""
+        lines = self.lines("etag")
+        return ETag.parse(*lines) if lines else None
+
+    @property
+    def expires(self) -> Optional[datetime]:
+        """The time of `Expires`."""
+        lines = self.lines("expires")
+        return expires(*lines) if lines else None
+
+    @property
+    def last_modified(self) -> Optional[datetime]:
+        """The time of `Last-Modified`."""
+        lines = self.lines("last-modified")
+        return last_modified(*lines) if lines else None
+
+    @property
+    def range(self) -> Optional[Range]:
+        """The ranges of `Range`."""
+        lines = self.lines("range")
+        return Range.parse(*lines) if lines else None
+
+    @property
+    def referrer_policy(self) -> Optional[ReferrerPolicy]:
+        """The policy of `Referrer-Policy`."""
+        lines = self.lines("referrer-policy")
+        return ReferrerPolicy.parse(*lines) if lines else None
+
+    @property
+    def retry_after(self) -> Optional[RetryAfter]:
+        """The delay or the time of `Retry-After`."""
+        lines = self.lines("retry-after")
+        return RetryAfter.parse(*lines) if lines else None
+
+    @property
+    def strict_transport_security(self) -> Optional[StrictTransportSecurity]:
+        """The policy of `Strict-Transport-Security`."""
+        lines = self.lines("strict-transport-security")
+        return StrictTransportSecurity.parse(*lines) if lines else None
+
+
+def _values(given: Union[Text, Iterable[Text]]) -> Iterable[Text]:
+    return [given] if isinstance(given, (str, bytes, bytearray, memoryview)) else given
+
+
+#: What `Headers` takes.
+HeadersLike = Union[
+    Headers,
+    Text,
+    Mapping[str, str],
+    Mapping[str, Sequence[str]],
+    Mapping[bytes, bytes],
+    Iterable[Tuple[str, str]],
+    Iterable[Tuple[bytes, bytes]],
+]

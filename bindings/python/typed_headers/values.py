@@ -1,0 +1,509 @@
+"""The values of header fields. Each type has `parse`, from field lines, and `str`, its canonical field line.
+
+Texts are `str` with a character for each byte (ISO 8859-1), as in WSGI and `http.client`.
+"""
+
+import builtins
+import ctypes
+import re
+from dataclasses import dataclass, fields
+from datetime import datetime, timedelta, timezone
+from email.utils import format_datetime
+from enum import Enum
+from typing import Any, List, Optional, Tuple, Type, TypeVar
+
+from . import _library
+from ._library import Text, Time
+from .errors import HeaderError, InvalidField
+
+__all__ = [
+    "ByteRange",
+    "CacheControl",
+    "ContentRange",
+    "ETag",
+    "MediaType",
+    "Range",
+    "ReferrerPolicy",
+    "RetryAfter",
+    "StrictTransportSecurity",
+    "age",
+    "content_length",
+    "date",
+    "expires",
+    "format_date",
+    "last_modified",
+    "websocket_accept",
+]
+
+
+def age(line: Text, *more: Text) -> int:
+    """The seconds of `Age` (RFC 9111, section 5.1).
+
+    >>> age("+007")
+    7
+    """
+    return _library.number(_library.age, "age", _library.to_lines("age", (line, *more)))
+
+
+def content_length(line: Text, *more: Text) -> int:
+    """The bytes of `Content-Length` (RFC 9110, section 8.6). Several field lines have to say the same.
+
+    >>> content_length("42", "42")
+    42
+    """
+    lines = _library.to_lines("content-length", (line, *more))
+    return _library.number(_library.content_length, "content-length", lines)
+
+
+def _time(call: _library.Call, field: str, lines: Tuple[Text, ...]) -> datetime:
+    return _library.to_datetime(_library.number(call, field, _library.to_lines(field, lines)))
+
+
+def date(line: Text, *more: Text) -> datetime:
+    """The time of `Date` (RFC 9110, section 6.6.1), in one of the three formats of HTTP dates.
+
+    >>> date("Sunday, 06-Nov-94 08:49:37 GMT")
+    datetime.datetime(1994, 11, 6, 8, 49, 37, tzinfo=datetime.timezone.utc)
+    """
+    return _time(_library.date, "date", (line, *more))
+
+
+def expires(line: Text, *more: Text) -> datetime:
+    """The time of `Expires` (RFC 9111, section 5.3)."""
+    return _time(_library.expires, "expires", (line, *more))
+
+
+def last_modified(line: Text, *more: Text) -> datetime:
+    """The time of `Last-Modified` (RFC 9110, section 8.8.2)."""
+    return _time(_library.last_modified, "last-modified", (line, *more))
+
+
+def format_date(time: Time) -> str:
+    """A time as an HTTP date (RFC 9110, section 5.6.7). A fraction of a second is cut off.
+
+    >>> format_date(784111777)
+    'Sun, 06 Nov 1994 08:49:37 GMT'
+    """
+    seconds = _library.to_seconds(time, "time")
+    try:
+        text = format_datetime(_library.to_datetime(seconds), usegmt=True)
+    except OverflowError:
+        raise HeaderError(f"time: {seconds} lies past the year 9999") from None
+    # The text is Python's; the library has to read the same time from it.
+    if _library.number(_library.date, "date", [text.encode("ascii")]) != seconds:
+        raise AssertionError(f"{text} isn't the date of {seconds}")
+    return text
+
+
+def websocket_accept(line: Text, *more: Text) -> str:
+    """The value of `Sec-WebSocket-Accept` that answers a `Sec-WebSocket-Key` (RFC 6455, section 4.2.2).
+
+    >>> websocket_accept("dGhlIHNhbXBsZSBub25jZQ==")
+    's3pPLMBiTxaQ9kYGzzhZRbK+xOo='
+    """
+    field = "sec-websocket-key"
+    lines = _library.to_lines(field, (line, *more))
+    given = _library.joined(lines)
+
+    def refused() -> InvalidField:
+        reason = "expected the base64 of 16 bytes in a single field line (RFC 6455, section 4.2.1)"
+        return InvalidField(field, reason, lines)
+
+    _, text = _library.written(lambda *room: _library.websocket_accept(given, len(given), *room), 28, refused)
+    return _library.to_str(text)
+
+
+Value = TypeVar("Value")
+
+
+def _made(cls: Type[Value], **members: Any) -> Value:
+    """A value of members that the library gave, so that they need no check."""
+    value = object.__new__(cls)
+    for name, member in members.items():
+        object.__setattr__(value, name, member)
+    return value
+
+
+def _only(field: str, lines: Tuple[Text, ...]) -> str:
+    """The canonical field line of a field that has one."""
+    found = _library.canonical_lines(field, _library.to_lines(field, lines))
+    return _library.to_str(found[0])
+
+
+def _check(field: str, text: str) -> None:
+    """Raises an error if the text isn't the canonical field line of a field."""
+    lines = _library.to_lines(field, [text])
+    if _library.canonical_lines(field, lines) != lines:
+        raise _library.rejected(field, lines)
+
+
+@dataclass(frozen=True)
+class ETag:
+    """An entity tag (RFC 9110, section 8.8.3).
+
+    >>> ETag.parse('W/"a"')
+    ETag(opaque='a', weak=True)
+    >>> str(ETag("a"))
+    '"a"'
+    >>> ETag("a").matches_weakly(ETag("a", weak=True)), ETag("a").matches_strongly(ETag("a", weak=True))
+    (True, False)
+    """
+
+    #: What stands between the quotes.
+    opaque: str
+    #: Whether `W/` stands before it.
+    weak: bool = False
+
+    def __post_init__(self) -> None:
+        text = _library.to_lines("etag", [str(self)])
+        if '"' in self.opaque or not self._compares(_library.weak_eq, text[0], text[0]):
+            raise _library.rejected("etag", text)
+
+    @classmethod
+    def parse(cls, line: Text, *more: Text) -> "ETag":
+        """The entity tag that the only field line of `ETag` is."""
+        lines = _library.to_lines("etag", (line, *more))
+        if len(lines) != 1:
+            raise _library.rejected("etag", lines)
+        cls._compares(_library.weak_eq, lines[0], lines[0])
+        text = _library.to_str(lines[0])
+        weak = text.startswith("W/")
+        return _made(cls, opaque=text[3:-1] if weak else text[1:-1], weak=weak)
+
+    def __str__(self) -> str:
+        return f'W/"{self.opaque}"' if self.weak else f'"{self.opaque}"'
+
+    def matches_strongly(self, other: "ETag") -> bool:
+        """Whether both tags are equal and neither is weak (RFC 9110, section 8.8.3.2)."""
+        return self._compares(_library.strong_eq, str(self).encode("latin-1"), str(other).encode("latin-1"))
+
+    def matches_weakly(self, other: "ETag") -> bool:
+        """Whether both tags are equal but for `W/` (RFC 9110, section 8.8.3.2)."""
+        return self._compares(_library.weak_eq, str(self).encode("latin-1"), str(other).encode("latin-1"))
+
+    @staticmethod
+    def _compares(call: _library.Call, one: bytes, other: bytes) -> bool:
+        equal = ctypes.c_uint8()
+        status = call(one, len(one), other, len(other), ctypes.byref(equal))
+        _library.check(status, lambda: _library.rejected("etag", [one]))
+        if status == _library.Status.ABSENT:
+            raise _library.rejected("etag", [one])
+        return equal.value == 1
+
+
+# A parameter in the canonical text of a media type.
+_PARAMETER = re.compile(r'; ([^=]+)=("(?:[^"\\]|\\.)*"|[^;"]+)', re.DOTALL)
+
+
+@dataclass(frozen=True)
+class MediaType:
+    """A media type (RFC 9110, section 8.3.1).
+
+    >>> html = MediaType.parse('Text/HTML;Charset=UTF-8; a="b c"')
+    >>> html.essence, html.charset, html.parameter("a")
+    ('text/html', 'utf-8', 'b c')
+    >>> str(html)
+    'text/html; charset=utf-8; a="b c"'
+    >>> str(MediaType("image", "png"))
+    'image/png'
+    """
+
+    type: str
+    subtype: str
+    #: Names and values of the parameters, in order. A value is a token or a quoted-string, as it is written.
+    parameters: Tuple[Tuple[str, str], ...] = ()
+
+    def __post_init__(self) -> None:
+        object.__setattr__(self, "parameters", tuple((name, value) for name, value in self.parameters))
+        read = MediaType.parse(str(self))
+        given = (self.type.lower(), self.subtype.lower(), len(self.parameters))
+        if (read.type, read.subtype, len(read.parameters)) != given:
+            raise _library.rejected("content-type", _library.to_lines("content-type", [str(self)]))
+        for name in ("type", "subtype", "parameters"):
+            object.__setattr__(self, name, getattr(read, name))
+
+    @classmethod
+    def parse(cls, line: Text, *more: Text) -> "MediaType":
+        """The media type that the first field line of `Content-Type` is."""
+        lines = _library.to_lines("content-type", (line, *more))
+        text = _library.to_str(_library.text(_library.media_type, "content-type", lines, len(lines[0]) + 16))
+        essence = _library.to_str(_library.text(_library.essence, "content-type", lines, len(lines[0])))
+        kind, _, subtype = essence.partition("/")
+        parameters = tuple((name, value) for name, value in _PARAMETER.findall(text[len(essence) :]))
+        return _made(cls, type=kind, subtype=subtype, parameters=parameters)
+
+    def __str__(self) -> str:
+        return self.essence + "".join(f"; {name}={value}" for name, value in self.parameters)
+
+    @property
+    def essence(self) -> str:
+        """Type and subtype, as `text/html`."""
+        return f"{self.type}/{self.subtype}"
+
+    @property
+    def charset(self) -> Optional[str]:
+        """The parameter `charset`, if there is one."""
+        return self.parameter("charset")
+
+    def parameter(self, name: str) -> Optional[str]:
+        """The first parameter of a name, without quotes and backslashes (RFC 9110, section 5.6.4)."""
+        for other, value in self.parameters:
+            if other == name.lower():
+                return re.sub(r"\\(.)", r"\1", value[1:-1]) if value.startswith('"') else value
+        return None
+
+
+@dataclass(frozen=True)
+class CacheControl:
+    """The directives of `Cache-Control` (RFC 9111, section 5.2, and RFC 8246). A number of seconds is `None` if it
+    isn't set. Other directives are ignored.
+
+    >>> CacheControl.parse("no-cache, MAX-AGE=060").max_age
+    60
+    >>> str(CacheControl(max_age=60, public=True))
+    'public, max-age=60'
+    """
+
+    max_age: Optional[int] = None
+    max_stale: Optional[int] = None
+    min_fresh: Optional[int] = None
+    s_maxage: Optional[int] = None
+    no_cache: bool = False
+    no_store: bool = False
+    no_transform: bool = False
+    only_if_cached: bool = False
+    must_revalidate: bool = False
+    must_understand: bool = False
+    proxy_revalidate: bool = False
+    public: bool = False
+    private: bool = False
+    immutable: bool = False
+
+    def __post_init__(self) -> None:
+        for name in _library.DIRECTIVES_WITH_SECONDS:
+            seconds = getattr(self, name)
+            if seconds is not None:
+                object.__setattr__(self, name, _library.to_number(seconds, name))
+
+    @classmethod
+    def parse(cls, line: Text, *more: Text) -> "CacheControl":
+        """The directives of all field lines."""
+        lines = _library.to_lines("cache-control", (line, *more))
+        text, given = _library.joined(lines), _library.Directives()
+        status = _library.cache_control(text, len(text), ctypes.byref(given))
+        _library.check(status, lambda: _library.rejected("cache-control", lines))
+        members = {name: getattr(given, name) == 1 for name in _library.DIRECTIVES}
+        for name in _library.DIRECTIVES_WITH_SECONDS:
+            seconds = getattr(given, name)
+            members[name] = seconds.seconds if seconds.is_set else None
+        # The call has no flag for this directive yet; the canonical field line has its name.
+        members["proxy_revalidate"] = False
+        if b"proxy-revalidate" in text.lower():
+            members["proxy_revalidate"] = "proxy-revalidate" in _only("cache-control", (line, *more)).split(", ")
+        return _made(cls, **members)
+
+    def __str__(self) -> str:
+        members = [(it.name.replace("_", "-"), getattr(self, it.name)) for it in fields(self)]
+        words = [name for name, value in members if value is True]
+        words += [f"{name}={value}" for name, value in members if value is not None and not isinstance(value, bool)]
+        return _only("cache-control", (", ".join(words),))
+
+
+@dataclass(frozen=True)
+class ByteRange:
+    """A range of bytes, by its first and its last position, both included.
+
+    >>> b"abcdef"[ByteRange(1, 3).slice]
+    b'bcd'
+    """
+
+    first: int
+    last: int
+
+    @property
+    def length(self) -> int:
+        """How many bytes the range has."""
+        return self.last - self.first + 1
+
+    @property
+    def slice(self) -> "slice":
+        """The range as a slice of the content."""
+        return slice(self.first, self.last + 1)
+
+
+@dataclass(frozen=True)
+class Range:
+    """The ranges that a request asks for (RFC 9110, section 14.2).
+
+    >>> Range.parse("bytes=0-4, -3").satisfiable(10)
+    [ByteRange(first=0, last=4), ByteRange(first=7, last=9)]
+    >>> str(Range.bytes((0, 4), (7, None), (None, 3)))
+    'bytes=0-4,7-,-3'
+    """
+
+    #: The field line.
+    text: str
+
+    def __post_init__(self) -> None:
+        self._positions(_library.to_lines("range", [self.text])[0], 0)
+
+    @classmethod
+    def parse(cls, line: Text, *more: Text) -> "Range":
+        """The ranges of the first field line."""
+        lines = _library.to_lines("range", (line, *more))
+        cls._positions(lines[0], 0)
+        return _made(cls, text=_library.to_str(lines[0]))
+
+    @classmethod
+    def bytes(cls, *ranges: Tuple[Optional[int], Optional[int]]) -> "Range":
+        """The ranges from a first to a last position. Without a last one, a range goes to the end; without a first
+        one, it is so many bytes at the end."""
+        shown = []
+        for first, last in ranges:
+            if first is None and last is None or first is not None and last is not None and first > last:
+                raise HeaderError(f"range: ({first}, {last}) is no range of bytes")
+            numbers = ("" if it is None else str(_library.to_number(it, "range")) for it in (first, last))
+            shown.append("-".join(numbers))
+        return cls("bytes=" + ",".join(shown))
+
+    def __str__(self) -> str:
+        return self.text
+
+    def satisfiable(self, length: int) -> List[ByteRange]:
+        """The ranges that a representation of so many bytes can satisfy, in order (RFC 9110, section 14.1.2)."""
+        size = _library.to_number(length, "length")
+        return [ByteRange(first, last) for first, last in self._positions(self.text.encode("latin-1"), size)]
+
+    @staticmethod
+    def _positions(line: "builtins.bytes", length: int) -> List[Tuple[int, int]]:
+        text = line + b"\n"
+        _, found = _library.positions(
+            lambda *room: _library.ranges(text, len(text), length, *room),
+            line.count(b",") + 1,
+            lambda: _library.rejected("range", [line]),
+        )
+        return found
+
+
+_CONTENT_RANGE = re.compile(r"bytes (?:(\d+)-(\d+)|\*)/(?:(\d+)|\*)")
+
+
+@dataclass(frozen=True)
+class ContentRange:
+    """Which bytes of a representation a message has (RFC 9110, section 14.4).
+
+    >>> ContentRange.parse("bytes 0-4/10")
+    ContentRange(range=ByteRange(first=0, last=4), length=10)
+    >>> str(ContentRange(None, 10))
+    'bytes */10'
+    """
+
+    #: The range, or `None` if no range could be satisfied.
+    range: Optional[ByteRange]
+    #: The length of the whole representation, or `None` if it isn't known.
+    length: Optional[int]
+
+    def __post_init__(self) -> None:
+        numbers = [] if self.range is None else [self.range.first, self.range.last]
+        for number in (*numbers, 0 if self.length is None else self.length):
+            _library.to_number(number, "content-range")
+        _check("content-range", str(self))
+
+    @classmethod
+    def parse(cls, line: Text, *more: Text) -> "ContentRange":
+        """The range of the first field line."""
+        found = _CONTENT_RANGE.fullmatch(_only("content-range", (line, *more)))
+        assert found, "this is the library's canonical field line"
+        part = None if found[1] is None else ByteRange(int(found[1]), int(found[2]))
+        return _made(cls, range=part, length=None if found[3] is None else int(found[3]))
+
+    def __str__(self) -> str:
+        part = "*" if self.range is None else f"{self.range.first}-{self.range.last}"
+        return f"bytes {part}/{'*' if self.length is None else self.length}"
+
+
+@dataclass(frozen=True)
+class RetryAfter:
+    """When a client may ask again (RFC 9110, section 10.2.3): after a delay, or from a time on.
+
+    >>> RetryAfter.parse("120").delay
+    datetime.timedelta(seconds=120)
+    >>> str(RetryAfter(date=datetime(1994, 11, 6, 8, 49, 37, tzinfo=timezone.utc)))
+    'Sun, 06 Nov 1994 08:49:37 GMT'
+    """
+
+    delay: Optional[timedelta] = None
+    date: Optional[datetime] = None
+
+    def __post_init__(self) -> None:
+        if (self.delay is None) == (self.date is None):
+            raise HeaderError("retry-after: expected either a delay or a date")
+        _check("retry-after", str(self))
+
+    @classmethod
+    def parse(cls, line: Text, *more: Text) -> "RetryAfter":
+        """The delay or the time of the first field line. A delay of more than 999,999,999 days is that long."""
+        text = _only("retry-after", (line, *more))
+        if not text.isdigit():
+            return _made(cls, delay=None, date=date(text))
+        days, seconds = divmod(int(text), 86400)
+        return _made(cls, delay=timedelta(min(days, timedelta.max.days), seconds), date=None)
+
+    def __str__(self) -> str:
+        if self.date is not None:
+            return format_date(self.date)
+        assert self.delay is not None, "there is either a delay or a date"
+        return str(self.delay // timedelta(seconds=1))
+
+
+_SECURITY = re.compile(r"max-age=(\d+)(; includeSubdomains)?")
+
+
+@dataclass(frozen=True)
+class StrictTransportSecurity:
+    """For how long a browser uses HTTPS alone (RFC 6797, section 6.1).
+
+    >>> StrictTransportSecurity.parse("max-age=31536000; includeSubDomains")
+    StrictTransportSecurity(max_age=31536000, include_subdomains=True)
+    """
+
+    max_age: int
+    include_subdomains: bool = False
+
+    def __post_init__(self) -> None:
+        object.__setattr__(self, "max_age", _library.to_number(self.max_age, "max_age"))
+
+    @classmethod
+    def parse(cls, line: Text, *more: Text) -> "StrictTransportSecurity":
+        """The policy of the only field line."""
+        found = _SECURITY.fullmatch(_only("strict-transport-security", (line, *more)))
+        assert found, "this is the library's canonical field line"
+        return _made(cls, max_age=int(found[1]), include_subdomains=found[2] is not None)
+
+    def __str__(self) -> str:
+        return f"max-age={self.max_age}{'; includeSubdomains' if self.include_subdomains else ''}"
+
+
+class ReferrerPolicy(Enum):
+    """What a browser says in `Referer` (Referrer Policy, section 8.1).
+
+    >>> ReferrerPolicy.parse("unknown, no-referrer, same-origin")
+    <ReferrerPolicy.SAME_ORIGIN: 'same-origin'>
+    """
+
+    NO_REFERRER = "no-referrer"
+    NO_REFERRER_WHEN_DOWNGRADE = "no-referrer-when-downgrade"
+    SAME_ORIGIN = "same-origin"
+    ORIGIN = "origin"
+    ORIGIN_WHEN_CROSS_ORIGIN = "origin-when-cross-origin"
+    UNSAFE_URL = "unsafe-url"
+    STRICT_ORIGIN = "strict-origin"
+    STRICT_ORIGIN_WHEN_CROSS_ORIGIN = "strict-origin-when-cross-origin"
+
+    @classmethod
+    def parse(cls, line: Text, *more: Text) -> "ReferrerPolicy":
+        """The last policy of the field lines that is known."""
+        return cls(_only("referrer-policy", (line, *more)))
+
+    def __str__(self) -> str:
+        return str(self.value)
