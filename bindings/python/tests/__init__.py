@@ -1,0 +1,1 @@
+"""Tests of the package, for `python3 -m unittest`."""

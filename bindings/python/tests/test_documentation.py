@@ -1,0 +1,24 @@
+"""The examples in docstrings."""
+
+import doctest
+import importlib
+import pkgutil
+import unittest
+
+import typed_headers
+
+
+def load_tests(loader: unittest.TestLoader, tests: unittest.TestSuite, pattern: str) -> unittest.TestSuite:
+    names = [it.name for it in pkgutil.iter_modules(typed_headers.__path__) if it.name != "__main__"]
+    for module in (typed_headers, *(importlib.import_module(f"typed_headers.{name}") for name in names)):
+        tests.addTests(doctest.DocTestSuite(module))
+    return tests
+
+
+class Exports(unittest.TestCase):
+    def test_all_names_exist(self) -> None:
+        for name in typed_headers.__all__:
+            self.assertTrue(hasattr(typed_headers, name), name)
+
+    def test_version(self) -> None:
+        self.assertEqual(typed_headers.version().split(".")[0], typed_headers.__version__.split(".")[0])

@@ -1,0 +1,267 @@
+"""Values: what they take, what they print, and what they reject."""
+
+import pickle
+import unittest
+from datetime import datetime, timedelta, timezone
+from typing import Any, Callable, Tuple
+
+from typed_headers import (
+    ByteRange,
+    CacheControl,
+    ContentRange,
+    ETag,
+    HeaderError,
+    InvalidField,
+    MediaType,
+    Range,
+    ReferrerPolicy,
+    RetryAfter,
+    StrictTransportSecurity,
+    age,
+    content_length,
+    date,
+    expires,
+    format_date,
+    last_modified,
+    websocket_accept,
+)
+
+# The example of RFC 9110, section 5.6.7, in the three formats.
+DATES = ("Sun, 06 Nov 1994 08:49:37 GMT", "Sunday, 06-Nov-94 08:49:37 GMT", "Sun Nov  6 08:49:37 1994")
+TIME = datetime(1994, 11, 6, 8, 49, 37, tzinfo=timezone.utc)
+
+
+class Texts(unittest.TestCase):
+    def test_each_type_of_text(self) -> None:
+        texts: Any = ("7", b"7", bytearray(b"7"), memoryview(b"7"), memoryview(b"x7x")[1:2])
+        for text in texts:
+            self.assertEqual(age(text), 7)
+
+    def test_other_types_are_rejected(self) -> None:
+        wrong: Any
+        for wrong in (7, None, ["7"], 7.0):
+            with self.assertRaises(TypeError):
+                age(wrong)
+
+    def test_a_character_that_is_no_byte(self) -> None:
+        with self.assertRaisesRegex(HeaderError, "character 1, '€', is no byte"):
+            age("7€")
+
+    def test_a_byte_that_no_value_has(self) -> None:
+        for text, place in (("7\n", 1), ("7\r", 1), ("\0", 0), ("ab\x7f", 2)):
+            with self.assertRaises(InvalidField) as caught:
+                age(text)
+            self.assertEqual((caught.exception.field, caught.exception.line, caught.exception.byte), ("age", 0, place))
+        with self.assertRaisesRegex(InvalidField, "age: byte 1 of field line 1 is 0x0A"):
+            age("7", "8\n")
+
+
+class Numbers(unittest.TestCase):
+    def test_numbers(self) -> None:
+        self.assertEqual(age("+007"), 7)
+        self.assertEqual(age("18446744073709551615"), 2**64 - 1)
+        self.assertEqual(content_length("5", "5"), 5)
+
+    def test_rejected_numbers_say_why(self) -> None:
+        with self.assertRaises(InvalidField) as caught:
+            age("7", "8")
+        message = "age: expected a number of seconds below 2^64 in a single field line (RFC 9111, section 5.1)"
+        self.assertEqual(str(caught.exception), f"{message}, not '7', '8'")
+        self.assertEqual(caught.exception.lines, (b"7", b"8"))
+        for call, lines in ((age, ("18446744073709551616",)), (age, ("",)), (content_length, ("5", "6"))):
+            with self.assertRaises(InvalidField):
+                call(*lines)
+
+    def test_integers_do_not_wrap(self) -> None:
+        calls: Tuple[Callable[[int], object], ...] = (
+            lambda it: Range.parse("bytes=0-").satisfiable(it),
+            lambda it: CacheControl(max_age=it),
+            lambda it: Range.bytes((0, it)),
+            lambda it: ContentRange(None, it),
+            lambda it: StrictTransportSecurity(it),
+            format_date,
+        )
+        for call in calls:
+            for number in (-1, 2**64, 2**64 + 5):
+                with self.assertRaises(HeaderError):
+                    call(number)
+            wrong: Any = "7"
+            with self.assertRaises(TypeError):
+                call(wrong)
+
+
+class Times(unittest.TestCase):
+    def test_dates(self) -> None:
+        for call in (date, expires, last_modified):
+            for text in DATES:
+                self.assertEqual(call(text), TIME)
+
+    def test_formats(self) -> None:
+        self.assertEqual(format_date(TIME), DATES[0])
+        zone = timezone(timedelta(hours=2))
+        self.assertEqual(format_date(datetime(1994, 11, 6, 10, 49, 37, 999_999, tzinfo=zone)), DATES[0])
+        self.assertEqual(format_date(253402300799), "Fri, 31 Dec 9999 23:59:59 GMT")
+
+    def test_times_that_are_no_date(self) -> None:
+        with self.assertRaisesRegex(HeaderError, "no time zone"):
+            format_date(datetime(1994, 11, 6))
+        with self.assertRaisesRegex(HeaderError, "before 1970"):
+            format_date(datetime(1969, 12, 31, tzinfo=timezone.utc))
+        with self.assertRaisesRegex(HeaderError, "9999"):
+            format_date(253402300800)
+        with self.assertRaisesRegex(InvalidField, "date: expected an HTTP date"):
+            date("yesterday")
+
+
+class Tags(unittest.TestCase):
+    def test_comparison(self) -> None:
+        # The table of RFC 9110, section 8.8.3.2.
+        table = (
+            ('W/"1"', 'W/"1"', False, True),
+            ('W/"1"', 'W/"2"', False, False),
+            ('W/"1"', '"1"', False, True),
+            ('"1"', '"1"', True, True),
+        )
+        for one, other, strong, weak in table:
+            tags = ETag.parse(one), ETag.parse(other)
+            self.assertEqual((tags[0].matches_strongly(tags[1]), tags[0].matches_weakly(tags[1])), (strong, weak))
+            self.assertEqual((str(tags[0]), str(tags[1])), (one, other))
+
+    def test_made(self) -> None:
+        self.assertEqual(str(ETag("a", weak=True)), 'W/"a"')
+        self.assertEqual(ETag.parse(b'"\xff"'), ETag("\xff"))
+        for opaque in ('a"', "a b", "a\n", "\x7f", 'a", "b'):
+            with self.assertRaises(InvalidField):
+                ETag(opaque)
+
+    def test_rejected(self) -> None:
+        for text in ("", "a", "*", 'w/"a"', '"a', '"a", "b"', 'W/ "a"'):
+            with self.assertRaises(InvalidField):
+                ETag.parse(text)
+        with self.assertRaises(InvalidField):
+            ETag.parse('"a"', '"a"')
+
+
+class MediaTypes(unittest.TestCase):
+    def test_parts(self) -> None:
+        it = MediaType.parse('Multipart/Form-Data;Boundary="a\\"; b=c";q=1')
+        self.assertEqual((it.type, it.subtype, it.essence), ("multipart", "form-data", "multipart/form-data"))
+        self.assertEqual(it.parameters, (("boundary", '"a\\"; b=c"'), ("q", "1")))
+        self.assertEqual((it.parameter("Boundary"), it.parameter("q"), it.charset), ('a"; b=c', "1", None))
+        self.assertEqual(MediaType.parse(str(it)), it)
+
+    def test_made(self) -> None:
+        self.assertEqual(MediaType("Text", "HTML", (("Charset", "UTF-8"),)), MediaType.parse("text/html;charset=utf-8"))
+        wrong = (("text", "html; a=b", ()), ("text", "", ()), ("a/b", "c", ()), ("a", "b", (("c", "d; e=f"),)))
+        for members in wrong:
+            with self.assertRaises(InvalidField):
+                MediaType(*members)
+
+    def test_rejected(self) -> None:
+        for text in ("", "text", "text/", "text/html;a", 'text/html; a="b'):
+            with self.assertRaisesRegex(InvalidField, "content-type: expected a media type"):
+                MediaType.parse(text)
+
+
+class Directives(unittest.TestCase):
+    def test_all_of_them(self) -> None:
+        text = (
+            "no-cache, no-store, no-transform, only-if-cached, must-revalidate, public, private, immutable, "
+            "must-understand, proxy-revalidate, max-age=1, max-stale=2, min-fresh=3, s-maxage=4"
+        )
+        it = CacheControl.parse(text)
+        self.assertEqual(str(it), text)
+        self.assertEqual((it.max_age, it.max_stale, it.min_fresh, it.s_maxage), (1, 2, 3, 4))
+        self.assertTrue(it.proxy_revalidate and it.must_understand and it.immutable)
+        self.assertEqual(CacheControl.parse(str(it)), it)
+
+    def test_lines_and_ignored_ones(self) -> None:
+        self.assertEqual(CacheControl.parse("max-age=1", "MAX-AGE=2, other=x"), CacheControl(max_age=2))
+        self.assertEqual(CacheControl.parse('private="set-cookie, proxy-revalidate"'), CacheControl())
+        self.assertEqual(str(CacheControl()), "")
+
+    def test_rejected(self) -> None:
+        with self.assertRaisesRegex(InvalidField, "cache-control: .*not 'max-age=x'"):
+            CacheControl.parse("max-age=x")
+
+
+class Ranges(unittest.TestCase):
+    def test_satisfiable(self) -> None:
+        it = Range.parse("bytes=0-0, x, 5-, -3, 20-")
+        self.assertEqual(it.satisfiable(10), [ByteRange(0, 0), ByteRange(5, 9), ByteRange(7, 9)])
+        self.assertEqual(it.satisfiable(0), [])
+        many = Range.parse("bytes=" + ",".join(f"{place}-{place}" for place in range(1000)))
+        self.assertEqual(len(many.satisfiable(500)), 500)
+        self.assertEqual((ByteRange(5, 9).length, b"0123456789"[ByteRange(5, 9).slice]), (5, b"56789"))
+
+    def test_made(self) -> None:
+        self.assertEqual(str(Range.bytes((0, 4), (7, None), (None, 3))), "bytes=0-4,7-,-3")
+        for part in ((None, None), (5, 4)):
+            with self.assertRaises(HeaderError):
+                Range.bytes(part)
+        for text in ("", "items=0-4", " bytes=0-4"):
+            with self.assertRaisesRegex(InvalidField, "range: expected text that begins with bytes="):
+                Range(text)
+
+    def test_content_range(self) -> None:
+        values = (
+            ("bytes 0-4/10", ContentRange(ByteRange(0, 4), 10)),
+            ("bytes */10", ContentRange(None, 10)),
+            ("bytes 0-4/*", ContentRange(ByteRange(0, 4), None)),
+        )
+        for text, value in values:
+            self.assertEqual((ContentRange.parse(text), str(value)), (value, text))
+        for text in ("bytes 5-4/10", "bytes 0-4", "items 0-4/10", "bytes 0-18446744073709551616/*"):
+            with self.assertRaises(InvalidField):
+                ContentRange.parse(text)
+        with self.assertRaises(InvalidField):
+            ContentRange(ByteRange(5, 4), 10)
+
+
+class Others(unittest.TestCase):
+    def test_retry_after(self) -> None:
+        self.assertEqual(RetryAfter.parse("0120"), RetryAfter(timedelta(minutes=2)))
+        self.assertEqual(RetryAfter.parse(DATES[1]), RetryAfter(date=TIME))
+        self.assertEqual(str(RetryAfter(timedelta(minutes=2))), "120")
+        self.assertEqual(RetryAfter.parse("18446744073709551615").delay, timedelta(999_999_999, 25215))
+        wrong: Any = ((), (timedelta(1), TIME), (timedelta(-1),))
+        for members in wrong:
+            with self.assertRaises(HeaderError):
+                RetryAfter(*members)
+
+    def test_security(self) -> None:
+        it = StrictTransportSecurity.parse('includesubdomains; Max-Age="60"')
+        self.assertEqual((it, str(it)), (StrictTransportSecurity(60, True), "max-age=60; includeSubdomains"))
+        with self.assertRaises(InvalidField):
+            StrictTransportSecurity.parse("includeSubDomains")
+
+    def test_referrer_policy(self) -> None:
+        for policy in ReferrerPolicy:
+            self.assertIs(ReferrerPolicy.parse(str(policy)), policy)
+        self.assertIs(ReferrerPolicy.parse("origin", "never, unknown"), ReferrerPolicy.NO_REFERRER)
+        with self.assertRaises(InvalidField):
+            ReferrerPolicy.parse("unknown")
+
+    def test_websocket(self) -> None:
+        # The example of RFC 6455, section 4.2.2.
+        self.assertEqual(websocket_accept("dGhlIHNhbXBsZSBub25jZQ=="), "s3pPLMBiTxaQ9kYGzzhZRbK+xOo=")
+        with self.assertRaisesRegex(InvalidField, "sec-websocket-key: expected the base64 of 16 bytes"):
+            websocket_accept("dGhlIHNhbXBsZSBub25jZQ")
+
+    def test_values_are_values(self) -> None:
+        values: Any = (
+            ETag("a"),
+            MediaType("a", "b"),
+            CacheControl(max_age=1),
+            Range("bytes=0-"),
+            ContentRange(None, 1),
+            RetryAfter(timedelta(1)),
+            StrictTransportSecurity(1),
+            ReferrerPolicy.ORIGIN,
+        )
+        for value in values:
+            self.assertEqual(pickle.loads(pickle.dumps(value)), value)
+            self.assertEqual(hash(type(value).parse(str(value))), hash(value))
+            if not isinstance(value, ReferrerPolicy):
+                with self.assertRaises(AttributeError):
+                    setattr(value, "opaque", 1)

@@ -1,0 +1,255 @@
+"""The command `typed-headers`: see `typed-headers --help`."""
+
+import argparse
+import json
+import os
+import sys
+from dataclasses import asdict
+from datetime import datetime
+from enum import IntEnum
+from typing import Any, Dict, List, Optional, Sequence
+
+from . import _library
+from ._version import VERSION
+from .caching import Decision
+from .conditions import Precondition
+from .errors import HeaderError
+from .headers import canonical_section
+from .inspection import CacheReport, Report, inspect
+from .values import date
+
+DECISIONS = {
+    Decision.SERVE: "serves it",
+    Decision.SERVE_AND_REVALIDATE: "serves it though it is stale, and revalidates it after that",
+    Decision.SERVE_STALE: "serves it though it is stale, as the request allows",
+    Decision.REVALIDATE: "asks the origin first whether it is still good",
+    Decision.REVALIDATE_OR_SERVE: "asks the origin first whether it is still good, and serves it if the origin fails",
+    Decision.UNAVAILABLE: "answers 504, as the request forbids to ask the origin",
+    Decision.FETCH: "asks the origin anew",
+}
+PRECONDITIONS = {
+    Precondition.PERFORM: "performs the method",
+    Precondition.NOT_MODIFIED: "answers 304",
+    Precondition.FAILED: "answers 412",
+}
+COLOURS = {"bold": "1", "good": "32", "bad": "31", "dim": "2"}
+
+
+class Printer:
+    """Prints a report for people. Colours are those of a terminal."""
+
+    def __init__(self, has_colours: bool) -> None:
+        self.has_colours = has_colours
+
+    def paint(self, colour: str, text: str) -> str:
+        return f"\033[{COLOURS[colour]}m{text}\033[0m" if self.has_colours else text
+
+    def title(self, text: str) -> None:
+        print(f"\n{self.paint('bold', text)}")
+
+    def table(self, rows: Sequence[Sequence[str]]) -> None:
+        width = min(max((len(row[0]) for row in rows), default=0), 34)
+        for name, text, *colour in rows:
+            print(f"  {name:<{width}}  {self.paint(colour[0], text) if colour else text}")
+
+    def report(self, it: Report) -> None:
+        print(self.paint("bold", shown(it.head.start) or "Fields without a start line, taken as those of a 200"))
+        self.title("Fields")
+        self.table(field_rows(it))
+        if it.browser_cache or it.shared_cache:
+            self.title("Caches")
+            self.table(cache_rows("browser", it.browser_cache) + cache_rows("shared", it.shared_cache))
+        if it.cors:
+            self.title("Scripts of other origins")
+            self.table(cors_rows(it))
+        if it.ranges or it.selection:
+            self.title("Ranges")
+            self.table([(name, shown(line)) for name, line in it.ranges] + selection_rows(it))
+        if it.validators:
+            self.title("Validators")
+            self.table(validator_rows(it))
+        if it.notes:
+            self.title("Not judged")
+            for note in it.notes:
+                print(f"  {self.paint('bad', shown(note))}")
+
+
+def shown(text: str) -> str:
+    """The text without bytes that would steer a terminal."""
+    return "".join(it if it.isprintable() else f"\\x{ord(it):02x}" for it in text)
+
+
+def field_rows(it: Report) -> List[Sequence[str]]:
+    rows: List[Sequence[str]] = [
+        (f"line {number}", f"is no field (RFC 9112, section 5): {shown(line)}", "bad") for number, line in it.head.wrong
+    ]
+    for field in it.fields:
+        if field.error is not None:
+            rows.append((shown(field.name), f"rejected: {shown(field.error)}", "bad"))
+            continue
+        for number, line in enumerate(field.canonical or ()):
+            name = shown(field.name) if number == 0 else ""
+            rows.append((name, shown(line), "good") if field.is_known else (name, f"{shown(line)}", "dim"))
+    return rows
+
+
+def seconds(number: int) -> str:
+    """A number of seconds, and about how long that is."""
+    for size, unit in ((86400, "days"), (3600, "hours"), (60, "minutes")):
+        if number >= 2 * size:
+            return f"{number} seconds ({number // size} {unit})"
+    return f"{number} second{'' if number == 1 else 's'}"
+
+
+def cache_rows(name: str, cache: Optional[CacheReport]) -> List[Sequence[str]]:
+    if cache is None:
+        return [(name, "not judged", "bad")]
+    if not cache.may_store:
+        return [(name, "may not store it", "bad")]
+    if cache.lifetime is None:
+        fresh = "fresh for as long as the cache guesses, as the origin doesn't say (RFC 9111, section 4.2.2)"
+    else:
+        fresh = f"fresh for {seconds(cache.lifetime)}"
+    return [
+        (name, "may store it", "good"),
+        ("", f"{fresh}; it is {seconds(cache.age)} old"),
+        ("", f"asked again now, the cache {DECISIONS[cache.decision]}"),
+    ]
+
+
+def cors_rows(it: Report) -> List[Sequence[str]]:
+    cors = it.cors
+    assert cors is not None, "the caller has looked"
+    if cors.allow_origin is None:
+        return [("may read it", "none", "bad")]
+    rows: List[Sequence[str]] = [("may read it", shown(cors.allow_origin), "good")]
+    if cors.allow_credentials is not None:
+        rows.append(("with credentials", "no, as any origin may" if cors.allow_origin == "*" else "yes"))
+    parts = (
+        ("may read the fields", cors.expose_headers),
+        ("may use the methods", cors.allow_methods),
+        ("may send the fields", cors.allow_headers),
+        ("preflight kept for", cors.max_age and seconds(int(cors.max_age))),
+    )
+    return rows + [(name, shown(text)) for name, text in parts if text is not None]
+
+
+def selection_rows(it: Report) -> List[Sequence[str]]:
+    if it.selection is None:
+        return []
+    parts = ", ".join(f"{part.first}-{part.last}" for part in it.selection.ranges)
+    return [("the request gets", f"{it.selection.status} {parts}".strip())]
+
+
+def validator_rows(it: Report) -> List[Sequence[str]]:
+    given = it.validators
+    assert given is not None, "the caller has looked"
+    rows: List[Sequence[str]] = []
+    if given.etag is not None:
+        rows.append(("entity tag", f"{shown(given.etag)}, {'weak' if given.is_weak else 'strong'}", "good"))
+    if given.last_modified is not None:
+        rows.append(("last modified", f"{given.last_modified:%Y-%m-%d %H:%M:%S} UTC", "good"))
+    rows += [("asks again with", f"{name}: {shown(value)}") for name, value in given.fields]
+    if it.precondition is not None:
+        rows.append(("to this request the server", PRECONDITIONS[it.precondition]))
+    return rows or [("none", "a client can't ask whether it is still good", "bad")]
+
+
+def as_json(it: Report) -> str:
+    def plain(value: object) -> Any:
+        if isinstance(value, datetime):
+            return value.isoformat()
+        raise TypeError(type(value).__name__)
+
+    def named(pairs: Any) -> Any:
+        return {name: value.name.lower() if isinstance(value, IntEnum) else value for name, value in pairs}
+
+    given: Dict[str, Any] = {**asdict(it, dict_factory=named), "is_valid": it.is_valid}
+    del given["head"]["section"]
+    return json.dumps(given, indent=2, default=plain)
+
+
+def time_of(text: str) -> datetime:
+    try:
+        return date(text)
+    except HeaderError as error:
+        raise argparse.ArgumentTypeError(str(error)) from None
+
+
+def length_of(text: str) -> int:
+    try:
+        return _library.to_number(int(text), "length")
+    except ValueError as error:
+        raise argparse.ArgumentTypeError(str(error)) from None
+
+
+def parser() -> argparse.ArgumentParser:
+    words = argparse.ArgumentParser(prog="typed-headers", description="Judges header fields of HTTP messages.")
+    words.add_argument("--version", action="version", version=f"%(prog)s {VERSION} (library {_library.version()})")
+    commands = words.add_subparsers(dest="command", required=True, metavar="COMMAND")
+    look = commands.add_parser(
+        "inspect",
+        help="explain a response's or a request's head",
+        description="Reads a head as `curl -si URL` prints it, or both heads as `curl -sv URL` prints them, and shows "
+        "each field with its canonical value or why it is rejected, what caches may do with the response, what scripts "
+        "of other origins may read, ranges, and validators. The status is 0 if no field is rejected, 1 if one is, "
+        "and 2 if there is no head.",
+    )
+    look.add_argument("file", nargs="?", metavar="FILE", help="where the head is, instead of standard input")
+    look.add_argument("--json", action="store_true", help="print JSON")
+    look.add_argument("--colour", choices=("auto", "always", "never"), default="auto", help="use colours")
+    look.add_argument("--received", type=time_of, metavar="DATE", help="when the response came, as an HTTP date")
+    look.add_argument(
+        "--length", type=length_of, metavar="BYTES", help="the length of what a request for ranges selects from"
+    )
+    plain = commands.add_parser(
+        "canon",
+        help="print the canonical header section",
+        description="Reads a header section and prints each field in its canonical form. A name whose lines are "
+        "rejected is printed as `! NAME`. The status is 0 if no name is, 1 if one is, and 2 if a line is no field.",
+    )
+    plain.add_argument("file", nargs="?", metavar="FILE", help="where the section is, instead of standard input")
+    return words
+
+
+def read(name: Optional[str]) -> bytes:
+    if name is None:
+        return sys.stdin.buffer.read()
+    with open(name, "rb") as file:
+        return file.read()
+
+
+def main(words: Optional[Sequence[str]] = None) -> int:
+    """Runs the command, and returns its status."""
+    given = parser().parse_args(words)
+    try:
+        text = read(given.file)
+        if given.command == "canon":
+            found = canonical_section(text)
+            sys.stdout.buffer.write(found.encode("latin-1"))
+            return 1 if any(line.startswith("! ") for line in found.split("\n")) else 0
+        report = inspect(text, received=given.received, length=given.length)
+    except (HeaderError, OSError) as error:
+        print(f"typed-headers: {shown(str(error))}", file=sys.stderr)
+        return 2
+    if given.json:
+        print(as_json(report))
+    else:
+        is_terminal = sys.stdout.isatty() and "NO_COLOR" not in os.environ
+        Printer(given.colour == "always" or given.colour == "auto" and is_terminal).report(report)
+    return 0 if report.is_valid else 1
+
+
+def run() -> int:
+    """Runs the command. A reader that ends early ends it in silence."""
+    try:
+        status = main()
+        sys.stdout.flush()
+        return status
+    except BrokenPipeError:
+        os.dup2(os.open(os.devnull, os.O_WRONLY), sys.stdout.fileno())
+        return 141
+
+
+if __name__ == "__main__":
+    sys.exit(run())

@@ -1,0 +1,276 @@
+"""What the library says of a message's head: each field, and what caches, browsers and range requests may do with it.
+
+`inspect` returns a `Report`, which is data; `python3 -m typed_headers inspect` prints it. Each answer is that of a call
+of the library. Nothing is computed here.
+"""
+
+import re
+import time
+from dataclasses import dataclass, field
+from datetime import datetime
+from typing import Callable, List, Optional, Tuple, TypeVar
+
+from . import _library
+from ._library import Text, Time
+from ._names import FIELDS
+from .caching import Decision, Times, current_age, decide, lifetime, may_store, validators
+from .conditions import Precondition, Selection, Target, evaluate, select
+from .errors import HeaderError, InvalidField, InvalidSection
+from .headers import Headers, canonical_field
+
+__all__ = ["CacheReport", "CorsReport", "FieldReport", "Head", "Report", "ValidatorReport", "inspect", "parse_heads"]
+
+
+@dataclass(frozen=True)
+class Head:
+    """The head of a message: its start line and its header section."""
+
+    #: The method of a request, else `None`.
+    method: Optional[str]
+    #: The status of a response, else `None`.
+    status: Optional[int]
+    #: The start line, empty if there was none.
+    start: str
+    #: The lines that are fields.
+    section: bytes
+    #: The other lines, each with its number in the head, from 1.
+    wrong: Tuple[Tuple[int, str], ...] = ()
+
+
+@dataclass(frozen=True)
+class FieldReport:
+    """A field, its lines, and their canonical form or why they are rejected."""
+
+    name: str
+    lines: Tuple[str, ...]
+    is_known: bool
+    canonical: Optional[Tuple[str, ...]]
+    error: Optional[str] = None
+    #: The line and the byte that are rejected, from 0, if the library says so.
+    line: Optional[int] = None
+    byte: Optional[int] = None
+
+
+@dataclass(frozen=True)
+class CacheReport:
+    """What a cache may do with the response."""
+
+    may_store: bool
+    #: For how many seconds the response is fresh, or `None` if its origin doesn't say.
+    lifetime: Optional[int]
+    #: How old it is, in seconds.
+    age: int
+    #: What the cache does if the same request comes again now.
+    decision: Decision
+
+
+@dataclass(frozen=True)
+class CorsReport:
+    """What a response says to scripts of other origins: the canonical field lines, or `None` if a field is absent."""
+
+    allow_origin: Optional[str]
+    allow_credentials: Optional[str]
+    expose_headers: Optional[str]
+    allow_methods: Optional[str]
+    allow_headers: Optional[str]
+    max_age: Optional[str]
+
+
+@dataclass(frozen=True)
+class ValidatorReport:
+    """How a client asks whether the response is still good."""
+
+    etag: Optional[str]
+    is_weak: Optional[bool]
+    last_modified: Optional[datetime]
+    #: The fields of a request that asks so.
+    fields: Tuple[Tuple[str, str], ...]
+
+
+@dataclass(frozen=True)
+class Report:
+    """What the library says of a head. A part that doesn't apply is `None`."""
+
+    head: Head
+    fields: Tuple[FieldReport, ...]
+    browser_cache: Optional[CacheReport] = None
+    shared_cache: Optional[CacheReport] = None
+    cors: Optional[CorsReport] = None
+    validators: Optional[ValidatorReport] = None
+    #: Canonical lines of the fields of ranges.
+    ranges: Tuple[Tuple[str, str], ...] = ()
+    #: Which part of a representation the request selects.
+    selection: Optional[Selection] = None
+    #: What the request's preconditions come to by the response's validators.
+    precondition: Optional[Precondition] = None
+    #: What could not be judged, and why.
+    notes: Tuple[str, ...] = field(default=())
+
+    @property
+    def is_valid(self) -> bool:
+        """Whether each line is a field, and the library rejects none that it knows."""
+        return not self.head.wrong and all(it.error is None for it in self.fields)
+
+
+_RESPONSE = re.compile(rb"HTTP/\d(?:\.\d)? (\d{3})(?: .*)?")
+_REQUEST = re.compile(rb"([!#$%&'*+.^_`|~0-9A-Za-z-]+) \S+ HTTP/\d(?:\.\d)?")
+
+
+def _head(lines: List[bytes]) -> Head:
+    response, request = _RESPONSE.fullmatch(lines[0]), _REQUEST.fullmatch(lines[0])
+    has_start = bool(response or request)
+    section, wrong = b"", []
+    for number, line in enumerate(lines[has_start:], 1 + has_start):
+        try:
+            _library.canonical_text(line + b"\n")
+        except InvalidSection:
+            wrong.append((number, _library.to_str(line)))
+        else:
+            section += line + b"\n"
+    return Head(
+        method=request[1].decode("ascii") if request else None,
+        status=int(response[1]) if response else None if request else 200,
+        start=_library.to_str(lines[0]) if has_start else "",
+        section=section,
+        wrong=tuple(wrong),
+    )
+
+
+def parse_heads(text: Text) -> Tuple[Optional[Head], Optional[Head]]:
+    """The request and the last response of a text as `curl -si` or `curl -sv` prints it.
+
+    Responses with a status from 100 to 199 are left out. Fields without a start line are those of a response with
+    status 200.
+
+    >>> request, response = parse_heads("HTTP/1.1 200 OK\\r\\nAge: 7\\r\\n\\r\\ncontent")
+    >>> response.status, response.section
+    (200, b'Age: 7\\n')
+    """
+    given = _library.to_bytes(text, "the head")
+    lines = [line[:-1] if line.endswith(b"\r") else line for line in given.split(b"\n")]
+    if any(line.startswith(b"< HTTP/") for line in lines):
+        # curl marks what it sent and what it got, and prints lines of its own between.
+        lines = [line[2:] for line in lines if line[:2] in (b"> ", b"< ") or line in (b">", b"<")]
+    heads: List[List[bytes]] = []
+    is_open = False
+    for line in lines:
+        is_start = bool(_RESPONSE.fullmatch(line) or _REQUEST.fullmatch(line))
+        if is_start or not heads and line:
+            heads.append([])
+            is_open = True
+        if not line:
+            is_open = False
+        elif is_open:
+            heads[-1].append(line)
+    request = response = None
+    for head in map(_head, heads):
+        if head.method is not None:
+            request = head
+        elif head.status is not None and head.status >= 200:
+            response = head
+    return request, response
+
+
+def _fields(headers: Headers) -> Tuple[FieldReport, ...]:
+    found = []
+    for name in dict.fromkeys(name for name, _ in headers):
+        lines = tuple(headers.lines(name))
+        try:
+            report = FieldReport(name, lines, name in FIELDS, tuple(canonical_field(name, *lines)))
+        except InvalidField as error:
+            report = FieldReport(name, lines, name in FIELDS, None, error.reason, error.line, error.byte)
+        found.append(report)
+    return tuple(found)
+
+
+Value = TypeVar("Value")
+
+
+def inspect(text: Text, *, received: Optional[Time] = None, length: Optional[int] = None) -> Report:
+    """What the library says of the head of a response or of a request.
+
+    A text with both, as `curl -sv` prints it, is judged as the response to that request. `received` is when the
+    response came, the present if it isn't given. `length` is the length of the representation that a request for ranges
+    selects from.
+
+    >>> report = inspect("HTTP/1.1 200 OK\\nCache-Control: MAX-AGE=060\\nDate: yesterday\\n", received=1000)
+    >>> for it in report.fields:
+    ...     print(it.name, it.canonical or it.error)
+    cache-control ('max-age=60',)
+    date expected an HTTP date in a single field line (RFC 9110, section 6.6.1), not 'yesterday'
+    >>> report.browser_cache.lifetime, report.browser_cache.decision
+    (60, <Decision.SERVE: 0>)
+    """
+    asked, answered = parse_heads(text)
+    head = answered or asked
+    if head is None:
+        raise HeaderError("there is no head: expected a start line or fields, as `curl -si URL` prints them")
+    notes: List[str] = []
+
+    def known(call: Callable[[], Value]) -> Optional[Value]:
+        try:
+            return call()
+        except InvalidField:
+            # The report of the field says so.
+            return None
+        except HeaderError as error:
+            notes.append(str(error))
+            return None
+
+    headers = Headers(head.section)
+    at = int(time.time()) if received is None else _library.to_seconds(received, "received")
+    method = asked.method if asked and asked.method else "GET"
+    request = Headers(asked.section) if asked else Headers()
+
+    def one(name: str) -> Optional[str]:
+        lines = known(lambda: headers.canonical(name))
+        return ", ".join(lines) if lines else None
+
+    ranges = tuple((name, line) for name in ("accept-ranges", "range", "content-range") for line in [one(name)] if line)
+    target = Target(known(lambda: headers.etag), known(lambda: headers.last_modified)) if answered else Target()
+    precondition = known(lambda: evaluate(method, request, target, at)) if asked and answered else None
+    selection = None
+    if asked and length is not None and precondition in (None, Precondition.PERFORM):
+        size = length
+        selection = known(lambda: select(method, request, target, size, at))
+    if not answered:
+        return Report(head, _fields(headers), ranges=ranges, selection=selection, notes=tuple(notes))
+
+    status = answered.status or 200
+
+    def cache(shared: bool) -> Optional[CacheReport]:
+        times = Times(at, at, at)
+        return known(
+            lambda: CacheReport(
+                may_store(method, request, status, headers, shared=shared),
+                lifetime(headers, at, shared=shared),
+                current_age(headers, times),
+                decide(method, request, method, request, headers, times, shared=shared),
+            )
+        )
+
+    tag = target.etag
+    return Report(
+        head,
+        _fields(headers),
+        browser_cache=cache(False),
+        shared_cache=cache(True),
+        cors=CorsReport(
+            allow_origin=one("access-control-allow-origin"),
+            allow_credentials=one("access-control-allow-credentials"),
+            expose_headers=one("access-control-expose-headers"),
+            allow_methods=one("access-control-allow-methods"),
+            allow_headers=one("access-control-allow-headers"),
+            max_age=one("access-control-max-age"),
+        ),
+        validators=ValidatorReport(
+            None if tag is None else str(tag),
+            None if tag is None else str(tag).startswith("W/"),
+            known(lambda: headers.last_modified),
+            known(lambda: validators(headers, at)) or (),
+        ),
+        ranges=ranges,
+        selection=selection,
+        precondition=precondition,
+        notes=tuple(notes),
+    )
