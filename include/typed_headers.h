@@ -131,7 +131,8 @@ struct typed_headers_text {
  */
 struct typed_headers_cors_rules {
     /* The origins, as `https://a.example`. One is compared byte for byte with what a browser sends. A text that no
-     * browser sends is rejected: upper-case letters in the host, `*`, userinfo, a default port, or a port that is no number. */
+     * browser sends is rejected: upper-case letters in the host, `*`, userinfo, a default port, or a port that is no
+     * number. */
     struct typed_headers_text origins;
     /* The methods besides GET, HEAD and POST, with case. */
     struct typed_headers_text methods;

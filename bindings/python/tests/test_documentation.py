@@ -1,9 +1,10 @@
-"""The examples in docstrings."""
+"""The examples in docstrings and in README.md."""
 
 import doctest
 import importlib
 import pkgutil
 import unittest
+from pathlib import Path
 
 import typed_headers
 
@@ -12,6 +13,9 @@ def load_tests(loader: unittest.TestLoader, tests: unittest.TestSuite, pattern: 
     names = [it.name for it in pkgutil.iter_modules(typed_headers.__path__) if it.name != "__main__"]
     for module in (typed_headers, *(importlib.import_module(f"typed_headers.{name}") for name in names)):
         tests.addTests(doctest.DocTestSuite(module))
+    readme = Path(__file__).resolve().parent.parent / "README.md"
+    if readme.exists():
+        tests.addTests(doctest.DocFileSuite(str(readme), module_relative=False))
     return tests
 
 

@@ -51,7 +51,8 @@ def by_library(cases: list[generate.Case], comparison: Comparison) -> None:
             shown(case, "response", "received", "is_shared"))
         comparison.add(
             "current_age", permitted(lambda: model.current_ages(case.response, *times)),
-            given(headers.current_age, response, headers.Times(*times)), shown(case, "response", "asked", "received", "now"))
+            given(headers.current_age, response, headers.Times(*times)),
+            shown(case, "response", "asked", "received", "now"))
         comparison.add(
             "decide",
             permitted(lambda: model.decisions(
