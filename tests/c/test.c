@@ -951,7 +951,18 @@ static void read_file(const char *name) {
     fclose(file);
 }
 
+/* The library's version is that of its header, and each status has a text of its own. */
+static void check_own_texts(void) {
+    wrong += strcmp(typed_headers_version(), TYPED_HEADERS_VERSION) != 0;
+    for (uint8_t one = 0; one <= TYPED_HEADERS_MARKED + 1; one++) {
+        for (uint8_t other = 0; other < one; other++) {
+            wrong += strcmp(typed_headers_status_text(one), typed_headers_status_text(other)) == 0;
+        }
+    }
+}
+
 int main(int count, char **names) {
+    check_own_texts();
     first_area = new_area();
     second_area = new_area();
     third_area = new_area();
