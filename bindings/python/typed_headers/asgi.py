@@ -1,0 +1,161 @@
+"""Middleware for ASGI: conditional requests and ranges, and requests from other origins.
+
+>>> import asyncio
+>>> from typed_headers import CorsPolicy
+>>> from typed_headers.asgi import ConditionalRequests, Cors
+>>> async def application(scope, receive, send):
+...     fields = [(b"content-type", b"text/plain"), (b"etag", b'"a"')]
+...     await send({"type": "http.response.start", "status": 200, "headers": fields})
+...     await send({"type": "http.response.body", "body": b"0123456789"})
+>>> application = ConditionalRequests(application)
+>>> application = Cors(application, CorsPolicy("https://a.example"))
+>>> async def send(message):
+...     print(message["status"] if message["type"] == "http.response.start" else message["body"])
+>>> scope = {"type": "http", "method": "GET", "headers": [(b"range", b"bytes=0-4")]}
+>>> asyncio.run(application(scope, None, send))
+206
+b'01234'
+"""
+
+from typing import Any, Awaitable, Callable, Dict, Iterable, List, MutableMapping, Optional, Tuple
+
+from ._exchange import CONDITIONS, ORIGINS, Cutter, Fields, Response, length_of, respond, tagged
+from .cors import CorsKind, CorsPolicy
+from .headers import Headers
+
+__all__ = ["ConditionalRequests", "Cors"]
+
+Message = MutableMapping[str, Any]
+Scope = MutableMapping[str, Any]
+Receive = Callable[[], Awaitable[Message]]
+Send = Callable[[Message], Awaitable[None]]
+Application = Callable[[Scope, Receive, Send], Awaitable[None]]
+
+# Extensions by which an application hands a server its content, so that nobody else sees it.
+_CONTENT_EXTENSIONS = ("http.response.pathsend", "http.response.zerocopysend")
+
+
+def _request(scope: Scope, names: Iterable[str]) -> Headers:
+    """These fields of the request."""
+    wanted = {name.encode("ascii") for name in names}
+    return Headers([(name, value) for name, value in scope["headers"] if bytes(name).lower() in wanted])
+
+
+def _fields(message: Message) -> Fields:
+    given: Iterable[Tuple[bytes, bytes]] = message.get("headers", ())
+    return [(bytes(name).decode("latin-1"), bytes(value).decode("latin-1")) for name, value in given]
+
+
+def _encoded(fields: Fields) -> List[Tuple[bytes, bytes]]:
+    return [(name.lower().encode("latin-1"), value.encode("latin-1")) for name, value in fields]
+
+
+class ConditionalRequests:
+    """Answers conditional requests and requests for ranges (RFC 9110, sections 13 and 14) in place of an application.
+
+    The application answers each GET and HEAD as if it had no conditions. By the ETag and the Last-Modified of its 200,
+    the response becomes 304, 412, 206 or 416, if the request asks for that. Ranges need a content whose length is
+    known: by Content-Length, or because it is a single message. All other responses are sent as they are.
+
+    With `tags`, a 200 whose content is a single message gets a strong entity tag, a digest of the content, if it has
+    none. `strong_dates` says that Last-Modified is a strong validator (RFC 9110, section 8.8.2.2), so that an If-Range
+    with a date resumes a download.
+
+    A precondition of another method, as If-Match of a PUT, is the application's to ask, before it changes anything: by
+    `typed_headers.evaluate`.
+    """
+
+    def __init__(self, application: Application, *, tags: bool = False, strong_dates: bool = False) -> None:
+        self.application, self.tags, self.strong_dates = application, tags, strong_dates
+
+    async def __call__(self, scope: Scope, receive: Receive, send: Send) -> None:
+        if scope["type"] != "http" or scope["method"] not in ("GET", "HEAD"):
+            await self.application(scope, receive, send)
+            return
+        request = _request(scope, CONDITIONS)
+        if request.section and scope.get("extensions"):
+            extensions: Dict[str, Any] = scope["extensions"]
+            kept = {name: it for name, it in extensions.items() if name not in _CONTENT_EXTENSIONS}
+            scope = {**scope, "extensions": kept}
+        await self.application(scope, receive, _Sender(self, scope["method"], request, send))
+
+
+class _Sender:
+    """Stands for the server's `send`: it keeps the head of the response until its first content."""
+
+    def __init__(self, rules: ConditionalRequests, method: str, request: Headers, send: Send) -> None:
+        self.rules, self.method, self.request, self.send = rules, method, request, send
+        self.head: Optional[Message] = None
+        self.cutter: Optional[Cutter] = None
+        self.is_done = False
+
+    async def __call__(self, message: Message) -> None:
+        if message["type"] == "http.response.start" and not message.get("trailers"):
+            self.head = message
+        elif message["type"] == "http.response.body" and (self.head or self.cutter):
+            await self.content(message)
+        else:
+            head, self.head = self.head, None
+            if head is not None:
+                await self.send(head)
+            await self.send(message)
+
+    async def content(self, message: Message) -> None:
+        body, has_more = bytes(message.get("body", b"")), bool(message.get("more_body", False))
+        head, self.head = self.head, None
+        if head is not None:
+            fields, length = _fields(head), None
+            if not has_more:
+                length = len(body)
+                if self.rules.tags and head["status"] == 200 and (self.method == "GET" or body):
+                    fields = tagged(fields, body)
+            stated = length_of(fields)
+            length = stated if stated is not None else length
+            given = Response(head["status"], fields)
+            response = respond(self.method, self.request, given, length, self.rules.strong_dates)
+            sent = {**head, "status": response.status, "headers": _encoded(response.fields)}
+            await self.send(sent)
+            if response.parts is None:
+                await self.send(message)
+                return
+            self.cutter = Cutter(response)
+        if self.cutter is None or self.is_done:
+            return
+        found = self.cutter.cut(body)
+        self.is_done = self.cutter.is_done or not has_more
+        if found or self.is_done:
+            await self.send({"type": "http.response.body", "body": found, "more_body": not self.is_done})
+
+
+class Cors:
+    """Answers requests from other origins (Fetch standard, section 3.3) by a policy.
+
+    A preflight is answered with 204, and doesn't reach the application. To each other response the policy's fields are
+    added, and those that the application set are removed. A request whose origin isn't allowed reaches the application,
+    and a browser lets no script read the response.
+    """
+
+    def __init__(self, application: Application, policy: CorsPolicy) -> None:
+        self.application, self.policy = application, policy
+
+    async def __call__(self, scope: Scope, receive: Receive, send: Send) -> None:
+        if scope["type"] != "http":
+            await self.application(scope, receive, send)
+            return
+        method, request = scope["method"], _request(scope, ORIGINS)
+        if method == "OPTIONS":
+            answer = self.policy.answer(method, request)
+            if answer.kind is CorsKind.PREFLIGHT:
+                await send({"type": "http.response.start", "status": 204, "headers": _encoded(list(answer.fields))})
+                await send({"type": "http.response.body", "body": b""})
+                return
+
+        async def add(message: Message) -> None:
+            if message["type"] == "http.response.start":
+                fields = _fields(message)
+                varied = [(name, value) for name, value in fields if name.lower() == "vary"]
+                answer = self.policy.answer(method, request, varied)
+                message = {**message, "headers": _encoded(answer.apply(fields))}
+            await send(message)
+
+        await self.application(scope, receive, add)
