@@ -213,6 +213,11 @@ class Both(unittest.TestCase):
         for answer in self.answers("GET", {"If-None-Match": '"a"', "If-Modified-Since": DATE}, fields):
             self.assertEqual(answer.status, 200)
 
+    def test_a_byte_that_no_value_has(self) -> None:
+        for name in ("Range", "If-Match"):
+            for answer in self.answers("GET", {name: "bytes=0-0\x0b"}):
+                self.assertEqual((answer.status, answer.content), (400, b""))
+
     def test_empty_content(self) -> None:
         fields = [("Content-Type", "text/plain"), ("Content-Length", "0")]
         for answer in self.answers("GET", {"Range": "bytes=0-4"}, fields, content=b""):
@@ -368,6 +373,11 @@ class OtherOrigins(unittest.TestCase):
             self.assertEqual((answer.status, answer.content), (204, b""))
             self.assertEqual(answer.fields["access-control-allow-methods"], "PUT")
             self.assertEqual(answer.fields["access-control-max-age"], "600")
+        self.assertEqual(self.calls, [])
+
+    def test_a_byte_that_no_value_has(self) -> None:
+        for ask in self.asks:
+            self.assertEqual(ask("GET", {"Origin": "\0"}).status, 400)
         self.assertEqual(self.calls, [])
 
     def test_another_options(self) -> None:

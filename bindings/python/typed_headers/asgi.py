@@ -21,6 +21,7 @@ from typing import Any, Awaitable, Callable, Dict, Iterable, List, MutableMappin
 
 from ._exchange import CONDITIONS, ORIGINS, Cutter, Fields, Response, length_of, respond, tagged
 from .cors import CorsKind, CorsPolicy
+from .errors import HeaderError
 from .headers import Headers
 
 __all__ = ["ConditionalRequests", "Cors"]
@@ -35,10 +36,19 @@ Application = Callable[[Scope, Receive, Send], Awaitable[None]]
 _CONTENT_EXTENSIONS = ("http.response.pathsend", "http.response.zerocopysend")
 
 
-def _request(scope: Scope, names: Iterable[str]) -> Headers:
-    """These fields of the request."""
+def _request(scope: Scope, names: Iterable[str]) -> Optional[Headers]:
+    """These fields of the request, or `None` if a value has a byte that no field value has."""
     wanted = {name.encode("ascii") for name in names}
-    return Headers([(name, value) for name, value in scope["headers"] if bytes(name).lower() in wanted])
+    try:
+        return Headers([(name, value) for name, value in scope["headers"] if bytes(name).lower() in wanted])
+    except HeaderError:
+        return None
+
+
+async def _answer(send: Send, status: int, fields: Fields) -> None:
+    """Answers without content."""
+    await send({"type": "http.response.start", "status": status, "headers": _encoded(fields)})
+    await send({"type": "http.response.body", "body": b""})
 
 
 def _fields(message: Message) -> Fields:
@@ -55,7 +65,8 @@ class ConditionalRequests:
 
     The application answers each GET and HEAD as if it had no conditions. By the ETag and the Last-Modified of its 200,
     the response becomes 304, 412, 206 or 416, if the request asks for that. Ranges need a content whose length is
-    known: by Content-Length, or because it is a single message. All other responses are sent as they are.
+    known: by Content-Length, or because it is a single message. All other responses are sent as they are. A request
+    with a control byte in one of these fields is answered with 400.
 
     With `tags`, a 200 whose content is a single message gets a strong entity tag, a digest of the content, if it has
     none. `strong_dates` says that Last-Modified is a strong validator (RFC 9110, section 8.8.2.2), so that an If-Range
@@ -73,6 +84,9 @@ class ConditionalRequests:
             await self.application(scope, receive, send)
             return
         request = _request(scope, CONDITIONS)
+        if request is None:
+            await _answer(send, 400, [("content-length", "0")])
+            return
         if request.section and scope.get("extensions"):
             extensions: Dict[str, Any] = scope["extensions"]
             kept = {name: it for name, it in extensions.items() if name not in _CONTENT_EXTENSIONS}
@@ -142,12 +156,15 @@ class Cors:
         if scope["type"] != "http":
             await self.application(scope, receive, send)
             return
-        method, request = scope["method"], _request(scope, ORIGINS)
+        method, asked = scope["method"], _request(scope, ORIGINS)
+        if asked is None:
+            await _answer(send, 400, [("content-length", "0")])
+            return
+        request = asked
         if method == "OPTIONS":
             answer = self.policy.answer(method, request)
             if answer.kind is CorsKind.PREFLIGHT:
-                await send({"type": "http.response.start", "status": 204, "headers": _encoded(list(answer.fields))})
-                await send({"type": "http.response.body", "body": b""})
+                await _answer(send, 204, list(answer.fields))
                 return
 
         async def add(message: Message) -> None:

@@ -24,6 +24,7 @@ from typing import Any, Callable, Dict, Iterable, Iterator, List, Optional, Tupl
 
 from ._exchange import CONDITIONS, ORIGINS, REASONS, Cutter, Fields, Response, length_of, respond, tagged
 from .cors import CorsKind, CorsPolicy
+from .errors import HeaderError
 from .headers import Headers
 
 __all__ = ["ConditionalRequests", "Cors"]
@@ -37,10 +38,18 @@ StartResponse = Callable[..., Write]
 Application = Callable[[Environ, StartResponse], Iterable[bytes]]
 
 
-def _request(environ: Environ, names: Iterable[str]) -> Headers:
-    """These fields of the request."""
+def _request(environ: Environ, names: Iterable[str]) -> Optional[Headers]:
+    """These fields of the request, or `None` if a value has a byte that no field value has."""
     keys = ((name, f"HTTP_{name.upper().replace('-', '_')}") for name in names)
-    return Headers([(name, environ[key]) for name, key in keys if key in environ])
+    try:
+        return Headers([(name, environ[key]) for name, key in keys if key in environ])
+    except HeaderError:
+        return None
+
+
+def _bad_request(start_response: StartResponse) -> Iterable[bytes]:
+    start_response("400 Bad Request", [("content-length", "0")])
+    return []
 
 
 class ConditionalRequests:
@@ -48,7 +57,8 @@ class ConditionalRequests:
 
     The application answers each GET and HEAD as if it had no conditions. By the ETag and the Last-Modified of its 200,
     the response becomes 304, 412, 206 or 416, if the request asks for that. Ranges need a content whose length is
-    known: by Content-Length, or because the application returned a list. All other responses are sent as they are.
+    known: by Content-Length, or because the application returned a list. All other responses are sent as they are. A
+    request with a control byte in one of these fields is answered with 400.
 
     With `tags`, a 200 whose content is a list gets a strong entity tag, a digest of the content, if it has none.
     `strong_dates` says that Last-Modified is a strong validator (RFC 9110, section 8.8.2.2), so that an If-Range with a
@@ -65,6 +75,9 @@ class ConditionalRequests:
         method = environ["REQUEST_METHOD"]
         if method not in ("GET", "HEAD"):
             return self.application(environ, start_response)
+        request = _request(environ, CONDITIONS)
+        if request is None:
+            return _bad_request(start_response)
         started = _Started(start_response)
         content = self.application(environ, started)
         if started.is_sent:
@@ -81,7 +94,7 @@ class ConditionalRequests:
             if self.tags and started.status == 200 and length == size and (method == "GET" or size):
                 fields = tagged(fields, b"".join(content))
         given = Response(started.status, fields)
-        response = respond(method, _request(environ, CONDITIONS), given, length, self.strong_dates)
+        response = respond(method, request, given, length, self.strong_dates)
         if response.parts is None:
             started.send(started.line, response.fields)
             return content
@@ -192,7 +205,10 @@ class Cors:
         self.application, self.policy = application, policy
 
     def __call__(self, environ: Environ, start_response: StartResponse) -> Iterable[bytes]:
-        method, request = environ["REQUEST_METHOD"], _request(environ, ORIGINS)
+        method, asked = environ["REQUEST_METHOD"], _request(environ, ORIGINS)
+        if asked is None:
+            return _bad_request(start_response)
+        request = asked
         if method == "OPTIONS":
             answer = self.policy.answer(method, request)
             if answer.kind is CorsKind.PREFLIGHT:
