@@ -40,9 +40,8 @@ class Row:
     failed: int = 0
     parts: int = 0
     possible: int = 0
-    # Policies with which a cache gives a response to an origin for which the server would answer otherwise.
+    # Visits after which a cache gives an origin a response with which a browser does other than with its own.
     stale: int = 0
-    stale_example: str = ""
     kinds: dict[str, int] = field(default_factory=dict)
     examples: dict[str, str] = field(default_factory=dict)
 
@@ -88,7 +87,7 @@ def judge_conditions(row: Row, framework: Framework, application: Any, kinds: tu
             row.add_wrong(f"fails: {type(error).__name__}", about)
             continue
         row.possible += any(status == 206 for status, _ in permitted)
-        row.parts += response.status == 206
+        row.parts += response.status == 206 and any(status == 206 for status, _ in permitted)
         kind = fault_of(response, case, permitted)
         if kind:
             row.add_wrong(kind, about)
@@ -219,18 +218,22 @@ def judge_origins(row: Row, framework: Framework, made: Callable[[Visit], Any], 
 
 
 def judge_vary(row: Row, visit: Visit, asks: Callable[[str, list[tuple[str, str]]], Response]) -> None:
-    """Whether a cache may give one origin the response that was made for another, though they differ."""
+    """Whether a cache may give an origin the response that was made for another, or for none, and a browser does with
+    it other than with the origin's own."""
     try:
-        responses = [asks("GET", [("Origin", origin)]) for origin in ORIGINS] + [asks("GET", [])]
+        own = {origin: asks("GET", [("Origin", origin)]) for origin in ORIGINS}
+        responses = [*own.values(), asks("GET", [])]
     except Exception:  # (counted where the visit is made)
         return
-    if len({it.get("access-control-allow-origin") for it in responses}) == 1:
-        return
-    varied = [{it.strip().lower() for it in (response.get("vary") or "").split(",")} for response in responses]
-    if not all(members & {"origin", "*"} for members in varied):
-        row.stale += 1
-        if not row.stale_example or len(str(visit.policy)) < len(row.stale_example):
-            row.stale_example = str(visit.policy)
+    for response in responses:
+        if {it.strip().lower() for it in (response.get("vary") or "").split(",")} & {"origin", "*"}:
+            continue
+        for origin, other in own.items():
+            for includes in (False, True):
+                checks = [fetch.cors_check(it.byte_fields(), origin.encode(), includes) for it in (response, other)]
+                if checks[0] != checks[1]:
+                    row.stale += 1
+                    return
 
 
 def ours_cors(framework: Framework, visit: Visit) -> Any:

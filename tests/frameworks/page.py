@@ -43,8 +43,9 @@ permitted. The requests are GET and HEAD, made by hand, from the tables of Go's 
     ) + "\n" + examples([it for it in conditions if not it["is_ours"]]) + """
 Of requests from other origins, a browser by the Fetch standard judges the answers. *Too much* are requests that it lets
 through, or fields that it shows, though the policy doesn't allow that, *too little* those that it holds back though the
-policy allows them. *Without Vary* are policies with which a cache may give one origin the response that was made for
-another, though they differ (Fetch standard, "CORS protocol and HTTP caches").
+policy allows them. *Without Vary* are policies with which a cache may give an origin the response that was made for
+another, or for a request without Origin, so that the browser does other than with the origin's own (Fetch standard,
+"CORS protocol and HTTP caches").
 
 """ + table(
         ["Framework", "Answers by", "asked", "too much", "too little", "fails", "without Vary"],
@@ -54,7 +55,7 @@ another, though they differ (Fetch standard, "CORS protocol and HTTP caches").
               "blocks what the policy allows", "hides a field that the policy exposes")), it["failed"], it["stale"]]
          for it in origins],
     ) + "\n" + examples([it for it in origins if not it["is_ours"]])
-    page.write_text("\n".join(line if line.startswith("|") else line for line in text.split("\n")), "utf-8")
+    page.write_text(text, "utf-8")
     wrong = [it for it in rows if it["is_ours"] and (it["wrong"] or it["stale"])]
     for it in rows:
         print(f"{it['framework']} {it['how']}: {it['asked']} asked, {it['wrong']} not permitted")

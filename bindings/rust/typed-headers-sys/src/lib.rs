@@ -1,5 +1,7 @@
-//! The calls of `typed_headers.h`, as it documents them.
-#![allow(missing_docs)]
+//! The calls of `typed_headers.h`, as it documents them. The crate `typed-headers` has safe functions over them.
+#![no_std]
+
+use core::ffi::c_char;
 
 #[repr(C)]
 #[derive(Clone, Copy, Debug)]
@@ -44,7 +46,7 @@ pub struct CacheDirectives {
 }
 
 #[repr(C)]
-#[derive(Clone, Copy, Debug, Default, PartialEq, Eq)]
+#[derive(Clone, Copy, Debug, Default, PartialEq, Eq, Hash)]
 pub struct BytesRange {
     pub first: u64,
     pub last: u64,
@@ -77,7 +79,7 @@ pub struct CorsFacts {
 }
 
 #[repr(C)]
-#[derive(Clone, Copy, Debug)]
+#[derive(Clone, Copy, Debug, PartialEq, Eq, Hash)]
 pub struct Moments {
     pub request: u64,
     pub response: u64,
@@ -106,6 +108,8 @@ pub type TagsCall = unsafe extern "C" fn(
 ) -> u8;
 
 extern "C" {
+    pub fn typed_headers_version() -> *const c_char;
+    pub fn typed_headers_status_text(status: u8) -> *const c_char;
     pub fn typed_headers_canonical(
         section: *const u8,
         section_length: usize,
@@ -147,11 +151,7 @@ extern "C" {
         other_length: usize,
         equal: *mut u8,
     ) -> u8;
-    pub fn typed_headers_cache_control(
-        lines: *const u8,
-        lines_length: usize,
-        directives: *mut CacheDirectives,
-    ) -> u8;
+    pub fn typed_headers_cache_control(lines: *const u8, lines_length: usize, directives: *mut CacheDirectives) -> u8;
     pub fn typed_headers_ranges(
         lines: *const u8,
         lines_length: usize,

@@ -1,0 +1,178 @@
+use alloc::vec::Vec;
+use core::cell::Cell;
+
+use typed_headers_sys as sys;
+
+use crate::error::{check, Error};
+use crate::text::{written, Section};
+use crate::{ByteRange, Keys};
+
+/// What a server knows of the target of a request.
+///
+/// ```
+/// use typed_headers::Target;
+///
+/// let target = Target::new().etag(r#""a""#).last_modified(784_111_777);
+/// ```
+#[derive(Clone, Copy, Debug, PartialEq, Eq, Hash)]
+pub struct Target<'a> {
+    etag: &'a [u8],
+    last_modified: Option<u64>,
+    exists: bool,
+    is_date_strong: bool,
+}
+
+impl<'a> Target<'a> {
+    /// A target with a current representation, of which nothing else is known.
+    pub const fn new() -> Target<'a> {
+        Target { etag: &[], last_modified: None, exists: true, is_date_strong: false }
+    }
+
+    /// A target without a representation.
+    pub const fn missing() -> Target<'a> {
+        Target { exists: false, ..Target::new() }
+    }
+
+    /// The entity tag of the representation, with its quotes.
+    pub fn etag(self, etag: &'a (impl AsRef<[u8]> + ?Sized)) -> Target<'a> {
+        Target { etag: etag.as_ref(), ..self }
+    }
+
+    /// When the representation was last modified.
+    pub const fn last_modified(self, second: u64) -> Target<'a> {
+        Target { last_modified: Some(second), ..self }
+    }
+
+    /// Says that this date is a strong validator (RFC 9110, section 8.8.2.2).
+    pub const fn strong_date(self) -> Target<'a> {
+        Target { is_date_strong: true, ..self }
+    }
+
+    fn given(&self, now: u64) -> sys::Target {
+        sys::Target {
+            last_modified: self.last_modified.unwrap_or(0),
+            present: now,
+            exists: self.exists,
+            has_last_modified: self.last_modified.is_some(),
+            is_date_strong: self.is_date_strong,
+        }
+    }
+}
+
+impl Default for Target<'_> {
+    fn default() -> Self {
+        Target::new()
+    }
+}
+
+/// What the preconditions of a request come to.
+#[derive(Clone, Copy, Debug, PartialEq, Eq, Hash)]
+#[non_exhaustive]
+pub enum Precondition {
+    /// The method is performed.
+    Perform,
+    /// The status is 304.
+    NotModified,
+    /// The status is 412.
+    Failed,
+}
+
+/// What the preconditions of a request come to (RFC 9110, section 13.2.2). A server asks this once it would otherwise
+/// answer with success, and before it performs the method. It answers the request at the second `now`.
+///
+/// ```
+/// use typed_headers::{Keys, Precondition, Section, Target, evaluate};
+///
+/// let request = Section::from_bytes("If-None-Match: \"a\"\n");
+/// let target = Target::new().etag(r#""a""#);
+/// let found = evaluate("GET", &request, &target, 1_767_225_600, Keys::random())?;
+/// assert_eq!(found, Precondition::NotModified);
+/// # Ok::<(), typed_headers::Error>(())
+/// ```
+pub fn evaluate(
+    method: impl AsRef<[u8]>,
+    request: &Section,
+    target: &Target<'_>,
+    now: u64,
+    keys: Keys,
+) -> Result<Precondition, Error> {
+    let (method, section, mut answer) = (method.as_ref(), request.as_bytes(), 0);
+    // SAFETY: these are pointers and counts of slices and of values, which don't overlap.
+    let status = unsafe {
+        sys::typed_headers_evaluate(
+            method.as_ptr(),
+            method.len(),
+            section.as_ptr(),
+            section.len(),
+            &keys.0,
+            target.etag.as_ptr(),
+            target.etag.len(),
+            &target.given(now),
+            &mut answer,
+        )
+    };
+    check(status)?;
+    match answer {
+        0 => Ok(Precondition::Perform),
+        304 => Ok(Precondition::NotModified),
+        _ => Ok(Precondition::Failed),
+    }
+}
+
+/// Which part of a representation a request selects.
+#[derive(Clone, Debug, PartialEq, Eq, Hash)]
+#[non_exhaustive]
+pub enum Selection {
+    /// All of it: the status is 200.
+    Full,
+    /// These ranges, in order: the status is 206.
+    Parts(Vec<ByteRange>),
+    /// None of it: the status is 416.
+    Unsatisfiable,
+}
+
+/// Which part of the target's representation, of so many bytes, a request selects (RFC 9110, section 14.2). A server
+/// asks this once [`evaluate`] said that the method is performed. `None` if the target doesn't exist.
+///
+/// ```
+/// use typed_headers::{ByteRange, Keys, Section, Selection, Target, select};
+///
+/// let request = Section::from_bytes("Range: bytes=5-\n");
+/// let found = select("GET", &request, &Target::new(), 10, 1_767_225_600, Keys::random())?;
+/// assert_eq!(found, Some(Selection::Parts(vec![ByteRange { first: 5, last: 9 }])));
+/// # Ok::<(), typed_headers::Error>(())
+/// ```
+pub fn select(
+    method: impl AsRef<[u8]>,
+    request: &Section,
+    target: &Target<'_>,
+    length: u64,
+    now: u64,
+    keys: Keys,
+) -> Result<Option<Selection>, Error> {
+    let (method, section, given) = (method.as_ref(), request.as_bytes(), target.given(now));
+    let answer = Cell::new(0);
+    // SAFETY: as above.
+    let found = written(8, |room, room_length, count| unsafe {
+        sys::typed_headers_select(
+            method.as_ptr(),
+            method.len(),
+            section.as_ptr(),
+            section.len(),
+            &keys.0,
+            target.etag.as_ptr(),
+            target.etag.len(),
+            &given,
+            length,
+            answer.as_ptr(),
+            room,
+            room_length,
+            count,
+        )
+    })?;
+    Ok(found.map(|(parts, _)| match answer.get() {
+        200 => Selection::Full,
+        206 => Selection::Parts(parts),
+        _ => Selection::Unsatisfiable,
+    }))
+}

@@ -1,0 +1,64 @@
+use core::ffi::CStr;
+use core::fmt;
+
+use typed_headers_sys as sys;
+
+/// Why a call gives nothing.
+///
+/// ```
+/// use typed_headers::{Error, age};
+///
+/// let error = age(["7 days"]).unwrap_err();
+/// assert_eq!(error, Error::Rejected);
+/// assert_eq!(error.to_string(), "an argument is not what the call reads");
+/// ```
+#[derive(Clone, Copy, Debug, PartialEq, Eq, Hash)]
+#[non_exhaustive]
+pub enum Error {
+    /// An argument isn't what the call reads, as field lines that encode no value.
+    Rejected,
+    /// The library is out of memory. The same call may succeed later.
+    OutOfMemory,
+    /// An argument is longer, or has more names, than the call takes.
+    TooLarge,
+    /// The library's status is none that this crate knows.
+    Unknown(u8),
+}
+
+impl fmt::Display for Error {
+    fn fmt(&self, formatter: &mut fmt::Formatter<'_>) -> fmt::Result {
+        let status = match self {
+            Error::Rejected => status::REFUSED,
+            Error::OutOfMemory => status::NO_MEMORY,
+            Error::TooLarge => status::TOO_LARGE,
+            Error::Unknown(status) => return write!(formatter, "unknown status {status}"),
+        };
+        // SAFETY: each status has a text, which is never freed.
+        let text = unsafe { CStr::from_ptr(sys::typed_headers_status_text(status)) };
+        formatter.write_str(text.to_str().unwrap_or("unknown"))
+    }
+}
+
+impl core::error::Error for Error {}
+
+pub(crate) mod status {
+    pub const DONE: u8 = 0;
+    pub const REFUSED: u8 = 1;
+    pub const NO_MEMORY: u8 = 2;
+    pub const NO_ROOM: u8 = 3;
+    pub const ABSENT: u8 = 4;
+    pub const TOO_LARGE: u8 = 5;
+    pub const MARKED: u8 = 6;
+}
+
+/// Whether a call gave what it was asked for: `false` if that is absent.
+pub(crate) fn check(status: u8) -> Result<bool, Error> {
+    match status {
+        status::DONE | status::MARKED => Ok(true),
+        status::ABSENT => Ok(false),
+        status::REFUSED => Err(Error::Rejected),
+        status::NO_MEMORY => Err(Error::OutOfMemory),
+        status::TOO_LARGE => Err(Error::TooLarge),
+        other => Err(Error::Unknown(other)),
+    }
+}

@@ -1,0 +1,242 @@
+use alloc::vec::Vec;
+
+use typed_headers_sys as sys;
+
+use crate::error::{check, status, Error};
+use crate::text::{joined, written, Section};
+use crate::{ByteRange, Keys};
+
+// In this crate pointers and counts that are handed to the library are those of slices, and of values that live until
+// the call returns. None overlaps another.
+
+fn number<I>(call: sys::NumberCall, lines: I) -> Result<Option<u64>, Error>
+where
+    I: IntoIterator,
+    I::Item: AsRef<[u8]>,
+{
+    let (text, mut number) = (joined(lines)?, 0);
+    // SAFETY: as above.
+    Ok(check(unsafe { call(text.as_ptr(), text.len(), &mut number) })?.then_some(number))
+}
+
+macro_rules! numbers {
+    ($($(#[$comment:meta])* $name:ident = $call:ident;)*) => {$(
+        $(#[$comment])*
+        pub fn $name<I>(lines: I) -> Result<Option<u64>, Error>
+        where
+            I: IntoIterator,
+            I::Item: AsRef<[u8]>,
+        {
+            number(sys::$call, lines)
+        }
+    )*};
+}
+
+numbers! {
+    /// The seconds of `Age` (RFC 9111, section 5.1).
+    ///
+    /// ```
+    /// assert_eq!(typed_headers::age(["+007"])?, Some(7));
+    /// assert_eq!(typed_headers::age::<[&str; 0]>([])?, None);
+    /// # Ok::<(), typed_headers::Error>(())
+    /// ```
+    age = typed_headers_age;
+    /// The bytes of `Content-Length` (RFC 9110, section 8.6). Several field lines have to say the same.
+    ///
+    /// ```
+    /// assert_eq!(typed_headers::content_length(["5", "5"])?, Some(5));
+    /// # Ok::<(), typed_headers::Error>(())
+    /// ```
+    content_length = typed_headers_content_length;
+    /// The second of `Date` since the start of 1970 (RFC 9110, section 6.6.1).
+    ///
+    /// ```
+    /// assert_eq!(typed_headers::date(["Sun, 06 Nov 1994 08:49:37 GMT"])?, Some(784_111_777));
+    /// # Ok::<(), typed_headers::Error>(())
+    /// ```
+    date = typed_headers_date;
+    /// The second of `Expires` since the start of 1970 (RFC 9111, section 5.3).
+    expires = typed_headers_expires;
+    /// The second of `Last-Modified` since the start of 1970 (RFC 9110, section 8.8.2).
+    last_modified = typed_headers_last_modified;
+}
+
+fn bytes<I>(call: sys::BytesCall, lines: I) -> Result<Option<Vec<u8>>, Error>
+where
+    I: IntoIterator,
+    I::Item: AsRef<[u8]>,
+{
+    let text = joined(lines)?;
+    // SAFETY: as above.
+    let found = written(text.len() + 28, |room, length, count| unsafe {
+        call(text.as_ptr(), text.len(), room, length, count)
+    })?;
+    Ok(found.map(|(bytes, _)| bytes))
+}
+
+/// The canonical text of the media type of `Content-Type` (RFC 9110, section 8.3).
+///
+/// ```
+/// let found = typed_headers::media_type(["Text/HTML;Charset=UTF-8"])?;
+/// assert_eq!(found.as_deref(), Some(b"text/html; charset=utf-8".as_slice()));
+/// # Ok::<(), typed_headers::Error>(())
+/// ```
+pub fn media_type<I>(lines: I) -> Result<Option<Vec<u8>>, Error>
+where
+    I: IntoIterator,
+    I::Item: AsRef<[u8]>,
+{
+    bytes(sys::typed_headers_media_type, lines)
+}
+
+/// Type and subtype of the media type of `Content-Type`, as `text/html`.
+pub fn essence<I>(lines: I) -> Result<Option<Vec<u8>>, Error>
+where
+    I: IntoIterator,
+    I::Item: AsRef<[u8]>,
+{
+    bytes(sys::typed_headers_essence, lines)
+}
+
+/// The value of `Sec-WebSocket-Accept` that answers a `Sec-WebSocket-Key` (RFC 6455, section 4.2.2).
+///
+/// ```
+/// let found = typed_headers::websocket_accept(["dGhlIHNhbXBsZSBub25jZQ=="])?;
+/// assert_eq!(found.as_deref(), Some(b"s3pPLMBiTxaQ9kYGzzhZRbK+xOo=".as_slice()));
+/// # Ok::<(), typed_headers::Error>(())
+/// ```
+pub fn websocket_accept<I>(lines: I) -> Result<Option<Vec<u8>>, Error>
+where
+    I: IntoIterator,
+    I::Item: AsRef<[u8]>,
+{
+    bytes(sys::typed_headers_websocket_accept, lines)
+}
+
+fn compare(call: sys::TagsCall, one: &[u8], other: &[u8]) -> Result<bool, Error> {
+    let mut equal = 0;
+    // SAFETY: as above.
+    let status = unsafe { call(one.as_ptr(), one.len(), other.as_ptr(), other.len(), &mut equal) };
+    if check(status)? {
+        Ok(equal == 1)
+    } else {
+        Err(Error::Rejected)
+    }
+}
+
+/// Whether two entity tags are equal and neither is weak (RFC 9110, section 8.8.3.2). [`Error::Rejected`] if one of
+/// them is none.
+///
+/// ```
+/// assert_eq!(typed_headers::strong_eq(r#""a""#, r#"W/"a""#)?, false);
+/// # Ok::<(), typed_headers::Error>(())
+/// ```
+pub fn strong_eq(one: impl AsRef<[u8]>, other: impl AsRef<[u8]>) -> Result<bool, Error> {
+    compare(sys::typed_headers_strong_eq, one.as_ref(), other.as_ref())
+}
+
+/// Whether two entity tags are equal but for `W/` (RFC 9110, section 8.8.3.2). [`Error::Rejected`] if one of them is
+/// none.
+pub fn weak_eq(one: impl AsRef<[u8]>, other: impl AsRef<[u8]>) -> Result<bool, Error> {
+    compare(sys::typed_headers_weak_eq, one.as_ref(), other.as_ref())
+}
+
+/// The directives of `Cache-Control` that are set (RFC 9111, section 5.2). Seconds are `None` if they aren't.
+#[derive(Clone, Copy, Debug, Default, PartialEq, Eq, Hash)]
+#[non_exhaustive]
+#[allow(missing_docs)]
+pub struct CacheControl {
+    pub max_age: Option<u64>,
+    pub max_stale: Option<u64>,
+    pub min_fresh: Option<u64>,
+    pub s_maxage: Option<u64>,
+    pub no_cache: bool,
+    pub no_store: bool,
+    pub no_transform: bool,
+    pub only_if_cached: bool,
+    pub must_revalidate: bool,
+    pub must_understand: bool,
+    pub is_public: bool,
+    pub is_private: bool,
+    pub immutable: bool,
+}
+
+/// The directives of `Cache-Control` (RFC 9111, section 5.2).
+///
+/// ```
+/// let found = typed_headers::cache_control(["no-cache", "max-age=60"])?.unwrap();
+/// assert_eq!((found.no_cache, found.max_age), (true, Some(60)));
+/// # Ok::<(), typed_headers::Error>(())
+/// ```
+pub fn cache_control<I>(lines: I) -> Result<Option<CacheControl>, Error>
+where
+    I: IntoIterator,
+    I::Item: AsRef<[u8]>,
+{
+    let (text, mut given) = (joined(lines)?, sys::CacheDirectives::default());
+    // SAFETY: as above.
+    if !check(unsafe { sys::typed_headers_cache_control(text.as_ptr(), text.len(), &mut given) })? {
+        return Ok(None);
+    }
+    let seconds = |directive: sys::DirectiveSeconds| (directive.is_set == 1).then_some(directive.seconds);
+    Ok(Some(CacheControl {
+        max_age: seconds(given.max_age),
+        max_stale: seconds(given.max_stale),
+        min_fresh: seconds(given.min_fresh),
+        s_maxage: seconds(given.s_maxage),
+        no_cache: given.no_cache == 1,
+        no_store: given.no_store == 1,
+        no_transform: given.no_transform == 1,
+        only_if_cached: given.only_if_cached == 1,
+        must_revalidate: given.must_revalidate == 1,
+        must_understand: given.must_understand == 1,
+        is_public: given.is_public == 1,
+        is_private: given.is_private == 1,
+        immutable: given.immutable == 1,
+    }))
+}
+
+/// The ranges of `Range` that a representation of so many bytes can satisfy, in order (RFC 9110, section 14.1.2).
+///
+/// ```
+/// use typed_headers::{ByteRange, ranges};
+///
+/// let found = ranges(["bytes=0-0,5-"], 10)?.unwrap();
+/// assert_eq!(found, [ByteRange { first: 0, last: 0 }, ByteRange { first: 5, last: 9 }]);
+/// # Ok::<(), typed_headers::Error>(())
+/// ```
+pub fn ranges<I>(lines: I, length: u64) -> Result<Option<Vec<ByteRange>>, Error>
+where
+    I: IntoIterator,
+    I::Item: AsRef<[u8]>,
+{
+    let text = joined(lines)?;
+    // SAFETY: as above.
+    let found = written(8, |room, room_length, count| unsafe {
+        sys::typed_headers_ranges(text.as_ptr(), text.len(), length, room, room_length, count)
+    })?;
+    Ok(found.map(|(ranges, _)| ranges))
+}
+
+/// The canonical form of a header section.
+#[derive(Clone, Debug, PartialEq, Eq, Hash)]
+#[non_exhaustive]
+pub struct Canonical {
+    /// Each name with its field lines together. A name whose field lines are rejected is the line `! NAME`.
+    pub text: Vec<u8>,
+    /// Whether there is such a name.
+    pub is_marked: bool,
+}
+
+impl Section {
+    /// The canonical form of the section (RFC 9112, section 5). [`Error::Rejected`] if a line is no field.
+    pub fn canonical(&self, keys: Keys) -> Result<Canonical, Error> {
+        let text = self.as_bytes();
+        // SAFETY: as above.
+        let found = written(text.len() + 64, |room, length, count| unsafe {
+            sys::typed_headers_canonical(text.as_ptr(), text.len(), &keys.0, room, length, count)
+        })?;
+        let (text, status) = found.unwrap_or_default();
+        Ok(Canonical { text, is_marked: status == status::MARKED })
+    }
+}

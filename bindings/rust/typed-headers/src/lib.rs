@@ -1,0 +1,194 @@
+//! Typed HTTP headers, by a library in C whose calls are proved to follow their specifications.
+//!
+//! A field is its field lines, without the name. An absent field, or an answer that a message doesn't give, is `None`.
+//! Times are seconds since the start of 1970.
+//!
+//! ```
+//! use typed_headers::{ByteRange, age, cache_control, ranges};
+//!
+//! assert_eq!(age(["+007"])?, Some(7));
+//! assert_eq!(cache_control(["no-cache, max-age=60"])?.unwrap().max_age, Some(60));
+//! assert_eq!(ranges(["bytes=0-4"], 10)?, Some(vec![ByteRange { first: 0, last: 4 }]));
+//! # Ok::<(), typed_headers::Error>(())
+//! ```
+//!
+//! The crate needs `alloc`, and no `std` but for `Keys::random`, of the feature `std`. The library is that of the
+//! system, as `pkg-config` knows it, or the static one in the folder that the variable TYPED_HEADERS names.
+#![no_std]
+#![warn(missing_docs)]
+
+extern crate alloc;
+#[cfg(feature = "std")]
+extern crate std;
+
+mod caching;
+mod conditions;
+mod cors;
+mod error;
+mod fields;
+mod text;
+
+pub use caching::{current_age, decide, lifetime, may_store, validators, Decision, Times};
+pub use conditions::{evaluate, select, Precondition, Selection, Target};
+pub use cors::{CorsAnswer, CorsKind, CorsRules, CORS_FIELDS};
+pub use error::Error;
+pub use fields::{
+    age, cache_control, content_length, date, essence, expires, last_modified, media_type, ranges, strong_eq, weak_eq,
+    websocket_accept, CacheControl, Canonical,
+};
+pub use text::Section;
+
+use typed_headers_sys as sys;
+
+/// A range of bytes: its first and its last position, both included.
+pub use sys::BytesRange as ByteRange;
+
+/// Sixteen bytes that no sender of field names can guess. A map of fields hashes with them once names collide. They
+/// change no answer.
+#[derive(Clone, Copy, Debug)]
+pub struct Keys(sys::Keys);
+
+impl Keys {
+    /// Keys from two numbers, as the system's source of random bytes gives them.
+    pub const fn new(first: u64, second: u64) -> Keys {
+        Keys(sys::Keys { first, second })
+    }
+
+    /// Random keys, as those of the standard library's hash maps.
+    #[cfg(feature = "std")]
+    pub fn random() -> Keys {
+        use std::hash::{BuildHasher, RandomState};
+
+        let state = RandomState::new();
+        Keys::new(state.hash_one(1), state.hash_one(2))
+    }
+}
+
+/// The version of the library.
+///
+/// ```
+/// assert!(typed_headers::version().starts_with("1."));
+/// ```
+pub fn version() -> &'static str {
+    // SAFETY: the text is a constant.
+    let text = unsafe { core::ffi::CStr::from_ptr(sys::typed_headers_version()) };
+    text.to_str().unwrap_or_default()
+}
+
+#[cfg(test)]
+mod tests {
+    use alloc::string::{String, ToString};
+    use alloc::vec::Vec;
+
+    use super::*;
+
+    const KEYS: Keys = Keys::new(1, 2);
+    const NONE: [&str; 0] = [];
+    // 1 January 2026.
+    const NOW: u64 = 1_767_225_600;
+
+    #[test]
+    fn texts_and_numbers() {
+        let canonical = |text: &str| Section::from_bytes(text).canonical(KEYS);
+        let found = canonical("Age: +007\nAge-Of: x\n").unwrap();
+        assert_eq!((found.text, found.is_marked), (b"age: 7\nage-of: x\n".to_vec(), false));
+        let found = canonical("Age: x\n").unwrap();
+        assert_eq!((found.text, found.is_marked), (b"! age\n".to_vec(), true));
+        assert_eq!(canonical("Age\n"), Err(Error::Rejected));
+        assert_eq!((age(["+007"]), age(NONE), age(["7 days"])), (Ok(Some(7)), Ok(None), Err(Error::Rejected)));
+        assert_eq!(age([b"7\n8".as_slice()]), Err(Error::Rejected));
+        assert_eq!((content_length(["5", "5"]), content_length(["5", "6"])), (Ok(Some(5)), Err(Error::Rejected)));
+        for found in [
+            date(["Sun, 06 Nov 1994 08:49:37 GMT"]),
+            expires(["Sunday, 06-Nov-94 08:49:37 GMT"]),
+            last_modified(["Sun Nov  6 08:49:37 1994"]),
+        ] {
+            assert_eq!(found, Ok(Some(784_111_777)));
+        }
+        assert_eq!(strong_eq("\"a\"", "\"a\""), Ok(true));
+        assert_eq!((strong_eq("\"a\"", "W/\"a\""), weak_eq("\"a\"", "W/\"a\"")), (Ok(false), Ok(true)));
+        assert_eq!((strong_eq("a", "\"a\""), weak_eq("\"a\"", "")), (Err(Error::Rejected), Err(Error::Rejected)));
+        assert_eq!(media_type(["Text/HTML;Charset=x"]), Ok(Some(b"text/html; charset=x".to_vec())));
+        assert_eq!(essence(["Text/HTML;Charset=x"]), Ok(Some(b"text/html".to_vec())));
+        assert_eq!(media_type(NONE), Ok(None));
+        let directives = cache_control(["no-cache, max-age=60"]).unwrap().unwrap();
+        assert_eq!((directives.no_cache, directives.no_store, directives.max_age), (true, false, Some(60)));
+        assert_eq!(cache_control(NONE), Ok(None));
+    }
+
+    #[test]
+    fn errors() {
+        let texts: Vec<String> = [Error::Rejected, Error::OutOfMemory, Error::TooLarge, Error::Unknown(9)]
+            .iter()
+            .map(Error::to_string)
+            .collect();
+        assert_eq!(texts[1..3], ["out of memory", "an argument is too large"]);
+        assert_eq!(texts[3], "unknown status 9");
+        let _: &dyn core::error::Error = &Error::Rejected;
+        assert_eq!(error::check(7), Err(Error::Unknown(7)));
+        assert_eq!(Section::from_bytes(alloc::vec![b'x'; 8_388_609]).canonical(KEYS), Err(Error::TooLarge));
+    }
+
+    #[test]
+    fn fields_are_not_injected() {
+        let mut section = Section::new();
+        for (name, value) in [("", "a"), ("A:", "b"), ("A\n", "b"), ("A", "b\r\nC: d")] {
+            assert_eq!(section.push(name, value), Err(Error::Rejected));
+        }
+        assert_eq!(section.push("A", "b"), Ok(()));
+        assert_eq!(section.as_bytes(), b"A: b\n");
+    }
+
+    #[test]
+    fn conditions_and_ranges() {
+        let target = Target::new().etag("\"a\"").last_modified(784_111_777);
+        let ask = |text: &str| evaluate("GET", &Section::from_bytes(text), &target, NOW, KEYS);
+        assert_eq!(ask("If-None-Match: \"a\"\n"), Ok(Precondition::NotModified));
+        assert_eq!(ask("If-Match: \"b\"\n"), Ok(Precondition::Failed));
+        assert_eq!(ask(""), Ok(Precondition::Perform));
+        let wrong = Target::new().etag("a");
+        assert_eq!(evaluate("GET", &Section::new(), &wrong, NOW, KEYS), Err(Error::Rejected));
+        let parts = [ByteRange { first: 0, last: 0 }, ByteRange { first: 5, last: 9 }];
+        assert_eq!(ranges(["bytes=0-0,5-"], 10), Ok(Some(parts.to_vec())));
+        let many: String = (0..100).map(|place| alloc::format!("{place}-{place},")).collect();
+        assert_eq!(ranges([alloc::format!("bytes={many}")], 50).unwrap().unwrap().len(), 50);
+        let ask = |text: &str, target| select("GET", &Section::from_bytes(text), &target, 10, NOW, KEYS);
+        assert_eq!(ask("Range: bytes=5-\n", Target::new()), Ok(Some(Selection::Parts(parts[1..].to_vec()))));
+        assert_eq!(ask("", Target::new()), Ok(Some(Selection::Full)));
+        assert_eq!(ask("Range: bytes=10-\n", Target::new()), Ok(Some(Selection::Unsatisfiable)));
+        assert_eq!(ask("", Target::missing()), Ok(None));
+        let dated = "Range: bytes=5-\nIf-Range: Sun, 06 Nov 1994 08:49:37 GMT\n";
+        assert_eq!(ask(dated, target), Ok(Some(Selection::Full)));
+        assert_eq!(ask(dated, target.strong_date()), Ok(Some(Selection::Parts(parts[1..].to_vec()))));
+    }
+
+    #[test]
+    fn other_origins() {
+        let rules = CorsRules { origins: &["https://a.example"], methods: &["PUT"], ..CorsRules::default() };
+        let request = Section::from_bytes("Origin: https://a.example\nAccess-Control-Request-Method: PUT\n");
+        let answer = rules.answer("OPTIONS", &request, &Section::from_bytes("Vary: accept\n"), KEYS).unwrap();
+        assert_eq!((answer.kind, answer.is_allowed), (CorsKind::Preflight, true));
+        let fields = "access-control-allow-origin: https://a.example\naccess-control-allow-methods: PUT\n";
+        let fields = alloc::format!("{fields}vary: accept\nvary: origin\n");
+        assert_eq!(answer.fields.as_bytes(), fields.as_bytes());
+        let any = CorsRules { origins: &["*"], credentials: true, ..CorsRules::default() };
+        assert_eq!(any.answer("GET", &Section::new(), &Section::new(), KEYS), Err(Error::Rejected));
+    }
+
+    #[test]
+    fn caches() {
+        let response = "Date: Sun, 06 Nov 1994 08:49:37 GMT\nCache-Control: max-age=60\nETag: \"a\"\n";
+        let (response, none) = (Section::from_bytes(response), Section::new());
+        let at = |now| Times { request: 784_111_777, response: 784_111_777, now };
+        assert_eq!(may_store("GET", &none, 200, &response, true, KEYS), Ok(true));
+        assert_eq!(may_store("PUT", &none, 200, &response, true, KEYS), Ok(false));
+        assert_eq!(may_store("GET", &none, 99, &response, true, KEYS), Err(Error::Rejected));
+        assert_eq!(lifetime(&response, 784_111_777, true, KEYS), Ok(Some(60)));
+        assert_eq!(lifetime(&none, 784_111_777, true, KEYS), Ok(None));
+        assert_eq!(current_age(&response, &at(784_111_787), KEYS), Ok(10));
+        let decided = |now| decide(("GET", &none), ("GET", &none), &response, &at(now), true, KEYS);
+        assert_eq!((decided(784_111_787), decided(784_111_837)), (Ok(Decision::Serve), Ok(Decision::Revalidate)));
+        let fields = validators(&response, 784_111_777, KEYS).unwrap();
+        assert_eq!(fields.as_bytes(), b"if-none-match: \"a\"\n");
+    }
+}
