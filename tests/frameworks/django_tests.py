@@ -30,6 +30,11 @@ OTHERWISE = {
 }
 
 
+class Response(types.SimpleNamespace):
+    def __getitem__(self, name: str) -> Any:
+        return self.headers[name]
+
+
 class Client:
     """Stands for Django's test client: it asks the application through the middleware."""
 
@@ -42,10 +47,9 @@ class Client:
     def ask(self, method: str, path: str) -> Any:
         fields = [(name[5:].replace("_", "-"), value) for name, value in self.defaults.items()]
         found = by_wsgi(self.application, method, path, fields)
-        headers = {"-".join(part.capitalize() for part in name.split("-")): value for name, value in found.fields}
-        headers = {{"Etag": "ETag"}.get(name, name): value for name, value in headers.items()}
-        response = types.SimpleNamespace(
-            status_code=found.status, content=found.body, headers=headers, request={"REQUEST_METHOD": method})
+        response = Response()
+        response.status_code, response.content, response.headers = found.status, found.body, dict(found.fields)
+        response.request = {"REQUEST_METHOD": method}
         return response
 
     def get(self, path: str) -> Any:
