@@ -1,8 +1,12 @@
 """Builds the wheel and the source distribution, as pip asks for them. It needs no other package and no network.
 
-If the library is beside the package, the wheel has it, and a tag that says which systems it runs on. Else the wheel is
-for any system, and uses the library that is installed there. The same files give the same bytes: the times in both
-archives are SOURCE_DATE_EPOCH, or 1980.
+If the extension or the library is in the package's folder, the wheel has it, and a tag that says which systems it runs
+on. Else the wheel is for any system, and uses the library that is installed there. The same files give the same bytes:
+the times in both archives are SOURCE_DATE_EPOCH, or 1980.
+
+    backend.py HEADER LIBRARY TO
+
+compiles the extension, with this folder of typed_headers.h and this library, to a file.
 """
 
 import base64
@@ -11,6 +15,9 @@ import hashlib
 import io
 import os
 import re
+import subprocess
+import sys
+import sysconfig
 import tarfile
 import time
 import zipfile
@@ -20,8 +27,9 @@ from typing import Any, Dict, List, Optional
 HERE = Path(__file__).resolve().parent
 PACKAGE = HERE / "typed_headers"
 LIBRARY = "libtyped_headers.so.1"
+EXTENSION = "_native.abi3.so"
 #: The files of the source distribution beside the package and the tests.
-SOURCES = ("README.md", "backend.py", "pyproject.toml")
+SOURCES = ("README.md", "backend.py", "native.c", "pyproject.toml")
 EPOCH_OF_ZIP = 315532800
 
 METADATA = """\
@@ -102,14 +110,16 @@ def build_wheel(
     wheel_directory: str, config_settings: Optional[Dict[str, Any]] = None, metadata_directory: Optional[str] = None
 ) -> str:
     """Writes the wheel, and returns its name."""
-    library = PACKAGE / LIBRARY
     files = modules()
-    tags = ["any"]
-    if library.exists():
-        files[f"typed_headers/{LIBRARY}"] = library.read_bytes()
-        tags = tags_of(library)
+    python, tags = "py3-none", ["any"]
+    for name in (EXTENSION, LIBRARY):
+        made = PACKAGE / name
+        if made.exists():
+            files[f"typed_headers/{name}"] = made.read_bytes()
+            python, tags = "cp38-abi3" if name == EXTENSION else "py3-none", tags_of(made)
+            break
     info = f"typed_headers-{version()}.dist-info"
-    lines = "".join(f"Tag: py3-none-{tag}\n" for tag in tags)
+    lines = "".join(f"Tag: {python}-{tag}\n" for tag in tags)
     files[f"{info}/METADATA"] = metadata()
     files[f"{info}/WHEEL"] = WHEEL.format(is_pure=str(tags == ["any"]).lower(), tags=lines).encode()
     files[f"{info}/entry_points.txt"] = ENTRY_POINTS.encode()
@@ -119,12 +129,12 @@ def build_wheel(
         files[f"{info}/PROVED.txt"] = proved.read_bytes()
     record = "".join(f"{name},sha256={digest_of(content)},{len(content)}\n" for name, content in files.items())
     files[f"{info}/RECORD"] = f"{record}{info}/RECORD,,\n".encode()
-    name = f"typed_headers-{version()}-py3-none-{'.'.join(tags)}.whl"
+    name = f"typed_headers-{version()}-{python}-{'.'.join(tags)}.whl"
     with zipfile.ZipFile(Path(wheel_directory, name), "w") as archive:
         for place, content in files.items():
             entry = zipfile.ZipInfo(place, time.gmtime(epoch())[:6])
             entry.compress_type = zipfile.ZIP_DEFLATED
-            mode = 0o755 if place.endswith(LIBRARY) else 0o644
+            mode = 0o755 if place.endswith((EXTENSION, LIBRARY)) else 0o644
             entry.external_attr = (0o100000 | mode) << 16
             archive.writestr(entry, content)
     return name
@@ -148,3 +158,17 @@ def build_sdist(sdist_directory: str, config_settings: Optional[Dict[str, Any]] 
     with open(path, "wb") as file, gzip.GzipFile("", "wb", 9, file, epoch()) as archive:
         archive.write(text.getvalue())
     return path.name
+
+
+def build_extension(header: Path, library: Path, to: Path) -> None:
+    """Compiles the extension, with the folder of typed_headers.h and the library, static or shared."""
+    include = sysconfig.get_path("include")
+    if not Path(include, "Python.h").exists():
+        raise SystemExit(f"backend: there is no Python.h in {include}: install python3-dev")
+    options = ["-std=c11", "-O2", "-fPIC", "-shared", "-Wall", "-Wextra", "-Werror", "-Wl,-z,relro,-z,now"]
+    words = ["cc", *options, f"-I{include}", f"-I{header}", "-o", str(to), str(HERE / "native.c"), str(library)]
+    subprocess.run(words, check=True)
+
+
+if __name__ == "__main__":
+    build_extension(*map(Path, sys.argv[1:]))

@@ -1,28 +1,38 @@
-"""The shared library: its calls, as typed_headers.h declares and documents them, and their statuses as exceptions.
+"""What is handed to the calls of the library, and what comes back: texts, times and numbers, and statuses as exceptions.
 
-The library is the file that the environment variable TYPED_HEADERS_LIBRARY names, else the one beside this file, else
-the system's.
+The calls are those of the extension `_native`, which has the library in it or is linked with it. Without the extension,
+or if the environment variable TYPED_HEADERS_LIBRARY names a library, they are made over ctypes.
 """
 
-import ctypes
 import operator
 import os
 import re
 from datetime import datetime, timedelta, timezone
 from enum import IntEnum
-from pathlib import Path
-from typing import Any, Callable, List, Optional, Sequence, SupportsIndex, Tuple, Union
+from typing import TYPE_CHECKING, Callable, List, Sequence, SupportsIndex, Tuple, Union
 
 from ._names import FIELDS
 from .errors import HeaderError, InvalidField, InvalidSection, TooLarge
+
+if TYPE_CHECKING:
+    from . import _foreign
+
+    calls = _foreign
+elif os.environ.get("TYPED_HEADERS_LIBRARY"):
+    from . import _foreign as calls
+else:
+    try:
+        from . import _native as calls
+    except ImportError:
+        from . import _foreign as calls
 
 #: Text of a field. A `str` has one character for each byte (ISO 8859-1), as in WSGI and `http.client`.
 Text = Union[str, bytes, bytearray, memoryview]
 #: A time: a `datetime` with a time zone, or the seconds since the start of 1970.
 Time = Union[datetime, int]
 
-SONAME = "libtyped_headers.so.1"
 EPOCH = datetime(1970, 1, 1, tzinfo=timezone.utc)
+SECOND = timedelta(seconds=1)
 
 
 class Status(IntEnum):
@@ -37,136 +47,17 @@ class Status(IntEnum):
     MARKED = 6
 
 
-class Keys(ctypes.Structure):
-    _fields_ = [("first", ctypes.c_uint64), ("second", ctypes.c_uint64)]
-
-
-class Seconds(ctypes.Structure):
-    _fields_ = [("seconds", ctypes.c_uint64), ("is_set", ctypes.c_uint8)]
-
-
-DIRECTIVES_WITH_SECONDS = ("max_age", "max_stale", "min_fresh", "s_maxage")
-DIRECTIVES = (
-    "no_cache",
-    "no_store",
-    "no_transform",
-    "only_if_cached",
-    "must_revalidate",
-    "must_understand",
-    "public",
-    "private",
-    "immutable",
+_REFUSED, _NO_MEMORY, ABSENT, _TOO_LARGE = map(
+    int, (Status.REFUSED, Status.NO_MEMORY, Status.ABSENT, Status.TOO_LARGE)
 )
 
-
-class Directives(ctypes.Structure):
-    _fields_ = [
-        *((name, Seconds) for name in DIRECTIVES_WITH_SECONDS),
-        *((name, ctypes.c_uint8) for name in DIRECTIVES),
-    ]
-
-
-class Positions(ctypes.Structure):
-    _fields_ = [("first", ctypes.c_uint64), ("last", ctypes.c_uint64)]
-
-
-class TargetFacts(ctypes.Structure):
-    _fields_ = [
-        ("last_modified", ctypes.c_uint64),
-        ("present", ctypes.c_uint64),
-        ("exists", ctypes.c_bool),
-        ("has_last_modified", ctypes.c_bool),
-        ("is_date_strong", ctypes.c_bool),
-    ]
-
-
-class TextOfRules(ctypes.Structure):
-    _fields_ = [("bytes", ctypes.c_char_p), ("length", ctypes.c_size_t)]
-
-
-class Rules(ctypes.Structure):
-    _fields_ = [
-        ("origins", TextOfRules),
-        ("methods", TextOfRules),
-        ("headers", TextOfRules),
-        ("exposed", TextOfRules),
-        ("max_age", ctypes.c_uint64),
-        ("has_max_age", ctypes.c_bool),
-        ("credentials", ctypes.c_bool),
-    ]
-
-
-class CorsFacts(ctypes.Structure):
-    _fields_ = [("kind", ctypes.c_uint8), ("is_allowed", ctypes.c_uint8)]
-
-
-class MomentsOfCache(ctypes.Structure):
-    _fields_ = [("request", ctypes.c_uint64), ("response", ctypes.c_uint64), ("now", ctypes.c_uint64)]
-
-
-def _load() -> ctypes.CDLL:
-    beside = Path(__file__).with_name(SONAME)
-    name = os.environ.get("TYPED_HEADERS_LIBRARY") or (str(beside) if beside.exists() else SONAME)
-    try:
-        return ctypes.CDLL(name)
-    except OSError as error:
-        message = f"{error}: install libtyped-headers1, or set TYPED_HEADERS_LIBRARY to the path of {SONAME}"
-        raise ImportError(message) from None
-
-
-_library = _load()
-#: Bytes that no sender of field names can guess. A map of fields hashes with them once names collide.
-KEYS = ctypes.byref(Keys.from_buffer_copy(os.urandom(16)))
-
-_TEXT = [ctypes.c_char_p, ctypes.c_size_t]
-_ROOM = [ctypes.c_void_p, ctypes.c_size_t, ctypes.POINTER(ctypes.c_size_t)]
-_NUMBER = ctypes.POINTER(ctypes.c_uint64)
-_FLAG = ctypes.POINTER(ctypes.c_uint8)
-_SECTION = [*_TEXT, ctypes.POINTER(Keys)]
-_REQUEST = [*_TEXT, *_TEXT, ctypes.POINTER(Keys), *_TEXT, ctypes.POINTER(TargetFacts)]
-
-Call = Callable[..., int]
-
-
-def _call(name: str, *arguments: Any) -> Call:
-    function = getattr(_library, f"typed_headers_{name}")
-    function.argtypes = arguments
-    function.restype = ctypes.c_uint8
-    call: Call = function
-    return call
-
-
-age = _call("age", *_TEXT, _NUMBER)
-content_length = _call("content_length", *_TEXT, _NUMBER)
-date = _call("date", *_TEXT, _NUMBER)
-expires = _call("expires", *_TEXT, _NUMBER)
-last_modified = _call("last_modified", *_TEXT, _NUMBER)
-media_type = _call("media_type", *_TEXT, *_ROOM)
-essence = _call("essence", *_TEXT, *_ROOM)
-websocket_accept = _call("websocket_accept", *_TEXT, *_ROOM)
-ranges = _call("ranges", *_TEXT, ctypes.c_uint64, *_ROOM)
-strong_eq = _call("strong_eq", *_TEXT, *_TEXT, _FLAG)
-weak_eq = _call("weak_eq", *_TEXT, *_TEXT, _FLAG)
-cache_control = _call("cache_control", *_TEXT, ctypes.POINTER(Directives))
-evaluate = _call("evaluate", *_REQUEST, ctypes.POINTER(ctypes.c_uint16))
-select = _call("select", *_REQUEST, ctypes.c_uint64, ctypes.POINTER(ctypes.c_uint16), *_ROOM)
-canonical = _call("canonical", *_SECTION, *_ROOM)
-cors_answer = _call("cors_answer", ctypes.POINTER(Rules), *_TEXT, *_TEXT, *_SECTION, ctypes.POINTER(CorsFacts), *_ROOM)
-may_store = _call("may_store", *_TEXT, *_TEXT, ctypes.c_uint16, *_SECTION, ctypes.c_bool, _FLAG)
-lifetime = _call("lifetime", *_SECTION, ctypes.c_uint64, ctypes.c_bool, _NUMBER)
-current_age = _call("current_age", *_SECTION, ctypes.POINTER(MomentsOfCache), _NUMBER)
-decide = _call(
-    "decide", *_TEXT, *_TEXT, *_TEXT, *_TEXT, *_SECTION, ctypes.POINTER(MomentsOfCache), ctypes.c_bool, _FLAG
-)
-validators = _call("validators", *_TEXT, ctypes.c_uint64, ctypes.POINTER(Keys), *_ROOM)
+# Bytes that no sender of field names can guess. A map of fields hashes with them once names collide.
+calls.use_keys(os.urandom(16))
 
 
 def version() -> str:
     """The version of the library."""
-    function = _library.typed_headers_version
-    function.argtypes, function.restype = (), ctypes.c_char_p
-    text: bytes = function()
-    return text.decode("ascii")
+    return calls.version()
 
 
 # What is handed in
@@ -208,7 +99,7 @@ def to_seconds(time: Time, what: str) -> int:
         raise HeaderError(f"{what}: {time} has no time zone: use one with tzinfo, as datetime.now(timezone.utc)")
     if time < EPOCH:
         raise HeaderError(f"{what}: {time} lies before 1970")
-    return (time - EPOCH) // timedelta(seconds=1)
+    return (time - EPOCH) // SECOND
 
 
 def to_datetime(seconds: int) -> datetime:
@@ -216,97 +107,75 @@ def to_datetime(seconds: int) -> datetime:
     return EPOCH + timedelta(seconds=seconds)
 
 
-# A byte that no field value has (RFC 9110, section 5.5).
-_NO_VALUE = re.compile(rb"[^\t -~\x80-\xff]")
-
-
 def to_lines(field: str, lines: Sequence[Text]) -> List[bytes]:
-    """The field lines as bytes."""
+    """The field lines as bytes. None has a line end; the calls reject each other byte that no field value has."""
     found = [to_bytes(line, field) for line in lines]
-    for number, line in enumerate(found):
-        wrong = _NO_VALUE.search(line)
-        if wrong:
-            at = f"byte {wrong.start()}" if len(found) == 1 else f"byte {wrong.start()} of field line {number}"
-            reason = f"{at} is 0x{wrong[0].hex().upper()}, which no field value has (RFC 9110, section 5.5)"
-            raise InvalidField(field, reason, found, number, wrong.start())
+    for line in found:
+        if b"\n" in line or b"\r" in line:
+            raise rejected(field, found)
     return found
 
 
 def joined(lines: Sequence[bytes]) -> bytes:
     """The field lines as one text, as calls take them."""
-    return b"".join(line + b"\n" for line in lines)
+    return b"\n".join(lines) + b"\n" if lines else b""
 
 
 # What comes back
 
 
-def rejected(field: str, lines: Sequence[bytes]) -> InvalidField:
-    """That these lines encode no value of the field."""
-    grammar = FIELDS[field]
+#: A byte that no field value has (RFC 9110, section 5.5).
+NO_VALUE = re.compile(rb"[^\t -~\x80-\xff]")
+
+
+def rejected(field: str, lines: Sequence[bytes], reason: str = "") -> InvalidField:
+    """That these lines encode no value of the field, and where a byte is wrong."""
+    for number, line in enumerate(lines):
+        wrong = NO_VALUE.search(line)
+        if wrong:
+            at = f"byte {wrong.start()}" if len(lines) == 1 else f"byte {wrong.start()} of field line {number}"
+            reason = f"{at} is 0x{wrong[0].hex().upper()}, which no field value has (RFC 9110, section 5.5)"
+            return InvalidField(field, reason, lines, number, wrong.start())
+    if not reason:
+        grammar = FIELDS[field]
+        reason = f"expected {grammar.expected} ({grammar.section})"
     shown = ", ".join(repr(to_str(line)) for line in lines) or "no field line"
-    return InvalidField(field, f"expected {grammar.expected} ({grammar.section}), not {shown}", lines)
+    return InvalidField(field, f"{reason}, not {shown}", lines)
 
 
 def check(status: int, refused: Callable[[], Exception]) -> None:
     """Raises what a status stands for."""
-    if status == Status.REFUSED:
+    if status == _REFUSED:
         raise refused()
-    if status == Status.TOO_LARGE:
+    if status == _TOO_LARGE:
         raise TooLarge("the header section has more than 8,388,608 bytes or 24,576 names")
-    if status == Status.NO_MEMORY:
+    if status == _NO_MEMORY:
         raise MemoryError
 
 
-def number(call: Call, field: str, lines: Sequence[bytes]) -> int:
+def check_field(status: int, field: str, lines: Sequence[bytes]) -> None:
+    """Raises what a status stands for, of a call over field lines, of which there is at least one."""
+    if status:
+        check(status, lambda: rejected(field, lines))
+        if status == ABSENT:
+            raise rejected(field, lines)
+
+
+Number = Callable[[bytes], Tuple[int, int]]
+
+
+def number(call: Number, field: str, lines: Sequence[Text]) -> int:
     """The number that the field lines encode."""
-    text, found = joined(lines), ctypes.c_uint64()
-    status = call(text, len(text), ctypes.byref(found))
-    check(status, lambda: rejected(field, lines))
-    if status == Status.ABSENT:
-        raise rejected(field, lines)
-    return found.value
-
-
-def written(call: Call, room: int, refused: Callable[[], Exception]) -> Tuple[Status, bytes]:
-    """The bytes that a call writes into a room. It is called again with more room if they don't fit."""
-    while True:
-        buffer, count = ctypes.create_string_buffer(room), ctypes.c_size_t()
-        status = call(buffer, room, ctypes.byref(count))
-        if status != Status.NO_ROOM:
-            check(status, refused)
-            return Status(status), buffer.raw[: count.value]
-        room = count.value
-
-
-def text(call: Call, field: str, lines: Sequence[bytes], room: int) -> bytes:
-    """The text that a call writes of the field lines."""
-    given = joined(lines)
-    status, found = written(
-        lambda *place: call(given, len(given), *place), room, lambda: rejected(field, lines)
-    )
-    if status == Status.ABSENT:
-        raise rejected(field, lines)
+    given = to_lines(field, lines)
+    status, found = call(joined(given))
+    check_field(status, field, given)
     return found
-
-
-def positions(call: Call, room: int, refused: Callable[[], Exception]) -> Tuple[Status, List[Tuple[int, int]]]:
-    """The ranges that a call writes into a room."""
-    while True:
-        buffer, count = (Positions * room)(), ctypes.c_size_t()
-        status = call(buffer, room, ctypes.byref(count))
-        if status != Status.NO_ROOM:
-            check(status, refused)
-            return Status(status), [(it.first, it.last) for it in buffer[: count.value]]
-        room = count.value
 
 
 def canonical_text(section: bytes) -> bytes:
     """The canonical text of a header section. A name whose field lines are rejected is the line `! NAME`."""
-    _, found = written(
-        lambda *room: canonical(section, len(section), KEYS, *room),
-        len(section) + 64,
-        lambda: wrong_section("the header section", section),
-    )
+    status, found = calls.canonical(section)
+    check(status, lambda: wrong_section("the header section", section))
     return found
 
 
@@ -316,9 +185,7 @@ def wrong_section(what: str, section: bytes) -> InvalidSection:
         line = line[:-1] if line.endswith(b"\r") else line
         if not line:
             break
-        given, count = line + b"\n", ctypes.c_size_t()
-        status = canonical(given, len(given), KEYS, ctypes.create_string_buffer(0), 0, ctypes.byref(count))
-        if status == Status.REFUSED:
+        if calls.canonical(line + b"\n")[0] == _REFUSED:
             shown = to_str(line if len(line) <= 80 else line[:77] + b"...")
             return InvalidSection(f"{what}: line {number} is no field: {shown!r}", number)
     return InvalidSection(f"{what}: a line is no field")
@@ -328,7 +195,8 @@ def canonical_lines(field: str, lines: Sequence[bytes]) -> List[bytes]:
     """The field lines that the value of a known field encodes to. `InvalidField` if the given lines encode none."""
     # One call that takes a name and its lines would do; until the library has it, this is a section of one name.
     name = field.encode("ascii")
-    found = canonical_text(b"".join(name + b":" + line + b"\n" for line in lines))
+    status, found = calls.canonical(b"".join([name + b":" + line + b"\n" for line in lines]))
+    check(status, lambda: rejected(field, lines))
     if found.startswith(b"! "):
         raise rejected(field, lines)
     return [line[len(name) + 2 :] for line in found.split(b"\n")[:-1]]

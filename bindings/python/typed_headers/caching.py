@@ -3,7 +3,6 @@
 A shared cache serves several users, as a proxy does; a private one serves a single user, as a browser does.
 """
 
-import ctypes
 import time
 from dataclasses import dataclass
 from enum import IntEnum
@@ -47,10 +46,9 @@ class Times:
     #: The present, if it isn't given.
     now: Optional[Time] = None
 
-    def _moments(self) -> _library.MomentsOfCache:
-        now = int(time.time()) if self.now is None else self.now
-        named = (("request", self.request), ("response", self.response), ("now", now))
-        return _library.MomentsOfCache(*(_library.to_seconds(it, name) for name, it in named))
+    def _seconds(self) -> Tuple[int, int, int]:
+        now = int(time.time()) if self.now is None else _library.to_seconds(self.now, "now")
+        return _library.to_seconds(self.request, "request"), _library.to_seconds(self.response, "response"), now
 
 
 def _refused(*sections: bytes) -> HeaderError:
@@ -71,21 +69,9 @@ def may_store(method: Text, request: HeadersLike, status: int, response: Headers
     False
     """
     verb, asked, given = _library.to_bytes(method, "method"), Headers(request).section, Headers(response).section
-    answer = ctypes.c_uint8()
-    ended = _library.may_store(
-        verb,
-        len(verb),
-        asked,
-        len(asked),
-        _library.to_number(status, "status", 16),
-        given,
-        len(given),
-        _library.KEYS,
-        shared,
-        ctypes.byref(answer),
-    )
+    ended, answer = _library.calls.may_store(verb, asked, _library.to_number(status, "status", 16), given, shared)
     _library.check(ended, lambda: _refused(asked, given))
-    return answer.value == 1
+    return answer == 1
 
 
 def lifetime(response: HeadersLike, received: Optional[Time] = None, *, shared: bool) -> Optional[int]:
@@ -96,11 +82,10 @@ def lifetime(response: HeadersLike, received: Optional[Time] = None, *, shared: 
     >>> lifetime({"Cache-Control": "max-age=60, s-maxage=10"}, shared=True)
     10
     """
-    given, seconds = Headers(response).section, ctypes.c_uint64()
-    at = _received(received)
-    status = _library.lifetime(given, len(given), _library.KEYS, at, shared, ctypes.byref(seconds))
+    given = Headers(response).section
+    status, seconds = _library.calls.lifetime(given, _received(received), shared)
     _library.check(status, lambda: _refused(given))
-    return None if status == _library.Status.ABSENT else seconds.value
+    return None if status == _library.ABSENT else seconds
 
 
 def _received(received: Optional[Time]) -> int:
@@ -113,10 +98,10 @@ def current_age(response: HeadersLike, times: Times) -> int:
     >>> current_age({"Age": "5"}, Times(request=1000, response=1000, now=1010))
     15
     """
-    given, seconds, moments = Headers(response).section, ctypes.c_uint64(), times._moments()
-    status = _library.current_age(given, len(given), _library.KEYS, ctypes.byref(moments), ctypes.byref(seconds))
+    given = Headers(response).section
+    status, seconds = _library.calls.current_age(given, *times._seconds())
     _library.check(status, lambda: _refused(given))
-    return seconds.value
+    return seconds
 
 
 def decide(
@@ -144,11 +129,9 @@ def decide(
         Headers(request).section,
         Headers(response).section,
     )
-    parts = [part for text in texts for part in (text, len(text))]
-    decision, moments = ctypes.c_uint8(), times._moments()
-    status = _library.decide(*parts, _library.KEYS, ctypes.byref(moments), shared, ctypes.byref(decision))
+    status, decision = _library.calls.decide(*texts, *times._seconds(), shared)
     _library.check(status, lambda: _refused(texts[1], texts[3], texts[4]))
-    return Decision(decision.value)
+    return Decision(decision)
 
 
 def validators(response: HeadersLike, received: Optional[Time] = None) -> Tuple[Tuple[str, str], ...]:
@@ -160,10 +143,7 @@ def validators(response: HeadersLike, received: Optional[Time] = None) -> Tuple[
     >>> validators({"ETag": '"a"'})
     (('if-none-match', '"a"'),)
     """
-    given, at = Headers(response).section, _received(received)
-    _, text = _library.written(
-        lambda *room: _library.validators(given, len(given), at, _library.KEYS, *room),
-        128,
-        lambda: _refused(given),
-    )
+    given = Headers(response).section
+    status, text = _library.calls.validators(given, _received(received))
+    _library.check(status, lambda: _refused(given))
     return tuple(Headers(text))

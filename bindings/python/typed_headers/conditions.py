@@ -1,11 +1,9 @@
 """Conditional requests and requests for ranges (RFC 9110, sections 13 and 14)."""
 
-import ctypes
 import time
 from dataclasses import dataclass
-from datetime import datetime
 from enum import IntEnum
-from typing import Any, Optional, Tuple, Union
+from typing import Optional, Tuple, Union
 
 from . import _library
 from ._library import Text, Time
@@ -50,15 +48,15 @@ class Selection:
     ranges: Tuple[ByteRange, ...] = ()
 
 
-def _request(method: Text, request: HeadersLike, target: Target, now: Optional[Time]) -> Tuple[Any, ...]:
+_Request = Tuple[bytes, bytes, bytes, Optional[int], int, bool, bool]
+
+
+def _request(method: Text, request: HeadersLike, target: Target, now: Optional[Time]) -> _Request:
     verb, section = _library.to_bytes(method, "method"), Headers(request).section
     tag = b"" if target.etag is None else _library.to_bytes(str(target.etag), "etag")
     modified = None if target.last_modified is None else _library.to_seconds(target.last_modified, "last_modified")
     present = int(time.time()) if now is None else _library.to_seconds(now, "now")
-    facts = _library.TargetFacts(
-        modified or 0, present, target.exists, modified is not None, target.is_date_strong
-    )
-    return (verb, len(verb), section, len(section), _library.KEYS, tag, len(tag), ctypes.byref(facts))
+    return verb, section, tag, modified, present, target.exists, target.is_date_strong
 
 
 def _refused(method: Text, request: HeadersLike, target: Target) -> HeaderError:
@@ -90,10 +88,9 @@ def evaluate(
     >>> evaluate("PUT", {"If-Match": "*"}, Target(exists=False))
     <Precondition.FAILED: 412>
     """
-    answer = ctypes.c_uint16()
-    status = _library.evaluate(*_request(method, request, target, now), ctypes.byref(answer))
+    status, answer = _library.calls.evaluate(*_request(method, request, target, now))
     _library.check(status, lambda: _refused(method, request, target))
-    return Precondition(answer.value)
+    return Precondition(answer)
 
 
 def select(
@@ -108,14 +105,9 @@ def select(
     >>> select("GET", {"Range": "bytes=10-"}, Target(), 10).status
     416
     """
-    answer = ctypes.c_uint16()
-    given = _request(method, request, target, now)
     size = _library.to_number(length, "length")
-    ended, found = _library.positions(
-        lambda *room: _library.select(*given, size, ctypes.byref(answer), *room),
-        8,
-        lambda: _refused(method, request, target),
-    )
-    if ended == _library.Status.ABSENT:
+    status, answer, found = _library.calls.select(*_request(method, request, target, now), size)
+    _library.check(status, lambda: _refused(method, request, target))
+    if status == _library.ABSENT:
         raise HeaderError("target: it doesn't exist, so nothing of it can be selected")
-    return Selection(answer.value, tuple(ByteRange(first, last) for first, last in found))
+    return Selection(answer, tuple(ByteRange(first, last) for first, last in found))

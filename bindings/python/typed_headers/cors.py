@@ -1,9 +1,8 @@
 """Requests from other origins (Fetch standard, section 3.3)."""
 
-import ctypes
 from dataclasses import dataclass
 from enum import IntEnum
-from typing import Iterable, List, Optional, Tuple, Union
+from typing import ClassVar, Iterable, List, Optional, Tuple, Union
 
 from . import _library
 from ._library import Text
@@ -94,11 +93,15 @@ class CorsPolicy:
     max_age: Optional[int] = None
     #: Whether requests may include credentials.
     credentials: bool = False
+    # The four lists as the library takes them.
+    _texts: ClassVar[List[bytes]]
 
     def __post_init__(self) -> None:
         for name in _LISTS:
             given = getattr(self, name)
             object.__setattr__(self, name, (given,) if isinstance(given, str) else tuple(given))
+        texts = [_library.joined(_library.to_lines(name, getattr(self, name))) for name in _LISTS]
+        object.__setattr__(self, "_texts", texts)
         if self.max_age is not None:
             object.__setattr__(self, "max_age", _library.to_number(self.max_age, "max_age"))
         self.answer("GET", ())
@@ -110,29 +113,12 @@ class CorsPolicy:
         with a status from 200 to 299.
         """
         verb, asked, given = _library.to_bytes(method, "method"), Headers(request).section, Headers(response).section
-        lists = [_library.joined(_library.to_lines(name, list(getattr(self, name)))) for name in _LISTS]
-        rules, facts = _library.Rules(), _library.CorsFacts()
-        for name, text in zip(_LISTS, lists):
-            setattr(rules, name, _library.TextOfRules(text, len(text)))
-        rules.max_age, rules.has_max_age = self.max_age or 0, self.max_age is not None
-        rules.credentials = self.credentials
-        _, text = _library.written(
-            lambda *room: _library.cors_answer(
-                ctypes.byref(rules),
-                verb,
-                len(verb),
-                asked,
-                len(asked),
-                given,
-                len(given),
-                _library.KEYS,
-                ctypes.byref(facts),
-                *room,
-            ),
-            512,
-            lambda: self._refused(verb, asked, given),
+        origins, methods, headers, exposed = self._texts
+        status, kind, is_allowed, text = _library.calls.cors_answer(
+            origins, methods, headers, exposed, self.max_age, self.credentials, verb, asked, given
         )
-        return CorsAnswer(CorsKind(facts.kind), facts.is_allowed == 1, tuple(Headers(text)))
+        _library.check(status, lambda: self._refused(verb, asked, given))
+        return CorsAnswer(CorsKind(kind), is_allowed == 1, tuple(Headers(text)))
 
     def _refused(self, method: bytes, request: bytes, response: bytes) -> HeaderError:
         for section in (request, response):

@@ -65,7 +65,9 @@ def _field_of(name: Text, value: Text) -> bytes:
     given = _library.to_bytes(name, "name")
     if not given or any(byte in given for byte in b":\r\n"):
         raise InvalidField(_library.to_str(given), "this is no field name (RFC 9110, section 5.1)")
-    (line,) = _library.to_lines(_library.to_str(given).lower(), [value])
+    line = _library.to_bytes(value, "value")
+    if _library.NO_VALUE.search(line):
+        raise _library.rejected(_library.to_str(given).lower(), [line])
     return given + b": " + line + b"\n"
 
 

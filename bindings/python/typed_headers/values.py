@@ -4,7 +4,6 @@ Texts are `str` with a character for each byte (ISO 8859-1), as in WSGI and `htt
 """
 
 import builtins
-import ctypes
 import re
 from dataclasses import dataclass, fields
 from datetime import datetime, timedelta, timezone
@@ -14,7 +13,7 @@ from typing import Any, List, Optional, Tuple, Type, TypeVar
 
 from . import _library
 from ._library import Text, Time
-from .errors import HeaderError, InvalidField
+from .errors import HeaderError
 
 __all__ = [
     "ByteRange",
@@ -42,7 +41,7 @@ def age(line: Text, *more: Text) -> int:
     >>> age("+007")
     7
     """
-    return _library.number(_library.age, "age", _library.to_lines("age", (line, *more)))
+    return _library.number(_library.calls.age, "age", (line, *more))
 
 
 def content_length(line: Text, *more: Text) -> int:
@@ -51,12 +50,7 @@ def content_length(line: Text, *more: Text) -> int:
     >>> content_length("42", "42")
     42
     """
-    lines = _library.to_lines("content-length", (line, *more))
-    return _library.number(_library.content_length, "content-length", lines)
-
-
-def _time(call: _library.Call, field: str, lines: Tuple[Text, ...]) -> datetime:
-    return _library.to_datetime(_library.number(call, field, _library.to_lines(field, lines)))
+    return _library.number(_library.calls.content_length, "content-length", (line, *more))
 
 
 def date(line: Text, *more: Text) -> datetime:
@@ -65,17 +59,17 @@ def date(line: Text, *more: Text) -> datetime:
     >>> date("Sunday, 06-Nov-94 08:49:37 GMT")
     datetime.datetime(1994, 11, 6, 8, 49, 37, tzinfo=datetime.timezone.utc)
     """
-    return _time(_library.date, "date", (line, *more))
+    return _library.to_datetime(_library.number(_library.calls.date, "date", (line, *more)))
 
 
 def expires(line: Text, *more: Text) -> datetime:
     """The time of `Expires` (RFC 9111, section 5.3)."""
-    return _time(_library.expires, "expires", (line, *more))
+    return _library.to_datetime(_library.number(_library.calls.expires, "expires", (line, *more)))
 
 
 def last_modified(line: Text, *more: Text) -> datetime:
     """The time of `Last-Modified` (RFC 9110, section 8.8.2)."""
-    return _time(_library.last_modified, "last-modified", (line, *more))
+    return _library.to_datetime(_library.number(_library.calls.last_modified, "last-modified", (line, *more)))
 
 
 def format_date(time: Time) -> str:
@@ -90,7 +84,7 @@ def format_date(time: Time) -> str:
     except OverflowError:
         raise HeaderError(f"time: {seconds} lies past the year 9999") from None
     # The text is Python's; the library has to read the same time from it.
-    if _library.number(_library.date, "date", [text.encode("ascii")]) != seconds:
+    if _library.number(_library.calls.date, "date", [text]) != seconds:
         raise AssertionError(f"{text} isn't the date of {seconds}")
     return text
 
@@ -103,13 +97,9 @@ def websocket_accept(line: Text, *more: Text) -> str:
     """
     field = "sec-websocket-key"
     lines = _library.to_lines(field, (line, *more))
-    given = _library.joined(lines)
-
-    def refused() -> InvalidField:
-        reason = "expected the base64 of 16 bytes in a single field line (RFC 6455, section 4.2.1)"
-        return InvalidField(field, reason, lines)
-
-    _, text = _library.written(lambda *room: _library.websocket_accept(given, len(given), *room), 28, refused)
+    status, text = _library.calls.websocket_accept(_library.joined(lines))
+    reason = "expected the base64 of 16 bytes in a single field line (RFC 6455, section 4.2.1)"
+    _library.check(status, lambda: _library.rejected(field, lines, reason))
     return _library.to_str(text)
 
 
@@ -119,8 +109,7 @@ Value = TypeVar("Value")
 def _made(cls: Type[Value], **members: Any) -> Value:
     """A value of members that the library gave, so that they need no check."""
     value = object.__new__(cls)
-    for name, member in members.items():
-        object.__setattr__(value, name, member)
+    value.__dict__.update(members)
     return value
 
 
@@ -155,17 +144,18 @@ class ETag:
     weak: bool = False
 
     def __post_init__(self) -> None:
-        text = _library.to_lines("etag", [str(self)])
-        if '"' in self.opaque or not self._compares(_library.weak_eq, text[0], text[0]):
-            raise _library.rejected("etag", text)
+        lines = _library.to_lines("etag", [str(self)])
+        if '"' in self.opaque:
+            raise _library.rejected("etag", lines)
+        _library.check_field(_library.calls.weak_eq(lines[0], lines[0])[0], "etag", lines)
 
     @classmethod
     def parse(cls, line: Text, *more: Text) -> "ETag":
         """The entity tag that the only field line of `ETag` is."""
         lines = _library.to_lines("etag", (line, *more))
-        if len(lines) != 1:
+        if more:
             raise _library.rejected("etag", lines)
-        cls._compares(_library.weak_eq, lines[0], lines[0])
+        _library.check_field(_library.calls.weak_eq(lines[0], lines[0])[0], "etag", lines)
         text = _library.to_str(lines[0])
         weak = text.startswith("W/")
         return _made(cls, opaque=text[3:-1] if weak else text[1:-1], weak=weak)
@@ -175,20 +165,11 @@ class ETag:
 
     def matches_strongly(self, other: "ETag") -> bool:
         """Whether both tags are equal and neither is weak (RFC 9110, section 8.8.3.2)."""
-        return self._compares(_library.strong_eq, str(self).encode("latin-1"), str(other).encode("latin-1"))
+        return _library.calls.strong_eq(str(self).encode("latin-1"), str(other).encode("latin-1"))[1] == 1
 
     def matches_weakly(self, other: "ETag") -> bool:
         """Whether both tags are equal but for `W/` (RFC 9110, section 8.8.3.2)."""
-        return self._compares(_library.weak_eq, str(self).encode("latin-1"), str(other).encode("latin-1"))
-
-    @staticmethod
-    def _compares(call: _library.Call, one: bytes, other: bytes) -> bool:
-        equal = ctypes.c_uint8()
-        status = call(one, len(one), other, len(other), ctypes.byref(equal))
-        _library.check(status, lambda: _library.rejected("etag", [one]))
-        if status == _library.Status.ABSENT:
-            raise _library.rejected("etag", [one])
-        return equal.value == 1
+        return _library.calls.weak_eq(str(self).encode("latin-1"), str(other).encode("latin-1"))[1] == 1
 
 
 # A parameter in the canonical text of a media type.
@@ -226,10 +207,11 @@ class MediaType:
     def parse(cls, line: Text, *more: Text) -> "MediaType":
         """The media type that the first field line of `Content-Type` is."""
         lines = _library.to_lines("content-type", (line, *more))
-        text = _library.to_str(_library.text(_library.media_type, "content-type", lines, len(lines[0]) + 16))
-        essence = _library.to_str(_library.text(_library.essence, "content-type", lines, len(lines[0])))
+        status, found = _library.calls.media_type(_library.joined(lines))
+        _library.check_field(status, "content-type", lines)
+        essence, mark, _ = _library.to_str(found).partition(";")
         kind, _, subtype = essence.partition("/")
-        parameters = tuple((name, value) for name, value in _PARAMETER.findall(text[len(essence) :]))
+        parameters = tuple(_PARAMETER.findall(_library.to_str(found), len(essence))) if mark else ()
         return _made(cls, type=kind, subtype=subtype, parameters=parameters)
 
     def __str__(self) -> str:
@@ -251,6 +233,21 @@ class MediaType:
             if other == name.lower():
                 return re.sub(r"\\(.)", r"\1", value[1:-1]) if value.startswith('"') else value
         return None
+
+
+# The directives in the order of the library's call.
+_SECONDS = ("max_age", "max_stale", "min_fresh", "s_maxage")
+_FLAGS = (
+    "no_cache",
+    "no_store",
+    "no_transform",
+    "only_if_cached",
+    "must_revalidate",
+    "must_understand",
+    "public",
+    "private",
+    "immutable",
+)
 
 
 @dataclass(frozen=True)
@@ -280,7 +277,7 @@ class CacheControl:
     immutable: bool = False
 
     def __post_init__(self) -> None:
-        for name in _library.DIRECTIVES_WITH_SECONDS:
+        for name in _SECONDS:
             seconds = getattr(self, name)
             if seconds is not None:
                 object.__setattr__(self, name, _library.to_number(seconds, name))
@@ -289,13 +286,11 @@ class CacheControl:
     def parse(cls, line: Text, *more: Text) -> "CacheControl":
         """The directives of all field lines."""
         lines = _library.to_lines("cache-control", (line, *more))
-        text, given = _library.joined(lines), _library.Directives()
-        status = _library.cache_control(text, len(text), ctypes.byref(given))
-        _library.check(status, lambda: _library.rejected("cache-control", lines))
-        members = {name: getattr(given, name) == 1 for name in _library.DIRECTIVES}
-        for name in _library.DIRECTIVES_WITH_SECONDS:
-            seconds = getattr(given, name)
-            members[name] = seconds.seconds if seconds.is_set else None
+        text = _library.joined(lines)
+        status, seconds, flags = _library.calls.cache_control(text)
+        _library.check_field(status, "cache-control", lines)
+        members = dict(zip(_SECONDS, seconds))
+        members.update(zip(_FLAGS, map(bool, flags)))
         # The call has no flag for this directive yet; the canonical field line has its name.
         members["proxy_revalidate"] = False
         if b"proxy-revalidate" in text.lower():
@@ -376,12 +371,8 @@ class Range:
 
     @staticmethod
     def _positions(line: "builtins.bytes", length: int) -> List[Tuple[int, int]]:
-        text = line + b"\n"
-        _, found = _library.positions(
-            lambda *room: _library.ranges(text, len(text), length, *room),
-            line.count(b",") + 1,
-            lambda: _library.rejected("range", [line]),
-        )
+        status, found = _library.calls.ranges(line + b"\n", length)
+        _library.check_field(status, "range", [line])
         return found
 
 

@@ -1,0 +1,443 @@
+/*
+ * The calls of the library for Python, over its stable ABI. Each returns the status first, and is declared in
+ * typed_headers/_foreign.py, which has the same calls over ctypes.
+ */
+#define Py_LIMITED_API 0x03080000
+#define PY_SSIZE_T_CLEAN
+#include <Python.h>
+#include <typed_headers.h>
+
+enum { SHORT_TEXT = 1024, FEW_RANGES = 16 };
+
+/* Bytes that no sender of field names can guess. */
+static struct typed_headers_keys keys;
+
+struct text {
+    const uint8_t *bytes;
+    Py_ssize_t length;
+};
+
+/* How PyArg_ParseTuple reads a text, and where. */
+#define TEXT "y#"
+#define INTO(text) &(text).bytes, &(text).length
+#define BYTES(text) (text).bytes, (size_t)(text).length
+
+static PyObject *use_keys(PyObject *module, PyObject *arguments) {
+    struct text text;
+    (void)module;
+    if (!PyArg_ParseTuple(arguments, TEXT, INTO(text))) {
+        return NULL;
+    }
+    if ((size_t)text.length != sizeof keys) {
+        PyErr_SetString(PyExc_ValueError, "expected 16 bytes");
+        return NULL;
+    }
+    memcpy(&keys, text.bytes, sizeof keys);
+    Py_RETURN_NONE;
+}
+
+static PyObject *version(PyObject *module, PyObject *arguments) {
+    (void)module, (void)arguments;
+    return PyUnicode_FromString(typed_headers_version());
+}
+
+/* A number of seconds, or None. */
+static PyObject *optional(uint64_t number, bool is_set) {
+    if (!is_set) {
+        Py_RETURN_NONE;
+    }
+    return PyLong_FromUnsignedLongLong(number);
+}
+
+/* Whether an argument is None, or a number, which is put into `number`. */
+static bool read_optional(PyObject *argument, uint64_t *number, bool *is_set) {
+    *number = 0;
+    *is_set = argument != Py_None;
+    if (*is_set) {
+        *number = PyLong_AsUnsignedLongLong(argument);
+    }
+    return !PyErr_Occurred();
+}
+
+static PyObject *with_number(uint8_t status, uint64_t number) {
+    return Py_BuildValue("BK", status, (unsigned long long)number);
+}
+
+/* Numbers of field lines. */
+
+typedef uint8_t number_call(const uint8_t *, size_t, uint64_t *);
+
+static PyObject *number(number_call *call, PyObject *arguments) {
+    struct text lines;
+    uint64_t found = 0;
+    if (!PyArg_ParseTuple(arguments, TEXT, INTO(lines))) {
+        return NULL;
+    }
+    uint8_t status = call(BYTES(lines), &found);
+    return with_number(status, found);
+}
+
+#define NUMBER(name)                                                                                                   \
+    static PyObject *name(PyObject *module, PyObject *arguments) {                                                     \
+        (void)module;                                                                                                  \
+        return number(typed_headers_##name, arguments);                                                                \
+    }
+NUMBER(age)
+NUMBER(content_length)
+NUMBER(date)
+NUMBER(expires)
+NUMBER(last_modified)
+
+/* Texts. A call writes into a room on the stack, and if the text doesn't fit, into one of its length. */
+
+typedef uint8_t text_call(const void *given, uint8_t *room, size_t room_length, size_t *written);
+
+static PyObject *written_text(text_call *call, const void *given, uint8_t *status) {
+    uint8_t few[SHORT_TEXT], *room = few;
+    size_t length = sizeof few, written = 0;
+    while ((*status = call(given, room, length, &written)) == TYPED_HEADERS_NO_ROOM) {
+        if (room != few) {
+            PyMem_Free(room);
+        }
+        length = written;
+        room = PyMem_Malloc(length);
+        if (!room) {
+            return PyErr_NoMemory();
+        }
+    }
+    bool is_there = *status == TYPED_HEADERS_DONE || *status == TYPED_HEADERS_MARKED;
+    PyObject *found = PyBytes_FromStringAndSize((const char *)room, is_there ? (Py_ssize_t)written : 0);
+    if (room != few) {
+        PyMem_Free(room);
+    }
+    return found;
+}
+
+static PyObject *with_text(text_call *call, const void *given) {
+    uint8_t status;
+    PyObject *found = written_text(call, given, &status);
+    return found ? Py_BuildValue("BN", status, found) : NULL;
+}
+
+#define TEXT_OF_LINES(name)                                                                                            \
+    static uint8_t write_##name(const void *given, uint8_t *room, size_t room_length, size_t *written) {               \
+        const struct text *lines = given;                                                                              \
+        return typed_headers_##name(BYTES(*lines), room, room_length, written);                                        \
+    }                                                                                                                  \
+    static PyObject *name(PyObject *module, PyObject *arguments) {                                                     \
+        struct text lines;                                                                                             \
+        (void)module;                                                                                                  \
+        return PyArg_ParseTuple(arguments, TEXT, INTO(lines)) ? with_text(write_##name, &lines) : NULL;                \
+    }
+TEXT_OF_LINES(media_type)
+TEXT_OF_LINES(essence)
+TEXT_OF_LINES(websocket_accept)
+
+static uint8_t write_canonical(const void *given, uint8_t *room, size_t room_length, size_t *written) {
+    const struct text *section = given;
+    return typed_headers_canonical(BYTES(*section), &keys, room, room_length, written);
+}
+
+static PyObject *canonical(PyObject *module, PyObject *arguments) {
+    struct text section;
+    (void)module;
+    return PyArg_ParseTuple(arguments, TEXT, INTO(section)) ? with_text(write_canonical, &section) : NULL;
+}
+
+/* Entity tags. */
+
+typedef uint8_t tags_call(const uint8_t *, size_t, const uint8_t *, size_t, uint8_t *);
+
+static PyObject *compare(tags_call *call, PyObject *arguments) {
+    struct text one, other;
+    uint8_t equal = 0;
+    if (!PyArg_ParseTuple(arguments, TEXT TEXT, INTO(one), INTO(other))) {
+        return NULL;
+    }
+    uint8_t status = call(BYTES(one), BYTES(other), &equal);
+    return with_number(status, equal);
+}
+
+static PyObject *strong_eq(PyObject *module, PyObject *arguments) {
+    (void)module;
+    return compare(typed_headers_strong_eq, arguments);
+}
+
+static PyObject *weak_eq(PyObject *module, PyObject *arguments) {
+    (void)module;
+    return compare(typed_headers_weak_eq, arguments);
+}
+
+static PyObject *cache_control(PyObject *module, PyObject *arguments) {
+    struct text lines;
+    struct typed_headers_cache_directives it = {0};
+    (void)module;
+    if (!PyArg_ParseTuple(arguments, TEXT, INTO(lines))) {
+        return NULL;
+    }
+    uint8_t status = typed_headers_cache_control(BYTES(lines), &it);
+    return Py_BuildValue("B(NNNN)(BBBBBBBBB)", status, optional(it.max_age.seconds, it.max_age.is_set),
+                         optional(it.max_stale.seconds, it.max_stale.is_set),
+                         optional(it.min_fresh.seconds, it.min_fresh.is_set),
+                         optional(it.s_maxage.seconds, it.s_maxage.is_set), it.no_cache, it.no_store, it.no_transform,
+                         it.only_if_cached, it.must_revalidate, it.must_understand, it.is_public, it.is_private,
+                         it.immutable);
+}
+
+/* Ranges, as the calls for texts. */
+
+typedef uint8_t ranges_call(const void *given, struct typed_headers_bytes_range *room, size_t room_length,
+                            size_t *written);
+
+static PyObject *written_ranges(ranges_call *call, const void *given, uint8_t *status) {
+    struct typed_headers_bytes_range few[FEW_RANGES], *room = few;
+    size_t length = FEW_RANGES, written = 0;
+    while ((*status = call(given, room, length, &written)) == TYPED_HEADERS_NO_ROOM) {
+        if (room != few) {
+            PyMem_Free(room);
+        }
+        length = written;
+        room = length <= PY_SSIZE_T_MAX / sizeof *room ? PyMem_Malloc(length * sizeof *room) : NULL;
+        if (!room) {
+            return PyErr_NoMemory();
+        }
+    }
+    PyObject *found = PyList_New(0);
+    for (size_t place = 0; found && *status == TYPED_HEADERS_DONE && place < written; place++) {
+        PyObject *range = Py_BuildValue("KK", (unsigned long long)room[place].first,
+                                        (unsigned long long)room[place].last);
+        if (!range || PyList_Append(found, range)) {
+            Py_CLEAR(found);
+        }
+        Py_XDECREF(range);
+    }
+    if (room != few) {
+        PyMem_Free(room);
+    }
+    return found;
+}
+
+struct ranges_of {
+    struct text lines;
+    uint64_t length;
+};
+
+static uint8_t write_ranges(const void *given, struct typed_headers_bytes_range *room, size_t room_length,
+                            size_t *written) {
+    const struct ranges_of *it = given;
+    return typed_headers_ranges(BYTES(it->lines), it->length, room, room_length, written);
+}
+
+/* Numbers are parsed as Python's integers, so that none wraps. */
+static bool read_number(PyObject *argument, uint64_t *number) {
+    *number = PyLong_AsUnsignedLongLong(argument);
+    return !PyErr_Occurred();
+}
+
+static PyObject *ranges(PyObject *module, PyObject *arguments) {
+    struct ranges_of it;
+    PyObject *length;
+    uint8_t status;
+    (void)module;
+    if (!PyArg_ParseTuple(arguments, TEXT "O", INTO(it.lines), &length) || !read_number(length, &it.length)) {
+        return NULL;
+    }
+    PyObject *found = written_ranges(write_ranges, &it, &status);
+    return found ? Py_BuildValue("BN", status, found) : NULL;
+}
+
+/* Conditional requests. */
+
+struct request {
+    struct text method, section, etag;
+    struct typed_headers_target target;
+    uint64_t length;
+    uint16_t *answer;
+};
+
+static bool read_request(PyObject *arguments, bool has_length, struct request *it) {
+    PyObject *last_modified, *present, *length = NULL;
+    int exists, is_date_strong;
+    if (!PyArg_ParseTuple(arguments, has_length ? TEXT TEXT TEXT "OOppO" : TEXT TEXT TEXT "OOpp", INTO(it->method),
+                          INTO(it->section), INTO(it->etag), &last_modified, &present, &exists, &is_date_strong,
+                          &length)) {
+        return false;
+    }
+    it->target.exists = exists;
+    it->target.is_date_strong = is_date_strong;
+    return read_optional(last_modified, &it->target.last_modified, &it->target.has_last_modified) &&
+           read_number(present, &it->target.present) && (!has_length || read_number(length, &it->length));
+}
+
+static PyObject *evaluate(PyObject *module, PyObject *arguments) {
+    struct request it;
+    uint16_t answer = 0;
+    (void)module;
+    if (!read_request(arguments, false, &it)) {
+        return NULL;
+    }
+    uint8_t status = typed_headers_evaluate(BYTES(it.method), BYTES(it.section), &keys, BYTES(it.etag), &it.target,
+                                            &answer);
+    return with_number(status, answer);
+}
+
+static uint8_t write_selection(const void *given, struct typed_headers_bytes_range *room, size_t room_length,
+                               size_t *written) {
+    const struct request *it = given;
+    return typed_headers_select(BYTES(it->method), BYTES(it->section), &keys, BYTES(it->etag), &it->target, it->length,
+                                it->answer, room, room_length, written);
+}
+
+/* (`select` is a call of the system) */
+static PyObject *select_part(PyObject *module, PyObject *arguments) {
+    uint16_t answer = 0;
+    struct request it = {.answer = &answer};
+    uint8_t status;
+    (void)module;
+    if (!read_request(arguments, true, &it)) {
+        return NULL;
+    }
+    PyObject *found = written_ranges(write_selection, &it, &status);
+    return found ? Py_BuildValue("BHN", status, answer, found) : NULL;
+}
+
+/* Requests from other origins. */
+
+struct exchange {
+    struct typed_headers_cors_rules rules;
+    struct text method, request, response;
+    struct typed_headers_cors_facts *facts;
+};
+
+static uint8_t write_cors_answer(const void *given, uint8_t *room, size_t room_length, size_t *written) {
+    const struct exchange *it = given;
+    return typed_headers_cors_answer(&it->rules, BYTES(it->method), BYTES(it->request), BYTES(it->response), &keys,
+                                     it->facts, room, room_length, written);
+}
+
+static PyObject *cors_answer(PyObject *module, PyObject *arguments) {
+    struct typed_headers_cors_facts facts = {0, 0};
+    struct exchange it = {.facts = &facts};
+    struct text lists[4];
+    PyObject *max_age;
+    int credentials;
+    uint8_t status;
+    (void)module;
+    if (!PyArg_ParseTuple(arguments, TEXT TEXT TEXT TEXT "Op" TEXT TEXT TEXT, INTO(lists[0]), INTO(lists[1]),
+                          INTO(lists[2]), INTO(lists[3]), &max_age, &credentials, INTO(it.method), INTO(it.request),
+                          INTO(it.response)) ||
+        !read_optional(max_age, &it.rules.max_age, &it.rules.has_max_age)) {
+        return NULL;
+    }
+    struct typed_headers_text *texts[] = {&it.rules.origins, &it.rules.methods, &it.rules.headers, &it.rules.exposed};
+    for (int place = 0; place < 4; place++) {
+        *texts[place] = (struct typed_headers_text){BYTES(lists[place])};
+    }
+    it.rules.credentials = credentials;
+    PyObject *found = written_text(write_cors_answer, &it, &status);
+    return found ? Py_BuildValue("BBBN", status, facts.kind, facts.is_allowed, found) : NULL;
+}
+
+/* Caches. */
+
+static PyObject *may_store(PyObject *module, PyObject *arguments) {
+    struct text method, request, response;
+    unsigned short status_code;
+    int is_shared;
+    uint8_t answer = 0;
+    (void)module;
+    if (!PyArg_ParseTuple(arguments, TEXT TEXT "H" TEXT "p", INTO(method), INTO(request), &status_code, INTO(response),
+                          &is_shared)) {
+        return NULL;
+    }
+    uint8_t status = typed_headers_may_store(BYTES(method), BYTES(request), status_code, BYTES(response), &keys,
+                                             is_shared, &answer);
+    return with_number(status, answer);
+}
+
+static PyObject *lifetime(PyObject *module, PyObject *arguments) {
+    struct text response;
+    PyObject *received;
+    uint64_t at, seconds = 0;
+    int is_shared;
+    (void)module;
+    if (!PyArg_ParseTuple(arguments, TEXT "Op", INTO(response), &received, &is_shared) || !read_number(received, &at)) {
+        return NULL;
+    }
+    uint8_t status = typed_headers_lifetime(BYTES(response), &keys, at, is_shared, &seconds);
+    return with_number(status, seconds);
+}
+
+static bool read_moments(PyObject *const *times, struct typed_headers_moments *moments) {
+    return read_number(times[0], &moments->request) && read_number(times[1], &moments->response) &&
+           read_number(times[2], &moments->now);
+}
+
+static PyObject *current_age(PyObject *module, PyObject *arguments) {
+    struct text response;
+    PyObject *times[3];
+    struct typed_headers_moments moments;
+    uint64_t seconds = 0;
+    (void)module;
+    if (!PyArg_ParseTuple(arguments, TEXT "OOO", INTO(response), &times[0], &times[1], &times[2]) ||
+        !read_moments(times, &moments)) {
+        return NULL;
+    }
+    uint8_t status = typed_headers_current_age(BYTES(response), &keys, &moments, &seconds);
+    return with_number(status, seconds);
+}
+
+static PyObject *decide(PyObject *module, PyObject *arguments) {
+    struct text stored_method, stored, method, request, response;
+    PyObject *times[3];
+    struct typed_headers_moments moments;
+    int is_shared;
+    uint8_t decision = 0;
+    (void)module;
+    if (!PyArg_ParseTuple(arguments, TEXT TEXT TEXT TEXT TEXT "OOOp", INTO(stored_method), INTO(stored), INTO(method),
+                          INTO(request), INTO(response), &times[0], &times[1], &times[2], &is_shared) ||
+        !read_moments(times, &moments)) {
+        return NULL;
+    }
+    uint8_t status = typed_headers_decide(BYTES(stored_method), BYTES(stored), BYTES(method), BYTES(request),
+                                          BYTES(response), &keys, &moments, is_shared, &decision);
+    return with_number(status, decision);
+}
+
+struct validators_of {
+    struct text response;
+    uint64_t received;
+};
+
+static uint8_t write_validators(const void *given, uint8_t *room, size_t room_length, size_t *written) {
+    const struct validators_of *it = given;
+    return typed_headers_validators(BYTES(it->response), it->received, &keys, room, room_length, written);
+}
+
+static PyObject *validators(PyObject *module, PyObject *arguments) {
+    struct validators_of it;
+    PyObject *received;
+    (void)module;
+    if (!PyArg_ParseTuple(arguments, TEXT "O", INTO(it.response), &received) || !read_number(received, &it.received)) {
+        return NULL;
+    }
+    return with_text(write_validators, &it);
+}
+
+#define METHOD(name) {#name, name, METH_VARARGS, NULL}
+static PyMethodDef methods[] = {
+    METHOD(age),         METHOD(cache_control), METHOD(canonical),  METHOD(content_length),
+    METHOD(cors_answer), METHOD(current_age),   METHOD(date),       METHOD(decide),
+    METHOD(essence),     METHOD(evaluate),      METHOD(expires),    METHOD(last_modified),
+    METHOD(lifetime),    METHOD(may_store),     METHOD(media_type), METHOD(ranges),
+    METHOD(strong_eq),   METHOD(use_keys),      METHOD(validators), METHOD(version),
+    METHOD(weak_eq),     METHOD(websocket_accept), {"select", select_part, METH_VARARGS, NULL}, {NULL, NULL, 0, NULL},
+};
+
+static struct PyModuleDef definition = {
+    PyModuleDef_HEAD_INIT, "typed_headers._native", "The calls of the library.", -1, methods, NULL, NULL, NULL, NULL,
+};
+
+PyMODINIT_FUNC PyInit__native(void) {
+    return PyModule_Create(&definition);
+}

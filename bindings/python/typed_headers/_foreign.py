@@ -1,0 +1,345 @@
+"""The calls of the library over ctypes, as typed_headers.h declares and documents them.
+
+Each call returns its status first. The extension `_native` has the same calls, and takes a fifth of the time.
+"""
+
+import ctypes
+import os
+from pathlib import Path
+from typing import Any, Callable, List, Optional, Tuple
+
+SONAME = "libtyped_headers.so.1"
+_NO_ROOM = 3
+_SECONDS = ("max_age", "max_stale", "min_fresh", "s_maxage")
+_FLAGS = (
+    "no_cache",
+    "no_store",
+    "no_transform",
+    "only_if_cached",
+    "must_revalidate",
+    "must_understand",
+    "is_public",
+    "is_private",
+    "immutable",
+)
+
+
+class _Keys(ctypes.Structure):
+    _fields_ = [("first", ctypes.c_uint64), ("second", ctypes.c_uint64)]
+
+
+class _Seconds(ctypes.Structure):
+    _fields_ = [("seconds", ctypes.c_uint64), ("is_set", ctypes.c_uint8)]
+
+
+class _Directives(ctypes.Structure):
+    _fields_ = [*((name, _Seconds) for name in _SECONDS), *((name, ctypes.c_uint8) for name in _FLAGS)]
+
+
+class _Range(ctypes.Structure):
+    _fields_ = [("first", ctypes.c_uint64), ("last", ctypes.c_uint64)]
+
+
+class _Target(ctypes.Structure):
+    _fields_ = [
+        ("last_modified", ctypes.c_uint64),
+        ("present", ctypes.c_uint64),
+        ("exists", ctypes.c_bool),
+        ("has_last_modified", ctypes.c_bool),
+        ("is_date_strong", ctypes.c_bool),
+    ]
+
+
+class _Text(ctypes.Structure):
+    _fields_ = [("bytes", ctypes.c_char_p), ("length", ctypes.c_size_t)]
+
+
+class _Rules(ctypes.Structure):
+    _fields_ = [
+        ("origins", _Text),
+        ("methods", _Text),
+        ("headers", _Text),
+        ("exposed", _Text),
+        ("max_age", ctypes.c_uint64),
+        ("has_max_age", ctypes.c_bool),
+        ("credentials", ctypes.c_bool),
+    ]
+
+
+class _Facts(ctypes.Structure):
+    _fields_ = [("kind", ctypes.c_uint8), ("is_allowed", ctypes.c_uint8)]
+
+
+class _Moments(ctypes.Structure):
+    _fields_ = [("request", ctypes.c_uint64), ("response", ctypes.c_uint64), ("now", ctypes.c_uint64)]
+
+
+def _load() -> ctypes.CDLL:
+    beside = Path(__file__).with_name(SONAME)
+    name = os.environ.get("TYPED_HEADERS_LIBRARY") or (str(beside) if beside.exists() else SONAME)
+    try:
+        return ctypes.CDLL(name)
+    except OSError as error:
+        message = f"{error}: install libtyped-headers1, or set TYPED_HEADERS_LIBRARY to the path of {SONAME}"
+        raise ImportError(message) from None
+
+
+_library = _load()
+_keys = _Keys()
+
+_TEXT = [ctypes.c_char_p, ctypes.c_size_t]
+_ROOM = [ctypes.c_void_p, ctypes.c_size_t, ctypes.POINTER(ctypes.c_size_t)]
+_NUMBER = ctypes.POINTER(ctypes.c_uint64)
+_FLAG = ctypes.POINTER(ctypes.c_uint8)
+_SECTION = [*_TEXT, ctypes.POINTER(_Keys)]
+_REQUEST = [*_TEXT, *_TEXT, ctypes.POINTER(_Keys), *_TEXT, ctypes.POINTER(_Target)]
+_Call = Callable[..., int]
+
+
+def _call(name: str, *arguments: Any) -> _Call:
+    function = getattr(_library, f"typed_headers_{name}")
+    function.argtypes = arguments
+    function.restype = ctypes.c_uint8
+    call: _Call = function
+    return call
+
+
+_age = _call("age", *_TEXT, _NUMBER)
+_content_length = _call("content_length", *_TEXT, _NUMBER)
+_date = _call("date", *_TEXT, _NUMBER)
+_expires = _call("expires", *_TEXT, _NUMBER)
+_last_modified = _call("last_modified", *_TEXT, _NUMBER)
+_media_type = _call("media_type", *_TEXT, *_ROOM)
+_essence = _call("essence", *_TEXT, *_ROOM)
+_websocket_accept = _call("websocket_accept", *_TEXT, *_ROOM)
+_ranges = _call("ranges", *_TEXT, ctypes.c_uint64, *_ROOM)
+_strong_eq = _call("strong_eq", *_TEXT, *_TEXT, _FLAG)
+_weak_eq = _call("weak_eq", *_TEXT, *_TEXT, _FLAG)
+_cache_control = _call("cache_control", *_TEXT, ctypes.POINTER(_Directives))
+_evaluate = _call("evaluate", *_REQUEST, ctypes.POINTER(ctypes.c_uint16))
+_select = _call("select", *_REQUEST, ctypes.c_uint64, ctypes.POINTER(ctypes.c_uint16), *_ROOM)
+_canonical = _call("canonical", *_SECTION, *_ROOM)
+_cors_answer = _call("cors_answer", ctypes.POINTER(_Rules), *_TEXT, *_TEXT, *_SECTION, ctypes.POINTER(_Facts), *_ROOM)
+_may_store = _call("may_store", *_TEXT, *_TEXT, ctypes.c_uint16, *_SECTION, ctypes.c_bool, _FLAG)
+_lifetime = _call("lifetime", *_SECTION, ctypes.c_uint64, ctypes.c_bool, _NUMBER)
+_current_age = _call("current_age", *_SECTION, ctypes.POINTER(_Moments), _NUMBER)
+_decide = _call(
+    "decide", *_TEXT, *_TEXT, *_TEXT, *_TEXT, *_SECTION, ctypes.POINTER(_Moments), ctypes.c_bool, _FLAG
+)
+_validators = _call("validators", *_TEXT, ctypes.c_uint64, ctypes.POINTER(_Keys), *_ROOM)
+
+
+def version() -> str:
+    function = _library.typed_headers_version
+    function.argtypes, function.restype = (), ctypes.c_char_p
+    text: bytes = function()
+    return text.decode("ascii")
+
+
+def use_keys(keys: bytes) -> None:
+    """Sets the bytes with which the calls hash field names. They change no answer."""
+    global _keys
+    _keys = _Keys.from_buffer_copy(keys)
+
+
+def _number(call: _Call, lines: bytes) -> Tuple[int, int]:
+    found = ctypes.c_uint64()
+    return call(lines, len(lines), ctypes.byref(found)), found.value
+
+
+def age(lines: bytes) -> Tuple[int, int]:
+    return _number(_age, lines)
+
+
+def content_length(lines: bytes) -> Tuple[int, int]:
+    return _number(_content_length, lines)
+
+
+def date(lines: bytes) -> Tuple[int, int]:
+    return _number(_date, lines)
+
+
+def expires(lines: bytes) -> Tuple[int, int]:
+    return _number(_expires, lines)
+
+
+def last_modified(lines: bytes) -> Tuple[int, int]:
+    return _number(_last_modified, lines)
+
+
+def _text(call: _Call, *arguments: Any) -> Tuple[int, bytes]:
+    """What a call writes into a room. It is called again with more room if that doesn't fit."""
+    room = 1024
+    while True:
+        buffer, count = ctypes.create_string_buffer(room), ctypes.c_size_t()
+        status = call(*arguments, buffer, room, ctypes.byref(count))
+        if status != _NO_ROOM:
+            return status, buffer.raw[: count.value]
+        room = count.value
+
+
+def media_type(lines: bytes) -> Tuple[int, bytes]:
+    return _text(_media_type, lines, len(lines))
+
+
+def essence(lines: bytes) -> Tuple[int, bytes]:
+    return _text(_essence, lines, len(lines))
+
+
+def websocket_accept(lines: bytes) -> Tuple[int, bytes]:
+    return _text(_websocket_accept, lines, len(lines))
+
+
+def canonical(section: bytes) -> Tuple[int, bytes]:
+    return _text(_canonical, section, len(section), ctypes.byref(_keys))
+
+
+def _compare(call: _Call, one: bytes, other: bytes) -> Tuple[int, int]:
+    equal = ctypes.c_uint8()
+    return call(one, len(one), other, len(other), ctypes.byref(equal)), equal.value
+
+
+def strong_eq(one: bytes, other: bytes) -> Tuple[int, int]:
+    return _compare(_strong_eq, one, other)
+
+
+def weak_eq(one: bytes, other: bytes) -> Tuple[int, int]:
+    return _compare(_weak_eq, one, other)
+
+
+
+def cache_control(lines: bytes) -> Tuple[int, Tuple[Optional[int], ...], Tuple[int, ...]]:
+    """The seconds of `max-age`, `max-stale`, `min-fresh` and `s-maxage`, and the flags."""
+    given = _Directives()
+    status = _cache_control(lines, len(lines), ctypes.byref(given))
+    seconds = (getattr(given, name) for name in _SECONDS)
+    flags = tuple(getattr(given, name) for name in _FLAGS)
+    return status, tuple(it.seconds if it.is_set else None for it in seconds), flags
+
+
+def _positions(call: _Call, *arguments: Any) -> Tuple[int, List[Tuple[int, int]]]:
+    room = 16
+    while True:
+        buffer, count = (_Range * room)(), ctypes.c_size_t()
+        status = call(*arguments, buffer, room, ctypes.byref(count))
+        if status != _NO_ROOM:
+            return status, [(it.first, it.last) for it in buffer[: count.value]]
+        room = count.value
+
+
+def ranges(lines: bytes, length: int) -> Tuple[int, List[Tuple[int, int]]]:
+    return _positions(_ranges, lines, len(lines), length)
+
+
+def _request(
+    method: bytes,
+    section: bytes,
+    etag: bytes,
+    last_modified: Optional[int],
+    present: int,
+    exists: bool,
+    is_date_strong: bool,
+) -> Tuple[Any, ...]:
+    target = _Target(last_modified or 0, present, exists, last_modified is not None, is_date_strong)
+    texts = (method, len(method), section, len(section), ctypes.byref(_keys), etag, len(etag))
+    return (*texts, ctypes.byref(target))
+
+
+def evaluate(
+    method: bytes,
+    section: bytes,
+    etag: bytes,
+    last_modified: Optional[int],
+    present: int,
+    exists: bool,
+    is_date_strong: bool,
+) -> Tuple[int, int]:
+    answer = ctypes.c_uint16()
+    request = _request(method, section, etag, last_modified, present, exists, is_date_strong)
+    return _evaluate(*request, ctypes.byref(answer)), answer.value
+
+
+def select(
+    method: bytes,
+    section: bytes,
+    etag: bytes,
+    last_modified: Optional[int],
+    present: int,
+    exists: bool,
+    is_date_strong: bool,
+    length: int,
+) -> Tuple[int, int, List[Tuple[int, int]]]:
+    answer = ctypes.c_uint16()
+    request = _request(method, section, etag, last_modified, present, exists, is_date_strong)
+    status, found = _positions(_select, *request, length, ctypes.byref(answer))
+    return status, answer.value, found
+
+
+def cors_answer(
+    origins: bytes,
+    methods: bytes,
+    headers: bytes,
+    exposed: bytes,
+    max_age: Optional[int],
+    credentials: bool,
+    method: bytes,
+    request: bytes,
+    response: bytes,
+) -> Tuple[int, int, int, bytes]:
+    """The status, the kind of the request, whether its origin is allowed, and the fields."""
+    texts = (_Text(text, len(text)) for text in (origins, methods, headers, exposed))
+    rules = _Rules(*texts, max_age or 0, max_age is not None, credentials)
+    facts = _Facts()
+    status, found = _text(
+        _cors_answer,
+        ctypes.byref(rules),
+        method,
+        len(method),
+        request,
+        len(request),
+        response,
+        len(response),
+        ctypes.byref(_keys),
+        ctypes.byref(facts),
+    )
+    return status, facts.kind, facts.is_allowed, found
+
+
+def may_store(method: bytes, request: bytes, status: int, response: bytes, is_shared: bool) -> Tuple[int, int]:
+    answer = ctypes.c_uint8()
+    section = (response, len(response), ctypes.byref(_keys))
+    texts = (method, len(method), request, len(request))
+    return _may_store(*texts, status, *section, is_shared, ctypes.byref(answer)), answer.value
+
+
+def lifetime(response: bytes, received: int, is_shared: bool) -> Tuple[int, int]:
+    seconds = ctypes.c_uint64()
+    section = (response, len(response), ctypes.byref(_keys))
+    return _lifetime(*section, received, is_shared, ctypes.byref(seconds)), seconds.value
+
+
+def current_age(response: bytes, asked: int, received: int, now: int) -> Tuple[int, int]:
+    seconds, moments = ctypes.c_uint64(), _Moments(asked, received, now)
+    section = (response, len(response), ctypes.byref(_keys))
+    return _current_age(*section, ctypes.byref(moments), ctypes.byref(seconds)), seconds.value
+
+
+def decide(
+    stored_method: bytes,
+    stored: bytes,
+    method: bytes,
+    request: bytes,
+    response: bytes,
+    asked: int,
+    received: int,
+    now: int,
+    is_shared: bool,
+) -> Tuple[int, int]:
+    decision, moments = ctypes.c_uint8(), _Moments(asked, received, now)
+    parts = [part for text in (stored_method, stored, method, request, response) for part in (text, len(text))]
+    arguments = (*parts, ctypes.byref(_keys), ctypes.byref(moments), is_shared)
+    return _decide(*arguments, ctypes.byref(decision)), decision.value
+
+
+def validators(response: bytes, received: int) -> Tuple[int, bytes]:
+    return _text(_validators, response, len(response), received, ctypes.byref(_keys))
