@@ -166,8 +166,8 @@ def build_extension(header: Path, library: Path, to: Path) -> None:
     if not Path(include, "Python.h").exists():
         raise SystemExit(f"backend: there is no Python.h in {include}: install python3-dev")
     options = ["-std=c11", "-O2", "-fPIC", "-shared", "-Wall", "-Wextra", "-Werror", "-Wl,-z,relro,-z,now"]
-    words = ["cc", *options, f"-I{include}", f"-I{header}", "-o", str(to), str(HERE / "native.c"), str(library)]
-    subprocess.run(words, check=True)
+    sources = [str(HERE / "native.c"), str(library), "-Wl,--no-as-needed", "-lc"]
+    subprocess.run(["cc", *options, f"-I{include}", f"-I{header}", "-o", str(to), *sources], check=True)
 
 
 if __name__ == "__main__":
