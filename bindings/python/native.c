@@ -63,17 +63,107 @@ static PyObject *with_number(uint8_t status, uint64_t number) {
     return Py_BuildValue("BK", status, (unsigned long long)number);
 }
 
+/*
+ * Field lines: a tuple of texts. One that isn't of a type that the package takes, that has a character which is no byte,
+ * or that has a line end, makes the call end as if the library rejected it. The package says then what was wrong.
+ */
+struct lines {
+    struct text text;
+    /* What has the bytes: an object of Python, or memory. */
+    PyObject *owner;
+    uint8_t *joined;
+    bool is_rejected;
+};
+
+/* The bytes of a text, or NULL if it has none. */
+static PyObject *bytes_of(PyObject *text) {
+    PyObject *found = NULL;
+    if (PyBytes_Check(text)) {
+        Py_INCREF(text);
+        return text;
+    }
+    if (PyUnicode_Check(text)) {
+        found = PyUnicode_AsLatin1String(text);
+    } else if (PyByteArray_Check(text) || PyMemoryView_Check(text)) {
+        found = PyBytes_FromObject(text);
+    }
+    PyErr_Clear();
+    return found;
+}
+
+static bool has_line_end(const char *bytes, size_t length) {
+    return memchr(bytes, '\n', length) || memchr(bytes, '\r', length);
+}
+
+static void free_lines(struct lines *lines) {
+    Py_CLEAR(lines->owner);
+    PyMem_Free(lines->joined);
+    lines->joined = NULL;
+}
+
+/* Adds a line and its end to the text. */
+static bool join(struct lines *lines, const char *bytes, size_t length) {
+    size_t before = (size_t)lines->text.length;
+    uint8_t *joined = PyMem_Realloc(lines->joined, before + length + 1);
+    if (!joined) {
+        PyErr_NoMemory();
+        return false;
+    }
+    memcpy(joined + before, bytes, length);
+    joined[before + length] = '\n';
+    lines->joined = joined;
+    lines->text = (struct text){joined, (Py_ssize_t)(before + length + 1)};
+    return true;
+}
+
+static bool read_lines(PyObject *given, struct lines *lines) {
+    *lines = (struct lines){{(const uint8_t *)"", 0}, NULL, NULL, false};
+    Py_ssize_t count = PyTuple_Size(given);
+    for (Py_ssize_t place = 0; place < count; place++) {
+        char *bytes;
+        Py_ssize_t length;
+        PyObject *owner = bytes_of(PyTuple_GetItem(given, place));
+        lines->is_rejected = !owner || PyBytes_AsStringAndSize(owner, &bytes, &length) ||
+                             has_line_end(bytes, (size_t)length);
+        if (lines->is_rejected) {
+            Py_XDECREF(owner);
+            PyErr_Clear();
+            return true;
+        }
+        if (count == 1 && length > 0) {
+            /* (the last line needs no end, and an empty text would be no line) */
+            lines->owner = owner;
+            lines->text = (struct text){(const uint8_t *)bytes, length};
+            return true;
+        }
+        bool is_joined = join(lines, bytes, (size_t)length);
+        Py_DECREF(owner);
+        if (!is_joined) {
+            return false;
+        }
+    }
+    return !PyErr_Occurred();
+}
+
+/* Reads the field lines that are the only argument. */
+static bool read_only_lines(PyObject *arguments, struct lines *lines) {
+    PyObject *given;
+    return PyArg_ParseTuple(arguments, "O", &given) && read_lines(given, lines);
+}
+
 /* Numbers of field lines. */
 
 typedef uint8_t number_call(const uint8_t *, size_t, uint64_t *);
 
 static PyObject *number(number_call *call, PyObject *arguments) {
-    struct text lines;
+    struct lines lines = {{NULL, 0}, NULL, NULL, false};
     uint64_t found = 0;
-    if (!PyArg_ParseTuple(arguments, TEXT, INTO(lines))) {
+    if (!read_only_lines(arguments, &lines)) {
+        free_lines(&lines);
         return NULL;
     }
-    uint8_t status = call(BYTES(lines), &found);
+    uint8_t status = lines.is_rejected ? TYPED_HEADERS_REFUSED : call(BYTES(lines.text), &found);
+    free_lines(&lines);
     return with_number(status, found);
 }
 
@@ -119,15 +209,24 @@ static PyObject *with_text(text_call *call, const void *given) {
     return found ? Py_BuildValue("BN", status, found) : NULL;
 }
 
+static PyObject *text_of_lines(text_call *call, PyObject *arguments) {
+    struct lines lines = {{NULL, 0}, NULL, NULL, false};
+    PyObject *found = NULL;
+    if (read_only_lines(arguments, &lines)) {
+        found = lines.is_rejected ? Py_BuildValue("By", TYPED_HEADERS_REFUSED, "") : with_text(call, &lines.text);
+    }
+    free_lines(&lines);
+    return found;
+}
+
 #define TEXT_OF_LINES(name)                                                                                            \
     static uint8_t write_##name(const void *given, uint8_t *room, size_t room_length, size_t *written) {               \
         const struct text *lines = given;                                                                              \
         return typed_headers_##name(BYTES(*lines), room, room_length, written);                                        \
     }                                                                                                                  \
     static PyObject *name(PyObject *module, PyObject *arguments) {                                                     \
-        struct text lines;                                                                                             \
         (void)module;                                                                                                  \
-        return PyArg_ParseTuple(arguments, TEXT, INTO(lines)) ? with_text(write_##name, &lines) : NULL;                \
+        return text_of_lines(write_##name, arguments);                                                                 \
     }
 TEXT_OF_LINES(media_type)
 TEXT_OF_LINES(essence)
@@ -149,13 +248,19 @@ static PyObject *canonical(PyObject *module, PyObject *arguments) {
 typedef uint8_t tags_call(const uint8_t *, size_t, const uint8_t *, size_t, uint8_t *);
 
 static PyObject *compare(tags_call *call, PyObject *arguments) {
-    struct text one, other;
-    uint8_t equal = 0;
-    if (!PyArg_ParseTuple(arguments, TEXT TEXT, INTO(one), INTO(other))) {
-        return NULL;
+    struct lines one = {{NULL, 0}, NULL, NULL, false}, other = one;
+    PyObject *texts[2], *found = NULL;
+    uint8_t equal = 0, status = TYPED_HEADERS_REFUSED;
+    if (PyArg_ParseTuple(arguments, "OO", &texts[0], &texts[1]) && read_lines(texts[0], &one) &&
+        read_lines(texts[1], &other)) {
+        if (!one.is_rejected && !other.is_rejected) {
+            status = call(BYTES(one.text), BYTES(other.text), &equal);
+        }
+        found = with_number(status, equal);
     }
-    uint8_t status = call(BYTES(one), BYTES(other), &equal);
-    return with_number(status, equal);
+    free_lines(&one);
+    free_lines(&other);
+    return found;
 }
 
 static PyObject *strong_eq(PyObject *module, PyObject *arguments) {
@@ -169,13 +274,15 @@ static PyObject *weak_eq(PyObject *module, PyObject *arguments) {
 }
 
 static PyObject *cache_control(PyObject *module, PyObject *arguments) {
-    struct text lines;
+    struct lines lines = {{NULL, 0}, NULL, NULL, false};
     struct typed_headers_cache_directives it = {0};
     (void)module;
-    if (!PyArg_ParseTuple(arguments, TEXT, INTO(lines))) {
+    if (!read_only_lines(arguments, &lines)) {
+        free_lines(&lines);
         return NULL;
     }
-    uint8_t status = typed_headers_cache_control(BYTES(lines), &it);
+    uint8_t status = lines.is_rejected ? TYPED_HEADERS_REFUSED : typed_headers_cache_control(BYTES(lines.text), &it);
+    free_lines(&lines);
     return Py_BuildValue("B(NNNN)(BBBBBBBBB)", status, optional(it.max_age.seconds, it.max_age.is_set),
                          optional(it.max_stale.seconds, it.max_stale.is_set),
                          optional(it.min_fresh.seconds, it.min_fresh.is_set),
@@ -235,14 +342,17 @@ static bool read_number(PyObject *argument, uint64_t *number) {
 }
 
 static PyObject *ranges(PyObject *module, PyObject *arguments) {
+    struct lines lines = {{NULL, 0}, NULL, NULL, false};
     struct ranges_of it;
-    PyObject *length;
-    uint8_t status;
+    PyObject *given, *length, *found = NULL;
+    uint8_t status = TYPED_HEADERS_REFUSED;
     (void)module;
-    if (!PyArg_ParseTuple(arguments, TEXT "O", INTO(it.lines), &length) || !read_number(length, &it.length)) {
-        return NULL;
+    if (PyArg_ParseTuple(arguments, "OO", &given, &length) && read_number(length, &it.length) &&
+        read_lines(given, &lines)) {
+        it.lines = lines.text;
+        found = lines.is_rejected ? PyList_New(0) : written_ranges(write_ranges, &it, &status);
     }
-    PyObject *found = written_ranges(write_ranges, &it, &status);
+    free_lines(&lines);
     return found ? Py_BuildValue("BN", status, found) : NULL;
 }
 

@@ -1,15 +1,17 @@
 """The calls of the library over ctypes, as typed_headers.h declares and documents them.
 
-Each call returns its status first. The extension `_native` has the same calls, and takes a fifth of the time.
+Each call returns its status first. Field lines are a tuple of texts, a section is bytes. A text that isn't of the right
+type, that has a character which is no byte, or that has a line end, makes the call end as if the library rejected it.
+The extension `_native` has the same calls, and takes a fifth of the time.
 """
 
 import ctypes
 import os
 from pathlib import Path
-from typing import Any, Callable, List, Optional, Tuple
+from typing import Any, Callable, List, Optional, Tuple, Union
 
 SONAME = "libtyped_headers.so.1"
-_NO_ROOM = 3
+_REFUSED, _NO_ROOM = 1, 3
 _SECONDS = ("max_age", "max_stale", "min_fresh", "s_maxage")
 _FLAGS = (
     "no_cache",
@@ -142,28 +144,53 @@ def use_keys(keys: bytes) -> None:
     _keys = _Keys.from_buffer_copy(keys)
 
 
-def _number(call: _Call, lines: bytes) -> Tuple[int, int]:
-    found = ctypes.c_uint64()
-    return call(lines, len(lines), ctypes.byref(found)), found.value
+#: Text of a field. A `str` has one character for each byte (ISO 8859-1), as in WSGI and `http.client`.
+Text = Union[str, bytes, bytearray, memoryview]
+Lines = Tuple[Text, ...]
 
 
-def age(lines: bytes) -> Tuple[int, int]:
+def _joined(lines: Lines) -> Optional[bytes]:
+    """The field lines as one text, or `None` if they are none."""
+    text = b""
+    for line in lines:
+        if isinstance(line, str):
+            try:
+                line = line.encode("latin-1")
+            except UnicodeEncodeError:
+                return None
+        elif not isinstance(line, (bytes, bytearray, memoryview)):
+            return None
+        line = bytes(line)
+        if b"\n" in line or b"\r" in line:
+            return None
+        text += line + b"\n"
+    return text
+
+
+def _number(call: _Call, lines: Lines) -> Tuple[int, int]:
+    text, found = _joined(lines), ctypes.c_uint64()
+    if text is None:
+        return _REFUSED, 0
+    return call(text, len(text), ctypes.byref(found)), found.value
+
+
+def age(lines: Lines) -> Tuple[int, int]:
     return _number(_age, lines)
 
 
-def content_length(lines: bytes) -> Tuple[int, int]:
+def content_length(lines: Lines) -> Tuple[int, int]:
     return _number(_content_length, lines)
 
 
-def date(lines: bytes) -> Tuple[int, int]:
+def date(lines: Lines) -> Tuple[int, int]:
     return _number(_date, lines)
 
 
-def expires(lines: bytes) -> Tuple[int, int]:
+def expires(lines: Lines) -> Tuple[int, int]:
     return _number(_expires, lines)
 
 
-def last_modified(lines: bytes) -> Tuple[int, int]:
+def last_modified(lines: Lines) -> Tuple[int, int]:
     return _number(_last_modified, lines)
 
 
@@ -178,40 +205,47 @@ def _text(call: _Call, *arguments: Any) -> Tuple[int, bytes]:
         room = count.value
 
 
-def media_type(lines: bytes) -> Tuple[int, bytes]:
-    return _text(_media_type, lines, len(lines))
+def _text_of_lines(call: _Call, lines: Lines) -> Tuple[int, bytes]:
+    text = _joined(lines)
+    return (_REFUSED, b"") if text is None else _text(call, text, len(text))
 
 
-def essence(lines: bytes) -> Tuple[int, bytes]:
-    return _text(_essence, lines, len(lines))
+def media_type(lines: Lines) -> Tuple[int, bytes]:
+    return _text_of_lines(_media_type, lines)
 
 
-def websocket_accept(lines: bytes) -> Tuple[int, bytes]:
-    return _text(_websocket_accept, lines, len(lines))
+def essence(lines: Lines) -> Tuple[int, bytes]:
+    return _text_of_lines(_essence, lines)
+
+
+def websocket_accept(lines: Lines) -> Tuple[int, bytes]:
+    return _text_of_lines(_websocket_accept, lines)
 
 
 def canonical(section: bytes) -> Tuple[int, bytes]:
     return _text(_canonical, section, len(section), ctypes.byref(_keys))
 
 
-def _compare(call: _Call, one: bytes, other: bytes) -> Tuple[int, int]:
-    equal = ctypes.c_uint8()
-    return call(one, len(one), other, len(other), ctypes.byref(equal)), equal.value
+def _compare(call: _Call, one: Lines, other: Lines) -> Tuple[int, int]:
+    texts, equal = (_joined(one), _joined(other)), ctypes.c_uint8()
+    if texts[0] is None or texts[1] is None:
+        return _REFUSED, 0
+    return call(texts[0], len(texts[0]), texts[1], len(texts[1]), ctypes.byref(equal)), equal.value
 
 
-def strong_eq(one: bytes, other: bytes) -> Tuple[int, int]:
+def strong_eq(one: Lines, other: Lines) -> Tuple[int, int]:
     return _compare(_strong_eq, one, other)
 
 
-def weak_eq(one: bytes, other: bytes) -> Tuple[int, int]:
+def weak_eq(one: Lines, other: Lines) -> Tuple[int, int]:
     return _compare(_weak_eq, one, other)
 
 
 
-def cache_control(lines: bytes) -> Tuple[int, Tuple[Optional[int], ...], Tuple[int, ...]]:
+def cache_control(lines: Lines) -> Tuple[int, Tuple[Optional[int], ...], Tuple[int, ...]]:
     """The seconds of `max-age`, `max-stale`, `min-fresh` and `s-maxage`, and the flags."""
-    given = _Directives()
-    status = _cache_control(lines, len(lines), ctypes.byref(given))
+    text, given = _joined(lines), _Directives()
+    status = _REFUSED if text is None else _cache_control(text, len(text), ctypes.byref(given))
     seconds = (getattr(given, name) for name in _SECONDS)
     flags = tuple(getattr(given, name) for name in _FLAGS)
     return status, tuple(it.seconds if it.is_set else None for it in seconds), flags
@@ -227,8 +261,9 @@ def _positions(call: _Call, *arguments: Any) -> Tuple[int, List[Tuple[int, int]]
         room = count.value
 
 
-def ranges(lines: bytes, length: int) -> Tuple[int, List[Tuple[int, int]]]:
-    return _positions(_ranges, lines, len(lines), length)
+def ranges(lines: Lines, length: int) -> Tuple[int, List[Tuple[int, int]]]:
+    text = _joined(lines)
+    return (_REFUSED, []) if text is None else _positions(_ranges, text, len(text), length)
 
 
 def _request(

@@ -65,15 +65,13 @@ def version() -> str:
 
 def to_bytes(text: Text, what: str) -> bytes:
     """The bytes of a text."""
-    if isinstance(text, bytes):
-        return text
     if isinstance(text, str):
         try:
             return text.encode("latin-1")
         except UnicodeEncodeError as error:
             character = f"character {error.start}, {text[error.start]!r}, is no byte"
             raise HeaderError(f"{what}: {character}: encode the text first") from None
-    if isinstance(text, (bytearray, memoryview)):
+    if isinstance(text, (bytes, bytearray, memoryview)):
         return bytes(text)
     raise TypeError(f"{what}: expected str, bytes, bytearray or memoryview, not {type(text).__name__}")
 
@@ -153,22 +151,21 @@ def check(status: int, refused: Callable[[], Exception]) -> None:
         raise MemoryError
 
 
-def check_field(status: int, field: str, lines: Sequence[bytes]) -> None:
-    """Raises what a status stands for, of a call over field lines, of which there is at least one."""
-    if status:
-        check(status, lambda: rejected(field, lines))
-        if status == ABSENT:
-            raise rejected(field, lines)
+def failed(status: int, field: str, lines: Sequence[Text], reason: str = "") -> Exception:
+    """What a status stands for that isn't DONE, of a call over field lines, of which there is at least one."""
+    if status == _NO_MEMORY:
+        return MemoryError()
+    return rejected(field, to_lines(field, lines), reason)
 
 
-Number = Callable[[bytes], Tuple[int, int]]
+Number = Callable[[Tuple[Text, ...]], Tuple[int, int]]
 
 
-def number(call: Number, field: str, lines: Sequence[Text]) -> int:
+def number(call: Number, field: str, lines: Tuple[Text, ...]) -> int:
     """The number that the field lines encode."""
-    given = to_lines(field, lines)
-    status, found = call(joined(given))
-    check_field(status, field, given)
+    status, found = call(lines)
+    if status:
+        raise failed(status, field, lines)
     return found
 
 

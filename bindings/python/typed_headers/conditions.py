@@ -22,6 +22,9 @@ class Precondition(IntEnum):
     FAILED = 412
 
 
+_PRECONDITIONS = {int(it): it for it in Precondition}
+
+
 @dataclass(frozen=True)
 class Target:
     """What a server knows of the target of a request."""
@@ -90,7 +93,7 @@ def evaluate(
     """
     status, answer = _library.calls.evaluate(*_request(method, request, target, now))
     _library.check(status, lambda: _refused(method, request, target))
-    return Precondition(answer)
+    return _PRECONDITIONS[answer]
 
 
 def select(

@@ -1,5 +1,6 @@
 """Header sections: the fields of a message, whatever form a framework has them in."""
 
+import re
 from datetime import datetime
 from typing import Iterable, Iterator, List, Mapping, Optional, Sequence, Tuple, Union
 
@@ -60,15 +61,19 @@ def canonical_section(section: "HeadersLike") -> str:
     return _library.to_str(_library.canonical_text(Headers(section).section))
 
 
+# A line of a section as it is made of a name and a value.
+_FIELD = re.compile(rb"[^:\r\n]+: [\t -~\x80-\xff]*\n")
+
+
 def _field_of(name: Text, value: Text) -> bytes:
     """The line of a section for a field."""
-    given = _library.to_bytes(name, "name")
-    if not given or any(byte in given for byte in b":\r\n"):
-        raise InvalidField(_library.to_str(given), "this is no field name (RFC 9110, section 5.1)")
-    line = _library.to_bytes(value, "value")
-    if _library.NO_VALUE.search(line):
+    given, line = _library.to_bytes(name, "name"), _library.to_bytes(value, "value")
+    field = b"%b: %b\n" % (given, line)
+    if not _FIELD.fullmatch(field):
+        if not given or any(byte in given for byte in b":\r\n"):
+            raise InvalidField(_library.to_str(given), "this is no field name (RFC 9110, section 5.1)")
         raise _library.rejected(_library.to_str(given).lower(), [line])
-    return given + b": " + line + b"\n"
+    return field
 
 
 class Headers:
@@ -98,11 +103,11 @@ class Headers:
             self.section = fields.section
         elif isinstance(fields, (str, bytes, bytearray, memoryview)):
             self.section = _library.to_bytes(fields, "the header section")
-        elif isinstance(fields, Mapping):
-            pairs = ((name, value) for name, given in fields.items() for value in _values(given))
-            self.section = b"".join(_field_of(name, value) for name, value in pairs)
+        elif isinstance(fields, (dict, Mapping)):
+            pairs = [(name, value) for name, given in fields.items() for value in _values(given)]
+            self.section = b"".join([_field_of(name, value) for name, value in pairs])
         else:
-            self.section = b"".join(_field_of(name, value) for name, value in fields)
+            self.section = b"".join([_field_of(name, value) for name, value in fields])
 
     def __repr__(self) -> str:
         return f"Headers({list(self)!r})"
@@ -215,7 +220,7 @@ class Headers:
 
 
 def _values(given: Union[Text, Iterable[Text]]) -> Iterable[Text]:
-    return [given] if isinstance(given, (str, bytes, bytearray, memoryview)) else given
+    return (given,) if isinstance(given, (str, bytes, bytearray, memoryview)) else given
 
 
 #: What `Headers` takes.

@@ -3,7 +3,6 @@
 Texts are `str` with a character for each byte (ISO 8859-1), as in WSGI and `http.client`.
 """
 
-import builtins
 import re
 from dataclasses import dataclass, fields
 from datetime import datetime, timedelta, timezone
@@ -84,7 +83,7 @@ def format_date(time: Time) -> str:
     except OverflowError:
         raise HeaderError(f"time: {seconds} lies past the year 9999") from None
     # The text is Python's; the library has to read the same time from it.
-    if _library.number(_library.calls.date, "date", [text]) != seconds:
+    if _library.number(_library.calls.date, "date", (text,)) != seconds:
         raise AssertionError(f"{text} isn't the date of {seconds}")
     return text
 
@@ -96,10 +95,10 @@ def websocket_accept(line: Text, *more: Text) -> str:
     's3pPLMBiTxaQ9kYGzzhZRbK+xOo='
     """
     field = "sec-websocket-key"
-    lines = _library.to_lines(field, (line, *more))
-    status, text = _library.calls.websocket_accept(_library.joined(lines))
-    reason = "expected the base64 of 16 bytes in a single field line (RFC 6455, section 4.2.1)"
-    _library.check(status, lambda: _library.rejected(field, lines, reason))
+    status, text = _library.calls.websocket_accept((line, *more))
+    if status:
+        reason = "expected the base64 of 16 bytes in a single field line (RFC 6455, section 4.2.1)"
+        raise _library.failed(status, field, (line, *more), reason)
     return _library.to_str(text)
 
 
@@ -144,19 +143,22 @@ class ETag:
     weak: bool = False
 
     def __post_init__(self) -> None:
-        lines = _library.to_lines("etag", [str(self)])
+        lines = (str(self),)
         if '"' in self.opaque:
-            raise _library.rejected("etag", lines)
-        _library.check_field(_library.calls.weak_eq(lines[0], lines[0])[0], "etag", lines)
+            raise _library.rejected("etag", _library.to_lines("etag", lines))
+        status, _ = _library.calls.weak_eq(lines, lines)
+        if status:
+            raise _library.failed(status, "etag", lines)
 
     @classmethod
     def parse(cls, line: Text, *more: Text) -> "ETag":
         """The entity tag that the only field line of `ETag` is."""
-        lines = _library.to_lines("etag", (line, *more))
         if more:
-            raise _library.rejected("etag", lines)
-        _library.check_field(_library.calls.weak_eq(lines[0], lines[0])[0], "etag", lines)
-        text = _library.to_str(lines[0])
+            raise _library.rejected("etag", _library.to_lines("etag", (line, *more)))
+        status, _ = _library.calls.weak_eq((line,), (line,))
+        if status:
+            raise _library.failed(status, "etag", (line,))
+        text = line if isinstance(line, str) else _library.to_str(bytes(line))
         weak = text.startswith("W/")
         return _made(cls, opaque=text[3:-1] if weak else text[1:-1], weak=weak)
 
@@ -165,11 +167,11 @@ class ETag:
 
     def matches_strongly(self, other: "ETag") -> bool:
         """Whether both tags are equal and neither is weak (RFC 9110, section 8.8.3.2)."""
-        return _library.calls.strong_eq(str(self).encode("latin-1"), str(other).encode("latin-1"))[1] == 1
+        return _library.calls.strong_eq((str(self),), (str(other),))[1] == 1
 
     def matches_weakly(self, other: "ETag") -> bool:
         """Whether both tags are equal but for `W/` (RFC 9110, section 8.8.3.2)."""
-        return _library.calls.weak_eq(str(self).encode("latin-1"), str(other).encode("latin-1"))[1] == 1
+        return _library.calls.weak_eq((str(self),), (str(other),))[1] == 1
 
 
 # A parameter in the canonical text of a media type.
@@ -206,9 +208,9 @@ class MediaType:
     @classmethod
     def parse(cls, line: Text, *more: Text) -> "MediaType":
         """The media type that the first field line of `Content-Type` is."""
-        lines = _library.to_lines("content-type", (line, *more))
-        status, found = _library.calls.media_type(_library.joined(lines))
-        _library.check_field(status, "content-type", lines)
+        status, found = _library.calls.media_type((line, *more))
+        if status:
+            raise _library.failed(status, "content-type", (line, *more))
         essence, mark, _ = _library.to_str(found).partition(";")
         kind, _, subtype = essence.partition("/")
         parameters = tuple(_PARAMETER.findall(_library.to_str(found), len(essence))) if mark else ()
@@ -285,16 +287,16 @@ class CacheControl:
     @classmethod
     def parse(cls, line: Text, *more: Text) -> "CacheControl":
         """The directives of all field lines."""
-        lines = _library.to_lines("cache-control", (line, *more))
-        text = _library.joined(lines)
-        status, seconds, flags = _library.calls.cache_control(text)
-        _library.check_field(status, "cache-control", lines)
+        lines = (line, *more)
+        status, seconds, flags = _library.calls.cache_control(lines)
+        if status:
+            raise _library.failed(status, "cache-control", lines)
         members = dict(zip(_SECONDS, seconds))
         members.update(zip(_FLAGS, map(bool, flags)))
         # The call has no flag for this directive yet; the canonical field line has its name.
         members["proxy_revalidate"] = False
-        if b"proxy-revalidate" in text.lower():
-            members["proxy_revalidate"] = "proxy-revalidate" in _only("cache-control", (line, *more)).split(", ")
+        if any(b"proxy-revalidate" in _library.to_bytes(it, "cache-control").lower() for it in lines):
+            members["proxy_revalidate"] = "proxy-revalidate" in _only("cache-control", lines).split(", ")
         return _made(cls, **members)
 
     def __str__(self) -> str:
@@ -340,14 +342,13 @@ class Range:
     text: str
 
     def __post_init__(self) -> None:
-        self._positions(_library.to_lines("range", [self.text])[0], 0)
+        self._positions((self.text,), 0)
 
     @classmethod
     def parse(cls, line: Text, *more: Text) -> "Range":
         """The ranges of the first field line."""
-        lines = _library.to_lines("range", (line, *more))
-        cls._positions(lines[0], 0)
-        return _made(cls, text=_library.to_str(lines[0]))
+        cls._positions((line, *more), 0)
+        return _made(cls, text=line if isinstance(line, str) else _library.to_str(bytes(line)))
 
     @classmethod
     def bytes(cls, *ranges: Tuple[Optional[int], Optional[int]]) -> "Range":
@@ -367,12 +368,13 @@ class Range:
     def satisfiable(self, length: int) -> List[ByteRange]:
         """The ranges that a representation of so many bytes can satisfy, in order (RFC 9110, section 14.1.2)."""
         size = _library.to_number(length, "length")
-        return [ByteRange(first, last) for first, last in self._positions(self.text.encode("latin-1"), size)]
+        return [_made(ByteRange, first=first, last=last) for first, last in self._positions((self.text,), size)]
 
     @staticmethod
-    def _positions(line: "builtins.bytes", length: int) -> List[Tuple[int, int]]:
-        status, found = _library.calls.ranges(line + b"\n", length)
-        _library.check_field(status, "range", [line])
+    def _positions(lines: Tuple[Text, ...], length: int) -> List[Tuple[int, int]]:
+        status, found = _library.calls.ranges(lines, length)
+        if status:
+            raise _library.failed(status, "range", lines)
         return found
 
 
