@@ -311,6 +311,22 @@ class OfAsgi(unittest.TestCase):
         by_asgi(made, "GET", {"Range": "bytes=0-4"}, more)
         self.assertEqual(seen, [["http.response.pathsend", "other"], ["other"]])
 
+    def test_the_head_of_a_stream_does_not_wait(self) -> None:
+        order: List[str] = []
+
+        async def application(scope: Any, receive: Any, send: Any) -> None:
+            await send({"type": "http.response.start", "status": 200, "headers": []})
+            order.append("the application waits")
+            await send({"type": "http.response.body", "body": b"a"})
+
+        async def send(message: Any) -> None:
+            order.append(message["type"])
+
+        receive: Any = None
+        scope = {"type": "http", "method": "GET", "headers": []}
+        asyncio.run(asgi.ConditionalRequests(application)(scope, receive, send))
+        self.assertEqual(order, ["http.response.start", "the application waits", "http.response.body"])
+
     def test_other_messages_pass(self) -> None:
         messages: List[Any] = []
 

@@ -95,7 +95,7 @@ class ConditionalRequests:
 
 
 class _Sender:
-    """Stands for the server's `send`: it keeps the head of the response until its first content."""
+    """Stands for the server's `send`: it keeps the head of the response until its first content, if that may matter."""
 
     def __init__(self, rules: ConditionalRequests, method: str, request: Headers, send: Send) -> None:
         self.rules, self.method, self.request, self.send = rules, method, request, send
@@ -105,7 +105,11 @@ class _Sender:
 
     async def __call__(self, message: Message) -> None:
         if message["type"] == "http.response.start" and not message.get("trailers"):
-            self.head = message
+            if self.request.section or self.rules.tags:
+                self.head = message
+            else:
+                # Nothing asks for another response, so the head doesn't wait for the content.
+                await self.send_head(message, _fields(message), None)
         elif message["type"] == "http.response.body" and (self.head or self.cutter):
             await self.content(message)
         else:
@@ -113,6 +117,15 @@ class _Sender:
             if head is not None:
                 await self.send(head)
             await self.send(message)
+
+    async def send_head(self, head: Message, fields: Fields, length: Optional[int]) -> Response:
+        """Sends the head of the response, by the length that its fields state, or else by this one."""
+        stated = length_of(fields)
+        length = stated if stated is not None else length
+        given = Response(head["status"], fields)
+        response = respond(self.method, self.request, given, length, self.rules.strong_dates)
+        await self.send({**head, "status": response.status, "headers": _encoded(response.fields)})
+        return response
 
     async def content(self, message: Message) -> None:
         body, has_more = bytes(message.get("body", b"")), bool(message.get("more_body", False))
@@ -123,12 +136,7 @@ class _Sender:
                 length = len(body)
                 if self.rules.tags and head["status"] == 200 and (self.method == "GET" or body):
                     fields = tagged(fields, body)
-            stated = length_of(fields)
-            length = stated if stated is not None else length
-            given = Response(head["status"], fields)
-            response = respond(self.method, self.request, given, length, self.rules.strong_dates)
-            sent = {**head, "status": response.status, "headers": _encoded(response.fields)}
-            await self.send(sent)
+            response = await self.send_head(head, fields, length)
             if response.parts is None:
                 await self.send(message)
                 return
