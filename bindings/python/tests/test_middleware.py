@@ -210,6 +210,8 @@ class Both(unittest.TestCase):
 
     def test_validators_that_cannot_be_read(self) -> None:
         fields = [("Content-Length", "10000"), ("ETag", "a"), ("Last-Modified", "yesterday")]
+        by_control = wsgi.ConditionalRequests(wsgi_application(0, [("ETag", '"\x0b"')]))
+        self.assertEqual(by_wsgi(by_control, "GET", {"Range": "bytes=0-4"}).status, 200)
         for answer in self.answers("GET", {"If-None-Match": '"a"', "If-Modified-Since": DATE}, fields):
             self.assertEqual(answer.status, 200)
 

@@ -84,10 +84,10 @@ def respond(
         return given
     names = {name.lower(): value for name, value in given.fields}
     has_ranges = length is not None and names.get("accept-ranges", "bytes") == "bytes" and "content-range" not in names
-    headers = Headers([(name, value) for name, value in given.fields if name.lower() in ("etag", "last-modified")])
-    target = _target(headers, is_date_strong)
     selection = Selection(200)
     try:
+        validators = [(name, value) for name, value in given.fields if name.lower() in ("etag", "last-modified")]
+        target = _target(Headers(validators), is_date_strong)
         precondition = evaluate(method, request, target)
         if precondition is Precondition.PERFORM and has_ranges and length is not None:
             selection = select(method, request, target, length)
