@@ -1,15 +1,17 @@
-"""Runs the examples of the section "Install it" of README.md in a bare Debian, where root may change its root folder.
+"""Runs the examples of README.md for a release in a bare Debian, where root may change its root folder.
 
-    examples.py README FOLDER
+    examples.py FOLDER
 
-A block of C or Python is the file that the text before it names. A block of sh is run, and has to print what the block
-without a language after it says. The Debian packages are where the first command looks for them.
+These are its blocks after `release: ` (tools/check_docs says how a block is marked): a `file: NAME` is written, a `run`
+is run, and an `output` is what the command before it has to print. The Debian packages are where the first command
+looks for them.
 """
-import re
 import subprocess
 import sys
+from importlib.machinery import SourceFileLoader
 from pathlib import Path
 
+TOP = Path(__file__).resolve().parents[2]
 ENVIRONMENT = {
     "PATH": "/usr/local/sbin:/usr/local/bin:/usr/sbin:/usr/bin:/sbin:/bin",
     "HOME": "/root",
@@ -18,25 +20,27 @@ ENVIRONMENT = {
 }
 
 
-def main(readme: str, bare: str) -> int:
-    section = Path(readme).read_text("utf-8").split("\n## Install it\n", 1)[1].split("\n## ", 1)[0]
-    parts = re.findall(r"(.*?)^```(\w*)\n(.*?)^```$", section, re.M | re.S)
-    folder = Path(bare, "example")
-    count = 0
-    for place, (before, language, text) in enumerate(parts):
-        if language in ("c", "python"):
-            name = re.findall(r"this file `([\w.]+)`", before)[-1]
-            (folder / name).write_text(text, "utf-8")
-        elif language == "sh":
-            follows = parts[place + 1][1:] if place + 1 < len(parts) else ("sh", "")
-            wanted = follows[1] if follows[0] == "" else None
+def main(bare: str) -> int:
+    sys.dont_write_bytecode = True
+    check_docs = SourceFileLoader("check_docs", str(TOP / "tools/check_docs")).load_module()
+    count, printed = 0, ""
+    for block in check_docs.split("README.md")[1]:
+        if not block.is_for_release:
+            continue
+        text = "\n".join(block.lines) + "\n"
+        if block.kind == "file":
+            Path(bare, "example", block.word).write_text(text, "utf-8")
+        elif block.kind == "run":
             where = "/dist" if "*.deb" in text else "/example"
             words = ["chroot", bare, "bash", "-ec", f"cd {where}\n{text}"]
             done = subprocess.run(words, env=ENVIRONMENT, stdout=subprocess.PIPE, stderr=subprocess.STDOUT, text=True)
-            if done.returncode or wanted is not None and done.stdout != wanted:
-                print(f"{text}ended with status {done.returncode}, and printed\n{done.stdout}")
+            count, printed = count + 1, done.stdout
+            if done.returncode:
+                print(f"{text}ended with status {done.returncode}, and printed\n{printed}")
                 return 1
-            count += 1
+        elif printed != text:
+            print(f"line {block.number} of README.md wants\n{text}and this was printed:\n{printed}")
+            return 1
     print(f"{count} commands")
     return 0 if count >= 5 else 1
 

@@ -4,7 +4,8 @@
 
 OURS and NGINX are ports. The requests are those of requests.txt, the differences that are known those of
 differences.txt. The status is 1 if a request is answered otherwise in a way that isn't known, or if a known
-difference doesn't come. The differences are written to TABLE.
+difference doesn't come. The differences are written to TABLE by their reasons; those that are nothing but a page for
+people are counted alone.
 """
 import fnmatch
 import os
@@ -13,6 +14,8 @@ import socket
 import sys
 
 HERE = os.path.dirname(os.path.abspath(__file__))
+# The one reason that the table leaves out.
+PAGE = "nginx writes a page for people."
 # What is compared, in the order of the table.
 PARTS = ["status", "etag", "last-modified", "content-range", "content-type", "content-length", "location", "body"]
 
@@ -130,7 +133,7 @@ def main():
     ports = {"ours": int(sys.argv[1]), "nginx": int(sys.argv[2])}
     known = known_differences()
     used = [False] * len(known)
-    table, unknown, count = [], 0, 0
+    table, unknown, count, otherwise = {}, 0, 0, 0
     validators = {}
     for line, row in rows():
         count += 1
@@ -162,18 +165,24 @@ def main():
                 unknown += 1
                 print(f"{line}: {part}: ours {plain(ours[part])}, nginx {plain(theirs[part])} ({statuses})")
         if differing:
-            cells = "; ".join(f"{part}: {plain(ours[part])}, {plain(theirs[part])}" for part in differing)
-            table.append((line, cells, " ".join(reasons)))
+            otherwise += 1
+            why = " ".join(reason for reason in reasons if reason != PAGE)
+            cells = ", ".join(f"{ours[part]} and {theirs[part]}" if part == "status" else part for part in differing)
+            table.setdefault(why, {}).setdefault(cells, []).append(line)
     for index, (parts, status, request, why) in enumerate(known):
         if not used[index]:
             unknown += 1
             print(f"no such difference: {' '.join(parts)} ; {status} ; {request} ; {why}")
+    pages = sum(len(lines) for lines in table.pop("", {}).values())
     if len(sys.argv) > 3:
         with open(sys.argv[3], "w", encoding="utf-8") as file:
-            file.write("| Request | Ours, nginx's | Why |\n|---|---|---|\n")
-            for line, cells, why in table:
-                file.write(f"| `{line.replace('|', chr(92) + '|')}` | {cells} | {why} |\n")
-    print(f"{count} requests, {count - len(table)} answered alike, {len(table)} otherwise, {unknown} of these unexplained")
+            file.write("| Why | Ours and nginx's differ in | Requests |\n|---|---|---|\n")
+            for why, groups in table.items():
+                for cells, lines in groups.items():
+                    requests = ", ".join("`" + line.replace("|", "\\|") + "`" for line in lines)
+                    file.write(f"| {why} | {cells} | {requests} |\n")
+    print(f"{count} requests, {count - otherwise} answered alike, {pages} but for a page, {otherwise - pages} otherwise, "
+          f"{unknown} of these unexplained")
     sys.exit(1 if unknown else 0)
 
 
