@@ -182,7 +182,7 @@ unfolding goes_on
 stops consumes message options name e = rw e refl
 
 -- a field that is written anew doesn't go on, whatever kind it is
-or_true : (b : Bool) → (b || true) ≡ true
+pub or_true : (b : Bool) → (b || true) ≡ true
 or_true true = refl
 or_true false = refl
 
@@ -201,14 +201,17 @@ coding_known : (consumes : Bool) → is_known consumes (codes "transfer-encoding
 coding_known true = refl
 coding_known false = refl
 
-module _ (options : List Member) (unprotected : names_protected options ≡ false) where
+module _ (further : List (List ℕ)) (options : List Member) (unprotected : names_protected further options ≡ false) where
   abbrev named : List ℕ → Bool
   named name = is_named options name
+
+  always : list_any named protected_fields ≡ false
+  always = (or_parts (list_any named protected_fields) _ unprotected).0
 
   after_host : list_any named (
       codes "content-length" ∷ codes "transfer-encoding" ∷ codes "via" ∷ codes "max-forwards" ∷ codes "date"
       ∷ codes "cache-control" ∷ codes "authorization" ∷ codes "cookie" ∷ codes "set-cookie" ∷ []) ≡ false
-  after_host = (or_parts (named (codes "host")) _ unprotected).1
+  after_host = (or_parts (named (codes "host")) _ always).1
 
   after_coding : list_any named (
       codes "via" ∷ codes "max-forwards" ∷ codes "date" ∷ codes "cache-control" ∷ codes "authorization"
@@ -218,7 +221,7 @@ module _ (options : List Member) (unprotected : names_protected options ≡ fals
       (or_parts (named (codes "transfer-encoding")) _ b.1).1
 
   host_unnamed : named (codes "host") ≡ false
-  host_unnamed = (or_parts (named (codes "host")) _ unprotected).0
+  host_unnamed = (or_parts (named (codes "host")) _ always).0
 
   length_unnamed : named (codes "content-length") ≡ false
   length_unnamed = (or_parts (named (codes "content-length")) _ after_host).0
@@ -263,12 +266,15 @@ module _ (options : List Member) (unprotected : names_protected options ≡ fals
 -- ---- all together
 
 module _ (gateway : Gateway) (message : Message) (m : Entries FieldValue) (unique : IsUnique m)
-    (unprotected : names_protected (connection_options (lines_at m)) ≡ false) where
+    (unprotected : names_protected gateway.protected.items (connection_options (lines_at m)) ≡ false) where
   abbrev options : List Member
   options = connection_options (lines_at m)
 
   abbrev consumes : Bool
   consumes = gateway.consumes_credentials
+
+  abbrev further : List (List ℕ)
+  further = gateway.protected.items
 
   abbrev going : List ℕ → Bool
   going name = goes_on gateway.consumes_credentials message (connection_options (lines_at m)) name
@@ -324,13 +330,16 @@ module _ (gateway : Gateway) (message : Message) (m : Entries FieldValue) (uniqu
   sent_hop_by_hop : (name : List ℕ) → IsHopByHop gateway (lines_at m) name → name ≢ codes "transfer-encoding"
       → lines_under sent name ≡ []
   sent_hop_by_hop name e n =
-      let v = differ (codes "via") name (apart (codes "via") name (via_end_to_end options unprotected consumes) e) in
-      let o = differ (codes "host") name (apart (codes "host") name (host_end_to_end options unprotected consumes) e) in
-      let d = differ (codes "date") name (apart (codes "date") name (date_end_to_end options unprotected consumes) e) in
+      let v = differ (codes "via") name
+      (apart (codes "via") name (via_end_to_end further options unprotected consumes) e) in
+      let o = differ (codes "host") name
+      (apart (codes "host") name (host_end_to_end further options unprotected consumes) e) in
+      let d = differ (codes "date") name
+      (apart (codes "date") name (date_end_to_end further options unprotected consumes) e) in
       let h = differ (codes "max-forwards") name
-      (apart (codes "max-forwards") name (hops_end_to_end options unprotected consumes) e) in
+      (apart (codes "max-forwards") name (hops_end_to_end further options unprotected consumes) e) in
       let l = differ (codes "content-length") name
-      (apart (codes "content-length") name (length_end_to_end options unprotected consumes) e) in
+      (apart (codes "content-length") name (length_end_to_end further options unprotected consumes) e) in
       let c = differ (codes "transfer-encoding") name (λ same. n (sym same)) in
       left_out name (stops consumes message options name e)
       ∙ own_none gateway.pseudonym message name v o d h l c
@@ -339,7 +348,7 @@ module _ (gateway : Gateway) (message : Message) (m : Entries FieldValue) (uniqu
       ≡ lines_at m (codes "via") ++ via_line message.protocol gateway.pseudonym ∷ []
   sent_via =
       kept (codes "via") (
-      goes consumes message options (codes "via") (via_end_to_end options unprotected consumes) refl
+      goes consumes message options (codes "via") (via_end_to_end further options unprotected consumes) refl
       (never (is_some message.host)) (never (is_some message.date)) (never (is_some message.hops)))
       ∙ ap (λ lines. lines_at m (codes "via") ++ lines) (own_via gateway.pseudonym message)
 
@@ -360,7 +369,7 @@ module _ (gateway : Gateway) (message : Message) (m : Entries FieldValue) (uniqu
           → lines_under sent (codes "host") ≡ replaced message.host (lines_at m (codes "host"))
       by None e =
           kept (codes "host") (
-          goes consumes message options (codes "host") (host_end_to_end options unprotected consumes) refl
+          goes consumes message options (codes "host") (host_end_to_end further options unprotected consumes) refl
           (rw e refl) (never (is_some message.date)) (never (is_some message.hops)))
           ∙ ap (λ lines. lines_at m (codes "host") ++ lines) (own_host gateway.pseudonym message)
           ∙ rw e (append-nil (lines_at m (codes "host")))
@@ -377,7 +386,7 @@ module _ (gateway : Gateway) (message : Message) (m : Entries FieldValue) (uniqu
           ≡ replaced (option_map fixdate message.date) (lines_at m (codes "date"))
       by None e =
           kept (codes "date") (
-          goes consumes message options (codes "date") (date_end_to_end options unprotected consumes) refl
+          goes consumes message options (codes "date") (date_end_to_end further options unprotected consumes) refl
           (never (is_some message.host)) (rw e refl) (never (is_some message.hops)))
           ∙ ap (λ lines. lines_at m (codes "date") ++ lines) (own_date gateway.pseudonym message)
           ∙ rw e (append-nil (lines_at m (codes "date")))
@@ -395,7 +404,7 @@ module _ (gateway : Gateway) (message : Message) (m : Entries FieldValue) (uniqu
           ≡ replaced (option_map decimal message.hops) (lines_at m (codes "max-forwards"))
       by None e =
           kept (codes "max-forwards") (
-          goes consumes message options (codes "max-forwards") (hops_end_to_end options unprotected consumes) refl
+          goes consumes message options (codes "max-forwards") (hops_end_to_end further options unprotected consumes) refl
           (never (is_some message.host)) (never (is_some message.date)) (rw e refl))
           ∙ ap (λ lines. lines_at m (codes "max-forwards") ++ lines) (own_hops gateway.pseudonym message)
           ∙ rw e (append-nil (lines_at m (codes "max-forwards")))

@@ -7,7 +7,9 @@ mod OneLemmas
 mod OutcomeLemmas
 mod PairLemmas
 mod ReceivedLemmas
-mod RecipientLemmas
+pub mod RecipientLemmas
 mod ResponseLemmas
+mod StatedLemmas
 mod SureLemmas
+mod TrailerLemmas
 mod ViaLemmas

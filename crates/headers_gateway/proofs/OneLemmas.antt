@@ -65,6 +65,7 @@ unframed protocol message framing Rejection.ProtectedOption f r = r
 unframed protocol message framing Rejection.InvalidHost f r = r
 unframed protocol message framing Rejection.InvalidHops f r = r
 unframed protocol message framing Rejection.Loop f r = r
+unframed protocol message framing Rejection.UnknownExpectation f r = r
 unframed protocol message framing Rejection.SwitchedProtocols f r = r
 
 abbrev IsFramedOrNot : Protocol → LineMap → Type 0

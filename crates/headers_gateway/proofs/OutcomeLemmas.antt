@@ -3,6 +3,7 @@ use Rattle.std.proofs.Common.{◌≡◌, ◌⊎◌, ℕ, ◌+◌, zero, suc, tru
 use Rattle.std.proofs.Common.{inl, inr, codes}
 use Rattle.std.specs.Prelude.{option_map}
 use Rattle.std.proofs.lemmas.Bool.{cases_Bool}
+use Rattle.headers_gateway.specs.Expectations.{has_known_expectation}
 use Rattle.headers_gateway.specs.Framing.{RejectsFraming}
 use Rattle.headers_gateway.specs.HopByHop.{HasFairOptions, are_options, connection_options, names_protected}
 use Rattle.headers_gateway.specs.Hops.{HasHops}
@@ -32,18 +33,25 @@ unaccepted gateway request framing hops Rejection.ProtectedOption a h r = cc (a.
 unaccepted gateway request framing hops Rejection.InvalidHost a h r = cc (a.host, r)
 unaccepted gateway request framing hops Rejection.InvalidHops a h r = limited request.method request.fields hops h r
 unaccepted gateway request framing hops Rejection.Loop a h r = cc (a.first_time, r)
+unaccepted gateway request framing hops Rejection.UnknownExpectation a h r = cc (a.expectation, r)
 unaccepted gateway request framing hops Rejection.SwitchedProtocols a h r = r
 
 one_more : (left : Option ℕ) → Some 0 ≡ option_map (λ hops. hops + 1) left → ⊥
 one_more None e = cc e
 one_more (Some n) e = let zero : 0 ≡ n + 1 = cc e in omega (arith, zero)
 
+-- what may be forwarded no more isn't
+pub final_unforwarded : (request : Request) (left : Option ℕ) → HasHops request.method request.fields (Some 0)
+    → HasHopsLeft request left → ⊥
+final_unforwarded request left final counted =
+    one_more left (one_limit request.method request.fields _ _ final counted)
+
 pub one_outcome : (gateway : Gateway) (request : Request) → HasOneOutcome gateway request
 one_outcome gateway request =
     record {
       not_final = λ r f. unaccepted gateway request f.0 (Some 0) r.0 f.1.accepted f.1.hops r.1;
       not_forwarded = λ r f. unaccepted gateway request f.framing _ r.0 f.accepted f.hops r.1;
-      not_both = λ f g. one_more g.left (one_limit request.method request.fields _ _ f.1.hops g.hops);
+      not_both = λ f g. final_unforwarded request g.left f.1.hops g.hops;
     }
 
 -- ---- one of them
@@ -67,10 +75,14 @@ some_outcome gateway request =
         | inl t ↦ inl (Rejection.Loop, t)
         | inr first ↦ elim (cases_Bool (are_options (connection_options request.fields))) [
           | inr f ↦ inl (Rejection.InvalidOption, f)
-          | inl listed ↦ elim (cases_Bool (names_protected (connection_options request.fields))) [
-            | inl t ↦ inl (Rejection.ProtectedOption, t)
-            | inr unprotected ↦ framed host first (record { listed = listed; unprotected = unprotected })
-          ]
+          | inl listed ↦
+              elim (cases_Bool (names_protected gateway.protected.items (connection_options request.fields))) [
+                | inl t ↦ inl (Rejection.ProtectedOption, t)
+                | inr unprotected ↦ elim (cases_Bool (has_known_expectation (request.fields (codes "expect")))) [
+                  | inr f ↦ inl (Rejection.UnknownExpectation, f)
+                  | inl known ↦ framed host first (record { listed = listed; unprotected = unprotected }) known
+                ]
+              ]
         ]
       ]
     ]
@@ -86,17 +98,24 @@ some_outcome gateway request =
     unframe Rejection.InvalidHost r = absurd r
     unframe Rejection.InvalidHops r = absurd r
     unframe Rejection.Loop r = absurd r
+    unframe Rejection.UnknownExpectation r = absurd r
     unframe Rejection.SwitchedProtocols r = absurd r
 
     framed : has_host request.protocol (request.fields (codes "host")) ≡ true
-        → is_loop gateway.pseudonym (request.fields (codes "via")) ≡ false → HasFairOptions request.fields
-        → HasOutcome gateway request
-    framed host first options =
+        → is_loop gateway.pseudonym (request.fields (codes "via")) ≡ false → HasFairOptions gateway request.fields
+        → has_known_expectation (request.fields (codes "expect")) ≡ true → HasOutcome gateway request
+    framed host first options known =
         elim (framed_or_not request.protocol request.fields) [
           | inl r ↦ inl (unframe r.0 r.1)
           | inr f ↦ elim (limit_or_not request.method request.fields) [
             | inl r ↦ inl (Rejection.InvalidHops, r)
             | inr h ↦ accept gateway request f.0
-                (record { states = f.1; options = options; host = host; first_time = first }) h.0 h.1
+                (record {
+                  states = f.1;
+                  options = options;
+                  host = host;
+                  first_time = first;
+                  expectation = known;
+                }) h.0 h.1
           ]
         ]

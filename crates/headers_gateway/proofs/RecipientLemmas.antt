@@ -1,9 +1,10 @@
 -- To all recipients that know the plain forms, what is forwarded states the same.
-use Rattle.std.proofs.Common.{◌≡◌, ◌⊎◌, ℕ, ◌<◌, ◌^◌, Bool, true, false, List, [], ◌∷◌, Option, Some, None, refl}
+use Rattle.std.proofs.Common.{◌≡◌, ◌⊎◌, ℕ, ◌<◌, ◌^◌, Bool, true, false, List, [], ◌∷◌, ◌++◌, Option, Some, None, refl}
 use Rattle.std.proofs.Common.{◌∙◌, ap, codes, inl, inr}
 use Rattle.std.proofs.Common.{arith}
 use Rattle.std.specs.Prelude.{⊤, bytes_eq, decimal, option_to_list}
 use Rattle.std.proofs.lemmas.Bool.{cases_Bool}
+use Rattle.std.proofs.lemmas.List.{append-nil}
 use Rattle.std.proofs.lemmas.Slice.Eq.{bytes_eq-Decides}
 use Rattle.headers.specs.LineMap.{LineMap}
 use Rattle.headers.specs.Lines.{Line}
@@ -17,9 +18,11 @@ use Rattle.headers_gateway.specs.Recipients.{LengthFirst, length_by, chunked_by,
 use Rattle.headers_gateway.specs.declared.framing.Framing.{Framing}
 use Rattle.headers_gateway.specs.declared.framing.Framing.TheVariants.{Unstated, Length, Chunked}
 use Rattle.headers_gateway.specs.Requests.{IsForwarded, Request, message_of}
+use Rattle.headers_gateway.specs.Trailers.{is_header_only}
 use Rattle.headers_gateway.specs.declared.gateway.Gateway.{Gateway}
 use Rattle.headers_gateway.specs.declared.protocol.Protocol.{Protocol}
 use Rattle.headers_gateway.specs.declared.request.ForwardedRequest.{ForwardedRequest}
+use Rattle.headers_gateway.proofs.ReceivedLemmas.{lines_under-append}
 
 -- ---- names
 
@@ -96,6 +99,50 @@ request_alike gateway request sent recipient p k =
     read_alike gateway (message_of request sent.framing sent.hops) request.fields
     (fields_of sent.fields.items) recipient
     p.fields (fitting request.protocol request.fields sent.framing p.accepted.states) k
+
+-- ---- further field lines
+
+-- where neither name of a field has one, none is taken
+none_taken : (test : List ℕ → Bool) (own like : List ℕ) → test own ≡ true
+    → ((name : List ℕ) → test name ≡ true → (name ≡ own) ⊎ (name ≡ like)) → (fields : List Field)
+    → lines_under fields own ≡ [] → lines_under fields like ≡ [] → lines_where test fields ≡ []
+none_taken test own like takes names fields none unlike = taken test own like takes names fields unlike ∙ none
+
+pub lines_where-append : (test : List ℕ → Bool) (fields others : List Field)
+    → lines_where test (fields ++ others) ≡ lines_where test fields ++ lines_where test others
+lines_where-append test [] others = refl
+lines_where-append test (field ∷ fields) others =
+    elim (cases_Bool (test field.0)) [
+      | inl t ↦ rw t (ap (λ lines. field.1 ∷ lines) (lines_where-append test fields others))
+      | inr f ↦ rw f (lines_where-append test fields others)
+    ]
+
+nothing_more : (test : List ℕ → Bool) (fields others : List Field) → lines_where test others ≡ []
+    → lines_where test (fields ++ others) ≡ lines_where test fields
+nothing_more test fields others none =
+    lines_where-append test fields others ∙ ap (λ lines. lines_where test fields ++ lines) none
+    ∙ append-nil (lines_where test fields)
+
+pub merged_alike : (fields others : List Field) (recipient : Recipient) → KnowsPlain recipient
+    → ((name : List ℕ) → is_header_only name ≡ true → lines_under others name ≡ [])
+    → framing_by recipient (fields ++ others) ≡ framing_by recipient fields
+merged_alike fields others recipient k none =
+    let lengths : lines_where recipient.is_length (fields ++ others) ≡ lines_where recipient.is_length fields
+    = nothing_more recipient.is_length fields others (none_taken recipient.is_length _ _ k.length_name k.length_names
+    others (none (codes "content-length") refl) (none (codes "content_length") refl)) in
+    let codings : lines_where recipient.is_coding (fields ++ others) ≡ lines_where recipient.is_coding fields
+    = nothing_more recipient.is_coding fields others (none_taken recipient.is_coding _ _ k.coding_name k.coding_names
+    others (none (codes "transfer-encoding") refl) (none (codes "transfer_encoding") refl)) in
+    ap (λ lines. recipient.delimits (recipient.length_of lines)
+    (recipient.is_chunked (lines_where recipient.is_coding (fields ++ others)))) lengths
+    ∙ ap (λ lines. recipient.delimits (recipient.length_of (lines_where recipient.is_length fields))
+    (recipient.is_chunked lines)) codings
+
+pub merged_lines : (fields others : List Field) (name : List ℕ) → lines_under others name ≡ []
+    → lines_under (fields ++ others) name ≡ lines_under fields name
+merged_lines fields others name none =
+    lines_under-append fields others name ∙ ap (λ lines. lines_under fields name ++ lines) none
+    ∙ append-nil (lines_under fields name)
 
 -- ---- the servers
 

@@ -51,46 +51,48 @@ fits_sent Http11 Chunked f = f
 
 -- ---- one outcome
 
-unaccepted : (response : Response) (framing : Framing) (rejection : Rejection) → IsAcceptedResponse response framing
-    → RejectsResponse response rejection → ⊥
-unaccepted response framing Rejection.LengthAndCoding a r =
+pub unaccepted : (gateway : Gateway) (response : Response) (framing : Framing) (rejection : Rejection)
+    → IsAcceptedResponse gateway response framing → RejectsResponse gateway response rejection → ⊥
+unaccepted gateway response framing Rejection.LengthAndCoding a r =
     unstated _ _ _ framing Rejection.LengthAndCoding a.states r.0 r.1
-unaccepted response framing Rejection.InvalidLength a r =
+unaccepted gateway response framing Rejection.InvalidLength a r =
     unstated _ _ _ framing Rejection.InvalidLength a.states r.0 r.1
-unaccepted response framing Rejection.UnknownCoding a r =
+unaccepted gateway response framing Rejection.UnknownCoding a r =
     unstated _ _ _ framing Rejection.UnknownCoding a.states r.0 r.1
-unaccepted response framing Rejection.CodingInHttp10 a r =
+unaccepted gateway response framing Rejection.CodingInHttp10 a r =
     unstated _ _ _ framing Rejection.CodingInHttp10 a.states r.0 r.1
-unaccepted response framing Rejection.InvalidOption a r = cc (a.options.listed, r)
-unaccepted response framing Rejection.ProtectedOption a r = cc (a.options.unprotected, r)
-unaccepted response framing Rejection.InvalidHost a r = r.1
-unaccepted response framing Rejection.InvalidHops a r = r.1
-unaccepted response framing Rejection.Loop a r = r.1
-unaccepted response framing Rejection.SwitchedProtocols a r = cc (a.same_protocol, r)
+unaccepted gateway response framing Rejection.InvalidOption a r = cc (a.options.listed, r)
+unaccepted gateway response framing Rejection.ProtectedOption a r = cc (a.options.unprotected, r)
+unaccepted gateway response framing Rejection.InvalidHost a r = r.1
+unaccepted gateway response framing Rejection.InvalidHops a r = r.1
+unaccepted gateway response framing Rejection.Loop a r = r.1
+unaccepted gateway response framing Rejection.UnknownExpectation a r = r.1
+unaccepted gateway response framing Rejection.SwitchedProtocols a r = cc (a.same_protocol, r)
 
-pub one_response_outcome : (response : Response) → HasOneResponseOutcome response
-one_response_outcome response =
+pub one_response_outcome : (gateway : Gateway) (response : Response) → HasOneResponseOutcome gateway response
+one_response_outcome gateway response =
     record {
-      not_dropped = λ r d. unaccepted response d.stated r.0 d.accepted r.1;
-      not_forwarded = λ r f. unaccepted response f.stated r.0 f.accepted r.1;
+      not_dropped = λ r d. unaccepted gateway response d.stated r.0 d.accepted r.1;
+      not_forwarded = λ r f. unaccepted gateway response f.stated r.0 f.accepted r.1;
       not_both = λ d f. cc (d.unknown, f.known);
     }
 
-pub some_response_outcome : (response : Response) → HasResponseOutcome response
-some_response_outcome response =
+pub some_response_outcome : (gateway : Gateway) (response : Response) → HasResponseOutcome gateway response
+some_response_outcome gateway response =
     elim (cases_Bool (response.status == 101)) [
       | inl t ↦ inl (Rejection.SwitchedProtocols, t)
       | inr same ↦ elim (cases_Bool (are_options (connection_options response.fields))) [
         | inr f ↦ inl (Rejection.InvalidOption, f)
-        | inl listed ↦ elim (cases_Bool (names_protected (connection_options response.fields))) [
-          | inl t ↦ inl (Rejection.ProtectedOption, t)
-          | inr unprotected ↦ by same (record { listed = listed; unprotected = unprotected })
-              (states_nothing response.method response.status) refl
-        ]
+        | inl listed ↦
+            elim (cases_Bool (names_protected gateway.protected.items (connection_options response.fields))) [
+              | inl t ↦ inl (Rejection.ProtectedOption, t)
+              | inr unprotected ↦ by same (record { listed = listed; unprotected = unprotected })
+                  (states_nothing response.method response.status) refl
+            ]
       ]
     ]
   where
-    accept : (framing : Framing) → IsAcceptedResponse response framing → HasResponseOutcome response
+    accept : (framing : Framing) → IsAcceptedResponse gateway response framing → HasResponseOutcome gateway response
     accept framing a =
         elim (cases_Bool (is_known_to response.client response.status)) [
           | inl t ↦ inr (inr (record { stated = framing; accepted = a; known = t }))
@@ -98,7 +100,7 @@ some_response_outcome response =
         ]
 
     unframe : states_nothing response.method response.status ≡ false → (rejection : Rejection)
-        → RejectsFraming response.protocol response.fields rejection → IsRejectedResponse response
+        → RejectsFraming response.protocol response.fields rejection → IsRejectedResponse gateway response
     unframe e Rejection.LengthAndCoding r = (Rejection.LengthAndCoding, (e, r))
     unframe e Rejection.InvalidLength r = (Rejection.InvalidLength, (e, r))
     unframe e Rejection.UnknownCoding r = (Rejection.UnknownCoding, (e, r))
@@ -108,10 +110,11 @@ some_response_outcome response =
     unframe e Rejection.InvalidHost r = absurd r
     unframe e Rejection.InvalidHops r = absurd r
     unframe e Rejection.Loop r = absurd r
+    unframe e Rejection.UnknownExpectation r = absurd r
     unframe e Rejection.SwitchedProtocols r = absurd r
 
-    by : (response.status == 101) ≡ false → HasFairOptions response.fields → (ignored : Bool)
-        → states_nothing response.method response.status ≡ ignored → HasResponseOutcome response
+    by : (response.status == 101) ≡ false → HasFairOptions gateway response.fields → (ignored : Bool)
+        → states_nothing response.method response.status ≡ ignored → HasResponseOutcome gateway response
     by same options true e =
         let states : StatesUnless (states_nothing response.method response.status) response.protocol response.fields
         Unstated

@@ -1,11 +1,13 @@
 -- Gateways in a row, each of which forwards what it received from the one before.
 use Rattle.std.specs.Prelude.{◌≡◌, ◌≢◌, ℕ, false, List, [], ◌∷◌, ◌++◌, All, codes, ⊤}
+use Rattle.headers.specs.LineMap.{LineMap}
 use Rattle.headers_gateway.specs.FieldLines.{fields_of, lines_under}
 use Rattle.headers_gateway.specs.Forwarding.{IsEndToEnd, IsHopByHop, own_names}
 use Rattle.headers_gateway.specs.HopByHop.{is_known}
 use Rattle.headers_gateway.specs.Requests.{IsForwarded, Request}
 use Rattle.headers_gateway.specs.Via.{via_line}
 use Rattle.headers_gateway.specs.declared.gateway.Gateway.{Gateway}
+use Rattle.headers_gateway.specs.declared.protocol.Protocol.{Protocol}
 use Rattle.headers_gateway.specs.declared.request.ForwardedRequest.{ForwardedRequest}
 
 -- the next request has the method and the field lines that were forwarded, under each name
@@ -25,13 +27,15 @@ abbrev pub IsChain : Request → List Request → Type 0
 IsChain request [] = ⊤
 IsChain request (next ∷ rest) = IsForwardedAs request next × IsChain next rest
 
--- what the second of two gateways sends is what one gateway would send that adds two field lines to Via
-pub record IsOneGateway (first second : Gateway) (request next : Request) (sent : ForwardedRequest) : Type 0 where
-  pub end_to_end : (name : List ℕ) → IsEndToEnd first request.fields name
-      → is_known second.consumes_credentials name ≡ false → All (λ own. own ≢ name) own_names
-      → lines_under (fields_of sent.fields.items) name ≡ request.fields name
-  pub hop_by_hop : (name : List ℕ) → IsHopByHop first request.fields name → All (λ own. own ≢ name) own_names
-      → lines_under (fields_of sent.fields.items) name ≡ []
-  pub via : lines_under (fields_of sent.fields.items) (codes "via")
-      ≡ request.fields (codes "via")
-      ++ via_line request.protocol first.pseudonym ∷ via_line next.protocol second.pseudonym ∷ []
+-- What the second of two gateways sends is what one gateway would send that adds two field lines to Via. The versions
+-- are those in which each of them received the message.
+pub record IsOneGateway (first second : Gateway) (earlier later : Protocol) (received forwarded : LineMap) : Type 0
+  where
+    pub end_to_end : (name : List ℕ) → IsEndToEnd first received name
+        → is_known second.consumes_credentials name ≡ false → All (λ own. own ≢ name) own_names
+        → forwarded name ≡ received name
+    pub hop_by_hop : (name : List ℕ) → IsHopByHop first received name → All (λ own. own ≢ name) own_names
+        → forwarded name ≡ []
+    pub via : forwarded (codes "via")
+        ≡ received (codes "via")
+        ++ via_line earlier first.pseudonym ∷ via_line later second.pseudonym ∷ []

@@ -6,6 +6,7 @@ use Rattle.headers.specs.Lines.{Line}
 use Rattle.headers_fields.specs.Directives.{is_same_token, is_token_member}
 use Rattle.headers_fields.specs.Members.{field_members}
 use Rattle.headers_fields.specs.Scan.{Member}
+use Rattle.headers_gateway.specs.declared.gateway.Gateway.{Gateway}
 use Rattle.headers_gateway.specs.declared.rejection.Rejection.{Rejection}
 
 -- fields of one connection, whether a connection option names them or not
@@ -19,7 +20,7 @@ abbrev pub proxy_fields : List (List ℕ)
 proxy_fields =
     codes "proxy-authenticate" ∷ codes "proxy-authentication-info" ∷ codes "proxy-authorization" ∷ []
 
--- fields that no connection option may name: they frame the message, route it, or are meant for all recipients
+-- fields that no connection option may ever name: they frame the message, route it, or are meant for all recipients
 abbrev pub protected_fields : List (List ℕ)
 protected_fields =
     codes "host" ∷ codes "content-length" ∷ codes "transfer-encoding" ∷ codes "via" ∷ codes "max-forwards"
@@ -37,20 +38,21 @@ is_named options name = list_any (is_same_token name) options
 abbrev pub are_options : List Member → Bool
 are_options options = list_all is_token_member options
 
--- a connection option names a field that frames the message, routes it, or is meant for all recipients
-abbrev pub names_protected : List Member → Bool
-names_protected options = list_any (is_named options) protected_fields
+-- a connection option names a field that is always protected, or one of these further ones
+abbrev pub names_protected : List (List ℕ) → List Member → Bool
+names_protected further options = list_any (is_named options) protected_fields || list_any (is_named options) further
 
--- Connection is a list of tokens, and none of them names a protected field
-pub record HasFairOptions (message : LineMap) : Type 0 where
+-- Connection is a list of tokens, and none of them names a field that this gateway protects
+pub record HasFairOptions (gateway : Gateway) (message : LineMap) : Type 0 where
   pub listed : are_options (connection_options message) ≡ true
-  pub unprotected : names_protected (connection_options message) ≡ false
+  pub unprotected : names_protected gateway.protected.items (connection_options message) ≡ false
 
 -- why Connection is rejected
-abbrev pub RejectsOptions : LineMap → Rejection → Type 0
-RejectsOptions message Rejection.InvalidOption = are_options (connection_options message) ≡ false
-RejectsOptions message Rejection.ProtectedOption = names_protected (connection_options message) ≡ true
-RejectsOptions message rejection = ⊥
+abbrev pub RejectsOptions : Gateway → LineMap → Rejection → Type 0
+RejectsOptions gateway message Rejection.InvalidOption = are_options (connection_options message) ≡ false
+RejectsOptions gateway message Rejection.ProtectedOption =
+    names_protected gateway.protected.items (connection_options message) ≡ true
+RejectsOptions gateway message rejection = ⊥
 
 -- ---- which fields they are
 

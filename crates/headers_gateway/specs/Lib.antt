@@ -1,4 +1,5 @@
 pub mod Chain
+pub mod Expectations
 pub mod FieldLines
 pub mod Forwarding
 pub mod Framing
@@ -11,4 +12,5 @@ pub mod Recipients
 pub mod Rejections
 pub mod Requests
 pub mod Responses
+pub mod Trailers
 pub mod Via

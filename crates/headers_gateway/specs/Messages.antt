@@ -1,7 +1,11 @@
 -- What a gateway says itself in the message that it sends, as its definitions see it.
-use Rattle.std.specs.Prelude.{option_map}
-use Rattle.headers_gateway.specs.Forwarding.{Message}
+use Rattle.std.specs.Prelude.{ℕ, Bool, List, option_map}
+use Rattle.headers_fields.specs.Scan.{Member}
+use Rattle.headers_gateway.specs.Forwarding.{Message, goes_on}
+use Rattle.headers_gateway.specs.Trailers.{trailer_goes_on}
 use Rattle.headers_gateway.specs.declared.own.Own.{Own}
+use Rattle.headers_gateway.specs.declared.received.Section.{Section}
+use Rattle.headers_gateway.specs.declared.received.Section.TheVariants.{Header, Trailer}
 
 abbrev pub message_of : Own → Message
 message_of own =
@@ -12,3 +16,8 @@ message_of own =
       hops = own.hops;
       framing = own.framing;
     }
+
+-- the received field lines of the name are forwarded in that section
+abbrev pub goes_on_in : Bool → Section → List Member → List ℕ → Bool
+goes_on_in consumes (Header own) options name = goes_on consumes (message_of own.now) options name
+goes_on_in consumes Trailer options name = trailer_goes_on consumes options name

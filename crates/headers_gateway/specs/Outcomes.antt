@@ -27,16 +27,16 @@ pub record HasOneOutcome (gateway : Gateway) (request : Request) : Type 0 where
 -- ---- responses
 
 -- there is a reason to reject the response
-abbrev pub IsRejectedResponse : Response → Type 0
-IsRejectedResponse response = (rejection : Rejection) × RejectsResponse response rejection
+abbrev pub IsRejectedResponse : Gateway → Response → Type 0
+IsRejectedResponse gateway response = (rejection : Rejection) × RejectsResponse gateway response rejection
 
 -- the response is rejected, or dropped, or may be forwarded
-abbrev pub HasResponseOutcome : Response → Type 0
-HasResponseOutcome response =
-    IsRejectedResponse response ⊎ (IsDiscarded response ⊎ IsForwardableResponse response)
+abbrev pub HasResponseOutcome : Gateway → Response → Type 0
+HasResponseOutcome gateway response =
+    IsRejectedResponse gateway response ⊎ (IsDiscarded gateway response ⊎ IsForwardableResponse gateway response)
 
 -- and no two of these
-pub record HasOneResponseOutcome (response : Response) : Type 0 where
-  pub not_dropped : IsRejectedResponse response → IsDiscarded response → ⊥
-  pub not_forwarded : IsRejectedResponse response → IsForwardableResponse response → ⊥
-  pub not_both : IsDiscarded response → IsForwardableResponse response → ⊥
+pub record HasOneResponseOutcome (gateway : Gateway) (response : Response) : Type 0 where
+  pub not_dropped : IsRejectedResponse gateway response → IsDiscarded gateway response → ⊥
+  pub not_forwarded : IsRejectedResponse gateway response → IsForwardableResponse gateway response → ⊥
+  pub not_both : IsDiscarded gateway response → IsForwardableResponse gateway response → ⊥

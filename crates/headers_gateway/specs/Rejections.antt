@@ -12,6 +12,7 @@ status_of Rejection.ProtectedOption = 400
 status_of Rejection.InvalidHost = 400
 status_of Rejection.InvalidHops = 400
 status_of Rejection.Loop = 508
+status_of Rejection.UnknownExpectation = 417
 status_of Rejection.SwitchedProtocols = 502
 
 abbrev pub rejection_text : Rejection → List ℕ
@@ -24,4 +25,5 @@ rejection_text Rejection.ProtectedOption = codes "a connection option names a fi
 rejection_text Rejection.InvalidHost = codes "no valid host, or several"
 rejection_text Rejection.InvalidHops = codes "invalid max-forwards"
 rejection_text Rejection.Loop = codes "the request passed here before"
+rejection_text Rejection.UnknownExpectation = codes "an expectation other than 100-continue"
 rejection_text Rejection.SwitchedProtocols = codes "the server switched protocols unasked"

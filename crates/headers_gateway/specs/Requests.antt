@@ -2,6 +2,7 @@
 use Rattle.std.specs.Prelude.{◌≡◌, ◌⊎◌, ℕ, ◌+◌, Bool, true, false, List, [], ◌∷◌, Option, Some, None, codes, option_map}
 use Rattle.headers.specs.LineMap.{LineMap, lines_at}
 use Rattle.headers.specs.Lines.{Line}
+use Rattle.headers_gateway.specs.Expectations.{has_known_expectation}
 use Rattle.headers_gateway.specs.FieldLines.{fields_of, lines_under}
 use Rattle.headers_gateway.specs.Forwarding.{Forwards, Message}
 use Rattle.headers_gateway.specs.Framing.{RejectsFraming, States}
@@ -45,9 +46,10 @@ has_host protocol (line ∷ other ∷ lines) = false
 -- a request that isn't rejected, and what its fields state about its content
 pub record IsAccepted (gateway : Gateway) (request : Request) (framing : Framing) : Type 0 where
   pub states : States request.protocol request.fields framing
-  pub options : HasFairOptions request.fields
+  pub options : HasFairOptions gateway request.fields
   pub host : has_host request.protocol (request.fields (codes "host")) ≡ true
   pub first_time : is_loop gateway.pseudonym (request.fields (codes "via")) ≡ false
+  pub expectation : has_known_expectation (request.fields (codes "expect")) ≡ true
 
 -- the number that Max-Forwards has once it is one less
 abbrev pub HasHopsLeft : Request → Option ℕ → Type 0
@@ -87,9 +89,11 @@ pub record IsForGateway (gateway : Gateway) (request : Request) (framing : Frami
 abbrev pub Rejects : Gateway → Request → Rejection → Type 0
 Rejects gateway request Rejection.InvalidHost = has_host request.protocol (request.fields (codes "host")) ≡ false
 Rejects gateway request Rejection.Loop = is_loop gateway.pseudonym (request.fields (codes "via")) ≡ true
+Rejects gateway request Rejection.UnknownExpectation =
+    has_known_expectation (request.fields (codes "expect")) ≡ false
 Rejects gateway request Rejection.InvalidHops = HasInvalidHops request.method request.fields
-Rejects gateway request Rejection.InvalidOption = RejectsOptions request.fields Rejection.InvalidOption
-Rejects gateway request Rejection.ProtectedOption = RejectsOptions request.fields Rejection.ProtectedOption
+Rejects gateway request Rejection.InvalidOption = RejectsOptions gateway request.fields Rejection.InvalidOption
+Rejects gateway request Rejection.ProtectedOption = RejectsOptions gateway request.fields Rejection.ProtectedOption
 Rejects gateway request rejection = RejectsFraming request.protocol request.fields rejection
 
 abbrev pub IsOutcome : Gateway → Request → RequestOutcome → Type 0

@@ -90,9 +90,9 @@ date_if_absent date fields = date_unless date (fields (codes "date"))
 -- ---- outcomes
 
 -- a response that isn't rejected, and what its fields state about its content
-pub record IsAcceptedResponse (response : Response) (framing : Framing) : Type 0 where
+pub record IsAcceptedResponse (gateway : Gateway) (response : Response) (framing : Framing) : Type 0 where
   pub states : StatesUnless (states_nothing response.method response.status) response.protocol response.fields framing
-  pub options : HasFairOptions response.fields
+  pub options : HasFairOptions gateway response.fields
   pub same_protocol : (response.status == 101) ≡ false
 
 -- the client knows such a response
@@ -101,9 +101,9 @@ is_known_to Http10 status = not (is_interim status)
 is_known_to Http11 status = true
 
 -- a response that may be forwarded
-pub record IsForwardableResponse (response : Response) : Type 0 where
+pub record IsForwardableResponse (gateway : Gateway) (response : Response) : Type 0 where
   pub stated : Framing
-  pub accepted : IsAcceptedResponse response stated
+  pub accepted : IsAcceptedResponse gateway response stated
   pub known : is_known_to response.client response.status ≡ true
 
 -- the message that the gateway sends for a response that it received at a date
@@ -121,7 +121,7 @@ response_message date response framing =
 pub record IsForwardedResponse (gateway : Gateway) (date : ℕ) (response : Response) (sent : ForwardedResponse) : Type 0
   where
     pub stated : Framing
-    pub accepted : IsAcceptedResponse response stated
+    pub accepted : IsAcceptedResponse gateway response stated
     pub known : is_known_to response.client response.status ≡ true
     pub content : sent.content ≡ content_of response.method response.status stated
     pub framing : sent.framing ≡ sent_framing response.client stated
@@ -129,21 +129,23 @@ pub record IsForwardedResponse (gateway : Gateway) (date : ℕ) (response : Resp
         (lines_under (fields_of sent.fields.items))
 
 -- an interim response that the client doesn't know
-pub record IsDiscarded (response : Response) : Type 0 where
+pub record IsDiscarded (gateway : Gateway) (response : Response) : Type 0 where
   pub stated : Framing
-  pub accepted : IsAcceptedResponse response stated
+  pub accepted : IsAcceptedResponse gateway response stated
   pub unknown : is_known_to response.client response.status ≡ false
 
 -- why a response is rejected
-abbrev pub RejectsResponse : Response → Rejection → Type 0
-RejectsResponse response Rejection.SwitchedProtocols = (response.status == 101) ≡ true
-RejectsResponse response Rejection.InvalidOption = RejectsOptions response.fields Rejection.InvalidOption
-RejectsResponse response Rejection.ProtectedOption = RejectsOptions response.fields Rejection.ProtectedOption
-RejectsResponse response rejection =
+abbrev pub RejectsResponse : Gateway → Response → Rejection → Type 0
+RejectsResponse gateway response Rejection.SwitchedProtocols = (response.status == 101) ≡ true
+RejectsResponse gateway response Rejection.InvalidOption =
+    RejectsOptions gateway response.fields Rejection.InvalidOption
+RejectsResponse gateway response Rejection.ProtectedOption =
+    RejectsOptions gateway response.fields Rejection.ProtectedOption
+RejectsResponse gateway response rejection =
     (states_nothing response.method response.status ≡ false)
     × RejectsFraming response.protocol response.fields rejection
 
 abbrev pub IsResponseOutcome : Gateway → ℕ → Response → ResponseOutcome → Type 0
 IsResponseOutcome gateway date response (Forward sent) = IsForwardedResponse gateway date response sent
-IsResponseOutcome gateway date response Discard = IsDiscarded response
-IsResponseOutcome gateway date response (Reject rejection) = RejectsResponse response rejection
+IsResponseOutcome gateway date response Discard = IsDiscarded gateway response
+IsResponseOutcome gateway date response (Reject rejection) = RejectsResponse gateway response rejection

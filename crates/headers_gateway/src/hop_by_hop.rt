@@ -4,8 +4,9 @@ ghost use Rattle.std.specs.List.{list_any};
 ghost use Rattle.headers.specs.Lines.{lines_of};
 ghost use Rattle.headers_fields.specs.Members.{field_members};
 ghost use Rattle.headers_gateway.specs.HopByHop.{is_hop_by_hop, is_known, is_named, names_protected, proxy_fields};
+ghost use Rattle.headers_gateway.specs.HopByHop.{protected_fields};
 
-use headers::HeaderValue;
+use headers::{HeaderName, HeaderValue};
 use headers_fields::contains_token;
 use http_header::GetAll;
 
@@ -16,9 +17,16 @@ fn is_named(connection: &GetAll<'_, HeaderValue>, name: &str) -> bool
     contains_token(connection, name.as_bytes())
 }
 
-/// Whether a connection option names a field that no peer may have removed.
-pub(crate) fn names_protected(connection: &GetAll<'_, HeaderValue>) -> bool
-    ensures { result ≡ names_protected (field_members true (lines_of connection.now)) }
+// Whether a connection option names one of the fields.
+fn names_some(connection: &GetAll<'_, HeaderValue>, names: &[HeaderName]) -> bool
+    ensures { result ≡ list_any (is_named (field_members true (lines_of connection.now))) names.now }
+{
+    names.iter().any(|name| is_named(connection, name.as_str()))
+}
+
+// Whether a connection option names a field that is always protected.
+fn names_always_protected(connection: &GetAll<'_, HeaderValue>) -> bool
+    ensures { result ≡ list_any (is_named (field_members true (lines_of connection.now))) protected_fields }
 {
     is_named(connection, "host")
         || is_named(connection, "content-length")
@@ -30,6 +38,14 @@ pub(crate) fn names_protected(connection: &GetAll<'_, HeaderValue>) -> bool
         || is_named(connection, "authorization")
         || is_named(connection, "cookie")
         || is_named(connection, "set-cookie")
+}
+
+/// Whether a connection option names a field that no peer may have removed: one that is always
+/// protected, or one of these.
+pub(crate) fn names_protected(connection: &GetAll<'_, HeaderValue>, further: &[HeaderName]) -> bool
+    ensures { result ≡ names_protected further.now (field_members true (lines_of connection.now)) }
+{
+    names_always_protected(connection) || names_some(connection, further)
 }
 
 // Whether the field is of one connection, whatever Connection says.

@@ -1,5 +1,5 @@
 //! How often a request may still be forwarded.
-ghost use Rattle.std.specs.Prelude.{◌≡◌, IfOk, OnErr};
+ghost use Rattle.std.specs.Prelude.{◌≡◌, ◌+◌, IfOk, MatchOption, OnErr, Some, option_map};
 ghost use Rattle.headers.specs.LineMap.{lines_at};
 ghost use Rattle.headers_gateway.specs.Hops.{HasHops, HasInvalidHops, counts_hops};
 
@@ -14,6 +14,18 @@ fn counts_hops(method: &Method) -> bool
 {
     let method = method.as_str();
     method == "OPTIONS" || method == "TRACE"
+}
+
+/// The number in Max-Forwards of a request once it is forwarded, or `None` if it may be forwarded no
+/// more.
+pub(crate) fn one_less(hops: Option<u64>) -> Option<Option<u64>>
+    ensures { MatchOption result (hops ≡ Some 0) (λ left. hops ≡ option_map (λ n. n + 1) left) }
+{
+    match hops {
+        None => Some(None),
+        Some(0) => None,
+        Some(hops) => Some(Some(hops - 1)),
+    }
 }
 
 /// The number in Max-Forwards, if it counts and is there.

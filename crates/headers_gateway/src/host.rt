@@ -124,7 +124,7 @@ fn is_host(line: &[u8]) -> bool
 }
 
 /// Whether there is one field line of Host, and it is valid, or none in HTTP/1.0.
-pub(crate) fn has_host(protocol: Protocol, fields: &HeaderMap) -> bool
+pub fn has_host(protocol: Protocol, fields: &HeaderMap) -> bool
     ensures { result ≡ has_host protocol (lines_at fields.now (codes "host")) }
 {
     let mut hosts = fields.get_all(HOST).iter();

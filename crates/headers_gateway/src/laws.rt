@@ -5,7 +5,7 @@ ghost use Rattle.http_header.specs.Token.{IsToken};
 ghost use Rattle.headers.specs.LineMap.{LineMap};
 ghost use Rattle.headers.specs.Lines.{Line};
 ghost use Rattle.headers_gateway.specs.Chain.{IsChain, IsOneGateway, IsReceivedAs};
-ghost use Rattle.headers_gateway.specs.FieldLines.{fields_of, lines_under};
+ghost use Rattle.headers_gateway.specs.FieldLines.{Field, fields_of, lines_under};
 ghost use Rattle.headers_gateway.specs.Forwarding.{IsEndToEnd, IsHopByHop, own_names};
 ghost use Rattle.headers_gateway.specs.Framing.{States};
 ghost use Rattle.headers_gateway.specs.Hops.{counts_hops, hops_in};
@@ -13,15 +13,20 @@ ghost use Rattle.headers_gateway.specs.Outcomes.{HasOneOutcome, HasOneResponseOu
 ghost use Rattle.headers_gateway.specs.Recipients.{CodingFirst, LengthFirst, ReadsDecimals, server};
 ghost use Rattle.headers_gateway.specs.Recipients.{Codings, KnowsPlain, Pick, Precedence, Recipient, Spelling};
 ghost use Rattle.headers_gateway.specs.Recipients.{framing_by};
-ghost use Rattle.headers_gateway.specs.Requests.{IsForwarded, Request};
-ghost use Rattle.headers_gateway.specs.Responses.{IsForwardedResponse, Response};
+ghost use Rattle.headers_gateway.specs.Requests.{IsForGateway, IsForwarded, Rejects, Request};
+ghost use Rattle.headers_gateway.specs.Responses.{IsForwardedResponse, RejectsResponse, Response};
+ghost use Rattle.headers_gateway.specs.Trailers.{ForwardsTrailers, is_header_only};
 ghost use Rattle.headers_gateway.specs.Via.{is_loop};
 ghost use Rattle.headers_gateway.specs.declared.framing.Framing.{Framing};
 ghost use Rattle.headers_gateway.specs.declared.framing.Framing.TheVariants.{Chunked, Length};
 ghost use Rattle.headers_gateway.specs.declared.gateway.Gateway.{Gateway};
 ghost use Rattle.headers_gateway.specs.declared.protocol.Protocol.{Protocol};
+ghost use Rattle.headers_gateway.specs.declared.protocol.Protocol.TheVariants.{Http11};
+ghost use Rattle.headers_gateway.specs.declared.rejection.Rejection.{Rejection};
 ghost use Rattle.headers_gateway.specs.declared.request.ForwardedRequest.{ForwardedRequest};
 ghost use Rattle.headers_gateway.specs.declared.response.ForwardedResponse.{ForwardedResponse};
+
+use headers_fields::laws::lists_parse_one_way;
 
 /// Each request is rejected, or answered by the gateway, or may be forwarded, and no two of these.
 pub fn request_has_one_outcome()
@@ -41,8 +46,8 @@ pub fn forwarded_request_is_certain()
 
 /// Each response is rejected, or dropped, or may be forwarded, and no two of these.
 pub fn response_has_one_outcome()
-    ensures some { (response : Response) → HasResponseOutcome response }
-    ensures one { (response : Response) → HasOneResponseOutcome response }
+    ensures some { (gateway : Gateway) (response : Response) → HasResponseOutcome gateway response }
+    ensures one { (gateway : Gateway) (response : Response) → HasOneResponseOutcome gateway response }
 {}
 
 /// What is forwarded of a response is certain: how its content is delimited, what is stated about it,
@@ -64,6 +69,17 @@ pub fn forwarded_response_is_framed_alike()
         → framing_by recipient (fields_of sent.fields.items) ≡ Some sent.framing }
 {}
 
+/// What is rejected isn't forwarded, and neither is what the gateway responds to itself.
+pub fn rejected_messages_are_not_forwarded()
+    ensures requests { (gateway : Gateway) (request : Request) (rejection : Rejection) (sent : ForwardedRequest)
+        → Rejects gateway request rejection → IsForwarded gateway request sent → ⊥ }
+    ensures answered { (gateway : Gateway) (request : Request) (framing : Framing) (sent : ForwardedRequest)
+        → IsForGateway gateway request framing → IsForwarded gateway request sent → ⊥ }
+    ensures responses { (gateway : Gateway) (date : ℕ) (response : Response) (rejection : Rejection)
+        (sent : ForwardedResponse) → RejectsResponse gateway response rejection
+        → IsForwardedResponse gateway date response sent → ⊥ }
+{}
+
 /// The fields of a message state one framing at most.
 pub fn message_states_one_framing()
     ensures { (protocol : Protocol) (message : LineMap) (a b : Framing) → States protocol message a
@@ -81,6 +97,13 @@ pub fn end_to_end_fields_alone_cross()
     ensures hop_by_hop { (gateway : Gateway) (request : Request) (sent : ForwardedRequest) (name : List ℕ)
         → IsForwarded gateway request sent → IsHopByHop gateway request.fields name
         → name ≢ codes "transfer-encoding" → lines_under (fields_of sent.fields.items) name ≡ [] }
+    ensures response_end_to_end { (gateway : Gateway) (date : ℕ) (response : Response) (sent : ForwardedResponse)
+        (name : List ℕ) → IsForwardedResponse gateway date response sent → IsEndToEnd gateway response.fields name
+        → All (λ own. own ≢ name) own_names
+        → lines_under (fields_of sent.fields.items) name ≡ response.fields name }
+    ensures response_hop_by_hop { (gateway : Gateway) (date : ℕ) (response : Response) (sent : ForwardedResponse)
+        (name : List ℕ) → IsForwardedResponse gateway date response sent → IsHopByHop gateway response.fields name
+        → name ≢ codes "transfer-encoding" → lines_under (fields_of sent.fields.items) name ≡ [] }
 {}
 
 /// Request smuggling needs two recipients that delimit the content of one request in different ways.
@@ -90,6 +113,33 @@ pub fn forwarded_request_is_framed_alike()
     ensures { (gateway : Gateway) (request : Request) (sent : ForwardedRequest) (recipient : Recipient)
         → IsForwarded gateway request sent → KnowsPlain recipient
         → framing_by recipient (fields_of sent.fields.items) ≡ Some sent.framing }
+{}
+
+/// The next gateway, which receives the request in HTTP/1.1, delimits its content as this one did, and
+/// so does each gateway behind it.
+pub fn next_gateway_frames_alike()
+    ensures states { (gateway : Gateway) (request next : Request) (sent : ForwardedRequest)
+        → IsForwarded gateway request sent → IsReceivedAs request.method sent next → next.protocol ≡ Http11
+        → States next.protocol next.fields sent.framing }
+    ensures forwards { (first second : Gateway) (request next : Request) (sent last : ForwardedRequest)
+        → IsForwarded first request sent → IsReceivedAs request.method sent next → next.protocol ≡ Http11
+        → IsForwarded second next last → last.framing ≡ sent.framing }
+{
+    lists_parse_one_way();
+}
+
+/// Trailer fields change nothing that was known before them: if a recipient merges them into the header
+/// section, it delimits the content alike, and those that route or authenticate are as they were (RFC
+/// 9110, section 6.5.1).
+pub fn trailers_may_be_merged()
+    ensures framing { (gateway : Gateway) (framing : Framing) (message received : LineMap)
+        (fields trailers : List Field) (recipient : Recipient)
+        → ForwardsTrailers gateway framing message received (lines_under trailers) → KnowsPlain recipient
+        → framing_by recipient (fields ++ trailers) ≡ framing_by recipient fields }
+    ensures names { (gateway : Gateway) (framing : Framing) (message received : LineMap)
+        (fields trailers : List Field) (name : List ℕ)
+        → ForwardsTrailers gateway framing message received (lines_under trailers) → is_header_only name ≡ true
+        → lines_under (fields ++ trailers) name ≡ lines_under fields name }
 {}
 
 /// A recipient may take an underscore in a name for a dash or not, the first length or the last one,
@@ -128,7 +178,15 @@ pub fn own_request_is_a_loop()
 
 /// Two gateways in a row are one that adds two field lines to Via.
 pub fn gateways_in_a_row_are_one()
-    ensures { (first second : Gateway) (request next : Request) (sent last : ForwardedRequest)
+    ensures requests { (first second : Gateway) (request next : Request) (sent last : ForwardedRequest)
         → IsForwarded first request sent → IsReceivedAs request.method sent next
-        → IsForwarded second next last → IsOneGateway first second request next last }
+        → IsForwarded second next last
+        → IsOneGateway first second request.protocol next.protocol request.fields
+        (lines_under (fields_of last.fields.items)) }
+    ensures responses { (first second : Gateway) (date later : ℕ) (response next : Response)
+        (sent last : ForwardedResponse) → IsForwardedResponse first date response sent
+        → ((name : List ℕ) → next.fields name ≡ lines_under (fields_of sent.fields.items) name)
+        → IsForwardedResponse second later next last
+        → IsOneGateway first second response.protocol next.protocol response.fields
+        (lines_under (fields_of last.fields.items)) }
 {}

@@ -4,6 +4,7 @@
 //! The decisions allocate nothing. Only the forwarded field lines do.
 #![tactic(auto)]
 
+mod expectation;
 mod field_line;
 mod framing;
 mod gateway;
@@ -18,15 +19,19 @@ mod received;
 mod rejection;
 mod request;
 mod response;
+mod trailers;
 mod via;
 
+pub use crate::expectation::{Expectation, expectation_of};
 pub use crate::field_line::FieldLine;
 pub use crate::framing::Framing;
 pub use crate::gateway::Gateway;
+pub use crate::host::has_host;
 pub use crate::protocol::Protocol;
 pub use crate::rejection::Rejection;
 pub use crate::request::{ForwardedRequest, RequestHead, RequestOutcome, forward_request};
 pub use crate::response::{
     Content, ForwardedResponse, ResponseHead, ResponseOutcome, forward_response,
 };
+pub use crate::trailers::forward_trailers;
 pub use crate::via::{InvalidPseudonym, Pseudonym};

@@ -10,7 +10,7 @@ use crate::field_line::FieldLine;
 use crate::gateway::Gateway;
 use crate::hop_by_hop::names_protected;
 use crate::own::{Own, push_own};
-use crate::received::received_fields;
+use crate::received::{Section, received_fields};
 use crate::rejection::Rejection;
 use headers::HeaderMap;
 use headers_fields::are_tokens;
@@ -18,15 +18,15 @@ use http_header::CONNECTION;
 use std::alloc::{AllocError, Global};
 
 /// Rejects a message whose connection options are malformed or name a protected field.
-pub(crate) fn check_options(message: &HeaderMap) -> Result<(), Rejection>
-    ensures ok { OnOk result (HasFairOptions (lines_at message.now)) }
-    ensures err { IfErr result (RejectsOptions (lines_at message.now)) }
+pub(crate) fn check_options(gateway: &Gateway, message: &HeaderMap) -> Result<(), Rejection>
+    ensures ok { OnOk result (HasFairOptions gateway.now (lines_at message.now)) }
+    ensures err { IfErr result (RejectsOptions gateway.now (lines_at message.now)) }
 {
     let connection = message.get_all(CONNECTION);
     if !are_tokens(&connection) {
         return Err(Rejection::InvalidOption);
     }
-    if names_protected(&connection) {
+    if names_protected(&connection, gateway.protected.as_slice()) {
         return Err(Rejection::ProtectedOption);
     }
     Ok(())
@@ -39,14 +39,14 @@ pub(crate) fn forwarded_fields(
     own: &Own<'_>,
     message: &HeaderMap,
 ) -> Result<Vec<FieldLine>, AllocError>
-    requires { HasFairOptions (lines_at message.now) }
+    requires { HasFairOptions gateway.now (lines_at message.now) }
     ensures { IfOk result (λ fields. Forwards gateway.now (message_of own.now) (lines_at message.now)
         (lines_under (fields_of fields.items))) }
 {
     let _names = message.keys_len();
     let connection = message.get_all(CONNECTION);
     let consumes = gateway.consumes_credentials;
-    let mut fields = received_fields(alloc, consumes, own, &connection, message)?;
+    let mut fields = received_fields(alloc, consumes, Section::Header(own), &connection, message)?;
     push_own(alloc, &gateway.pseudonym, own, &mut fields)?;
     Ok(fields)
 }

@@ -5,18 +5,28 @@ ghost use Rattle.http_header.specs.HeaderMap.{pairs};
 ghost use Rattle.headers.specs.Lines.{lines_of};
 ghost use Rattle.headers_fields.specs.Members.{field_members};
 ghost use Rattle.headers_gateway.specs.FieldLines.{field_of, fields_of};
-ghost use Rattle.headers_gateway.specs.Forwarding.{framing_names, goes_on, is_rewritten};
-ghost use Rattle.headers_gateway.specs.Messages.{message_of};
+ghost use Rattle.headers_gateway.specs.Forwarding.{framing_names, is_rewritten};
+ghost use Rattle.headers_gateway.specs.Messages.{goes_on_in, message_of};
 
 use crate::field_line::FieldLine;
 use crate::hop_by_hop::is_hop_by_hop;
 use crate::own::Own;
+use crate::trailers::is_header_only;
 use headers::{HeaderMap, HeaderValue};
 use http_header::GetAll;
 use std::alloc::{AllocError, Global};
 
-// Whether the field is one of the two that frame a message, or one that some servers take for these.
-fn is_framing(name: &str) -> bool
+/// A section of a message.
+#[derive(Clone, Copy)]
+pub(crate) enum Section<'a> {
+    /// The header section, in which the gateway writes fields of its own.
+    Header(&'a Own<'a>),
+    /// The trailer section.
+    Trailer,
+}
+
+/// Whether the field is one of the two that frame a message, or one that some servers take for these.
+pub(crate) fn is_framing(name: &str) -> bool
     ensures { result ≡ list_any (bytes_eq name.now) framing_names }
 {
     name == "content-length"
@@ -36,30 +46,41 @@ fn is_rewritten(own: &Own<'_>, name: &str) -> bool
 }
 
 // Whether the received field lines of a name are forwarded.
-#[tactic(auto, unfolding(crate::specs::Forwarding::goes_on))]
-fn goes_on(consumes: bool, own: &Own<'_>, connection: &GetAll<'_, HeaderValue>, name: &str) -> bool
-    ensures { result ≡ goes_on consumes (message_of own.now)
+#[tactic(auto, unfolding(crate::specs::Forwarding::goes_on, crate::specs::Trailers::trailer_goes_on))]
+fn goes_on(
+    consumes: bool,
+    section: Section<'_>,
+    connection: &GetAll<'_, HeaderValue>,
+    name: &str,
+) -> bool
+    ensures { result ≡ goes_on_in consumes section.entry
         (field_members true (lines_of connection.now)) name.now }
 {
-    !(is_hop_by_hop(consumes, connection, name) || is_rewritten(own, name))
+    if is_hop_by_hop(consumes, connection, name) {
+        return false;
+    }
+    match section {
+        Section::Header(own) => !is_rewritten(own, name),
+        Section::Trailer => !is_header_only(name),
+    }
 }
 
-/// The received fields that are forwarded as they came.
+/// The received fields of a section that are forwarded as they came.
 pub(crate) fn received_fields(
     alloc: Global,
     consumes: bool,
-    own: &Own<'_>,
+    section: Section<'_>,
     connection: &GetAll<'_, HeaderValue>,
-    message: &HeaderMap,
+    received: &HeaderMap,
 ) -> Result<Vec<FieldLine>, AllocError>
     ensures { IfOk result (λ fields. fields_of fields.items
-        ≡ filter (λ field. goes_on consumes (message_of own.now)
+        ≡ filter (λ field. goes_on_in consumes section.entry
         (field_members true (lines_of connection.now)) field.0)
-        (map field_of (pairs message.now))) }
+        (map field_of (pairs received.now))) }
 {
     let mut fields = Vec::new(alloc);
-    for (name, value) in message.iter() {
-        if goes_on(consumes, own, connection, name.as_str()) {
+    for (name, value) in received.iter() {
+        if goes_on(consumes, section, connection, name.as_str()) {
             let field = FieldLine {
                 name: name.clone()?,
                 value: value.clone()?,

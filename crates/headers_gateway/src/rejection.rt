@@ -27,6 +27,8 @@ pub enum Rejection {
     InvalidHops,
     /// It passed this gateway before (RFC 9110, section 7.6.3).
     Loop,
+    /// Expect has a member other than `100-continue` (RFC 9110, section 10.1.1).
+    UnknownExpectation,
     /// It is a 101, though this gateway never asks for another protocol (RFC 9110, section 15.2.2).
     SwitchedProtocols,
 }
@@ -40,6 +42,7 @@ impl Rejection {
         match self {
             Rejection::UnknownCoding => 501,
             Rejection::Loop => 508,
+            Rejection::UnknownExpectation => 417,
             Rejection::SwitchedProtocols => 502,
             _ => 400,
         }
@@ -63,6 +66,7 @@ impl fmt::Display for Rejection {
             Rejection::InvalidHost => "no valid host, or several",
             Rejection::InvalidHops => "invalid max-forwards",
             Rejection::Loop => "the request passed here before",
+            Rejection::UnknownExpectation => "an expectation other than 100-continue",
             Rejection::SwitchedProtocols => "the server switched protocols unasked",
         })
     }

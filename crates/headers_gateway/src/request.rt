@@ -2,10 +2,11 @@
 ghost use Rattle.std.specs.Prelude.{IfErr, IfOk, OnErr};
 ghost use Rattle.headers_gateway.specs.Requests.{IsAccepted, IsForwardable, IsOutcome, Rejects, request_of};
 
+use crate::expectation::has_known_expectation;
 use crate::field_line::FieldLine;
 use crate::framing::{Framing, stated_framing};
 use crate::gateway::Gateway;
-use crate::hops::hops_of;
+use crate::hops::{hops_of, one_less};
 use crate::host::has_host;
 use crate::message::{check_options, forwarded_fields};
 use crate::own::Own;
@@ -64,7 +65,10 @@ fn accepted_request(gateway: &Gateway, request: &RequestHead<'_>) -> Result<Fram
     if gateway.pseudonym.is_in_via(request.fields) {
         return Err(Rejection::Loop);
     }
-    check_options(request.fields)?;
+    check_options(gateway, request.fields)?;
+    if !has_known_expectation(request.fields) {
+        return Err(Rejection::UnknownExpectation);
+    }
     stated_framing(request.protocol, request.fields)
 }
 
@@ -81,11 +85,12 @@ pub fn forward_request(
         Ok(framing) => framing,
         Err(rejection) => return Ok(RequestOutcome::Reject(rejection)),
     };
-    let hops = match hops_of(request.method, request.fields) {
-        Ok(None) => None,
-        Ok(Some(0)) => return Ok(RequestOutcome::Respond(framing)),
-        Ok(Some(hops)) => Some(hops - 1),
+    let received = match hops_of(request.method, request.fields) {
+        Ok(received) => received,
         Err(Malformed) => return Ok(RequestOutcome::Reject(Rejection::InvalidHops)),
+    };
+    let Some(hops) = one_less(received) else {
+        return Ok(RequestOutcome::Respond(framing));
     };
     let own = Own {
         protocol: request.protocol,

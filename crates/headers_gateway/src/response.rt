@@ -142,14 +142,14 @@ fn date_if_absent(fields: &HeaderMap, date: Date) -> Option<Date>
 }
 
 // What the fields of an accepted response state about its content.
-fn accepted_response(response: &ResponseHead<'_>) -> Result<Framing, Rejection>
-    ensures ok { IfOk result (IsAcceptedResponse (response_of response.now)) }
-    ensures err { IfErr result (RejectsResponse (response_of response.now)) }
+fn accepted_response(gateway: &Gateway, response: &ResponseHead<'_>) -> Result<Framing, Rejection>
+    ensures ok { IfOk result (IsAcceptedResponse gateway.now (response_of response.now)) }
+    ensures err { IfErr result (RejectsResponse gateway.now (response_of response.now)) }
 {
     if response.status.as_u16() == 101 {
         return Err(Rejection::SwitchedProtocols);
     }
-    check_options(response.fields)?;
+    check_options(gateway, response.fields)?;
     if states_nothing(response.method, response.status) {
         return Ok(Framing::Unstated);
     }
@@ -165,9 +165,9 @@ pub fn forward_response(
     date: Date,
 ) -> Result<ResponseOutcome, AllocError>
     ensures ok { IfOk result (IsResponseOutcome gateway.now date (response_of response.now)) }
-    ensures err { OnErr result (IsForwardableResponse (response_of response.now)) }
+    ensures err { OnErr result (IsForwardableResponse gateway.now (response_of response.now)) }
 {
-    let stated = match accepted_response(response) {
+    let stated = match accepted_response(gateway, response) {
         Ok(framing) => framing,
         Err(rejection) => return Ok(ResponseOutcome::Reject(rejection)),
     };

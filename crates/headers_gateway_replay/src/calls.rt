@@ -1,5 +1,6 @@
 //! The calls of a gateway.
-use headers::{Date, HeaderValue, Refused};
+use crate::hops::{call_connection, call_expectation, call_forwarding, call_trailers};
+use headers::{Date, HeaderName, HeaderValue, Refused};
 use headers_gateway::{
     Content, FieldLine, Framing, Gateway, Protocol, Pseudonym, RequestHead, RequestOutcome,
     ResponseHead, ResponseOutcome, forward_request, forward_response,
@@ -12,7 +13,7 @@ use std::alloc::AllocError;
 pub struct Gateways;
 
 // The next two words, as a gateway.
-fn read_gateway(arguments: &mut Arguments<'_>) -> Result<Gateway, Failure> {
+pub(crate) fn read_gateway(arguments: &mut Arguments<'_>) -> Result<Gateway, Failure> {
     let text = arguments.text()?;
     let consumes_credentials = match arguments.word()? {
         "consumed" => true,
@@ -20,17 +21,19 @@ fn read_gateway(arguments: &mut Arguments<'_>) -> Result<Gateway, Failure> {
         _ => return Err(Failure::NoCall),
     };
     match Pseudonym::new(arguments.alloc(), text.as_str()) {
-        Ok(pseudonym) => Ok(Gateway {
-            pseudonym,
-            consumes_credentials,
-        }),
+        Ok(pseudonym) => {
+            let mut gateway = Gateway::new(arguments.alloc(), pseudonym);
+            gateway.consumes_credentials = consumes_credentials;
+            gateway.protected.push(HeaderName::from_static("x-client"))?;
+            Ok(gateway)
+        }
         Err(Refused::Invalid(_)) => Err(Failure::Refused),
         Err(Refused::Memory(_)) => Err(Failure::Memory),
     }
 }
 
 // The next word, as a version.
-fn read_protocol(arguments: &mut Arguments<'_>) -> Result<Protocol, Failure> {
+pub(crate) fn read_protocol(arguments: &mut Arguments<'_>) -> Result<Protocol, Failure> {
     match arguments.word()? {
         "1.0" => Ok(Protocol::Http10),
         "1.1" => Ok(Protocol::Http11),
@@ -50,7 +53,7 @@ fn read_status(arguments: &mut Arguments<'_>) -> Result<StatusCode, Failure> {
 }
 
 // The next word, as a field value, or `None` if it is `(none)`.
-fn read_value(arguments: &mut Arguments<'_>) -> Result<Option<HeaderValue>, Failure> {
+pub(crate) fn read_value(arguments: &mut Arguments<'_>) -> Result<Option<HeaderValue>, Failure> {
     match arguments.option()? {
         Some(text) => match HeaderValue::from_str(arguments.alloc(), text) {
             Ok(value) => Ok(Some(value)),
@@ -60,7 +63,7 @@ fn read_value(arguments: &mut Arguments<'_>) -> Result<Option<HeaderValue>, Fail
     }
 }
 
-fn add_framing(framing: Framing, answer: &mut Answer) -> Result<(), AllocError> {
+pub(crate) fn add_framing(framing: Framing, answer: &mut Answer) -> Result<(), AllocError> {
     match framing {
         Framing::Unstated => answer.word("unstated"),
         Framing::Length(bytes) => answer.word(format_args!("length:{bytes}")),
@@ -78,7 +81,7 @@ fn add_content(content: Content, answer: &mut Answer) -> Result<(), AllocError> 
     }
 }
 
-fn add_fields(fields: &[FieldLine], answer: &mut Answer) -> Result<(), AllocError> {
+pub(crate) fn add_fields(fields: &[FieldLine], answer: &mut Answer) -> Result<(), AllocError> {
     for field in fields {
         answer.word(format_args!("({})", field.name.as_str()))?;
         answer.bytes(field.value.as_bytes())?;
@@ -150,6 +153,10 @@ impl Calls for Gateways {
         match name {
             "request" => call_request(arguments, answer),
             "response" => call_response(arguments, answer),
+            "trailers" => call_trailers(arguments, answer),
+            "expectation" => call_expectation(arguments, answer),
+            "connection" => call_connection(arguments, answer),
+            "forwarding" => call_forwarding(arguments, answer),
             _ => Err(Failure::NoCall),
         }
     }

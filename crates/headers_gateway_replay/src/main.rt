@@ -11,10 +11,19 @@
 //! `reject` and why. `CLIENT` is the version of the request, `DATE` the seconds since
 //! 1970.
 //!
-//! Credentials for a proxy are `consumed` or `relayed`. A version is `1.0` or `1.1`.
+//! `trailers GATEWAY CREDENTIALS FRAMING CONNECTION TRAILERS` answers the trailer fields that are
+//! forwarded. `expectation CLIENT SERVER FRAMING FIELDS` answers what becomes of the expectation, and
+//! Expect if it is removed. `connection close|no trailers|no UPGRADE` and `forwarding kept|no WRITES
+//! CLIENT INTERFACE HOST https|no trusted|no FIELDS` answer the fields that are written: those of the
+//! connection, and those that tell who made a request. `WRITES` is `forwarded`, `x`, `both` or `none`, a
+//! node is a name and a port or `(none)`. `send GATEWAY CREDENTIALS SERVER kept|no WRITES CLIENT METHOD
+//! FIELDS` answers what is sent on a next connection that is closed then.
+//!
+//! Each gateway protects X-Client. Credentials for a proxy are `consumed` or `relayed`. A version is `1.0` or `1.1`.
 #![tactic(auto)]
 
 mod calls;
+mod hops;
 
 use crate::calls::Gateways;
 use headers_rows::replay_files;

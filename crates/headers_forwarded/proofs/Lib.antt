@@ -1,0 +1,3 @@
+mod ElementLemmas
+mod LastLemmas
+mod NodeLemmas

@@ -1,0 +1,5 @@
+pub mod Arrivals
+pub mod Elements
+pub mod Fields
+pub mod Last
+pub mod Nodes
