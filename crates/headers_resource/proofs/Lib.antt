@@ -1,0 +1,12 @@
+mod AllowLemmas
+mod AnswerLemmas
+mod ConditionLemmas
+mod HeadLemmas
+mod OneReasonLemmas
+mod PickLemmas
+mod PlanLemmas
+mod ReasonLemmas
+mod SamePlanLemmas
+mod SelectionLemmas
+mod SharedLemmas
+mod VaryLemmas

@@ -1,0 +1,211 @@
+-- When a reason applies to a request (RFC 9110).
+use Rattle.std.specs.Prelude.{ℕ, ◌==◌, Bool, true, false, not, ◌&&◌, ◌||◌, List, [], ◌∷◌, ◌++◌, Option, Some, None}
+use Rattle.std.specs.Prelude.{bytes_eq, codes, find, flat_map, is_some, length, nat_lt, if◌then◌else◌}
+use Rattle.std.specs.List.{list_all, list_any}
+use Rattle.std.specs.Option.{option_map_or}
+use Rattle.http_header.specs.FieldValue.{FieldValue}
+use Rattle.headers.specs.LineMap.{LineMap, lines_at}
+use Rattle.headers.specs.Lines.{Line, only_line}
+use Rattle.headers_fields.specs.Members.{field_members}
+use Rattle.headers_fields.specs.Directives.{is_same_token}
+use Rattle.headers_gateway.specs.Requests.{has_host}
+use Rattle.headers_negotiation.specs.Codings.{encoding_quality}
+use Rattle.headers_negotiation.specs.MediaRanges.{media_type_says}
+use Rattle.headers_negotiation.specs.Qualities.{quality_by, quality_in, rank}
+use Rattle.headers_syntax.specs.AsciiCase.{same_name}
+use Rattle.headers_resource.specs.Representations.{are_unacceptable}
+use Rattle.headers_resource.specs.Requests.{Request}
+use Rattle.headers_resource.specs.declared.reason.Reason.{Reason}
+use Rattle.headers_resource.specs.declared.reason.Reason.TheVariants.{InvalidHost, Misdirected, UnknownMethod}
+use Rattle.headers_resource.specs.declared.reason.Reason.TheVariants.{MethodNotAllowed, Options, UnmetExpectation}
+use Rattle.headers_resource.specs.declared.reason.Reason.TheVariants.{Moved, Gone, NotFound, LengthRequired}
+use Rattle.headers_resource.specs.declared.reason.Reason.TheVariants.{ContentTooLarge, UnsupportedMediaType}
+use Rattle.headers_resource.specs.declared.reason.Reason.TheVariants.{UnsupportedCoding, NotAcceptable}
+use Rattle.headers_resource.specs.declared.reason.Reason.TheVariants.{PreconditionRequired, Admitted}
+use Rattle.headers_resource.specs.declared.request.RequestContent.{RequestContent}
+use Rattle.headers_resource.specs.declared.request.RequestContent.TheVariants as sent
+use Rattle.headers_resource.specs.declared.resource.MethodRule.{MethodRule}
+use Rattle.headers_resource.specs.declared.resource.Resource.{Resource}
+use Rattle.headers_resource.specs.declared.resource.State.{State}
+use Rattle.headers_resource.specs.declared.resource.State.TheVariants as state
+
+-- ---- the host (section 7.4)
+
+-- the host that a request names: the authority of its target, or else its Host
+abbrev pub host_named : Option Line → List Line → Option Line
+host_named (Some authority) hosts = Some authority
+host_named None hosts = only_line hosts
+
+-- the resource is served for the host; a request of HTTP/1.0 may name none
+abbrev pub is_own : List FieldValue → Option Line → Bool
+is_own hosts None = true
+is_own hosts (Some host) = list_any (λ own. same_name own.bytes host) hosts
+
+abbrev pub is_misdirected : Resource → Request → Bool
+is_misdirected resource request =
+    option_map_or (λ hosts. not (is_own hosts.items (host_named request.authority (request.fields (codes "host")))))
+    resource.hosts false
+
+-- ---- the method (section 9)
+
+-- the methods of RFC 9110, section 9.3, and PATCH (RFC 5789)
+abbrev pub standard_methods : List (List ℕ)
+standard_methods =
+    codes "GET" ∷ codes "HEAD" ∷ codes "POST" ∷ codes "PUT" ∷ codes "DELETE" ∷ codes "CONNECT" ∷ codes "OPTIONS"
+    ∷ codes "TRACE" ∷ codes "PATCH" ∷ []
+
+-- the method whose rule counts: HEAD is answered as GET (section 9.3.2)
+abbrev pub ruled : List ℕ → List ℕ
+ruled method = if bytes_eq method (codes "HEAD") then codes "GET" else method
+
+-- the rule for a method, if the resource has one
+unfoldable pub rule_for : List MethodRule → List ℕ → Option MethodRule
+rule_for rules method = find (λ rule. bytes_eq rule.method (ruled method)) rules
+
+-- the resource has the method; each has OPTIONS (section 9.3.7)
+abbrev pub has_method : List MethodRule → List ℕ → Bool
+has_method rules method = bytes_eq method (codes "OPTIONS") || is_some (rule_for rules method)
+
+-- the methods that a rule adds to Allow
+abbrev pub methods_of : MethodRule → List (List ℕ)
+methods_of rule =
+    if bytes_eq rule.method (codes "GET") then codes "GET" ∷ codes "HEAD" ∷ []
+    else (
+    if bytes_eq rule.method (codes "HEAD") || bytes_eq rule.method (codes "OPTIONS") then [] else rule.method ∷ []
+    )
+
+-- the methods of a resource, in the order of its rules (section 10.2.1)
+abbrev pub methods : List MethodRule → List (List ℕ)
+methods rules = flat_map methods_of rules ++ codes "OPTIONS" ∷ []
+
+abbrev pub is_unknown : Resource → Request → Bool
+is_unknown resource request =
+    not (list_any (bytes_eq request.method) standard_methods || has_method resource.rules.items request.method)
+
+-- ---- Expect (section 10.1.1)
+
+-- each member of the field is `100-continue`, in any case
+abbrev pub is_met : List Line → Bool
+is_met lines = list_all (is_same_token (codes "100-continue")) (field_members true lines)
+
+-- ---- the state (sections 15.4 and 15.5)
+
+abbrev pub has_moved : State → Bool
+has_moved (state.Moved redirect location) = true
+has_moved state.Current = false
+has_moved state.Absent = false
+has_moved state.Gone = false
+
+abbrev pub is_gone : State → Bool
+is_gone state.Gone = true
+is_gone state.Current = false
+is_gone state.Absent = false
+is_gone (state.Moved redirect location) = false
+
+abbrev pub is_absent : State → Bool
+is_absent state.Absent = true
+is_absent state.Current = false
+is_absent state.Gone = false
+is_absent (state.Moved redirect location) = false
+
+abbrev pub is_current : State → Bool
+is_current state.Current = true
+is_current state.Absent = false
+is_current state.Gone = false
+is_current (state.Moved redirect location) = false
+
+abbrev pub creates : Option MethodRule → Bool
+creates rule = option_map_or (λ r. r.creates) rule false
+
+-- ---- the content of the request
+
+abbrev pub is_unsized : RequestContent → Bool
+is_unsized sent.Unsized = true
+is_unsized sent.Absent = false
+is_unsized (sent.Sized len) = false
+
+-- the content has this length, which is above the limit
+abbrev pub exceeds : Option ℕ → RequestContent → Bool
+exceeds None content = false
+exceeds (Some limit) sent.Absent = false
+exceeds (Some limit) (sent.Sized len) = nat_lt limit len
+exceeds (Some limit) sent.Unsized = false
+
+abbrev pub has_content : RequestContent → Bool
+has_content sent.Absent = false
+has_content (sent.Sized len) = nat_lt 0 len
+has_content sent.Unsized = true
+
+-- Content-Type; content without it may be taken for any bytes (section 8.3), and several lines are no media type
+abbrev pub type_named : List Line → Line
+type_named [] = codes "application/octet-stream"
+type_named (line ∷ []) = line
+type_named (line ∷ other ∷ lines) = []
+
+-- The media type is acceptable by Accept as the response to the request would have it (section 12.5.1).
+unfoldable pub takes_type : MethodRule → LineMap → Bool
+takes_type rule fields =
+    nat_lt 0
+    (rank
+    (quality_in (quality_by media_type_says) (lines_at rule.takes (codes "accept"))
+    (type_named (fields (codes "content-type")))))
+
+-- the codings of a line are acceptable by these lines of Accept-Encoding
+unfoldable pub takes_codings : List Line → Line → Bool
+takes_codings accepted line = nat_lt 0 (rank (quality_in encoding_quality accepted line))
+
+-- Each line of Content-Encoding is acceptable by Accept-Encoding as the response would have it (section 12.5.3).
+abbrev pub takes_coding : MethodRule → LineMap → Bool
+takes_coding rule fields =
+    list_all (takes_codings (lines_at rule.takes (codes "accept-encoding"))) (fields (codes "content-encoding"))
+
+-- ---- conditions (RFC 6585, section 3)
+
+abbrev pub is_absent_field : List Line → Bool
+is_absent_field lines = length lines == 0
+
+-- the request has none of the preconditions by which it can't overwrite what another client changed
+abbrev pub is_unguarded : LineMap → Bool
+is_unguarded fields =
+    is_absent_field (fields (codes "if-match")) && (is_absent_field (fields (codes "if-none-match"))
+    && is_absent_field (fields (codes "if-unmodified-since")))
+
+-- ---- reading
+
+-- GET or HEAD
+abbrev pub is_read : List ℕ → Bool
+is_read method = bytes_eq method (codes "GET") || bytes_eq method (codes "HEAD")
+
+-- a read of a current representation of which none is acceptable, by a resource that says so
+unfoldable pub is_unacceptable : Resource → Request → Bool
+is_unacceptable resource request =
+    is_read request.method && (is_current resource.state && (resource.negotiation.is_strict
+    && (nat_lt 0 (length resource.representations.items)
+    && are_unacceptable resource.negotiation request.fields resource.representations.items)))
+
+-- ---- when each reason applies
+
+module _ (resource : Resource) (request : Request) where
+  abbrev pub rule : Option MethodRule
+  rule = rule_for resource.rules.items request.method
+
+  abbrev pub applies : Reason → Bool
+  applies InvalidHost = not (has_host request.protocol (request.fields (codes "host")))
+  applies Misdirected = is_misdirected resource request
+  applies UnknownMethod = is_unknown resource request
+  applies MethodNotAllowed = not (has_method resource.rules.items request.method)
+  applies Options = bytes_eq request.method (codes "OPTIONS")
+  applies UnmetExpectation = not (is_met (request.fields (codes "expect")))
+  applies Moved = has_moved resource.state
+  applies Gone = is_gone resource.state
+  applies NotFound = is_absent resource.state && not (creates rule)
+  applies LengthRequired = resource.needs_length && is_unsized request.content
+  applies ContentTooLarge = exceeds resource.limit request.content
+  applies UnsupportedMediaType =
+      has_content request.content && option_map_or (λ r. not (takes_type r request.fields)) rule false
+  applies UnsupportedCoding =
+      has_content request.content && option_map_or (λ r. not (takes_coding r request.fields)) rule false
+  applies NotAcceptable = is_unacceptable resource request
+  applies PreconditionRequired =
+      option_map_or (λ r. r.needs_condition) rule false && is_unguarded request.fields
+  applies Admitted = true

@@ -1,0 +1,26 @@
+-- Which requests a cache may take for one by Vary (RFC 9110, section 12.5.5; RFC 9111, section 4.1).
+use Rattle.std.specs.Prelude.{◌≡◌, codes}
+use Rattle.headers.specs.LineMap.{LineMap}
+use Rattle.headers_resource.specs.Requests.{Request}
+
+-- the conditions and the range of both are the same; a cache answers requests that have some by rules of its own
+pub record AskAlike (r s : LineMap) : Type 0 where
+  pub if_match : r (codes "if-match") ≡ s (codes "if-match")
+  pub if_none_match : r (codes "if-none-match") ≡ s (codes "if-none-match")
+  pub if_modified_since : r (codes "if-modified-since") ≡ s (codes "if-modified-since")
+  pub if_unmodified_since : r (codes "if-unmodified-since") ≡ s (codes "if-unmodified-since")
+  pub range : r (codes "range") ≡ s (codes "range")
+  pub if_range : r (codes "if-range") ≡ s (codes "if-range")
+
+-- Both have the same method, target and content, and the same conditions. The fields that select a representation, and
+-- Origin, may differ, and so may all fields that no decision reads.
+pub record AreAlike (r s : Request) : Type 0 where
+  pub protocol : r.protocol ≡ s.protocol
+  pub method : r.method ≡ s.method
+  pub authority : r.authority ≡ s.authority
+  pub host : r.fields (codes "host") ≡ s.fields (codes "host")
+  pub expect : r.fields (codes "expect") ≡ s.fields (codes "expect")
+  pub content : r.content ≡ s.content
+  pub content_type : r.fields (codes "content-type") ≡ s.fields (codes "content-type")
+  pub content_encoding : r.fields (codes "content-encoding") ≡ s.fields (codes "content-encoding")
+  pub asks : AskAlike r.fields s.fields

@@ -1,0 +1,132 @@
+//! The content of a request, and its preconditions.
+ghost use Rattle.std.specs.Prelude.{◌≡◌, ◌&&◌, codes, false, nat_lt, not, option_copied};
+ghost use Rattle.std.specs.List.{list_all};
+ghost use Rattle.std.specs.Option.{option_map_or};
+ghost use Rattle.headers.specs.LineMap.{lines_at};
+ghost use Rattle.headers_resource.specs.Applies.{exceeds, has_content, is_absent_field, is_unguarded, is_unsized};
+ghost use Rattle.headers_resource.specs.Applies.{takes_coding, takes_codings, takes_type, type_named};
+
+use crate::request::RequestContent;
+use crate::resource::MethodRule;
+use headers::{HeaderMap, HeaderName, HeaderValue};
+use headers_negotiation::{Accept, AcceptEncoding, quality};
+use http_header::{CONTENT_ENCODING, CONTENT_TYPE, IF_MATCH, IF_NONE_MATCH, IF_UNMODIFIED_SINCE};
+
+pub(crate) fn is_unsized(content: RequestContent) -> bool
+    ensures { result ≡ is_unsized content }
+{
+    matches!(content, RequestContent::Unsized)
+}
+
+pub(crate) fn exceeds(limit: Option<u64>, content: RequestContent) -> bool
+    ensures { result ≡ exceeds limit content }
+{
+    match (limit, content) {
+        (Some(limit), RequestContent::Sized(len)) => limit < len,
+        _ => false,
+    }
+}
+
+fn has_content(content: RequestContent) -> bool
+    ensures { result ≡ has_content content }
+{
+    match content {
+        RequestContent::Absent => false,
+        RequestContent::Sized(len) => len > 0,
+        RequestContent::Unsized => true,
+    }
+}
+
+// Content-Type, or a type of any bytes without it.
+fn type_named(fields: &HeaderMap) -> &[u8]
+    ensures { result.now ≡ type_named (lines_at fields.now (codes "content-type")) }
+{
+    let mut lines = fields.get_all(CONTENT_TYPE).iter();
+    match lines.next() {
+        None => b"application/octet-stream",
+        Some(line) => match lines.next() {
+            None => line.as_bytes(),
+            Some(_) => b"",
+        },
+    }
+}
+
+#[tactic(auto, unfolding(crate::specs::Applies::takes_type))]
+fn takes_type(rule: &MethodRule, fields: &HeaderMap) -> bool
+    ensures { result ≡ takes_type rule.now (lines_at fields.now) }
+{
+    quality::<Accept>(&rule.takes, type_named(fields)).rank() > 0
+}
+
+#[tactic(auto, unfolding(crate::specs::Applies::takes_codings))]
+fn takes_codings(takes: &HeaderMap, line: &HeaderValue) -> bool
+    ensures { result ≡ takes_codings (lines_at takes.now (codes "accept-encoding")) line.now.bytes }
+{
+    quality::<AcceptEncoding>(takes, line.as_bytes()).rank() > 0
+}
+
+fn takes_coding(rule: &MethodRule, fields: &HeaderMap) -> bool
+    ensures { result ≡ takes_coding rule.now (lines_at fields.now) }
+{
+    for line in fields.get_all(CONTENT_ENCODING) {
+        if !takes_codings(&rule.takes, line) {
+            return false;
+        }
+    }
+    true
+}
+
+// Whether there is content of a media type that the method doesn't take.
+pub(crate) fn is_unsupported_type(
+    content: RequestContent,
+    rule: Option<&MethodRule>,
+    fields: &HeaderMap,
+) -> bool
+    ensures { result ≡ (has_content content
+        && option_map_or (λ r. not (takes_type r (lines_at fields.now))) (option_copied rule.entry) false) }
+{
+    match rule {
+        Some(rule) => has_content(content) && !takes_type(rule, fields),
+        None => false,
+    }
+}
+
+// Whether there is content in a coding that the method doesn't take.
+pub(crate) fn is_unsupported_coding(
+    content: RequestContent,
+    rule: Option<&MethodRule>,
+    fields: &HeaderMap,
+) -> bool
+    ensures { result ≡ (has_content content
+        && option_map_or (λ r. not (takes_coding r (lines_at fields.now))) (option_copied rule.entry) false) }
+{
+    match rule {
+        Some(rule) => has_content(content) && !takes_coding(rule, fields),
+        None => false,
+    }
+}
+
+fn is_absent_field(fields: &HeaderMap, name: HeaderName) -> bool
+    ensures { result ≡ is_absent_field (lines_at fields.now name) }
+{
+    fields.get_all(name).iter().next().is_none()
+}
+
+fn is_unguarded(fields: &HeaderMap) -> bool
+    ensures { result ≡ is_unguarded (lines_at fields.now) }
+{
+    is_absent_field(fields, IF_MATCH)
+        && is_absent_field(fields, IF_NONE_MATCH)
+        && is_absent_field(fields, IF_UNMODIFIED_SINCE)
+}
+
+// Whether the request needs a precondition, and has none.
+pub(crate) fn lacks_condition(rule: Option<&MethodRule>, fields: &HeaderMap) -> bool
+    ensures { result ≡ (option_map_or (λ r. r.needs_condition) (option_copied rule.entry) false
+        && is_unguarded (lines_at fields.now)) }
+{
+    match rule {
+        Some(rule) => rule.needs_condition && is_unguarded(fields),
+        None => false,
+    }
+}

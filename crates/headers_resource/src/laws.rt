@@ -1,0 +1,104 @@
+//! What follows from the definitions alone. A proof cites a law by calling it.
+ghost use Rattle.std.specs.Prelude.{◌≡◌, ◌≢◌, ◌↔◌, ◌∷◌, [], ℕ, Contains, Option, Some, codes, false};
+ghost use Rattle.headers.specs.LineMap.{LineMap, fields_of, set_all};
+ghost use Rattle.headers_cors_policy.specs.Browser.{CorsCheck, IsOkStatus, IsPreflightFor, PreflightPasses};
+ghost use Rattle.headers_cors_policy.specs.Browser.{Request as Sent};
+ghost use Rattle.headers_cors_policy.specs.Cache.{Serves};
+ghost use Rattle.headers_cors_policy.specs.Policy.{Policy};
+ghost use Rattle.headers_cors_policy.specs.Rules.{AllowsCredentials, AllowsOrigin, AllowsRequest, IsLawful};
+ghost use Rattle.headers_cors_policy.specs.Rules.{IsPolicyOf};
+ghost use Rattle.headers_cors_policy.specs.declared.rules.CorsRules.{CorsRules};
+ghost use Rattle.headers_resource.specs.Answers.{AreSame, IsAnswer, IsSelected};
+ghost use Rattle.headers_resource.specs.Applies.{applies, methods};
+ghost use Rattle.headers_resource.specs.Reasons.{Before, IsFirst};
+ghost use Rattle.headers_resource.specs.Requests.{Request, get_of, head_of, unconditional};
+ghost use Rattle.headers_resource.specs.Vary.{AreAlike};
+ghost use Rattle.headers_preconditions.specs.declared.plan.Plan.{Plan};
+ghost use Rattle.headers_resource.specs.declared.answer.Answer.{Answer};
+ghost use Rattle.headers_resource.specs.declared.answer.Sends.TheVariants.{Planned};
+ghost use Rattle.headers_resource.specs.declared.reason.Reason.{Reason};
+ghost use Rattle.headers_resource.specs.declared.reason.Reason.TheVariants.{Admitted, MethodNotAllowed};
+ghost use Rattle.headers_resource.specs.declared.resource.Resource.{Resource};
+
+/// Every request has a first reason, and no other: reasons of one stage exclude each other.
+pub fn request_has_one_reason()
+    ensures some { (resource : Resource) (request : Request)
+        → (reason : Reason) × IsFirst (applies resource request) reason }
+    ensures one { (resource : Resource) (request : Request) (a b : Reason)
+        → IsFirst (applies resource request) a → IsFirst (applies resource request) b → a ≡ b }
+{}
+
+/// Every request selects a place, and no other: that of a representation, or none.
+pub fn request_selects_one_place()
+    ensures some { (resource : Resource) (fields : LineMap)
+        → (place : Option ℕ) × IsSelected resource fields place }
+    ensures one { (resource : Resource) (fields : LineMap) (a b : Option ℕ)
+        → IsSelected resource fields a → IsSelected resource fields b → a ≡ b }
+{}
+
+/// A request has one answer at most: two have the same reason, status and fields, and send the same.
+pub fn request_has_one_answer()
+    ensures { (present : ℕ) (resource : Resource) (request : Request) (a b : Answer)
+        → IsAnswer present resource request a → IsAnswer present resource request b → AreSame a b }
+{}
+
+/// After `set_all` of the fields of any answer, errors included, whatever fields the response had
+/// before, a browser's CORS check holds exactly if the rules of the policy allow the origin and the
+/// credentials.
+pub fn answer_is_shared_by_rules()
+    ensures { (present : ℕ) (resource : Resource) (request : Request) (answer : Answer) (rules : CorsRules)
+        (policy : Policy) (before : LineMap) (sent : Sent) → resource.cors ≡ Some policy
+        → IsAnswer present resource request answer → IsLawful rules → IsPolicyOf rules policy
+        → request.fields (codes "origin") ≡ sent.origin ∷ []
+        → CorsCheck (set_all before (fields_of answer.fields.items)) sent
+        ↔ (AllowsOrigin rules sent.origin × AllowsCredentials rules sent.credentials) }
+{}
+
+/// The answer to a preflight, which is an OPTIONS, lets a browser send the request exactly if the
+/// rules of the policy allow it.
+pub fn preflight_passes_by_rules()
+    ensures { (present : ℕ) (resource : Resource) (request : Request) (answer : Answer) (rules : CorsRules)
+        (policy : Policy) (before : LineMap) (sent : Sent) (status : ℕ) → resource.cors ≡ Some policy
+        → IsAnswer present resource request answer → IsLawful rules → IsPolicyOf rules policy
+        → IsPreflightFor sent request.method request.fields → IsOkStatus status
+        → PreflightPasses status (set_all before (fields_of answer.fields.items)) sent ↔ AllowsRequest rules sent }
+{}
+
+/// Whatever stands in the way of a request decides before its preconditions do (RFC 9110, section
+/// 13.2.1): they never turn a 404, a 405, a 406 or a redirect into a 304 or a 412.
+pub fn preconditions_come_last()
+    ensures { (reason : Reason) → reason ≢ Admitted → Before reason Admitted }
+{}
+
+/// Allow lists exactly the methods that aren't answered by 405 (RFC 9110, section 10.2.1).
+pub fn allow_is_exact()
+    ensures { (resource : Resource) (request : Request) → Contains (methods resource.rules.items) request.method
+        ↔ (applies resource request MethodNotAllowed ≡ false) }
+{}
+
+/// The answer to a GET without Range is the answer to a HEAD with the same fields (RFC 9110, section
+/// 9.3.2): it has the same status and the same fields. The server sends its content to GET alone.
+pub fn head_is_answered_as_get()
+    ensures { (present : ℕ) (resource : Resource) (request : Request) (answer : Answer)
+        → IsAnswer present resource (get_of request) answer → IsAnswer present resource (head_of request) answer }
+{}
+
+/// Vary is sound (RFC 9110, section 12.5.5): if the Vary of an answer lets a cache use it for another
+/// request of the same method, target, content and conditions, that request would have got the same
+/// answer. So each field that can change the answer is named. No cache stores an answer to OPTIONS
+/// (section 9.3.7).
+pub fn vary_is_sound()
+    ensures { (present : ℕ) (resource : Resource) (r s : Request) (a b : Answer) (before : LineMap)
+        → IsAnswer present resource r a → IsAnswer present resource s b → AreAlike r s
+        → r.method ≢ codes "OPTIONS"
+        → Serves (set_all before (fields_of a.fields.items) (codes "vary")) r.fields s.fields → AreSame a b }
+{}
+
+/// A 304 or a 412 is about the representation that the request would get without its conditions, so
+/// it was decided by the validators of that one (RFC 9110, section 13.1).
+pub fn conditions_are_about_the_selected()
+    ensures { (present : ℕ) (resource : Resource) (request : Request) (a b : Answer) (p q : Option ℕ)
+        (plan other : Plan) → IsAnswer present resource request a
+        → IsAnswer present resource (unconditional request) b → a.sends ≡ Planned p plan → b.sends ≡ Planned q other
+        → p ≡ q }
+{}

@@ -1,0 +1,97 @@
+//! Which reason decides.
+ghost use Rattle.std.specs.Prelude.{◌≡◌, find};
+ghost use Rattle.headers_resource.specs.Applies.{applies, is_unacceptable};
+ghost use Rattle.headers_resource.specs.Reasons.{IsFirst};
+ghost use Rattle.headers_resource.specs.Requests.{request_of};
+
+use crate::content::{
+    exceeds, is_unsized, is_unsupported_coding, is_unsupported_type, lacks_condition,
+};
+use crate::reason::Reason;
+use crate::representation::are_unacceptable;
+use crate::request::RequestHead;
+use crate::resource::Resource;
+use crate::target::{
+    has_method, has_moved, is_current, is_gone, is_met, is_misdirected, is_missing, is_options,
+    is_read, is_unknown, rule_for,
+};
+use headers_gateway::has_host;
+
+#[tactic(auto, unfolding(crate::specs::Applies::is_unacceptable))]
+fn is_unacceptable(resource: &Resource, request: &RequestHead<'_>) -> bool
+    ensures { result ≡ is_unacceptable resource.now (request_of request.now) }
+{
+    is_read(request.method.as_str())
+        && is_current(&resource.state)
+        && resource.negotiation.is_strict
+        && !resource.representations.is_empty()
+        && are_unacceptable(
+            &resource.negotiation,
+            request.fields,
+            &resource.representations,
+        )
+}
+
+fn applies(resource: &Resource, request: &RequestHead<'_>, reason: Reason) -> bool
+    ensures { result ≡ applies resource.now (request_of request.now) reason }
+{
+    let method = request.method.as_str();
+    let rule = rule_for(&resource.rules, method);
+    let content = request.content;
+    let fields = request.fields;
+    match reason {
+        Reason::InvalidHost => !has_host(request.protocol, fields),
+        Reason::Misdirected => is_misdirected(resource, request),
+        Reason::UnknownMethod => is_unknown(resource, request),
+        Reason::MethodNotAllowed => !has_method(resource, method),
+        Reason::Options => is_options(method),
+        Reason::UnmetExpectation => !is_met(fields),
+        Reason::Moved => has_moved(&resource.state),
+        Reason::Gone => is_gone(&resource.state),
+        Reason::NotFound => is_missing(&resource.state, rule),
+        Reason::LengthRequired => resource.needs_length && is_unsized(content),
+        Reason::ContentTooLarge => exceeds(resource.limit, content),
+        Reason::UnsupportedMediaType => is_unsupported_type(content, rule, fields),
+        Reason::UnsupportedCoding => is_unsupported_coding(content, rule, fields),
+        Reason::NotAcceptable => is_unacceptable(resource, request),
+        Reason::PreconditionRequired => lacks_condition(rule, fields),
+        Reason::Admitted => true,
+    }
+}
+
+// The first of some reasons that applies.
+fn first_of(resource: &Resource, request: &RequestHead<'_>, reasons: &[Reason]) -> Option<Reason>
+    ensures { result ≡ find (applies resource.now (request_of request.now)) reasons.now }
+{
+    reasons
+        .iter()
+        .copied()
+        .find(|reason| applies(resource, request, *reason))
+}
+
+/// Why a request is answered as it is.
+pub(crate) fn reason_for(resource: &Resource, request: &RequestHead<'_>) -> Reason
+    ensures { IsFirst (applies resource.now (request_of request.now)) result }
+{
+    let in_order = [
+        Reason::InvalidHost,
+        Reason::Misdirected,
+        Reason::UnknownMethod,
+        Reason::MethodNotAllowed,
+        Reason::Options,
+        Reason::UnmetExpectation,
+        Reason::Moved,
+        Reason::Gone,
+        Reason::NotFound,
+        Reason::LengthRequired,
+        Reason::ContentTooLarge,
+        Reason::UnsupportedMediaType,
+        Reason::UnsupportedCoding,
+        Reason::NotAcceptable,
+        Reason::PreconditionRequired,
+    ];
+    match first_of(resource, request, &in_order) {
+        Some(reason) => reason,
+        None => Reason::Admitted,
+    }
+}

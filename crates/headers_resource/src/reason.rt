@@ -1,0 +1,63 @@
+//! Why a request is answered as it is.
+ghost use Rattle.std.specs.Prelude.{◌≡◌};
+ghost use Rattle.headers_resource.specs.Reasons.{stage};
+
+/// Why a request is answered as it is: what stands in the way of its method, or that nothing does.
+#[derive(Clone, Copy, Debug, PartialEq, Eq)]
+pub enum Reason {
+    /// 400: Host is missing, is there twice, or is no host (RFC 9110, section 7.2).
+    InvalidHost,
+    /// 421: the host isn't one of the resource's (section 7.4).
+    Misdirected,
+    /// 501: the method isn't known (section 9.1).
+    UnknownMethod,
+    /// 405: the resource doesn't have the method (section 15.5.6).
+    MethodNotAllowed,
+    /// 204: the method is OPTIONS (section 9.3.7).
+    Options,
+    /// 417: Expect has a member other than `100-continue` (section 10.1.1).
+    UnmetExpectation,
+    /// 301, 307 or 308: the resource is under another URI (section 15.4).
+    Moved,
+    /// 410: the resource is gone (section 15.5.11).
+    Gone,
+    /// 404: there is no current representation, and the method makes none (section 15.5.5).
+    NotFound,
+    /// 411: the length of the content isn't stated (section 15.5.12).
+    LengthRequired,
+    /// 413: the content is longer than the limit (section 15.5.14).
+    ContentTooLarge,
+    /// 415: the method doesn't take the media type of the content (section 15.5.16).
+    UnsupportedMediaType,
+    /// 415: the method doesn't take a coding of the content (section 12.5.3).
+    UnsupportedCoding,
+    /// 406: no representation is acceptable (section 15.5.7).
+    NotAcceptable,
+    /// 428: the request has no precondition (RFC 6585, section 3).
+    PreconditionRequired,
+    /// Nothing stands in the way: the preconditions and Range decide, and then the method.
+    Admitted,
+}
+
+impl Reason {
+    /// Its stage. Of the reasons that apply to a request, that of the lowest stage decides, and those
+    /// of one stage exclude each other.
+    pub fn stage(self) -> u8
+        ensures { result ≡ stage self }
+    {
+        match self {
+            Reason::InvalidHost => 0,
+            Reason::Misdirected => 1,
+            Reason::UnknownMethod => 2,
+            Reason::MethodNotAllowed | Reason::Options => 3,
+            Reason::UnmetExpectation => 4,
+            Reason::Moved | Reason::Gone | Reason::NotFound => 5,
+            Reason::LengthRequired | Reason::ContentTooLarge => 6,
+            Reason::UnsupportedMediaType => 7,
+            Reason::UnsupportedCoding => 8,
+            Reason::NotAcceptable => 9,
+            Reason::PreconditionRequired => 10,
+            Reason::Admitted => 11,
+        }
+    }
+}

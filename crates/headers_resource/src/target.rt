@@ -1,0 +1,188 @@
+//! The target of a request: its host, the method and the state of the resource.
+ghost use Rattle.std.specs.Prelude.{◌≡◌, ◌&&◌, bytes_eq, codes, not, option_map, option_copied, true};
+ghost use Rattle.std.specs.List.{list_all, list_any};
+ghost use Rattle.std.specs.Option.{option_map_or};
+ghost use Rattle.headers.specs.LineMap.{lines_at};
+ghost use Rattle.headers.specs.Lines.{only_line};
+ghost use Rattle.headers_syntax.specs.AsciiCase.{same_name};
+ghost use Rattle.headers_fields.specs.Directives.{is_same_token};
+ghost use Rattle.headers_fields.specs.Members.{field_members, member_of};
+ghost use Rattle.headers_resource.specs.Applies.{creates, has_method, has_moved, host_named, is_absent, is_current};
+ghost use Rattle.headers_resource.specs.Applies.{is_gone, is_met, is_misdirected, is_own, is_read, is_unknown, ruled};
+ghost use Rattle.headers_resource.specs.Applies.{rule_for, standard_methods};
+ghost use Rattle.headers_resource.specs.Requests.{request_of};
+
+use crate::request::RequestHead;
+use crate::resource::{MethodRule, Resource, State};
+use headers::{HeaderMap, HeaderValue};
+use headers_fields::{FieldMembers, Malformed};
+use http_header::{EXPECT, HOST};
+
+// The only line of Host.
+fn only_host(fields: &HeaderMap) -> Option<&HeaderValue>
+    ensures { option_map (λ value. value.now.bytes) result ≡ only_line (lines_at fields.now (codes "host")) }
+{
+    let mut lines = fields.get_all(HOST).iter();
+    let first = lines.next()?;
+    match lines.next() {
+        Some(_) => None,
+        None => Some(first),
+    }
+}
+
+fn host_named<'a>(request: &RequestHead<'a>) -> Option<&'a HeaderValue>
+    ensures { option_map (λ value. value.now.bytes) result
+        ≡ host_named (request_of request.now).authority (lines_at request.now.fields.now (codes "host")) }
+{
+    match request.authority {
+        Some(authority) => Some(authority),
+        None => only_host(request.fields),
+    }
+}
+
+fn is_same_host(own: &HeaderValue, host: &HeaderValue) -> bool
+    ensures { result ≡ same_name own.now.bytes host.now.bytes }
+{
+    own.as_bytes().eq_ignore_ascii_case(host.as_bytes())
+}
+
+fn is_listed(hosts: &[HeaderValue], host: &HeaderValue) -> bool
+    ensures { result ≡ list_any (λ own. same_name own.bytes host.now.bytes) hosts.now }
+{
+    hosts.iter().any(|own| is_same_host(own, host))
+}
+
+// Whether a resource with these hosts is served for this one.
+fn is_own(hosts: &[HeaderValue], host: Option<&HeaderValue>) -> bool
+    ensures { result ≡ is_own hosts.now (option_map (λ value. value.now.bytes) host.entry) }
+{
+    match host {
+        Some(host) => is_listed(hosts, host),
+        None => true,
+    }
+}
+
+pub(crate) fn is_misdirected(resource: &Resource, request: &RequestHead<'_>) -> bool
+    ensures { result ≡ is_misdirected resource.now (request_of request.now) }
+{
+    match &resource.hosts {
+        Some(hosts) => !is_own(hosts, host_named(request)),
+        None => false,
+    }
+}
+
+fn is_standard(method: &str) -> bool
+    ensures { result ≡ list_any (bytes_eq method.now) standard_methods }
+{
+    method == "GET"
+        || method == "HEAD"
+        || method == "POST"
+        || method == "PUT"
+        || method == "DELETE"
+        || method == "CONNECT"
+        || method == "OPTIONS"
+        || method == "TRACE"
+        || method == "PATCH"
+}
+
+// The method whose rule counts.
+fn ruled(method: &str) -> &str
+    ensures { result.now ≡ ruled method.now }
+{
+    if method == "HEAD" { "GET" } else { method }
+}
+
+#[tactic(auto, unfolding(crate::specs::Applies::rule_for))]
+pub(crate) fn rule_for<'a>(rules: &'a [MethodRule], method: &str) -> Option<&'a MethodRule>
+    ensures { option_copied result ≡ rule_for rules.now method.now }
+{
+    let name = ruled(method);
+    rules.iter().find(|rule| rule.method.as_str() == name)
+}
+
+pub(crate) fn is_options(method: &str) -> bool
+    ensures { result ≡ bytes_eq method.now (codes "OPTIONS") }
+{
+    method == "OPTIONS"
+}
+
+pub(crate) fn is_read(method: &str) -> bool
+    ensures { result ≡ is_read method.now }
+{
+    method == "GET" || method == "HEAD"
+}
+
+pub(crate) fn has_method(resource: &Resource, method: &str) -> bool
+    ensures { result ≡ has_method resource.now.rules.items method.now }
+{
+    is_options(method) || rule_for(&resource.rules, method).is_some()
+}
+
+pub(crate) fn is_unknown(resource: &Resource, request: &RequestHead<'_>) -> bool
+    ensures { result ≡ is_unknown resource.now (request_of request.now) }
+{
+    let method = request.method.as_str();
+    !(is_standard(method) || has_method(resource, method))
+}
+
+fn is_continue(member: Result<&[u8], Malformed>) -> bool
+    ensures { result ≡ is_same_token (codes "100-continue") (member_of member.entry) }
+{
+    match member {
+        Ok(text) => text.eq_ignore_ascii_case(b"100-continue"),
+        Err(Malformed) => false,
+    }
+}
+
+// Whether each member of Expect is `100-continue`.
+pub(crate) fn is_met(fields: &HeaderMap) -> bool
+    ensures { result ≡ is_met (lines_at fields.now (codes "expect")) }
+{
+    let mut members = FieldMembers::new(&fields.get_all(EXPECT));
+    while let Some(member) = members.next() {
+        if !is_continue(member) {
+            return false;
+        }
+    }
+    true
+}
+
+pub(crate) fn has_moved(state: &State) -> bool
+    ensures { result ≡ has_moved state.now }
+{
+    matches!(state, State::Moved(_, _))
+}
+
+pub(crate) fn is_gone(state: &State) -> bool
+    ensures { result ≡ is_gone state.now }
+{
+    matches!(state, State::Gone)
+}
+
+pub(crate) fn is_current(state: &State) -> bool
+    ensures { result ≡ is_current state.now }
+{
+    matches!(state, State::Current)
+}
+
+fn is_absent(state: &State) -> bool
+    ensures { result ≡ is_absent state.now }
+{
+    matches!(state, State::Absent)
+}
+
+fn creates(rule: Option<&MethodRule>) -> bool
+    ensures { result ≡ creates (option_copied rule.entry) }
+{
+    match rule {
+        Some(rule) => rule.creates,
+        None => false,
+    }
+}
+
+// Whether there is no current representation, and the method makes none.
+pub(crate) fn is_missing(state: &State, rule: Option<&MethodRule>) -> bool
+    ensures { result ≡ (is_absent state.now && not (creates (option_copied rule.entry))) }
+{
+    is_absent(state) && !creates(rule)
+}
