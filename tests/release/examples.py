@@ -1,10 +1,10 @@
-"""Runs the examples of README.md for a release in a bare Debian, where root may change its root folder.
+"""Runs the examples for a release in a bare Debian, where root may change its root folder.
 
     examples.py FOLDER
 
-These are its blocks after `release: ` (tools/check_docs says how a block is marked): a `file: NAME` is written, a `run`
-is run, and an `output` is what the command before it has to print. The Debian packages are where the first command
-looks for them.
+They are in README.md and in the README of the package for C: the blocks after `release: ` (tools/check_docs says how
+a block is marked). A `file: NAME` is written, a `run` is run, and an `output` is what the command before it has to
+print. The Debian packages are where the first command looks for them.
 """
 import subprocess
 import sys
@@ -12,6 +12,7 @@ from importlib.machinery import SourceFileLoader
 from pathlib import Path
 
 TOP = Path(__file__).resolve().parents[2]
+PAGES = ("README.md", "bindings/c/README.md")
 ENVIRONMENT = {
     "PATH": "/usr/local/sbin:/usr/local/bin:/usr/sbin:/usr/bin:/sbin:/bin",
     "HOME": "/root",
@@ -24,9 +25,8 @@ def main(bare: str) -> int:
     sys.dont_write_bytecode = True
     check_docs = SourceFileLoader("check_docs", str(TOP / "tools/check_docs")).load_module()
     count, printed = 0, ""
-    for block in check_docs.split("README.md")[1]:
-        if not block.is_for_release:
-            continue
+    blocks = [(page, block) for page in PAGES for block in check_docs.split(page)[1] if block.is_for_release]
+    for page, block in blocks:
         text = "\n".join(block.lines) + "\n"
         if block.kind == "file":
             Path(bare, "example", block.word).write_text(text, "utf-8")
@@ -39,7 +39,7 @@ def main(bare: str) -> int:
                 print(f"{text}ended with status {done.returncode}, and printed\n{printed}")
                 return 1
         elif printed != text:
-            print(f"line {block.number} of README.md wants\n{text}and this was printed:\n{printed}")
+            print(f"line {block.number} of {page} wants\n{text}and this was printed:\n{printed}")
             return 1
     print(f"{count} commands")
     return 0 if count >= 5 else 1

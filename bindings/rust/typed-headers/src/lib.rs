@@ -64,6 +64,11 @@ impl Keys {
     }
 }
 
+// The examples of README.md are tests too.
+#[cfg(all(doctest, feature = "std"))]
+#[doc = include_str!("../README.md")]
+struct Readme;
+
 /// The version of the library.
 ///
 /// ```
