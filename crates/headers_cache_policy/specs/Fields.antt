@@ -22,9 +22,8 @@ greatest = 2 ^ 64 - 1
 abbrev pub capped : ℕ → ℕ
 capped n = min n greatest
 
--- The date of a field: its only line, if that is an HTTP-date (RFC 9110, section 5.6.7). It counts the seconds since
--- the
--- year 0. A year of two digits is one near `now`.
+-- The date of a field, in seconds since the year 0: its only line, if that is an HTTP-date (RFC 9110, section 5.6.7). A
+-- year of two digits is one near `now`.
 abbrev pub date_in : ℕ → List ℕ → LineMap → Option ℕ
 date_in now name message = option_and_then (λ line. timestamp now (trim line)) (only_line (message name))
 

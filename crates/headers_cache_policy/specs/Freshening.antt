@@ -1,16 +1,14 @@
 -- What a 304 changes of a stored response (RFC 9111, sections 3.2 and 4.3.4).
-use Rattle.std.specs.Prelude.{◌≡◌, ℕ, Bool, true, false, ◌&&◌, ◌||◌, not, nat_lt, List, [], ◌∷◌, length, filter, map}
+use Rattle.std.specs.Prelude.{◌≡◌, ℕ, Bool, true, ◌&&◌, ◌||◌, not, nat_lt, List, [], ◌∷◌, length, filter, map}
 use Rattle.std.specs.Prelude.{Option, MatchOption}
 use Rattle.std.specs.Prelude.{bytes_eq, codes, if◌then◌else◌}
 use Rattle.std.specs.List.{list_any}
 use Rattle.http_header.specs.FieldValue.{FieldValue}
 use Rattle.http_header.specs.HeaderMap.{Entries, keys}
-use Rattle.http_header.specs.Token.{lowercase}
 use Rattle.headers.specs.LineMap.{Field, LineMap, fields_of, lines_at}
 use Rattle.headers.specs.declared.Encoded.{Encoded}
+use Rattle.headers_fields.specs.Directives.{is_same_token}
 use Rattle.headers_fields.specs.Members.{field_members}
-use Rattle.headers_fields.specs.Scan.{Member}
-use Rattle.headers_fields.specs.Scan.Member.{Whole, Malformed}
 use Rattle.headers_cache_policy.specs.Updating.{IsUpdated}
 
 -- The fields that no update changes: those of a connection (RFC 9110, section 7.6.1), those of a proxy (section 3.1),
@@ -34,14 +32,9 @@ kept_names =
 unfoldable pub is_kept_name : List ℕ → Bool
 is_kept_name name = list_any (λ kept. bytes_eq name kept) kept_names
 
--- the member is the option of this name; case is ignored
-abbrev pub is_option_of : List ℕ → Member → Bool
-is_option_of name (Whole option) = bytes_eq (lowercase option) (lowercase name)
-is_option_of name Malformed = false
-
--- Connection names the field
+-- Connection names the field, in any case
 abbrev pub is_named : LineMap → List ℕ → Bool
-is_named update name = list_any (is_option_of name) (field_members true (update (codes "connection")))
+is_named update name = list_any (is_same_token name) (field_members true (update (codes "connection")))
 
 -- the update doesn't change the field of this name: it is one of those above, or Connection names it
 abbrev pub is_kept : LineMap → List ℕ → Bool

@@ -1,12 +1,11 @@
 -- Which stored response a 304 updates (RFC 9111, section 4.3.4).
-use Rattle.std.specs.Prelude.{◌≡◌, ◌⊎◌, Bool, true, take, drop, All, Option, IsTrue, IsSomeAnd, bytes_eq}
+use Rattle.std.specs.Prelude.{◌≡◌, ◌⊎◌, Bool, true, take, drop, Option, IsTrue, IsSomeAnd, bytes_eq}
 use Rattle.std.specs.Prelude.{codes, if◌then◌else◌}
-use Rattle.http_header.specs.Token.{IsToken}
+use Rattle.std.specs.List.{list_all}
 use Rattle.headers.specs.LineMap.{LineMap}
 use Rattle.headers.specs.Lines.{Line, only_line}
+use Rattle.headers_fields.specs.Directives.{is_token_member}
 use Rattle.headers_fields.specs.Members.{field_members}
-use Rattle.headers_fields.specs.Scan.{Member}
-use Rattle.headers_fields.specs.Scan.Member.{Whole, Malformed}
 use Rattle.headers_cache_policy.specs.Fields.{IsPresent}
 
 -- an entity tag is weak if it begins with `W/` (RFC 9110, section 8.8.3)
@@ -33,10 +32,9 @@ HasStrongTag update = IsSomeAnd (tag_in update) (λ tag. ¬ (IsTrue (is_weak tag
 abbrev pub HasValidator : LineMap → Type 0
 HasValidator message = IsPresent (codes "etag") message ⊎ IsPresent (codes "last-modified") message
 
--- the member of Connection is an option: a token (RFC 9110, section 7.6.1)
-abbrev pub IsOption : Member → Type 0
-IsOption (Whole text) = IsToken text
-IsOption Malformed = ⊥
+-- each member of Connection is an option: a token (RFC 9110, section 7.6.1)
+abbrev pub HasOptions : LineMap → Type 0
+HasOptions message = IsTrue (list_all is_token_member (field_members true (message (codes "connection"))))
 
 -- the entity tag of the 304, if it has one, is that of the stored response
 abbrev pub HasSameTag : LineMap → LineMap → Type 0
@@ -54,4 +52,4 @@ pub record IsUpdated (stored update : LineMap) : Type 0 where
   pub tag : HasSameTag stored update
   pub date : HasSameDate stored update
   pub none : HasValidator stored → HasValidator update
-  pub options : All IsOption (field_members true (update (codes "connection")))
+  pub options : HasOptions update

@@ -1,35 +1,16 @@
 //! The fields that a cache reads.
-ghost use Rattle.std.specs.Prelude.{◌≡◌, ◌≢◌, ◌∷◌, [], IfOk, codes, option_map};
+ghost use Rattle.std.specs.Prelude.{◌≡◌, ◌≢◌, ◌∷◌, [], IfOk, codes};
 ghost use Rattle.std.specs.Bool.{MatchBool};
 ghost use Rattle.http_header.specs.HeaderMap.{get_all};
 ghost use Rattle.headers.specs.LineMap.{lines_at};
-ghost use Rattle.headers.specs.Lines.{lines_of, only_line};
-ghost use Rattle.headers_cache_policy.specs.Fields.{IsPresent, age_of, age_value, date_in};
+ghost use Rattle.headers.specs.Lines.{lines_of};
+ghost use Rattle.headers_cache_policy.specs.Fields.{age_of, age_value, date_in};
 
 use headers::{HeaderMap, HeaderName, HeaderValue, trim};
 use headers_dates::{Timestamp, read_date};
-use headers_fields::number;
+use headers_fields::{number, only_value};
 use http_header::{AGE, AsHeaderName, GetAll};
 use std::alloc::{AllocError, Global};
-
-// Whether the message has a field of this name.
-pub(crate) fn has_field(message: &HeaderMap, name: HeaderName) -> bool
-    ensures { MatchBool result (IsPresent name (lines_at message.now))
-        (¬ (IsPresent name (lines_at message.now))) }
-{
-    message.get_all(name).iter().next().is_some()
-}
-
-// The line of a field that has no other line.
-pub(crate) fn only_line(message: &HeaderMap, name: HeaderName) -> Option<&HeaderValue>
-    ensures { option_map (λ line. line.now.bytes) result ≡ only_line (lines_at message.now name) }
-{
-    let mut lines = message.get_all(name).iter();
-    match (lines.next(), lines.next()) {
-        (Some(line), None) => Some(line),
-        _ => None,
-    }
-}
 
 // Whether both have the same field lines.
 pub(crate) fn have_same_lines(
@@ -41,11 +22,13 @@ pub(crate) fn have_same_lines(
     lines.eq_values(others)
 }
 
-// The date of a field, if its only line is one. `now` resolves a year of two digits.
-pub(crate) fn date(message: &HeaderMap, name: HeaderName, now: u64) -> Option<Timestamp>
+/// The date of a field, if its only field line is one (RFC 9110, section 5.6.7). `now` resolves a year
+/// of two digits.
+pub fn date(message: &HeaderMap, name: HeaderName, now: u64) -> Option<Timestamp>
     ensures { result ≡ date_in now name (lines_at message.now) }
 {
-    read_date(trim(only_line(message, name)?.as_bytes()), now)
+    let line = only_value(&message.get_all(name))?;
+    read_date(trim(line.as_bytes()), now)
 }
 
 // The number of Age: 0 without the field, or if it is no number.

@@ -1,16 +1,14 @@
 //! What a 304 changes of a stored response.
 ghost use Rattle.std.specs.Prelude.{◌≡◌, ◌≢◌, [], IfOk, OnErr, option_map};
-ghost use Rattle.std.specs.List.{list_any};
 ghost use Rattle.headers.specs.LineMap.{field_of, fields_of, lines_at};
-ghost use Rattle.headers_fields.specs.Members.{field_members, member_of};
 ghost use Rattle.headers_cache_policy.specs.Freshening.{FreshensIf, freshening_fields, is_kept, is_kept_name};
-ghost use Rattle.headers_cache_policy.specs.Freshening.{is_named, is_option_of};
+ghost use Rattle.headers_cache_policy.specs.Freshening.{is_named};
 ghost use Rattle.headers_cache_policy.specs.Updating.{IsUpdated};
 
 use crate::fields::values_at;
 use crate::updating::is_updated;
 use headers::{Encoded, HeaderMap, HeaderName};
-use headers_fields::{FieldMembers, Malformed};
+use headers_fields::contains_token;
 use http_header::CONNECTION;
 use std::alloc::{AllocError, Global};
 
@@ -69,22 +67,7 @@ fn is_kept(update: &HeaderMap, name: &HeaderName) -> bool
 fn is_named(message: &HeaderMap, name: &HeaderName) -> bool
     ensures { result ≡ is_named (lines_at message.now) name.now }
 {
-    for member in FieldMembers::new(&message.get_all(CONNECTION)) {
-        if is_option_of(name, member) {
-            return true;
-        }
-    }
-    false
-}
-
-// Whether a member of Connection is the option of this name.
-fn is_option_of(name: &HeaderName, member: Result<&[u8], Malformed>) -> bool
-    ensures { result ≡ is_option_of name.now (member_of member.entry) }
-{
-    match member {
-        Ok(option) => option.eq_ignore_ascii_case(name.as_str().as_bytes()),
-        Err(Malformed) => false,
-    }
+    contains_token(&message.get_all(CONNECTION), name.as_str().as_bytes())
 }
 
 // Whether no update changes the field.

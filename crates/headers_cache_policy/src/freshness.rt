@@ -7,10 +7,11 @@ ghost use Rattle.headers_cache_policy.specs.Freshness.{ExpiresAfter, HasHeuristi
 ghost use Rattle.headers_cache_policy.specs.Freshness.{is_heuristic};
 
 use crate::directives::{Directives, read_directives};
-use crate::fields::{date, has_field};
+use crate::fields::date;
 use crate::kind::Kind;
 use headers::HeaderMap;
 use headers_dates::Timestamp;
+use headers_fields::has_line;
 use http::StatusCode;
 use http_header::{DATE, EXPIRES, LAST_MODIFIED};
 
@@ -91,7 +92,7 @@ fn lifetime_by_expires(response: &HeaderMap, received: u64) -> Option<u64>
         (λ seconds. IsPresent (codes "expires") (lines_at response.now)
         × ExpiresAfter received (lines_at response.now) seconds) }
 {
-    if !has_field(response, EXPIRES) {
+    if !has_line(&response.get_all(EXPIRES)) {
         return None;
     }
     match date(response, EXPIRES, received) {

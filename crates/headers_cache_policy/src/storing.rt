@@ -7,11 +7,11 @@ ghost use Rattle.headers_cache_policy.specs.Storing.{MayStore};
 ghost use Rattle.headers_cache_policy.specs.Requests.{request_of};
 
 use crate::directives::{Directives, read_directives};
-use crate::fields::has_field;
 use crate::freshness::is_heuristic;
 use crate::kind::Kind;
 use crate::request::{RequestHead, is_get_or_head};
 use headers::HeaderMap;
+use headers_fields::has_line;
 use http::StatusCode;
 use http_header::{AUTHORIZATION, EXPIRES};
 
@@ -63,7 +63,7 @@ fn is_shareable(request: &HeaderMap, tells: &Directives, kind: Kind) -> bool
     match kind {
         Kind::Shared => {
             !tells.private
-                && (!has_field(request, AUTHORIZATION)
+                && (!has_line(&request.get_all(AUTHORIZATION))
                     || tells.must_revalidate
                     || tells.public
                     || tells.s_max_age.is_some())
@@ -79,7 +79,7 @@ fn is_suited(status: StatusCode, response: &HeaderMap, tells: &Directives, kind:
 {
     tells.public
         || (tells.private && kind == Kind::Private)
-        || has_field(response, EXPIRES)
+        || has_line(&response.get_all(EXPIRES))
         || tells.max_age.is_some()
         || (tells.s_max_age.is_some() && kind == Kind::Shared)
         || is_heuristic(status)

@@ -1,19 +1,18 @@
 //! Which stored response a 304 updates.
-ghost use Rattle.std.specs.Prelude.{◌≡◌, ◌≢◌, All, true, codes};
+ghost use Rattle.std.specs.Prelude.{◌≡◌, ◌≢◌, codes};
 ghost use Rattle.std.specs.Bool.{MatchBool};
 ghost use Rattle.headers.specs.LineMap.{lines_at};
-ghost use Rattle.headers_fields.specs.Members.{field_members, member_of};
-ghost use Rattle.headers_cache_policy.specs.Updating.{HasSameDate, HasSameTag, HasStrongTag, HasValidator, IsOption};
-ghost use Rattle.headers_cache_policy.specs.Updating.{IsTagOf};
-ghost use Rattle.headers_cache_policy.specs.Updating.{IsUpdated, is_weak, opaque_of};
+ghost use Rattle.headers_cache_policy.specs.Updating.{HasOptions, HasSameDate, HasSameTag, HasStrongTag, HasValidator};
+ghost use Rattle.headers_cache_policy.specs.Updating.{IsTagOf, IsUpdated, is_weak, opaque_of};
 
-use crate::fields::{has_field, have_same_lines, only_line};
+use crate::fields::have_same_lines;
 use headers::HeaderMap;
-use headers_fields::{FieldMembers, Malformed};
-use http_header::{CONNECTION, ETAG, LAST_MODIFIED, is_token};
+use headers_fields::{are_tokens, has_line, only_value};
+use http_header::{CONNECTION, ETAG, LAST_MODIFIED};
 
-// Whether the 304 is about the stored response.
-pub(crate) fn is_updated(stored: &HeaderMap, update: &HeaderMap) -> bool
+/// Whether a 304 is about a stored response (RFC 9111, section 4.3.4): it has validators of that
+/// response, or neither has one.
+pub fn is_updated(stored: &HeaderMap, update: &HeaderMap) -> bool
     ensures { MatchBool result (IsUpdated (lines_at stored.now) (lines_at update.now))
         (¬ (IsUpdated (lines_at stored.now) (lines_at update.now))) }
 {
@@ -23,11 +22,11 @@ pub(crate) fn is_updated(stored: &HeaderMap, update: &HeaderMap) -> bool
         && has_options(update)
 }
 
-// Whether the message has a validator, valid or not.
-fn has_validator(message: &HeaderMap) -> bool
+/// Whether a message has a validator, valid or not (RFC 9110, section 8.8).
+pub fn has_validator(message: &HeaderMap) -> bool
     ensures { MatchBool result (HasValidator (lines_at message.now)) (¬ (HasValidator (lines_at message.now))) }
 {
-    has_field(message, ETAG) || has_field(message, LAST_MODIFIED)
+    has_line(&message.get_all(ETAG)) || has_line(&message.get_all(LAST_MODIFIED))
 }
 
 // Whether the entity tag of the 304, if it has one, is that of the stored response.
@@ -35,10 +34,13 @@ fn has_same_tag(stored: &HeaderMap, update: &HeaderMap) -> bool
     ensures { MatchBool result (HasSameTag (lines_at stored.now) (lines_at update.now))
         (¬ (HasSameTag (lines_at stored.now) (lines_at update.now))) }
 {
-    if !has_field(update, ETAG) {
+    if !has_line(&update.get_all(ETAG)) {
         return true;
     }
-    match (only_line(stored, ETAG), only_line(update, ETAG)) {
+    match (
+        only_value(&stored.get_all(ETAG)),
+        only_value(&update.get_all(ETAG)),
+    ) {
         (Some(own), Some(tag)) => is_tag_of(own.as_bytes(), tag.as_bytes()),
         _ => false,
     }
@@ -49,7 +51,7 @@ fn has_same_date(stored: &HeaderMap, update: &HeaderMap) -> bool
     ensures { MatchBool result (HasSameDate (lines_at stored.now) (lines_at update.now))
         (¬ (HasSameDate (lines_at stored.now) (lines_at update.now))) }
 {
-    if !has_field(update, LAST_MODIFIED) {
+    if !has_line(&update.get_all(LAST_MODIFIED)) {
         return true;
     }
     has_strong_tag(update) || have_same_dates(stored, update)
@@ -66,11 +68,11 @@ fn have_same_dates(stored: &HeaderMap, update: &HeaderMap) -> bool
     )
 }
 
-// Whether the 304 has one entity tag, which is strong.
-fn has_strong_tag(update: &HeaderMap) -> bool
+/// Whether a message has one entity tag, which is strong (RFC 9110, section 8.8.1).
+pub fn has_strong_tag(update: &HeaderMap) -> bool
     ensures { MatchBool result (HasStrongTag (lines_at update.now)) (¬ (HasStrongTag (lines_at update.now))) }
 {
-    match only_line(update, ETAG) {
+    match only_value(&update.get_all(ETAG)) {
         Some(tag) => !is_weak(tag.as_bytes()),
         None => false,
     }
@@ -98,22 +100,7 @@ fn is_tag_of(own: &[u8], tag: &[u8]) -> bool
 
 // Whether each member of Connection is an option.
 fn has_options(update: &HeaderMap) -> bool
-    ensures { MatchBool result (All IsOption (field_members true (lines_at update.now (codes "connection"))))
-        (¬ (All IsOption (field_members true (lines_at update.now (codes "connection"))))) }
+    ensures { MatchBool result (HasOptions (lines_at update.now)) (¬ (HasOptions (lines_at update.now))) }
 {
-    for member in FieldMembers::new(&update.get_all(CONNECTION)) {
-        if !is_option(member) {
-            return false;
-        }
-    }
-    true
-}
-
-fn is_option(member: Result<&[u8], Malformed>) -> bool
-    ensures { MatchBool result (IsOption (member_of member.entry)) (¬ (IsOption (member_of member.entry))) }
-{
-    match member {
-        Ok(text) => is_token(text),
-        Err(Malformed) => false,
-    }
+    are_tokens(&update.get_all(CONNECTION))
 }

@@ -5,12 +5,12 @@ ghost use Rattle.headers.specs.Lines.{lines_of};
 ghost use Rattle.headers_cache_policy.specs.Validating.{IsCanonical, date_lines, dated_line, sent_date};
 ghost use Rattle.headers_cache_policy.specs.Validating.{tag_lines, validation_fields};
 
-use crate::fields::only_line;
 use headers::{
     ETag, Encoded, Header, HeaderMap, HeaderValue, IfModifiedSince, Refused, canonical, encoding,
     trim,
 };
 use headers_dates::{Timestamp, read_date};
+use headers_fields::only_value;
 use http_header::{IF_MODIFIED_SINCE, IF_NONE_MATCH, LAST_MODIFIED};
 use std::alloc::{AllocError, Global};
 
@@ -66,7 +66,7 @@ fn dated_line(response: &HeaderMap, received: u64) -> Option<(&HeaderValue, Time
     ensures { option_map (λ dated. (dated.0.now.bytes, dated.1)) result
         ≡ dated_line received (lines_at response.now) }
 {
-    let line = only_line(response, LAST_MODIFIED)?;
+    let line = only_value(&response.get_all(LAST_MODIFIED))?;
     match read_date(trim(line.as_bytes()), received) {
         Some(date) => Some((line, date)),
         None => None,

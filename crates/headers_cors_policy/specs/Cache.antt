@@ -12,8 +12,7 @@ abbrev pub nominates : List Line → Line → Bool
 nominates varying name = list_any (is_same_token name) (field_members true varying)
 
 -- A response with these lines of Vary, chosen for one request, serves the other. A cache that takes a malformed Vary
--- for
--- a star serves fewer.
+-- for a star serves fewer.
 pub record Serves (varying : List Line) (first second : LineMap) : Type 0 where
   pub no_star : ¬ IsTrue (nominates varying (codes "*"))
   pub same : (name : Line) → IsTrue (nominates varying name) → first name ≡ second name

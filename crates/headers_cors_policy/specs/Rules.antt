@@ -1,6 +1,6 @@
 -- What rules allow, which rules make a policy, and which one.
 use Rattle.std.specs.Prelude.{◌≡◌, ◌≢◌, ◌⊎◌, ℕ, Bool, true, false, List, map, Option, Some, None, Contains, IsTrue, ⊤}
-use Rattle.std.specs.Prelude.{codes, decimal, min, option_map, IfSome}
+use Rattle.std.specs.Prelude.{codes, decimal, min, option_map, IfSome, IsSome}
 use Rattle.http_header.specs.Token.{lowercase}
 use Rattle.headers.specs.Lines.{Line}
 use Rattle.headers.specs.ListItem.{Reading, IsListOf, method_of, name_of}
@@ -104,9 +104,15 @@ abbrev pub Refuses : CorsRules → RulesError → Type 0
 Refuses rules Error.UnsentOrigin = HasUnsent rules
 Refuses rules error = RefusesReading rules (Some error)
 
--- What an error says. Memory runs out only once all is known but whether the listed origins are sent.
+-- something is written of the rules: a list, or the seconds; a star isn't
+abbrev pub IsWritten : CorsRules → Type 0
+IsWritten rules = ¬ (IsAny rules.origins) ⊎ ¬ (IsAny rules.methods) ⊎ ¬ (IsAnyName rules.names)
+    ⊎ ¬ (IsAny rules.exposed) ⊎ IsSome rules.max_age
+
+-- What an error says. Memory runs out only if something is written, and once all is known but whether the listed
+-- origins are sent.
 abbrev pub IsErrorOf : CorsRules → RulesError → Type 0
-IsErrorOf rules Error.Memory = IsReadable rules
+IsErrorOf rules Error.Memory = IsReadable rules × IsWritten rules
 IsErrorOf rules error = Refuses rules error
 
 -- a star for any value; else the values, joined by a comma and a space, which its items are

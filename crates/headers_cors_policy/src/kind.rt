@@ -2,10 +2,10 @@
 ghost use Rattle.std.specs.Prelude.{◌≡◌};
 ghost use Rattle.std.specs.Bool.{MatchBool};
 ghost use Rattle.headers.specs.LineMap.{lines_at};
-ghost use Rattle.headers.specs.Typed.{HasLine};
 ghost use Rattle.headers_cors_policy.specs.Kinds.{is_preflight, AsksLeave, IsKindOf};
 
-use headers::{HeaderMap, HeaderName};
+use headers::HeaderMap;
+use headers_fields::has_line;
 use http::Method;
 use http_header::{ACCESS_CONTROL_REQUEST_METHOD, ORIGIN};
 
@@ -35,7 +35,7 @@ impl CorsKind {
 pub(crate) fn kind_of(method: &Method, request: &HeaderMap) -> CorsKind
     ensures { IsKindOf method.now (lines_at request.now) result }
 {
-    if !has_line(request, ORIGIN) {
+    if !has_line(&request.get_all(ORIGIN)) {
         return CorsKind::NoOrigin;
     }
     if asks_leave(method, request) {
@@ -49,13 +49,5 @@ fn asks_leave(method: &Method, request: &HeaderMap) -> bool
     ensures { MatchBool result (AsksLeave method.now (lines_at request.now))
         (¬ (AsksLeave method.now (lines_at request.now))) }
 {
-    *method == Method::OPTIONS && has_line(request, ACCESS_CONTROL_REQUEST_METHOD)
-}
-
-// Whether the map has a line under the name.
-fn has_line(map: &HeaderMap, name: HeaderName) -> bool
-    ensures { MatchBool result (HasLine (lines_at map.now name)) (¬ (HasLine (lines_at map.now name))) }
-{
-    let lines = map.get_all(name);
-    lines.iter().next().is_some()
+    *method == Method::OPTIONS && has_line(&request.get_all(ACCESS_CONTROL_REQUEST_METHOD))
 }

@@ -6,6 +6,7 @@ ghost use Rattle.headers_cors_policy.specs.Fields.{grant};
 
 use crate::listed::is_listed;
 use headers::{HeaderMap, HeaderValue};
+use headers_fields::only_value;
 use http_header::ORIGIN;
 use std::alloc::AllocError;
 
@@ -21,24 +22,12 @@ pub(crate) fn granted(
     let Some(listed) = origins else {
         return Ok(Some(HeaderValue::from_static("*")));
     };
-    let Some(line) = sole_origin(request) else {
+    let Some(line) = only_value(&request.get_all(ORIGIN)) else {
         return Ok(None);
     };
     if is_listed(listed, line) {
         Ok(Some(line.clone()?))
     } else {
         Ok(None)
-    }
-}
-
-// The request's line of `Origin`, if it has exactly one.
-fn sole_origin(request: &HeaderMap) -> Option<&HeaderValue>
-    ensures { option_map (λ value. value.now.bytes) result ≡ only_line (lines_at request.now (codes "origin")) }
-{
-    let mut lines = request.get_all(ORIGIN).iter();
-    let first = lines.next()?;
-    match lines.next() {
-        Some(_) => None,
-        None => Some(first),
     }
 }

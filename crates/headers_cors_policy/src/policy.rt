@@ -4,7 +4,7 @@ ghost use Rattle.headers.specs.LineMap.{field_of, fields_of, lines_at};
 ghost use Rattle.headers_cors_policy.specs.Answer.{allows, IsAnswer};
 ghost use Rattle.headers_cors_policy.specs.Fields.{filled_line, granted, grant_fields, lines_if, vary_sent};
 ghost use Rattle.headers_cors_policy.specs.Policy.{Policy};
-ghost use Rattle.headers_cors_policy.specs.Rules.{HasUnsent, IsErrorOf, IsLawful, IsPolicyOf, texts};
+ghost use Rattle.headers_cors_policy.specs.Rules.{HasUnsent, IsErrorOf, IsLawful, IsPolicyOf, IsWritten, texts};
 ghost use Rattle.headers_cors_policy.specs.SentOrigins.{are_sent};
 
 use crate::error::RulesError;
@@ -60,7 +60,8 @@ impl Model for CorsPolicy {
 impl CorsPolicy {
     /// The policy of these rules. What no browser would read as it is meant is rejected: any origin,
     /// method or name with credentials, and a listed method or name `*`; and so is a listed origin that
-    /// no browser sends. It is out of memory only for rules of which the first two don't hold.
+    /// no browser sends. It is out of memory only for rules of which the first two don't hold, and that
+    /// list something or have a `max_age`.
     pub fn new(alloc: Global, rules: CorsRules) -> Result<CorsPolicy, RulesError>
         ensures ok { IfOk result (λ policy. IsLawful rules × IsPolicyOf rules policy) }
         ensures err { IfErr result (IsErrorOf rules) }
@@ -205,7 +206,7 @@ impl CorsPolicy {
 // The policy that the rules write, if browsers send each of the listed origins.
 fn written_of(alloc: Global, rules: CorsRules) -> Result<CorsPolicy, RulesError>
     ensures ok { IfOk result (λ policy. (are_sent (texts rules.origins) ≡ true) × IsPolicyOf rules policy) }
-    ensures err { IfErr result (λ error. (error ≡ RulesError.Memory)
+    ensures err { IfErr result (λ error. ((error ≡ RulesError.Memory) × IsWritten rules)
         ⊎ ((error ≡ RulesError.UnsentOrigin) × HasUnsent rules)) }
 {
     let CorsRules {

@@ -1,8 +1,9 @@
 //! The lines that are written of rules.
-ghost use Rattle.std.specs.Prelude.{◌≡◌, ◌∷◌, [], decimal, length, map, IfOk, option_map};
+ghost use Rattle.std.specs.Prelude.{◌≡◌, ◌∷◌, [], decimal, length, map, IfErr, IfOk, IsSome, option_map};
 ghost use Rattle.headers.specs.Lines.{lines_of};
 ghost use Rattle.headers.specs.ListItem.{method_of, name_of, IsListOf};
 ghost use Rattle.headers.specs.Origin.{origin_text};
+ghost use Rattle.headers_cors_policy.specs.Allowed.{IsAny, IsAnyName};
 ghost use Rattle.headers_cors_policy.specs.Rules.{IsListLine, IsNamesLine, age_line, greatest_age, texts};
 
 use crate::rules::{Allowed, AllowedNames};
@@ -34,7 +35,8 @@ pub(crate) fn texts_of(
     alloc: Global,
     origins: &Allowed<Origin>,
 ) -> Result<Option<Vec<HeaderValue>>, AllocError>
-    ensures { IfOk result (λ found. option_map (λ listed. lines_of listed.items) found ≡ texts origins.now) }
+    ensures texts { IfOk result (λ found. option_map (λ listed. lines_of listed.items) found ≡ texts origins.now) }
+    ensures memory { IfErr result (λ _. ¬ (IsAny origins.now)) }
 {
     match origins {
         Allowed::Any => Ok(None),
@@ -57,7 +59,8 @@ pub(crate) fn line_of_methods(
     alloc: Global,
     methods: Allowed<Method>,
 ) -> Result<HeaderValue, AllocError>
-    ensures { IfOk result (λ line. IsListLine method_of methods line.bytes) }
+    ensures line { IfOk result (λ line. IsListLine method_of methods line.bytes) }
+    ensures memory { IfErr result (λ _. ¬ (IsAny methods)) }
 {
     match methods {
         Allowed::Any => Ok(HeaderValue::from_static("*")),
@@ -75,7 +78,8 @@ fn line_of_listed_methods(alloc: Global, methods: Vec<Method>) -> Result<HeaderV
 
 // A star, with `authorization` or without, or the names.
 pub(crate) fn line_of_names(alloc: Global, names: AllowedNames) -> Result<HeaderValue, AllocError>
-    ensures { IfOk result (λ line. IsNamesLine names line.bytes) }
+    ensures line { IfOk result (λ line. IsNamesLine names line.bytes) }
+    ensures memory { IfErr result (λ _. ¬ (IsAnyName names)) }
 {
     match names {
         AllowedNames::Any => Ok(HeaderValue::from_static("*")),
@@ -89,7 +93,8 @@ pub(crate) fn line_of_exposed(
     alloc: Global,
     names: Allowed<HeaderName>,
 ) -> Result<HeaderValue, AllocError>
-    ensures { IfOk result (λ line. IsListLine name_of names line.bytes) }
+    ensures line { IfOk result (λ line. IsListLine name_of names line.bytes) }
+    ensures memory { IfErr result (λ _. ¬ (IsAny names)) }
 {
     match names {
         Allowed::Any => Ok(HeaderValue::from_static("*")),
@@ -109,7 +114,8 @@ pub(crate) fn line_of_age(
     alloc: Global,
     max_age: Option<u64>,
 ) -> Result<Option<HeaderValue>, AllocError>
-    ensures { IfOk result (λ line. option_map (λ value. value.bytes) line ≡ option_map age_line max_age) }
+    ensures line { IfOk result (λ line. option_map (λ value. value.bytes) line ≡ option_map age_line max_age) }
+    ensures memory { IfErr result (λ _. IsSome max_age) }
 {
     match max_age {
         Some(seconds) => {

@@ -1,4 +1,5 @@
 mod CommentLemmas
+mod CutLemmas
 mod DirectiveInLemmas
 mod DirectiveLemmas
 mod FieldLemmas

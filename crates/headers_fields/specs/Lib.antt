@@ -1,5 +1,6 @@
 pub mod CommentScan
 pub mod Comments
+pub mod Cuts
 pub mod Directives
 pub mod Grammar
 pub mod Laws

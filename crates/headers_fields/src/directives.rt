@@ -2,8 +2,8 @@
 ghost use Rattle.std.specs.Prelude.{◌≡◌, ◌≤◌, length, MatchResult, Option, option_map};
 ghost use Rattle.std.specs.List.{prefix_len};
 ghost use Rattle.http_header.specs.Token.{is_token_byte};
-ghost use Rattle.headers_fields.specs.Directives.{DirectiveParts, IsArgument, IsDirective, directive_in, directive_parts};
-ghost use Rattle.headers_fields.specs.Directives.{is_named};
+ghost use Rattle.headers_fields.specs.Directives.{DirectiveParts, IsArgument, IsDirective, directive_in};
+ghost use Rattle.headers_fields.specs.Directives.{directive_parts, is_named};
 ghost use Rattle.headers_fields.specs.Values.{ValueParts, value_parts};
 
 use crate::error::Malformed;

@@ -1,9 +1,9 @@
 //! What all lines of a field say together.
-ghost use Rattle.std.specs.Prelude.{◌≡◌, true, MatchResult};
+ghost use Rattle.std.specs.Prelude.{◌≡◌, ◌<◌, [], length, true, MatchResult};
 ghost use Rattle.std.specs.Bool.{MatchBool};
 ghost use Rattle.std.specs.Option.{option_map};
 ghost use Rattle.std.specs.List.{list_all, list_any};
-ghost use Rattle.headers_syntax.specs.Lines.{lines_of};
+ghost use Rattle.headers_syntax.specs.Lines.{lines_of, only_line};
 ghost use Rattle.headers_fields.specs.Members.{field_members, member_of};
 ghost use Rattle.headers_fields.specs.Directives.{DirectiveParts, FindsDirective, HasOtherThanDirectives, IsClearOf};
 ghost use Rattle.headers_fields.specs.Directives.{IsMemberDirective, directive_parts, is_same_token, is_token_member};
@@ -14,6 +14,26 @@ use crate::error::Malformed;
 use crate::members::FieldMembers;
 use crate::values::is_token;
 use http_header::{GetAll, HeaderValue};
+
+/// Whether a field has a field line.
+pub fn has_line(field: &GetAll<'_, HeaderValue>) -> bool
+    ensures present { MatchBool result (0 < length (lines_of field.now)) (¬ (0 < length (lines_of field.now))) }
+    ensures lines { MatchBool result (0 < length (lines_of field.now)) (lines_of field.now ≡ []) }
+{
+    field.iter().next().is_some()
+}
+
+/// The value of a field's only field line. `None` if it has none or several.
+pub fn only_value<'a>(field: &GetAll<'a, HeaderValue>) -> Option<&'a HeaderValue>
+    ensures { option_map (λ value. value.now.bytes) result ≡ only_line (lines_of field.now) }
+{
+    let mut values = field.iter();
+    let only = values.next()?;
+    match values.next() {
+        None => Some(only),
+        Some(_) => None,
+    }
+}
 
 // The directive that a member is.
 fn member_directive(member: Result<&[u8], Malformed>) -> Result<Directive<'_>, Malformed>

@@ -6,6 +6,7 @@
 #![tactic(auto)]
 
 mod comments;
+mod cuts;
 mod directives;
 mod error;
 mod field;
@@ -18,9 +19,12 @@ mod values;
 mod weights;
 
 pub use crate::comments::skip_comment;
+pub use crate::cuts::cut;
 pub use crate::directives::{Directive, directive_in, read_directive};
 pub use crate::error::Malformed;
-pub use crate::field::{are_tokens, contains_token, find_directive, is_clear_of};
+pub use crate::field::{
+    are_tokens, contains_token, find_directive, has_line, is_clear_of, only_value,
+};
 pub use crate::members::{FieldMembers, Members, is_well_formed};
 pub use crate::numbers::{delta_seconds, number};
 pub use crate::parameters::Parameterized;

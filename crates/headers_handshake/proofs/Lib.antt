@@ -1,5 +1,4 @@
 pub mod ClientLemmas
-pub mod CutLemmas
 pub mod ExtensionLemmas
 pub mod FieldLemmas
 pub mod HandshakeLemmas

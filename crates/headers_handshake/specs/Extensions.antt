@@ -5,13 +5,14 @@ use Rattle.std.specs.List.{list_all, list_any, slice_split}
 use Rattle.headers.specs.LineMap.{LineMap}
 use Rattle.headers.specs.Lines.{Line}
 use Rattle.headers.specs.Text.{trim}
+use Rattle.headers_fields.specs.Cuts.{cut}
 use Rattle.headers_fields.specs.Directives.{equals}
 use Rattle.headers_fields.specs.Grammar.{semicolon}
 use Rattle.headers_fields.specs.Members.{field_members}
 use Rattle.headers_fields.specs.Scan.{Member}
 use Rattle.headers_fields.specs.Scan.Member.{Whole, Malformed}
 use Rattle.headers_fields.specs.Values.{IsValue, ValueParts, is_token, octets_of}
-use Rattle.headers_handshake.specs.Fields.{AbsentOr, HasMember, cut}
+use Rattle.headers_handshake.specs.Fields.{AbsentOr, HasMember}
 
 -- ( token / quoted-string ), which means a token
 pub record MeansToken (text : List ℕ) : Type 0 where

@@ -1,19 +1,16 @@
 -- What both ends ask of the fields of a handshake (RFC 6455, sections 4.1 and 4.2). All field lines of a list field are
 -- one list (RFC 9110, section 5.3).
-use Rattle.std.specs.Prelude.{◌≡◌, ◌⊎◌, ◌<◌, ◌+◌, ◌==◌, ℕ, Bool, true, false, ◌&&◌, List, [], codes, length, take, drop}
-use Rattle.std.specs.Prelude.{IsTrue, Option, Some, None, option_map}
-use Rattle.std.specs.List.{list_all, list_any, position}
+use Rattle.std.specs.Prelude.{◌≡◌, ◌⊎◌, ◌<◌, ℕ, Bool, true, false, ◌&&◌, List, [], codes, length}
+use Rattle.std.specs.Prelude.{IsTrue, Option, Some, None}
+use Rattle.std.specs.List.{list_all, list_any}
 use Rattle.headers.specs.LineMap.{LineMap}
 use Rattle.headers.specs.Lines.{Line}
+use Rattle.headers_fields.specs.Cuts.{cut}
 use Rattle.headers_fields.specs.Directives.{is_same_token, is_token_member}
 use Rattle.headers_fields.specs.Members.{field_members}
 use Rattle.headers_fields.specs.Scan.{Member}
 use Rattle.headers_fields.specs.Scan.Member.{Whole, Malformed}
 use Rattle.headers_fields.specs.Values.{is_token}
-
--- what is before the first such byte of a text, and behind it, if there is one
-abbrev pub cut : ℕ → List ℕ → Option (List ℕ × List ℕ)
-cut c text = option_map (λ k. (take k text, drop (k + 1) text)) (position (λ b. b == c) text)
 
 -- b'/'
 abbrev pub slash : ℕ

@@ -8,11 +8,11 @@ ghost use Rattle.headers_handshake.specs.Messages.{request_fields};
 
 use crate::extensions::{has_extensions, uses_asked_extensions};
 use crate::fields::{
-    absent, connection_field, field, lists_upgrade, only_value, upgrade_field, value_of,
-    version_field,
+    absent, connection_field, field, lists_upgrade, upgrade_field, value_of, version_field,
 };
 use crate::protocols::uses_asked_protocol;
 use headers::{Encoded, HeaderMap, HeaderValue};
+use headers_fields::only_value;
 use http::StatusCode;
 use http_header::{
     SEC_WEBSOCKET_ACCEPT, SEC_WEBSOCKET_EXTENSIONS, SEC_WEBSOCKET_KEY, SEC_WEBSOCKET_PROTOCOL,
@@ -116,7 +116,7 @@ pub fn check(sent: &HeaderMap, status: StatusCode, response: &HeaderMap) -> Chec
 fn names_websocket(response: &HeaderMap) -> bool
     ensures { MatchBool result (NamesWebsocket (lines_at response.now)) (¬ (NamesWebsocket (lines_at response.now))) }
 {
-    match only_value(response, &UPGRADE) {
+    match only_value(&response.get_all(UPGRADE)) {
         Some(value) => value
             .as_bytes()
             .eq_ignore_ascii_case(b"websocket".as_slice()),
@@ -129,8 +129,8 @@ fn accepts_key(sent: &HeaderMap, response: &HeaderMap) -> bool
     ensures { MatchBool result (AcceptsKey (lines_at sent.now) (lines_at response.now))
         (¬ (AcceptsKey (lines_at sent.now) (lines_at response.now))) }
 {
-    let key = only_value(sent, &SEC_WEBSOCKET_KEY);
-    let accept = only_value(response, &SEC_WEBSOCKET_ACCEPT);
+    let key = only_value(&sent.get_all(SEC_WEBSOCKET_KEY));
+    let accept = only_value(&response.get_all(SEC_WEBSOCKET_ACCEPT));
     match (key, accept) {
         (Some(key), Some(accept)) => accept.as_bytes()
             == derive_accept_key(key.as_bytes()).as_slice(),

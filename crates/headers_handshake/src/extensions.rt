@@ -9,9 +9,9 @@ ghost use Rattle.headers_handshake.specs.Extensions.{HasExtensions, IsExtension,
 ghost use Rattle.headers_handshake.specs.Extensions.{IsParameter, MeansToken, UsesAskedExtensions, UsesListed};
 ghost use Rattle.headers_handshake.specs.Extensions.{AreParameters, extension_name, is_among, is_named};
 
-use crate::fields::{cut, has_line, has_member};
+use crate::fields::has_member;
 use headers::{HeaderMap, HeaderValue, trim};
-use headers_fields::{FieldMembers, Malformed, Value, is_token, read_value};
+use headers_fields::{FieldMembers, Malformed, Value, cut, has_line, is_token, read_value};
 use http_header::{GetAll, SEC_WEBSOCKET_EXTENSIONS, is_token_char};
 
 // Whether a value means a token.
@@ -75,7 +75,7 @@ fn is_extension_list(field: &GetAll<'_, HeaderValue>) -> bool
 pub(crate) fn has_extensions(map: &HeaderMap) -> bool
     ensures { MatchBool result (HasExtensions (lines_at map.now)) (¬ (HasExtensions (lines_at map.now))) }
 {
-    !has_line(map, &SEC_WEBSOCKET_EXTENSIONS)
+    !has_line(&map.get_all(SEC_WEBSOCKET_EXTENSIONS))
         || is_extension_list(&map.get_all(SEC_WEBSOCKET_EXTENSIONS))
 }
 
@@ -124,7 +124,7 @@ pub(crate) fn uses_asked_extensions(sent: &HeaderMap, response: &HeaderMap) -> b
     ensures { MatchBool result (UsesAskedExtensions (lines_at sent.now) (lines_at response.now))
         (¬ (UsesAskedExtensions (lines_at sent.now) (lines_at response.now))) }
 {
-    !has_line(response, &SEC_WEBSOCKET_EXTENSIONS)
+    !has_line(&response.get_all(SEC_WEBSOCKET_EXTENSIONS))
         || uses_listed(
             &sent.get_all(SEC_WEBSOCKET_EXTENSIONS),
             &response.get_all(SEC_WEBSOCKET_EXTENSIONS),

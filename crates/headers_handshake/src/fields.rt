@@ -1,51 +1,20 @@
 //! Fields that both ends look at and set.
-ghost use Rattle.std.specs.Prelude.{◌≡◌, ◌∷◌, [], IfOk, codes, option_map, true};
+ghost use Rattle.std.specs.Prelude.{◌≡◌, ◌∷◌, [], IfOk, codes, true};
 ghost use Rattle.std.specs.Bool.{MatchBool};
 ghost use Rattle.std.specs.List.{list_all};
 ghost use Rattle.http_header.specs.FieldValue.{plain_value};
 ghost use Rattle.headers.specs.LineMap.{field_of, lines_at};
-ghost use Rattle.headers.specs.Lines.{lines_of, only_line};
-ghost use Rattle.headers.specs.Typed.{HasLine};
+ghost use Rattle.headers.specs.Lines.{lines_of};
 ghost use Rattle.headers_fields.specs.Members.{field_members, member_of};
-ghost use Rattle.headers_handshake.specs.Fields.{HasMember, ListsUpgrade, ListsWebsocket, cut, is_protocol};
+ghost use Rattle.headers_handshake.specs.Fields.{HasMember, ListsUpgrade, ListsWebsocket, is_protocol};
 ghost use Rattle.headers_handshake.specs.Messages.{version_field};
 
 use headers::{
     Connection, Encoded, HeaderMap, HeaderName, HeaderValue, SecWebsocketVersion, Upgrade, encoding,
 };
-use headers_fields::{FieldMembers, Malformed, are_tokens, contains_token, is_token};
+use headers_fields::{FieldMembers, Malformed, are_tokens, contains_token, cut, is_token};
 use http_header::{CONNECTION, GetAll, UPGRADE};
-use memchr::memchr;
 use std::alloc::{AllocError, Global};
-
-// The value under the name, if there is exactly one.
-pub(crate) fn only_value<'a>(map: &'a HeaderMap, name: &HeaderName) -> Option<&'a HeaderValue>
-    ensures { option_map (λ value. value.now.bytes) result ≡ only_line (lines_at map.now name.now) }
-{
-    let mut values = map.get_all(name).iter();
-    let only = values.next()?;
-    match values.next() {
-        None => Some(only),
-        Some(_) => None,
-    }
-}
-
-// Whether there is a field line under the name.
-pub(crate) fn has_line(map: &HeaderMap, name: &HeaderName) -> bool
-    ensures { MatchBool result (HasLine (lines_at map.now name.now)) (lines_at map.now name.now ≡ []) }
-{
-    map.get_all(name).iter().next().is_some()
-}
-
-// What is before the first such byte of a text, and behind it, if there is one.
-pub(crate) fn cut(at: u8, text: &[u8]) -> Option<(&[u8], &[u8])>
-    ensures { option_map (λ sides. (sides.0.now, sides.1.now)) result ≡ cut at text.now }
-{
-    match memchr(at, text) {
-        Some(place) => Some((&text[..place], &text[place + 1..])),
-        None => None,
-    }
-}
 
 fn is_protocol(member: Result<&[u8], Malformed>) -> bool
     ensures { result ≡ is_protocol (member_of member.entry) }

@@ -4,8 +4,8 @@ ghost use Rattle.std.specs.Bool.{MatchBool};
 ghost use Rattle.headers.specs.LineMap.{lines_at};
 ghost use Rattle.headers_handshake.specs.Origins.{AllowsOrigin, NamesListed, lists_origin};
 
-use crate::fields::{has_line, only_value};
 use headers::{HeaderMap, HeaderValue};
+use headers_fields::{has_line, only_value};
 use http_header::ORIGIN;
 
 /// The origins from which a server takes handshakes (RFC 6455, section 10.2).
@@ -37,7 +37,7 @@ fn names_listed(origins: &[HeaderValue], request: &HeaderMap) -> bool
     ensures { MatchBool result (NamesListed origins.now (lines_at request.now))
         (¬ (NamesListed origins.now (lines_at request.now))) }
 {
-    match only_value(request, &ORIGIN) {
+    match only_value(&request.get_all(ORIGIN)) {
         Some(origin) => lists_origin(origins, origin.as_bytes()),
         None => false,
     }
@@ -50,6 +50,7 @@ pub(crate) fn allows_origin(origins: &Origins, request: &HeaderMap) -> bool
 {
     match origins {
         Origins::Any => true,
-        Origins::Listed(origins) => !has_line(request, &ORIGIN) || names_listed(origins, request),
+        Origins::Listed(origins) => !has_line(&request.get_all(ORIGIN))
+            || names_listed(origins, request),
     }
 }

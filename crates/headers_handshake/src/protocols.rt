@@ -7,9 +7,9 @@ ghost use Rattle.headers_fields.specs.Members.{member_of};
 ghost use Rattle.headers_handshake.specs.Protocols.{AsksFor, IsTokenList, OffersProtocols, UsesAskedProtocol, is_text};
 ghost use Rattle.headers_handshake.specs.Protocols.{lists_protocol, taken};
 
-use crate::fields::{has_line, has_member, only_value};
+use crate::fields::has_member;
 use headers::{HeaderMap, HeaderValue};
-use headers_fields::{FieldMembers, Malformed, are_tokens};
+use headers_fields::{FieldMembers, Malformed, are_tokens, has_line, only_value};
 use http_header::{GetAll, SEC_WEBSOCKET_PROTOCOL};
 
 // Whether a list field has a member, and tokens alone.
@@ -39,7 +39,7 @@ fn lists_protocol(map: &HeaderMap, protocol: &[u8]) -> bool
 pub(crate) fn offers_protocols(request: &HeaderMap) -> bool
     ensures { MatchBool result (OffersProtocols (lines_at request.now)) (¬ (OffersProtocols (lines_at request.now))) }
 {
-    !has_line(request, &SEC_WEBSOCKET_PROTOCOL)
+    !has_line(&request.get_all(SEC_WEBSOCKET_PROTOCOL))
         || is_token_list(&request.get_all(SEC_WEBSOCKET_PROTOCOL))
 }
 
@@ -64,10 +64,10 @@ pub(crate) fn uses_asked_protocol(sent: &HeaderMap, response: &HeaderMap) -> boo
     ensures { MatchBool result (UsesAskedProtocol (lines_at sent.now) (lines_at response.now))
         (¬ (UsesAskedProtocol (lines_at sent.now) (lines_at response.now))) }
 {
-    if !has_line(response, &SEC_WEBSOCKET_PROTOCOL) {
+    if !has_line(&response.get_all(SEC_WEBSOCKET_PROTOCOL)) {
         return true;
     }
-    match only_value(response, &SEC_WEBSOCKET_PROTOCOL) {
+    match only_value(&response.get_all(SEC_WEBSOCKET_PROTOCOL)) {
         Some(protocol) => asks_for(sent, protocol.as_bytes()),
         None => false,
     }

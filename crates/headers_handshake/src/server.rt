@@ -11,12 +11,13 @@ ghost use Rattle.headers_handshake.specs.declared.server.Answer.TheVariants.{Swi
 
 use crate::extensions::has_extensions;
 use crate::fields::{
-    absent, connection_field, field, has_line, lists_upgrade, lists_websocket, only_value,
-    upgrade_field, value_of, version_field,
+    absent, connection_field, field, lists_upgrade, lists_websocket, upgrade_field, value_of,
+    version_field,
 };
 use crate::origins::{Origins, allows_origin};
 use crate::protocols::{offers_protocols, taken};
 use headers::{Encoded, HeaderMap, HeaderValue};
+use headers_fields::{has_line, only_value};
 use http::{Method, StatusCode, Version};
 use http_header::{
     HOST, SEC_WEBSOCKET_ACCEPT, SEC_WEBSOCKET_EXTENSIONS, SEC_WEBSOCKET_KEY,
@@ -203,7 +204,7 @@ fn judge(
     if !is_http_11(version) {
         return Err(Refusal::Faulty(Fault::NotHttp11));
     }
-    if !has_line(request, &HOST) {
+    if !has_line(&request.get_all(HOST)) {
         return Err(Refusal::Faulty(Fault::NoHost));
     }
     if !lists_websocket(request) {
@@ -249,7 +250,7 @@ fn accept_for(request: &HeaderMap) -> Option<[u8; 28]>
         ((key : Line) → ¬ (HasKey (lines_at request.now) key))
         (λ accept. (key : Line) × HasKey (lines_at request.now) key × (accept ≡ accept_key_of key)) }
 {
-    let key = only_value(request, &SEC_WEBSOCKET_KEY)?;
+    let key = only_value(&request.get_all(SEC_WEBSOCKET_KEY))?;
     accept_key(key.as_bytes()).ok()
 }
 
@@ -257,7 +258,7 @@ fn accept_for(request: &HeaderMap) -> Option<[u8; 28]>
 fn is_version_13(request: &HeaderMap) -> bool
     ensures { MatchBool result (HasVersion13 (lines_at request.now)) (¬ (HasVersion13 (lines_at request.now))) }
 {
-    match only_value(request, &SEC_WEBSOCKET_VERSION) {
+    match only_value(&request.get_all(SEC_WEBSOCKET_VERSION)) {
         Some(value) => value.as_bytes() == b"13".as_slice(),
         None => false,
     }

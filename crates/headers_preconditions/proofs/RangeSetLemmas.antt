@@ -1,52 +1,27 @@
 -- Cuts, elements and parts of a range-set.
 use Rattle.std.proofs.Common.{◌≡◌, ℕ, ◌↔◌, Bool, true, false, not, ◌==◌, nat_lt, nat_le}
 use Rattle.std.proofs.Common.{List, [], ◌∷◌, length, Option, Some, None, MatchOption}
-use Rattle.std.proofs.Common.{refl, sym, ap, ◌∙◌, arith, inl, inr, ⊎_elim, All, Any, filter_map, position}
+use Rattle.std.proofs.Common.{sym, ap, ◌∙◌, arith, inl, inr, ⊎_elim, All, Any, filter_map}
 use Rattle.std.specs.Bool.{MatchBool}
 use Rattle.std.specs.Prelude.{is_some}
 use Rattle.std.specs.List.{cons_option, list_any, position_or_len, before_first, after_first}
 use Rattle.std.specs.Option.{option_and_then}
-use Rattle.std.proofs.lemmas.Bool.{cases_Bool, leb-true, leb-false, ltb-true, ltb-false, lt-ltb, le-ltb}
-use Rattle.std.proofs.lemmas.Bool.{false_from_ne_true}
+use Rattle.std.proofs.lemmas.Bool.{cases_Bool, leb-true, leb-false, ltb-true, ltb-false}
 use Rattle.std.proofs.lemmas.List.Elements.{All-nil, All-cons}
 use Rattle.std.proofs.lemmas.List.Splits.{slice_split_first, slice_split_none}
-use Rattle.std.proofs.lemmas.List.Sums.{prefix_len_is, fails_before_first}
-use Rattle.memchr.specs.Find.{IsFirstByte, NoneBefore, Nowhere, Passes, is_byte}
+use Rattle.std.proofs.lemmas.List.Sums.{fails_before_first}
+use Rattle.headers.proofs.RangeLemmas.{any_cases, any_here, any_later}
+use Rattle.headers_fields.specs.Cuts.{cut}
 use Rattle.headers_preconditions.specs.Parts.{Holds, IsPartOf}
-use Rattle.headers_preconditions.specs.RangeSets.{RangeSpec, cut, part_in, part_of, pieces, spec_of}
+use Rattle.headers_preconditions.specs.RangeSets.{RangeSpec, part_in, part_of, pieces, spec_of}
 use Rattle.headers_preconditions.specs.RangeSets.{Covers, selects_some}
 use Rattle.headers_preconditions.specs.RangeSets.RangeSpec.{Between, From, Suffix}
 use Rattle.headers_preconditions.specs.declared.part.Part.{Part}
-use Rattle.headers_preconditions.proofs.PartLemmas.{any_here, any_later, any_cases}
 
 -- ---- cuts
 
 abbrev is_at : ℕ → ℕ → Bool
 is_at c b = b == c
-
-place_at : (c : ℕ) (s : List ℕ) (k : ℕ) → NoneBefore (Passes (is_byte c) s) 0 (length s) k
-    → Passes (is_byte c) s k → position_or_len (is_at c) s ≡ k
-place_at c s k n h =
-    let l = n.high in
-    prefix_len_is (λ b. not (is_at c b)) s k 0 (omega (arith, l))
-    (λ j m. ap not (false_from_ne_true _ (n.before j (omega arith) m))) (λ m. ap not h)
-
-place_none : (c : ℕ) (s : List ℕ) → Nowhere (Passes (is_byte c) s) 0 (length s)
-    → position_or_len (is_at c) s ≡ length s
-place_none c s n =
-    prefix_len_is (λ b. not (is_at c b)) s (length s) 0 (omega arith)
-    (λ j m. ap not (false_from_ne_true _ (n j (omega arith) m))) (λ m. absurd (omega (arith, m)))
-
--- a search finds the place of the cut
-pub place_found : (c : ℕ) (s : List ℕ) (found : Option ℕ) → IsFirstByte (is_byte c) s found
-    → position (is_at c) s ≡ found
-place_found c s None h =
-    let e = place_none c s h in
-    rw e (rw (le-ltb (length s) (length s) (omega arith)) refl)
-place_found c s (Some k) h =
-    let n = h.0 in
-    let e = place_at c s k n h.1 in
-    rw e (rw (lt-ltb k (length s) n.high) refl)
 
 -- a piece before a comma, and what follows
 pub piece_next : (s x y : List ℕ) → Some (x, y) ≡ cut 44 s → pieces s ≡ x ∷ pieces y

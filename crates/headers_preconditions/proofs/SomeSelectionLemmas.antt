@@ -5,6 +5,7 @@ use Rattle.std.proofs.Common.{All, length, arith, inl, inr, filter_map, refl}
 use Rattle.std.specs.Prelude.{codes, if◌then◌else◌}
 use Rattle.std.proofs.lemmas.Bool.{both_ways, cases_Bool, cases_lt, leb-true, leb-false}
 use Rattle.std.proofs.lemmas.List.Elements.{All-cons, All-head, All-tail}
+use Rattle.headers.proofs.RangeLemmas.{any_cases, any_here, any_later}
 use Rattle.headers.specs.LineMap.{LineMap}
 use Rattle.headers_preconditions.specs.Limits.{are_too_many}
 use Rattle.headers_preconditions.specs.Merged.{merged}
@@ -15,10 +16,8 @@ use Rattle.headers_preconditions.specs.Selection.{set_asked}
 use Rattle.headers_preconditions.specs.declared.limits.RangeLimits.{RangeLimits}
 use Rattle.headers_preconditions.specs.declared.part.Part.{Part}
 use Rattle.headers_preconditions.specs.declared.resource.Validators.{Validators}
-use Rattle.headers_preconditions.proofs.PartLemmas.{HeldBy, Rises, any_cases, any_here, any_later, held_joins}
-use Rattle.headers_preconditions.proofs.PartLemmas.{joined_held}
-use Rattle.headers_preconditions.proofs.PartLemmas.{IsJoined-same, joined_weaker, merged_apart, merged_holds}
-use Rattle.headers_preconditions.proofs.PartLemmas.{merged_within}
+use Rattle.headers_preconditions.proofs.PartLemmas.{HeldBy, IsJoined-same, Rises, held_joins, joined_held}
+use Rattle.headers_preconditions.proofs.PartLemmas.{joined_weaker, merged_apart, merged_holds, merged_within}
 use Rattle.headers_preconditions.proofs.PartLemmas.{none_apart}
 use Rattle.headers_preconditions.proofs.PreconditionLemmas.{same_or_not}
 use Rattle.headers_preconditions.proofs.RangeSetLemmas.{parts_cover, parts_within}

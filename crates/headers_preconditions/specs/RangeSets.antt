@@ -1,13 +1,14 @@
 -- What a range-set asks for, in bytes (RFC 9110, sections 14.1.1 and 14.1.2).
 use Rattle.std.specs.Prelude.{ℕ, ◌+◌, ◌-◌, ◌^◌, ◌<◌, ◌≤◌, Bool, ◌&&◌, ◌==◌, nat_lt, nat_le, min, List, [], ◌∷◌}
 use Rattle.std.specs.Prelude.{length}
-use Rattle.std.specs.Prelude.{Option, Some, None, option_map, take, drop, if◌then◌else◌, is_some}
+use Rattle.std.specs.Prelude.{Option, Some, None, if◌then◌else◌, is_some}
 use Rattle.std.specs.Char.{is_ascii_digit}
-use Rattle.std.specs.List.{list_all, filter_map, position, slice_split}
+use Rattle.std.specs.List.{list_all, filter_map, slice_split}
 use Rattle.std.specs.Option.{option_and_then}
 use Rattle.std.specs.Str.Parse.{digits_value}
 use denote.Ref.{Bor}
 use Rattle.headers.specs.Text.{trim}
+use Rattle.headers_fields.specs.Cuts.{cut}
 use Rattle.headers_preconditions.specs.declared.part.Part.{Part}
 
 -- b'-'
@@ -27,10 +28,6 @@ pub data RangeSpec : Type 0 where
   Between : ℕ → ℕ → RangeSpec
   From : ℕ → RangeSpec
   Suffix : ℕ → RangeSpec
-
--- what stands before the first such byte of a text, and after it, if there is one
-abbrev pub cut : ℕ → List ℕ → Option (List ℕ × List ℕ)
-cut c text = option_map (λ k. (take k text, drop (k + 1) text)) (position (λ b. b == c) text)
 
 -- The range-spec with these two sides of its dash. An int-range whose last position is less than its first is invalid.
 abbrev pub spec_between : List ℕ → List ℕ → Option RangeSpec

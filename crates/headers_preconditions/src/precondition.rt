@@ -3,7 +3,6 @@ ghost use Rattle.std.specs.Prelude.{◌≡◌, ◌⊎◌};
 ghost use Rattle.std.specs.Bool.{MatchBool};
 ghost use Rattle.headers.specs.LineMap.{lines_at};
 ghost use Rattle.headers.specs.Lines.{lines_of};
-ghost use Rattle.headers.specs.Typed.{HasLine};
 ghost use Rattle.headers_preconditions.specs.Conditions.{date_in, modified_of};
 ghost use Rattle.headers_preconditions.specs.Conditions.{ModifiedSinceIsFalse, ModifiedSinceLets};
 ghost use Rattle.headers_preconditions.specs.Conditions.{UnmodifiedSinceIsFalse, UnmodifiedSinceLets};
@@ -15,6 +14,7 @@ use crate::resource::Resource;
 use crate::tags::{Comparison, may_name, names, only_text};
 use headers::{HeaderMap, HeaderValue};
 use headers_dates::{Timestamp, read_date};
+use headers_fields::has_line;
 use http::Method;
 use http_header::{GetAll, IF_MATCH, IF_MODIFIED_SINCE, IF_NONE_MATCH, IF_UNMODIFIED_SINCE};
 
@@ -91,19 +91,13 @@ pub fn is_get_or_head(method: &Method) -> bool
     *method == Method::GET || *method == Method::HEAD
 }
 
-fn is_present(field: &GetAll<'_, HeaderValue>) -> bool
-    ensures { MatchBool result (HasLine (lines_of field.now)) (¬ (HasLine (lines_of field.now))) }
-{
-    field.iter().next().is_some()
-}
-
 // Steps 1 and 2: whether the state that the client knows is there.
 fn is_state_kept(request: &HeaderMap, resource: &Resource, present: u64) -> bool
     ensures { MatchBool result (StateIsKept present (lines_at request.now) resource.now)
         (StateIsLost present (lines_at request.now) resource.now) }
 {
     let field = request.get_all(IF_MATCH);
-    if is_present(&field) {
+    if has_line(&field) {
         return names(Comparison::Strong, &field, resource);
     }
     is_unmodified_since(request, resource, present)
@@ -116,7 +110,7 @@ fn is_stored(request: &HeaderMap, resource: &Resource, present: u64) -> bool
         (IsRead present (lines_at request.now) resource.now) }
 {
     let field = request.get_all(IF_NONE_MATCH);
-    if is_present(&field) {
+    if has_line(&field) {
         return names(Comparison::Weak, &field, resource);
     }
     !is_modified_since(request, resource, present)
@@ -128,7 +122,7 @@ fn may_be_there(request: &HeaderMap, resource: &Resource) -> bool
         (¬ (MayBeThere (lines_at request.now) resource.now)) }
 {
     let field = request.get_all(IF_NONE_MATCH);
-    is_present(&field) && may_name(Comparison::Weak, &field, resource)
+    has_line(&field) && may_name(Comparison::Weak, &field, resource)
 }
 
 // When the current representation was last modified.

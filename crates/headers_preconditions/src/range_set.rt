@@ -1,5 +1,5 @@
 //! The range-set of a Range, in bytes (RFC 9110, sections 14.1.1 and 14.1.2).
-ghost use Rattle.std.specs.Prelude.{◌≡◌, ℕ, true, IfOk, is_some, length, nat_le, nat_lt, option_map};
+ghost use Rattle.std.specs.Prelude.{◌≡◌, ℕ, true, IfOk, is_some, length, nat_le, nat_lt};
 ghost use Rattle.std.specs.Char.{is_ascii_digit};
 ghost use Rattle.std.specs.Iterator.{YieldsFirstBy};
 ghost use Rattle.std.specs.Bool.{MatchBool};
@@ -8,25 +8,15 @@ ghost use Rattle.headers_preconditions.specs.Selection.{IsAsked};
 ghost use Rattle.std.specs.Option.{option_and_then};
 ghost use Rattle.std.specs.Str.Parse.{digits_value};
 ghost use Rattle.headers_preconditions.specs.NumeralOrder.{is_below, is_ordered, without_zeros};
-ghost use Rattle.headers_preconditions.specs.RangeSets.{capped, cut, elements, is_numeral};
+ghost use Rattle.headers_preconditions.specs.RangeSets.{capped, elements, is_numeral};
 ghost use Rattle.headers_preconditions.specs.RangeSets.{is_range_set, is_range_spec, part_in, part_of, part_to};
 ghost use Rattle.headers_preconditions.specs.RangeSets.{pieces_left, selects_some, spec_between, Suffix};
 
 use crate::part::Part;
 use headers::trim;
-use memchr::memchr;
+use headers_fields::cut;
 use std::alloc::{AllocError, Global};
 use std::marker::Model;
-
-// What stands before the first such byte of a text, and after it, if there is one.
-fn cut(at: u8, text: &[u8]) -> Option<(&[u8], &[u8])>
-    ensures { option_map (λ sides. (sides.0.now, sides.1.now)) result ≡ cut at text.now }
-{
-    match memchr(at, text) {
-        Some(place) => Some((&text[..place], &text[place + 1..])),
-        None => None,
-    }
-}
 
 // The next piece between commas.
 fn next_piece<'a>(rest: &mut Option<&'a [u8]>) -> Option<&'a [u8]>

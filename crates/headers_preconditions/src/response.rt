@@ -9,6 +9,7 @@ use crate::content::Content;
 use crate::plan::{Plan, plan_answer};
 use crate::resource::Resource;
 use headers::{Encoded, HeaderMap};
+use headers_fields::has_line;
 use http::{Method, StatusCode};
 use http_header::IF_RANGE;
 use std::alloc::{AllocError, Global};
@@ -70,5 +71,5 @@ pub fn respond(
 pub fn is_known_by(request: &HeaderMap) -> bool
     ensures { result ≡ is_known_by (lines_at request.now) }
 {
-    request.get_all(IF_RANGE).iter().next().is_some()
+    has_line(&request.get_all(IF_RANGE))
 }

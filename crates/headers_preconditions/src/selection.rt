@@ -17,6 +17,7 @@ use crate::resource::Validators;
 use crate::tags::{Comparison, is_tag, is_tag_of, only_text};
 use headers::HeaderMap;
 use headers_dates::{Timestamp, read_date};
+use headers_fields::has_line;
 use http::Method;
 use http_header::{IF_RANGE, RANGE};
 use std::alloc::{AllocError, Global};
@@ -132,7 +133,7 @@ fn if_range_lets(request: &HeaderMap, current: &Validators, present: u64) -> boo
     ensures { result ≡ if_range_lets present (lines_at request.now) current.now }
 {
     let field = request.get_all(IF_RANGE);
-    if field.iter().next().is_none() {
+    if !has_line(&field) {
         return true;
     }
     match only_text(&field) {

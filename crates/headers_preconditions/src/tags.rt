@@ -10,7 +10,7 @@ ghost use Rattle.headers_preconditions.specs.declared.tags.Comparison.TheVariant
 use crate::resource::Resource;
 use headers::{ETag, HeaderValue, trim};
 use headers_conditional::tag_of;
-use headers_fields::{FieldMembers, Malformed};
+use headers_fields::{FieldMembers, Malformed, only_value};
 use headers_syntax::EntityTagRef;
 use http_header::GetAll;
 
@@ -21,18 +21,6 @@ pub(crate) enum Comparison {
     Strong,
     /// Equal opaque parts.
     Weak,
-}
-
-/// The only value of a field. `None` if it has none or several.
-pub(crate) fn only_value<'a>(field: &GetAll<'a, HeaderValue>) -> Option<&'a HeaderValue>
-    ensures { option_map (λ value. value.now.bytes) result ≡ only_line (lines_of field.now) }
-{
-    let mut values = field.iter();
-    let only = values.next()?;
-    match values.next() {
-        None => Some(only),
-        Some(_) => None,
-    }
 }
 
 /// The only value of a field, without the blanks at its ends.

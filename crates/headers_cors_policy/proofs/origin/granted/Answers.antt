@@ -12,16 +12,16 @@ returns-in_ok-clone c =
     rw (c.in_ok-clone.ensures.cases)
     (granted_by (option_map (λ listed. lines_of listed.items) c.args.origins.now)
     (only_line (lines_at c.args.request.now (codes "origin"))) c.in-Some.listed.items
-    c.in-Some-sole_origin.line.now.bytes true (search rules) (search rules)
+    c.in-Some-only_value.line.now.bytes true (search rules) (search rules)
     (subst (λ (values : List FieldValue).
-    true ≡ list_any (λ value. bytes_eq c.in-Some-sole_origin.line.now.bytes value.bytes) values)
+    true ≡ list_any (λ value. bytes_eq c.in-Some-only_value.line.now.bytes value.bytes) values)
     c.deref.ensures.value (sym c.if-is_listed.true ∙ c.is_listed.ensures)))
 
 pub returns-else-is_listed : goal.returns-else-is_listed
 returns-else-is_listed c =
     granted_by (option_map (λ listed. lines_of listed.items) c.args.origins.now)
     (only_line (lines_at c.args.request.now (codes "origin"))) c.in-Some.listed.items
-    c.in-Some-sole_origin.line.now.bytes false (search rules) (search rules)
+    c.in-Some-only_value.line.now.bytes false (search rules) (search rules)
     (subst (λ (values : List FieldValue).
-    false ≡ list_any (λ value. bytes_eq c.in-Some-sole_origin.line.now.bytes value.bytes) values)
+    false ≡ list_any (λ value. bytes_eq c.in-Some-only_value.line.now.bytes value.bytes) values)
     c.deref.ensures.value (sym c.if-is_listed.false ∙ c.is_listed.ensures))

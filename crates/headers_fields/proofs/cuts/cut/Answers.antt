@@ -1,7 +1,7 @@
 use Rattle.std.proofs.Common.{◌+◌, ◌-◌, List, ℕ, Some, None, ap, arith, drop, length, length-drop, refl, take}
 use Rattle.std.proofs.lemmas.List.{take_all}
-use Rattle.headers_preconditions.proofs.RangeSetLemmas.{place_found}
-use Rattle.headers_preconditions.proofs.range_set.cut.Goals as goal
+use Rattle.headers_fields.proofs.CutLemmas.{place_found}
+use Rattle.headers_fields.proofs.cuts.cut.Goals as goal
 
 pub returns-in-Some : goal.returns-in-Some
 returns-in-Some c =

@@ -1,0 +1,15 @@
+//! A text cut at a byte.
+ghost use Rattle.std.specs.Prelude.{◌≡◌, option_map};
+ghost use Rattle.headers_fields.specs.Cuts.{cut};
+
+use memchr::memchr;
+
+/// What stands before the first such byte of a text, and behind it, if there is one.
+pub fn cut(at: u8, text: &[u8]) -> Option<(&[u8], &[u8])>
+    ensures { option_map (λ sides. (sides.0.now, sides.1.now)) result ≡ cut at text.now }
+{
+    match memchr(at, text) {
+        Some(place) => Some((&text[..place], &text[place + 1..])),
+        None => None,
+    }
+}
