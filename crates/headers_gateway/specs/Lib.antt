@@ -5,6 +5,7 @@ pub mod Forwarding
 pub mod Framing
 pub mod HopByHop
 pub mod Hops
+pub mod HostTests
 pub mod Hosts
 pub mod Messages
 pub mod Outcomes

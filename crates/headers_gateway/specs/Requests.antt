@@ -8,7 +8,7 @@ use Rattle.headers_gateway.specs.Forwarding.{Forwards, Message}
 use Rattle.headers_gateway.specs.Framing.{RejectsFraming, States}
 use Rattle.headers_gateway.specs.HopByHop.{HasFairOptions, RejectsOptions}
 use Rattle.headers_gateway.specs.Hops.{HasHops, HasInvalidHops}
-use Rattle.headers_gateway.specs.Hosts.{is_host}
+use Rattle.headers_gateway.specs.HostTests.{is_host}
 use Rattle.headers_gateway.specs.Via.{is_loop}
 use Rattle.headers_gateway.specs.declared.framing.Framing.{Framing}
 use Rattle.headers_gateway.specs.declared.gateway.Gateway.{Gateway}

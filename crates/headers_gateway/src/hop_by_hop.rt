@@ -69,12 +69,10 @@ fn is_of_proxy(name: &str) -> bool
         || name == "proxy-authorization"
 }
 
-/// Whether the field is of one connection: for its name, or because a connection option names it.
-pub(crate) fn is_hop_by_hop(
-    consumes: bool,
-    connection: &GetAll<'_, HeaderValue>,
-    name: &str,
-) -> bool
+/// Whether a field of this name, in lower case, is of one connection (RFC 9110, section 7.6.1): for its
+/// name, or because a connection option names it. `consumes` says whether fields of a proxy are too
+/// (section 11.7).
+pub fn is_hop_by_hop(consumes: bool, connection: &GetAll<'_, HeaderValue>, name: &str) -> bool
     ensures { result ≡ is_hop_by_hop consumes (field_members true (lines_of connection.now)) name.now }
 {
     is_known(consumes, name) || is_named(connection, name)

@@ -1,5 +1,6 @@
 //! What follows from the definitions alone. A proof cites a law by calling it.
 ghost use Rattle.std.specs.Prelude.{◌≡◌, ◌≢◌, ◌≤◌, ◌++◌, ◌∷◌, [], ℕ, List, All, Option, Some, true, IsTrue, codes};
+ghost use Rattle.std.specs.Prelude.{◌↔◌};
 ghost use Rattle.std.specs.Prelude.{decimal, length};
 ghost use Rattle.http_header.specs.Token.{IsToken};
 ghost use Rattle.headers.specs.LineMap.{LineMap};
@@ -9,11 +10,12 @@ ghost use Rattle.headers_gateway.specs.FieldLines.{Field, fields_of, lines_under
 ghost use Rattle.headers_gateway.specs.Forwarding.{IsEndToEnd, IsHopByHop, own_names};
 ghost use Rattle.headers_gateway.specs.Framing.{States};
 ghost use Rattle.headers_gateway.specs.Hops.{counts_hops, hops_in};
+ghost use Rattle.headers_gateway.specs.Hosts.{HasHost};
 ghost use Rattle.headers_gateway.specs.Outcomes.{HasOneOutcome, HasOneResponseOutcome, HasOutcome, HasResponseOutcome};
 ghost use Rattle.headers_gateway.specs.Recipients.{CodingFirst, LengthFirst, ReadsDecimals, server};
 ghost use Rattle.headers_gateway.specs.Recipients.{Codings, KnowsPlain, Pick, Precedence, Recipient, Spelling};
 ghost use Rattle.headers_gateway.specs.Recipients.{framing_by};
-ghost use Rattle.headers_gateway.specs.Requests.{IsForGateway, IsForwarded, Rejects, Request};
+ghost use Rattle.headers_gateway.specs.Requests.{IsForGateway, IsForwarded, Rejects, Request, has_host};
 ghost use Rattle.headers_gateway.specs.Responses.{IsForwardedResponse, RejectsResponse, Response};
 ghost use Rattle.headers_gateway.specs.Trailers.{ForwardsTrailers, is_header_only};
 ghost use Rattle.headers_gateway.specs.Via.{is_loop};
@@ -189,4 +191,14 @@ pub fn gateways_in_a_row_are_one()
         → IsForwardedResponse second later next last
         → IsOneGateway first second response.protocol next.protocol response.fields
         (lines_under (fields_of last.fields.items)) }
+{}
+
+/// A request is rejected for its Host exactly if it has no Host by the grammar of RFC 3986: one field
+/// line that is a host and maybe a port, or none in HTTP/1.0 (RFC 9112, section 3.2).
+pub fn host_parses_by_the_grammar()
+    ensures accepted { (protocol : Protocol) (lines : List Line)
+        → (has_host protocol lines ≡ true) ↔ HasHost protocol lines }
+    ensures rejected { (gateway : Gateway) (request : Request)
+        → Rejects gateway request Rejection.InvalidHost
+        ↔ (HasHost request.protocol (request.fields (codes "host")) → ⊥) }
 {}

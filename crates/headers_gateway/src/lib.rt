@@ -26,6 +26,7 @@ pub use crate::expectation::{Expectation, expectation_of};
 pub use crate::field_line::FieldLine;
 pub use crate::framing::Framing;
 pub use crate::gateway::Gateway;
+pub use crate::hop_by_hop::is_hop_by_hop;
 pub use crate::host::has_host;
 pub use crate::protocol::Protocol;
 pub use crate::rejection::Rejection;

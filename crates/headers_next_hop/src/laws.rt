@@ -7,8 +7,7 @@ ghost use Rattle.headers_gateway.specs.Recipients.{KnowsPlain, Recipient, framin
 ghost use Rattle.headers_gateway.specs.Requests.{Request};
 ghost use Rattle.headers_gateway.specs.declared.gateway.Gateway.{Gateway};
 ghost use Rattle.headers_next_hop.specs.Replaced.{frame_nothing, has_field, replaced_by};
-ghost use Rattle.headers_next_hop.specs.Sent.{IsSent};
-ghost use Rattle.headers_next_hop.specs.declared.request.Hop.{Hop};
+ghost use Rattle.headers_next_hop.specs.Sent.{Hop, IsSent};
 ghost use Rattle.headers_next_hop.specs.declared.request.SentRequest.{SentRequest};
 
 use headers_gateway::laws::forwarded_request_is_framed_alike;

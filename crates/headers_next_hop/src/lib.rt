@@ -9,4 +9,4 @@ mod request;
 
 pub use crate::connection::NextConnection;
 pub use crate::replace::replace_fields;
-pub use crate::request::{Hop, HopOutcome, SentRequest, send_request};
+pub use crate::request::{HopOutcome, SentRequest, send_request};

@@ -1,8 +1,10 @@
 //! A request on the next connection.
 ghost use Rattle.std.specs.Prelude.{◌≡◌, ◌++◌, IfOk, OnErr, OnOk};
 ghost use Rattle.headers.specs.LineMap.{fields_of as encodings_of, lines_at};
+ghost use Rattle.headers_forwarded.specs.Arrivals.{arrival_parts};
 ghost use Rattle.headers_gateway.specs.Requests.{IsForwardable, request_of};
-ghost use Rattle.headers_next_hop.specs.Sent.{IsHopOutcome, hop_fields, lacks_length};
+ghost use Rattle.headers_next_hop.specs.Connections.{connection_parts};
+ghost use Rattle.headers_next_hop.specs.Sent.{IsHopOutcome, hop_fields, hop_of, lacks_length};
 
 use crate::connection::NextConnection;
 use crate::replace::replace_fields;
@@ -13,19 +15,6 @@ use headers_gateway::{
     expectation_of, forward_request,
 };
 use std::alloc::{AllocError, Global};
-
-/// What a gateway knows of the two connections of a request, and what it says on the next one.
-#[derive(Clone, Copy)]
-pub struct Hop<'a> {
-    /// The version of HTTP that the next server is known to speak.
-    pub server: Protocol,
-    /// What the gateway says about its connection to the server.
-    pub connection: NextConnection<'a>,
-    /// How the gateway tells who made the request.
-    pub forwarding: Forwarding,
-    /// How the request arrived.
-    pub arrival: Arrival<'a>,
-}
 
 /// A request as it is sent to the next server, without its content.
 #[derive(Debug, Drop)]
@@ -79,31 +68,39 @@ fn append(fields: &mut Vec<Encoded>, others: Vec<Encoded>) -> Result<(), AllocEr
 // The fields that the gateway writes for the next server.
 fn hop_fields(
     alloc: Global,
-    hop: &Hop<'_>,
+    connection: &NextConnection<'_>,
+    forwarding: Forwarding,
+    arrival: &Arrival<'_>,
     expectation: Expectation,
     received: &HeaderMap,
 ) -> Result<Vec<Encoded>, AllocError>
     ensures { IfOk result (λ fields. encodings_of fields.items
-        ≡ hop_fields hop.now expectation (lines_at received.now)) }
+        ≡ hop_fields (connection_parts connection.now) forwarding (arrival_parts arrival.now) expectation
+        (lines_at received.now)) }
 {
-    let mut fields = hop.connection.fields(alloc)?;
+    let mut fields = connection.fields(alloc)?;
     append(&mut fields, expectation.fields(alloc)?)?;
     append(
         &mut fields,
-        forwarding_fields(alloc, hop.forwarding, &hop.arrival, received)?,
+        forwarding_fields(alloc, forwarding, arrival, received)?,
     )?;
     Ok(fields)
 }
 
-/// What a gateway does with a request that it would send on this hop. Runs out of memory only if the
-/// request may be forwarded.
+/// What a gateway does with a request that it would send to a server known to speak this version of
+/// HTTP, with what it says about its connection to the server and about how the request arrived. Runs
+/// out of memory only if the request may be forwarded.
 pub fn send_request(
     alloc: Global,
     gateway: &Gateway,
-    hop: &Hop<'_>,
+    server: Protocol,
+    connection: &NextConnection<'_>,
+    forwarding: Forwarding,
+    arrival: &Arrival<'_>,
     request: &RequestHead<'_>,
 ) -> Result<HopOutcome, AllocError>
-    ensures ok { IfOk result (IsHopOutcome gateway.now hop.now (request_of request.now)) }
+    ensures ok { IfOk result
+        (IsHopOutcome gateway.now (hop_of server connection.now forwarding arrival.now) (request_of request.now)) }
     ensures err { OnErr result (IsForwardable gateway.now (request_of request.now)) }
 {
     let forwarded = match forward_request(alloc, gateway, request)? {
@@ -112,11 +109,18 @@ pub fn send_request(
         RequestOutcome::Reject(rejection) => return Ok(HopOutcome::Reject(rejection)),
     };
     let framing = forwarded.framing;
-    if lacks_length(framing, hop.server) {
+    if lacks_length(framing, server) {
         return Ok(HopOutcome::RequireLength);
     }
-    let expectation = expectation_of(request.protocol, hop.server, framing, request.fields);
-    let own = hop_fields(alloc, hop, expectation, request.fields)?;
+    let expectation = expectation_of(request.protocol, server, framing, request.fields);
+    let own = hop_fields(
+        alloc,
+        connection,
+        forwarding,
+        arrival,
+        expectation,
+        request.fields,
+    )?;
     Ok(HopOutcome::Send(SentRequest {
         framing,
         hops: forwarded.hops,

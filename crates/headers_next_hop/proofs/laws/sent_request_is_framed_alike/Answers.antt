@@ -6,14 +6,13 @@ use Rattle.headers_gateway.specs.declared.expectation.Expectation.{Expectation}
 use Rattle.headers_gateway.specs.declared.expectation.Expectation.TheVariants.{Absent, Forwarded, Answered}
 use Rattle.headers_gateway.specs.declared.framing.Framing.{Framing}
 use Rattle.headers_next_hop.specs.Replaced.{frame_nothing}
-use Rattle.headers_next_hop.specs.Sent.{hop_fields}
-use Rattle.headers_next_hop.specs.declared.request.Hop.{Hop}
+use Rattle.headers_next_hop.specs.Sent.{Hop, hop_fields}
 use Rattle.headers_next_hop.proofs.ReplacedLemmas.{replaced_framing}
 use Rattle.headers_next_hop.proofs.laws.sent_request_is_framed_alike.Goals as goal
 
 -- none of the fields for the next server frames the message
 frames_nothing : (hop : Hop) (expectation : Expectation) (received : LineMap)
-    → frame_nothing (hop_fields hop expectation received) ≡ true
+    → frame_nothing (hop_fields hop.connection hop.forwarding hop.arrival expectation received) ≡ true
 frames_nothing hop Absent received = refl
 frames_nothing hop Forwarded received = refl
 frames_nothing hop Answered received = refl
@@ -21,7 +20,8 @@ frames_nothing hop Answered received = refl
 pub returns : goal.returns
 returns c gateway hop request sent recipient p k =
     ap (λ (fields : List Field). framing_by recipient fields) p.fields
-    ∙ replaced_framing (hop_fields hop sent.expectation request.fields) (fields_of p.forwarded.fields.items) recipient
+    ∙ replaced_framing (hop_fields hop.connection hop.forwarding hop.arrival sent.expectation request.fields)
+    (fields_of p.forwarded.fields.items) recipient
     (frames_nothing hop sent.expectation request.fields) k
     ∙ c.forwarded_request_is_framed_alike.ensures gateway request p.forwarded recipient p.forwards k
     ∙ ap (λ (f : Framing). Some f) (sym p.framing)
