@@ -1,0 +1,4 @@
+pub mod Content
+pub mod Failures
+pub mod Heads
+pub mod Relay

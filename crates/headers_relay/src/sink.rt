@@ -1,0 +1,79 @@
+//! The side of a gateway that writes the content of a message.
+ghost use Rattle.std.specs.Prelude.{◌≡◌, ◌++◌, [], None, length, OnOk, OnErr};
+ghost use Rattle.http1.specs.Conn.{after_data, data_refusal, data_text, finish_refusal, finish_text};
+ghost use Rattle.http1.specs.Head.{pairs};
+ghost use Rattle.http1.specs.declared.conn.Writing.{Writing};
+ghost use Rattle.headers_relay.specs.Content.{Kept};
+
+use bytes::BytesMut;
+use http1::{Client, Header, Server, WriteError};
+
+/// A connection to which the content of a message is written: a client's for requests, a server's for
+/// responses. What is written is appended to a buffer.
+pub trait ContentSink {
+    // What is written next.
+    ghost writing: { Self → Writing };
+
+    // What it has beside that.
+    ghost kept: { Self → Kept };
+
+    /// Appends a piece of the content, in its frame.
+    fn write_piece(&mut self, output: &mut BytesMut, piece: &[u8]) -> Result<(), WriteError>
+        ensures ok { OnOk result (output.new.items ≡ output.old.items ++ data_text (writing self.old) piece.now) }
+        ensures counted { OnOk result (writing self.new ≡ after_data (writing self.old) (length piece.now)) }
+        ensures passed { OnOk result (data_refusal (writing self.old) (length piece.now) ≡ None) }
+        ensures kept { kept self.new ≡ kept self.old }
+        ensures err { OnErr result (output.new.items ≡ output.old.items) };
+
+    /// Appends the end of the content.
+    fn write_end(
+        &mut self,
+        output: &mut BytesMut,
+        trailers: &[Header<'_>],
+    ) -> Result<(), WriteError>
+        ensures ok { OnOk result
+            (output.new.items ≡ output.old.items ++ finish_text (writing self.old) (pairs trailers.now)) }
+        ensures passed { OnOk result (finish_refusal (writing self.old) (pairs trailers.now) ≡ None) }
+        ensures err { OnErr result (output.new.items ≡ output.old.items) };
+}
+
+impl ContentSink for Client {
+    ghost use Rattle.http1.specs.Client.{writing as written_by};
+
+    ghost writing = { written_by };
+
+    ghost kept = { λ client. record { limits = client.limits; reading = client.reading; method = client.method } };
+
+    fn write_piece(&mut self, output: &mut BytesMut, piece: &[u8]) -> Result<(), WriteError> {
+        self.write_data(output, piece)
+    }
+
+    fn write_end(
+        &mut self,
+        output: &mut BytesMut,
+        trailers: &[Header<'_>],
+    ) -> Result<(), WriteError> {
+        Client::write_end(self, output, trailers)
+    }
+}
+
+impl ContentSink for Server {
+    ghost use Rattle.http1.specs.Server.{writing as written_by};
+
+    ghost writing = { written_by };
+
+    ghost kept = { λ server.
+        record { limits = server.limits; reading = server.reading; method = server.request.method } };
+
+    fn write_piece(&mut self, output: &mut BytesMut, piece: &[u8]) -> Result<(), WriteError> {
+        self.write_data(output, piece)
+    }
+
+    fn write_end(
+        &mut self,
+        output: &mut BytesMut,
+        trailers: &[Header<'_>],
+    ) -> Result<(), WriteError> {
+        Server::write_end(self, output, trailers)
+    }
+}
