@@ -1,0 +1,592 @@
+-- What steps, reads and writes do to a connection.
+use Rattle.std.proofs.Common.{◌≡◌, ◌≢◌, ℕ, ◌==◌, Bool, true, false, List, [], ◌∷◌, ◌++◌, length, take, drop}
+use Rattle.std.proofs.Common.{if◌then◌else◌, Option, Some, None, Result, Ok, Err, OnOk, is_ok, refl, sym, ap, ◌∙◌}
+use Rattle.std.proofs.Common.{subst, append_assoc, append-nil, inl, inr}
+use Rattle.std.proofs.lemmas.Bool.{cond-false}
+use Rattle.std.proofs.lemmas.List.{take-append-drop}
+use Rattle.std.specs.declared.io.Error.{Error}
+use Rattle.std.specs.Io.KnownBytes.{Appends, Consumes, Keeps as StaysKnown}
+use Rattle.http.specs.Request.{head_of}
+use Rattle.http_server.specs.declared.state.Config.{Config}
+use Rattle.http_server.specs.declared.state.State.{State}
+use Rattle.http_server.specs.declared.state.State.TheVariants.{Open, Closing, Upgraded, Aborted}
+use Rattle.http_server.specs.declared.state.Reason.TheVariants.{Asked}
+use Rattle.http_server.specs.Exchange.{Call}
+use Rattle.http_server.specs.History.{IsServed, after_read, after_sent, new_history, output}
+use Rattle.http_server.specs.Machine.{Core, Holds}
+use Rattle.http_server.proofs.KnownLemmas.{Appends-then, Consumes-then}
+use Rattle.http_server.proofs.MachineLemmas.{served}
+use Rattle.http_server.proofs.TransferLemmas.{hands_out, receives, with_history}
+use Rattle.headers_exchange.specs.declared.machine.Machine.{Machine}
+use Rattle.headers_exchange.specs.declared.piece.Piece.{Piece}
+use Rattle.headers_exchange.specs.declared.plan.Plan.{Plan}
+use Rattle.headers_exchange.specs.Connection.{Exchanged, IsClosing, Turns, past_after}
+use Rattle.headers_exchange.specs.Machine.{Begins, CutsOff, Ends, HandsOut, HasAnswered, HasPlanned, IsSending}
+use Rattle.headers_exchange.specs.Machine.{Keeps, Leads, Past, PutsBytes, Runs, RunsAt, Sends, SendsOn, TakesIn}
+use Rattle.headers_exchange.specs.Machine.{core, head_now, history_of, view, with_calls}
+use Rattle.headers_exchange.specs.Pieces.{Gives}
+use Rattle.headers_exchange.specs.Plan.{Answers, Plans, sent_pieces}
+use Rattle.headers_exchange.proofs.SendLemmas.{Chain-push, answers, call, closes_after, cuts, hands_on, moves}
+use Rattle.headers_exchange.proofs.SendLemmas.{stays_open}
+
+-- ---- known bytes
+
+pub Consumes-none : (u v : Option (List ℕ)) → StaysKnown u v → Consumes u v []
+Consumes-none None v x = tt
+Consumes-none (Some xs) None x = absurd x
+Consumes-none (Some xs) (Some ys) x = sym x
+
+pub Appends-none : (u v : Option (List ℕ)) → StaysKnown u v → Appends u v []
+Appends-none None v x = tt
+Appends-none (Some xs) None x = absurd x
+Appends-none (Some xs) (Some ys) x = x ∙ sym (append-nil xs)
+
+pub stays_known : (u : Option (List ℕ)) → StaysKnown u u
+stays_known None = tt
+stays_known (Some xs) = refl
+
+-- ---- a step of sending
+
+view_moved : (p : Past) (old new : Machine) (bytes : List ℕ) (left : List Piece) → PutsBytes old bytes left new
+    → view new p ≡ record (view old p) {
+      history = record (history_of old p) { pending = old.output.items ++ bytes };
+      left = left;
+    }
+view_moved p old new bytes left x = λ i. record {
+  config = x.rest.config i;
+  history = record {
+    state = x.state i;
+    received = p.received;
+    ended = x.rest.ended i;
+    unread = x.rest.input i;
+    calls = p.calls;
+    sent = p.sent;
+    pending = x.output i;
+  };
+  server = x.rest.server i;
+  tail = x.rest.tail i;
+  left = x.left i;
+  has_head = x.rest.has_head i;
+  body = x.rest.body i;
+}
+
+view_cut : (p : Past) (old new : Machine) → CutsOff old new
+    → view new p ≡ record (view old p) {
+      history = record (history_of old p) { state = Aborted; pending = [] };
+      left = new.left.items;
+    }
+view_cut p old new x = λ i. record {
+  config = x.rest.config i;
+  history = record {
+    state = x.state i;
+    received = p.received;
+    ended = x.rest.ended i;
+    unread = x.rest.input i;
+    calls = p.calls;
+    sent = p.sent;
+    pending = x.output i;
+  };
+  server = x.rest.server i;
+  tail = x.rest.tail i;
+  left = new.left.items;
+  has_head = x.rest.has_head i;
+  body = x.rest.body i;
+}
+
+no_head : (m : Machine) → m.has_head ≡ false → head_now m ≡ None
+no_head m is = cond-false _ _ _ is
+
+-- the connection after a response, in this state
+abbrev core_after : Machine → Past → State → List Call → Core
+core_after old p state calls = record {
+  config = old.config;
+  history = record (history_of old p) { state = state; calls = calls; pending = old.output.items ++ old.tail.items };
+  server = old.server;
+  head = None;
+  body = [];
+}
+
+core_ended : (p : Past) (calls : List Call) (old new : Machine) (state : State) → Ends old new → new.state ≡ state
+    → old.has_head ≡ false → old.body.items ≡ [] → core new (with_calls p calls) ≡ core_after old p state calls
+core_ended p calls old new state x is head body = λ i. record {
+  config = x.rest.config i;
+  history = record {
+    state = is i;
+    received = p.received;
+    ended = x.rest.ended i;
+    unread = x.rest.input i;
+    calls = calls;
+    sent = p.sent;
+    pending = x.output i;
+  };
+  server = x.rest.server i;
+  head = no_head new (x.rest.has_head ∙ head) i;
+  body = (x.rest.body ∙ body) i;
+}
+
+-- an aborted connection
+pub aborted : (p : Past) (old new : Machine) → new.config ≡ old.config → new.ended ≡ old.ended
+    → new.input.items ≡ old.input.items → new.state ≡ Aborted → new.output.items ≡ []
+    → IsServed old.config (record (history_of old p) { state = Aborted; pending = [] }) → Holds (core new p)
+aborted p old new config ended input is none x = subst Holds (sym same) x
+  where
+    same : core new p ≡ record {
+      config = old.config;
+      history = record (history_of old p) { state = Aborted; pending = [] };
+      server = new.server;
+      head = head_now new;
+      body = new.body.items;
+    }
+    same = λ i. record {
+      config = config i;
+      history = record {
+        state = is i;
+        received = p.received;
+        ended = ended i;
+        unread = input i;
+        calls = p.calls;
+        sent = p.sent;
+        pending = none i;
+      };
+      server = new.server;
+      head = head_now new;
+      body = new.body.items;
+    }
+
+-- the connection once a response begins
+pub view_begun : (p : Past) (plan : Plan) (bodiless : Bool) (old new : Machine) → Begins plan bodiless old new
+    → old.has_head ≡ false → old.body.items ≡ [] → view new p ≡ record {
+      config = old.config;
+      history = record (history_of old p) { pending = new.output.items };
+      server = new.server;
+      tail = new.tail.items;
+      left = sent_pieces bodiless plan;
+      has_head = false;
+      body = [];
+    }
+view_begun p plan bodiless old new x head body = λ i. record {
+  config = x.config i;
+  history = record {
+    state = x.state i;
+    received = p.received;
+    ended = x.ended i;
+    unread = x.input i;
+    calls = p.calls;
+    sent = p.sent;
+    pending = new.output.items;
+  };
+  server = new.server;
+  tail = new.tail.items;
+  left = x.left i;
+  has_head = (x.has_head ∙ head) i;
+  body = (x.body ∙ body) i;
+}
+
+module _ {H : Type 0} (plans : Plans H) (gives : H → Gives) where
+  abbrev Sending : H → H → Machine → Past → Type 0
+  Sending first now m p = (before : H) × HasPlanned plans gives first before p × IsSending plans gives before now
+      (view m p)
+
+  sending : (first now : H) (m : Machine) (p : Past) → m.is_sending ≡ true → Runs plans gives first m now p → Sending
+      first now m p
+  sending first now m p is x = subst (λ b. RunsAt b plans gives first m now p) is x
+
+  pub sent : (first now : H) (m : Machine) (p : Past) → m.is_sending ≡ true → Sending first now m p → Runs plans gives
+      first m now p
+  sent first now m p is x = subst (λ b. RunsAt b plans gives first m now p) (sym is) x
+
+  abbrev Waiting : H → H → Machine → Past → Type 0
+  Waiting first now m p = HasAnswered plans gives first now m.state p × Holds (core m p)
+
+  pub waiting : (first now : H) (m : Machine) (p : Past) → m.is_sending ≡ false → Runs plans gives first m now p
+      → Waiting first now m p
+  waiting first now m p is x = subst (λ b. RunsAt b plans gives first m now p) is x
+
+  pub waited : (first now : H) (m : Machine) (p : Past) → m.is_sending ≡ false → Waiting first now m p
+      → Runs plans gives first m now p
+  waited first now m p is x = subst (λ b. RunsAt b plans gives first m now p) (sym is) x
+
+  pub after_send : (first now : H) (old new : Machine) (p : Past) → old.is_sending ≡ true → old.state ≡ Open
+      → SendsOn (gives now) old new → Runs plans gives first old now p
+      → (calls : List Call) × Runs plans gives first new now (with_calls p calls)
+  after_send first now old new p is is_open step x =
+      let y = sending first now old p is x in
+      elim step [
+        | inl moved ↦ (
+          p.calls,
+          sent first now new p (moved.puts.is_sending ∙ is) (
+            y.0,
+            y.1,
+            subst (IsSending plans gives y.0 now) (sym (view_moved p old new moved.bytes new.left.items moved.puts))
+                (moves plans gives y.0 now (view old p) y.2 is_open moved.bytes new.left.items moved.advances),
+          ),
+        )
+        | inr other ↦ elim other [
+          | inl ended ↦
+              let z = call plans gives y.0 now (view old p) y.2 is_open ended.0 in
+              let calls = p.calls ++ z ∷ [] in (
+                calls,
+                waited first now new (with_calls p calls) ended.1.is_sending (
+                  (
+                    now,
+                    Chain-push (Answers plans gives) p.calls first y.0 now z y.1
+                        (answers plans gives y.0 now (view old p) y.2 is_open ended.0),
+                    λ _. refl,
+                  ),
+                  elim ended.1.state [
+                    | inl closed ↦
+                        subst Holds (sym (core_ended p calls old new (Closing Asked) ended.1 closed.1 y.2.head
+                        y.2.body))
+                        (closes_after plans gives y.0 now (view old p) y.2 is_open ended.0 closed.0)
+                    | inr goes_on ↦
+                        subst Holds (sym (core_ended p calls old new Open ended.1 (goes_on.1 ∙ is_open) y.2.head
+                        y.2.body))
+                        (stays_open plans gives y.0 now (view old p) y.2 is_open ended.0 goes_on.0)
+                  ],
+                ),
+              )
+          | inr cut ↦ (
+            p.calls,
+            sent first now new p (cut.is_sending ∙ is) (
+              y.0,
+              y.1,
+              subst (IsSending plans gives y.0 now) (sym (view_cut p old new cut))
+                  (cuts plans gives y.0 now (view old p) y.2 new.left.items),
+            ),
+          )
+        ]
+      ]
+
+  -- a step that isn't one of sending, and leaves the handler as it is
+  pub step_by : (old new : Machine) (h : H) → Keeps old new → old.is_sending ≡ false → old.state ≡ Open
+      → ((p : Past) → Holds (core old p) → Holds (core new p)) → Leads plans gives old h new h
+  step_by old new h keeps is is_open holding = record {
+    config = keeps.config;
+    ended = keeps.ended;
+    runs = λ first p x.
+        let y = waiting first h old p is x in (
+          p.calls,
+          waited first h new p (keeps.is_sending ∙ is) (
+            (y.0.0, y.0.1, λ _. y.0.2 (λ aborted. let wrong = sym is_open ∙ aborted in cc)),
+            holding p y.1,
+          ),
+        );
+  }
+
+  -- nothing happens
+  pub step_none : (m : Machine) (h : H) → Leads plans gives m h m h
+  step_none m h = record { config = refl; ended = refl; runs = λ first p x. (p.calls, x) }
+
+  kept_by : (old new : Machine) (h : H) → SendsOn (gives h) old new → (new.config ≡ old.config) ×
+      (new.ended ≡ old.ended)
+  kept_by old new h step =
+      elim step [
+        | inl moved ↦ (moved.puts.rest.config, moved.puts.rest.ended)
+        | inr other ↦ elim other [
+          | inl ended ↦ (ended.1.rest.config, ended.1.rest.ended)
+          | inr cut ↦ (cut.rest.config, cut.rest.ended)
+        ]
+      ]
+
+  pub step_sends : (old new : Machine) (h : H) → old.is_sending ≡ true → old.state ≡ Open → SendsOn (gives h) old new
+      → Leads plans gives old h new h
+  step_sends old new h is is_open step = record {
+    config = (kept_by old new h step).0;
+    ended = (kept_by old new h step).1;
+    runs = λ first p x. after_send first h old new p is is_open step x;
+  }
+
+  -- a response begins, or the connection is aborted
+  pub step_answers : (old new : Machine) (before now : H) → new.config ≡ old.config → new.ended ≡ old.ended
+      → old.is_sending ≡ false → old.state ≡ Open
+      → ((first : H) (p : Past) → HasPlanned plans gives first before p → Holds (core old p) → Runs plans gives first
+      new now p)
+      → Leads plans gives old before new now
+  step_answers old new before now config ended is is_open answering = record {
+    config = config;
+    ended = ended;
+    runs = λ first p x.
+        let y = waiting first before old p is x in
+        let same = y.0.2 (λ aborted. let wrong = sym is_open ∙ aborted in cc) in
+        (p.calls, answering first p (subst (λ t. HasPlanned plans gives first t p) same y.0.1) y.1);
+  }
+
+  -- ---- turns
+
+  module _ (remaining left contents grown : Option (List ℕ)) where
+    abbrev TurnsTo : Machine → H → Machine → H → Type 0
+    TurnsTo old before new now = Turns plans gives remaining left contents grown old before new now
+
+    same_past : (p : Past) (calls : List Call) → with_calls p calls ≡ past_after p [] [] calls
+    same_past p calls = λ i. record {
+      received = sym (append-nil p.received) i;
+      sent = sym (append-nil p.sent) i;
+      calls = calls;
+    }
+
+    pub turns_step : {old new : Machine} {before now : H} → Leads plans gives old before new now → StaysKnown
+        remaining left
+        → StaysKnown contents grown → TurnsTo old before new now
+    turns_step {old} {new} {before} {now} x read written = record {
+      config = x.config;
+      received = [];
+      sent = [];
+      consumes = Consumes-none remaining left read;
+      appends = Appends-none contents grown written;
+      runs = λ first p y.
+          let z = x.runs first p y in
+          (z.0, subst (λ q. Runs plans gives first new now q) (same_past p z.0) z.1);
+    }
+
+    -- nothing but the reader and the writer moves
+    pub turns_none : (m : Machine) (h : H) → StaysKnown remaining left → StaysKnown contents grown → TurnsTo m h m h
+    turns_none m h read written = turns_step {old = m} {new = m} {before = h} {now = h} (record {
+      config = refl;
+      ended = refl;
+      runs = λ first p x. (p.calls, x);
+    }) read written
+
+    pub turns_write : {old new : Machine} (h : H) (count : ℕ) → HandsOut old new count → StaysKnown remaining left
+        → Appends contents grown (take count old.output.items) → TurnsTo old h new h
+    turns_write {old} {new} h count x read written = record {
+      config = x.rest.config;
+      received = [];
+      sent = take count old.output.items;
+      consumes = Consumes-none remaining left read;
+      appends = written;
+      runs = λ first p y. (p.calls, runs_out old.is_sending first p refl y);
+    }
+      where
+        runs_out : (b : Bool) (first : H) (p : Past) → old.is_sending ≡ b → Runs plans gives first old h p
+            → Runs plans gives first new h (past_after p [] (take count old.output.items) p.calls)
+        runs_out true first p is y =
+            let z = sending first h old p is y in
+            let q = past_after p [] (take count old.output.items) p.calls in
+            let same : output (record (history_of old p) { sent = q.sent; pending = drop count old.output.items }) ≡
+            output (history_of old p) =
+            append_assoc p.sent _ _ ∙ ap (λ (t : List ℕ). p.sent ++ t) (take-append-drop count old.output.items) in
+            let viewed : view new q ≡ record (view old p)
+            { history = record (history_of old p) { sent = q.sent; pending = drop count old.output.items } } =
+            λ i. record {
+              config = x.rest.config i;
+              history = record {
+                state = x.rest.state i;
+                received = append-nil p.received i;
+                ended = x.ended i;
+                unread = x.input i;
+                calls = p.calls;
+                sent = q.sent;
+                pending = x.output i;
+              };
+              server = x.rest.server i;
+              tail = x.rest.tail i;
+              left = x.rest.left i;
+              has_head = x.rest.has_head i;
+              body = x.rest.body i;
+            } in
+            sent first h new q (x.rest.is_sending ∙ is) (
+              z.0,
+              z.1,
+              subst (IsSending plans gives z.0 h) (sym viewed)
+                  (hands_on plans gives z.0 h (view old p) z.2 q.sent (drop count old.output.items) same),
+            )
+        runs_out false first p is y =
+            let z = waiting first h old p is y in
+            let q = past_after p [] (take count old.output.items) p.calls in
+            let cored : core new q ≡ with_history (core old p) (after_sent (history_of old p) count) =
+            λ i. record {
+              config = x.rest.config i;
+              history = record {
+                state = x.rest.state i;
+                received = append-nil p.received i;
+                ended = x.ended i;
+                unread = x.input i;
+                calls = p.calls;
+                sent = q.sent;
+                pending = x.output i;
+              };
+              server = x.rest.server i;
+              head = if x.rest.has_head i then Some (head_of (x.rest.request i)) else None;
+              body = x.rest.body i;
+            } in
+            waited first h new q (x.rest.is_sending ∙ is) (
+              (z.0.0, z.0.1, λ going. z.0.2 (λ aborted. going (x.rest.state ∙ aborted))),
+              subst Holds (sym cored) (hands_out (core old p) count _ refl z.1),
+            )
+
+    pub turns_read : {old new : Machine} (h : H) (bytes : List ℕ) → old.is_sending ≡ false → TakesIn old new bytes
+        → Consumes remaining left bytes → StaysKnown contents grown → TurnsTo old h new h
+    turns_read {old} {new} h bytes is x read written = record {
+      config = x.rest.config;
+      received = bytes;
+      sent = [];
+      consumes = read;
+      appends = Appends-none contents grown written;
+      runs = λ first p y.
+          let z = waiting first h old p is y in (
+            p.calls,
+            waited first h new (past_after p bytes [] p.calls) (x.rest.is_sending ∙ is) (
+              (z.0.0, z.0.1, λ going. z.0.2 (λ aborted. going (x.rest.state ∙ aborted))),
+              elim x.ended [
+                | inl going ↦
+                    subst Holds (sym (read_core p (cond_ended going.0 going.1)))
+                    (receives (core old p) bytes _ refl going.0 z.1)
+                | inr over ↦ subst Holds (sym (same_core p over.0 over.1)) z.1
+              ],
+            ),
+          );
+    }
+      where
+        cond_ended : old.ended ≡ false → new.ended ≡ (length bytes == 0)
+            → new.ended ≡ (if old.ended then old.ended else length bytes == 0)
+        cond_ended going is = is ∙ sym (cond-false _ _ _ going)
+
+        read_core : (p : Past) → new.ended ≡ (if old.ended then old.ended else length bytes == 0)
+            → core new (past_after p bytes [] p.calls) ≡ with_history (core old p) (after_read (history_of old p) bytes)
+        read_core p ended = λ i. record {
+          config = x.rest.config i;
+          history = record {
+            state = x.rest.state i;
+            received = p.received ++ bytes;
+            ended = ended i;
+            unread = x.input i;
+            calls = p.calls;
+            sent = append-nil p.sent i;
+            pending = x.output i;
+          };
+          server = x.rest.server i;
+          head = if x.rest.has_head i then Some (head_of (x.rest.request i)) else None;
+          body = x.rest.body i;
+        }
+
+        same_core : (p : Past) → new.ended ≡ old.ended → bytes ≡ [] → core new (past_after p bytes [] p.calls) ≡ core
+            old p
+        same_core p ended none = λ i. record {
+          config = x.rest.config i;
+          history = record {
+            state = x.rest.state i;
+            received = (ap (λ (t : List ℕ). p.received ++ t) none ∙ append-nil p.received) i;
+            ended = ended i;
+            unread = (x.input ∙ ap (λ (t : List ℕ). old.input.items ++ t) none ∙ append-nil old.input.items) i;
+            calls = p.calls;
+            sent = append-nil p.sent i;
+            pending = x.output i;
+          };
+          server = x.rest.server i;
+          head = if x.rest.has_head i then Some (head_of (x.rest.request i)) else None;
+          body = x.rest.body i;
+        }
+
+  -- one turn after another
+  pub turns_then : (r s t u v w : Option (List ℕ)) {a b c : Machine} {f g h : H} → Turns plans gives r s u v a f b g
+      → Turns plans gives s t v w b g c h → Turns plans gives r t u w a f c h
+  turns_then r s t u v w {c = c} {h = h} x y = record {
+    config = y.config ∙ x.config;
+    received = x.received ++ y.received;
+    sent = x.sent ++ y.sent;
+    consumes = Consumes-then r s t x.received y.received x.consumes y.consumes;
+    appends = Appends-then u v w x.sent y.sent x.appends y.appends;
+    runs = λ first p z.
+        let mid = x.runs first p z in
+        let end = y.runs first (past_after p x.received x.sent mid.0) mid.1 in
+        (end.0, subst (λ q. Runs plans gives first c h q) (joined p end.0) end.1);
+  }
+    where
+      joined : (p : Past) (calls : List Call)
+          → past_after (past_after p x.received x.sent p.calls) y.received y.sent calls
+          ≡ past_after p (x.received ++ y.received) (x.sent ++ y.sent) calls
+      joined p calls = λ i. record {
+        received = append_assoc p.received x.received y.received i;
+        sent = append_assoc p.sent x.sent y.sent i;
+        calls = calls;
+      }
+
+  -- ---- the end
+
+  closing_served : (s : State) → IsClosing s → s ≢ Aborted
+  closing_served Open x = absurd x
+  closing_served (Closing why) x = λ wrong. cc
+  closing_served Upgraded x = absurd x
+  closing_served Aborted x = absurd x
+
+  module _ (config : Config) (first now : H) (m : Machine) (p : Past) (configured : m.config ≡ config) where
+    cut_at : (b : Bool) → m.is_sending ≡ b → Runs plans gives first m now p
+        → Exchanged plans gives config first now p.received p.sent false
+    cut_at true is x =
+        let y = sending first now m p is x in
+        record {
+          history = history_of m p;
+          is_received = refl;
+          is_sent = refl;
+          last = y.0;
+          answered = y.1;
+          ended = inr (subst (λ c. Sends plans gives y.0 now c (history_of m p)) configured y.2.response);
+        }
+    cut_at false is x =
+        let y = waiting first now m p is x in
+        record {
+          history = history_of m p;
+          is_received = refl;
+          is_sent = refl;
+          last = y.0.0;
+          answered = y.0.1;
+          ended = inl (subst (λ c. IsServed c (history_of m p)) configured (served (core m p) y.1));
+        }
+
+    -- whatever happens, what was sent until then is as promised
+    pub is_cut : Runs plans gives first m now p → Exchanged plans gives config first now p.received p.sent false
+    is_cut = cut_at m.is_sending refl
+
+    whole_at : (b : Bool) → m.is_sending ≡ b → IsClosing m.state → m.output.items ≡ [] → Runs plans gives first m now p
+        → Exchanged plans gives config first now p.received p.sent true
+    whole_at true is closing out x =
+        let y = sending first now m p is x in
+        absurd (elim y.2.state [
+          | inl is_open ↦ subst IsClosing is_open closing
+          | inr aborted ↦ subst IsClosing aborted closing
+        ])
+    whole_at false is closing out x =
+        let y = waiting first now m p is x in
+        record {
+          history = history_of m p;
+          is_received = refl;
+          is_sent = refl;
+          last = y.0.0;
+          answered = y.0.1;
+          ended = (
+            subst (λ c. IsServed c (history_of m p)) configured (served (core m p) y.1),
+            closing,
+            out,
+            y.0.2 (closing_served m.state closing),
+          );
+        }
+
+    -- where it closed, all was sent
+    pub is_whole : IsClosing m.state → m.output.items ≡ [] → Runs plans gives first m now p
+        → Exchanged plans gives config first now p.received p.sent true
+    is_whole = whole_at m.is_sending refl
+
+    -- at the end, by the answer of the call
+    pub ended : (result : Result (Unit {0}) Error) → OnOk result (IsClosing m.state) → m.output.items ≡ []
+        → Runs plans gives first m now p → Exchanged plans gives config first now p.received p.sent (is_ok result)
+    ended (Ok a) closing out x = is_whole closing out x
+    ended (Err e) closing out x = is_cut x
+
+  -- a connection that has not begun
+  pub not_begun : (config : Config) (h : H) → Exchanged plans gives config h h [] [] false
+  not_begun config h = record {
+    history = new_history;
+    is_received = refl;
+    is_sent = refl;
+    last = h;
+    answered = refl;
+    ended = inl (record {
+      answered = [];
+      text = [];
+      rest = [];
+      serves = (refl, refl);
+      interim = [];
+      is_interim = inl refl;
+      stands = (refl, refl);
+    });
+  }

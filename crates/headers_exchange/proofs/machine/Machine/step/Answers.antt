@@ -1,0 +1,67 @@
+use Rattle.std.proofs.Common.{refl, sym, subst}
+use Rattle.http_server.specs.Machine.{IsStarved, HasRequest}
+use Rattle.http_server.proofs.MachineLemmas.{with_server, after_event, left_starved, unreadable}
+use Rattle.headers_exchange.specs.Machine.{core}
+use Rattle.headers_exchange.proofs.TurnLemmas.{step_answers, step_by, step_none, step_sends}
+use Rattle.headers_exchange.proofs.machine.Machine.step.Goals as goal
+
+pub returns-then-not-is_open : goal.returns-then-not-is_open
+returns-then-not-is_open g c = step_none g.H.Handler.plans g.H.Handler.gives c.args.self.now c.args.handler.now
+
+pub returns-then-self : goal.returns-then-self
+returns-then-self g c =
+    step_sends g.H.Handler.plans g.H.Handler.gives c.args.self.now c.send.new.self c.args.handler.now c.if-self.true
+    (c.if-not-is_open.ensures.0 refl) c.send.ensures
+
+pub returns-in-Err : goal.returns-in-Err
+returns-in-Err g c =
+    let kept = c.refuse.ensures.keeps in
+    step_by g.H.Handler.plans g.H.Handler.gives c.args.self.now c.refuse.new.self c.args.handler.now
+    (record { config = kept.config; ended = kept.ended; is_sending = kept.is_sending }) c.if-self.false
+    (c.if-not-is_open.ensures.0 refl)
+    (λ p x. c.refuse.ensures.reaches p (unreadable (core c.args.self.now p) c.read.new.self c.in-Err.e
+    (c.if-not-is_open.ensures.0 refl) (rw (c.as_slice.ensures, c.requires) at c.in-Err.ensures.err) x))
+
+pub returns-in-Head : goal.returns-in-Head
+returns-in-Head g c =
+    let kept = c.begin.ensures.keeps in
+    step_by g.H.Handler.plans g.H.Handler.gives c.args.self.now c.begin.new.self c.args.handler.now
+    (record { config = kept.config; ended = kept.ended; is_sending = kept.is_sending }) c.if-self.false
+    (c.if-not-is_open.ensures.0 refl)
+    (λ p x. c.begin.ensures.reaches p
+    (after_event (core c.args.self.now p) c.read.new.headers c.read.new.self c.in-Ok.read _
+    c.in-Head.is (c.if-not-is_open.ensures.0 refl) (rw c.as_slice.ensures at c.in-Ok.ensures.ok) x))
+
+pub returns-in-Data : goal.returns-in-Data
+returns-in-Data g c =
+    let kept = c.take.ensures.keeps in
+    step_by g.H.Handler.plans g.H.Handler.gives c.args.self.now c.take.new.self c.args.handler.now
+    (record { config = kept.config; ended = kept.ended; is_sending = kept.is_sending }) c.if-self.false
+    (c.if-not-is_open.ensures.0 refl)
+    (λ p x. c.take.ensures.reaches p
+    (after_event (core c.args.self.now p) c.read.new.headers c.read.new.self c.in-Ok.read _
+    c.in-Data.is (c.if-not-is_open.ensures.0 refl) (rw c.as_slice.ensures at c.in-Ok.ensures.ok) x))
+
+pub returns-in-End : goal.returns-in-End
+returns-in-End g c =
+    step_answers g.H.Handler.plans g.H.Handler.gives c.args.self.now c.answer.new.self c.args.handler.now
+    c.answer.new.handler
+    c.answer.ensures.config c.answer.ensures.ended c.if-self.false (c.if-not-is_open.ensures.0 refl)
+    (λ first p chain x. c.answer.ensures.runs first p chain
+    (subst (λ t. HasRequest (with_server (core c.args.self.now p) c.read.new.self t)) (sym c.advance.ensures.items)
+    (after_event (core c.args.self.now p) c.read.new.headers c.read.new.self c.in-Ok.read _ c.in-End.is
+    (c.if-not-is_open.ensures.0 refl) (rw c.as_slice.ensures at c.in-Ok.ensures.ok) x)))
+
+pub returns-in_default : goal.returns-in_default
+returns-in_default g c =
+    let kept = c.wait-in_default.ensures.keeps in
+    step_by g.H.Handler.plans g.H.Handler.gives c.args.self.now c.wait-in_default.new.self c.args.handler.now
+    (record { config = kept.config; ended = kept.ended; is_sending = kept.is_sending }) c.if-self.false
+    (c.if-not-is_open.ensures.0 refl)
+    (λ p x. c.wait-in_default.ensures.reaches p
+    (subst (λ t. IsStarved (with_server (core c.args.self.now p) c.read.new.self t))
+    (sym c.advance-in_default.ensures.items)
+    (left_starved _ (core c.args.self.now p) c.read.new.headers c.read.new.self _ c.in_default.not-Head
+    c.in_default.not-Data
+    c.in_default.not-End (after_event (core c.args.self.now p) c.read.new.headers c.read.new.self c.in-Ok.read _ refl
+    (c.if-not-is_open.ensures.0 refl) (rw c.as_slice.ensures at c.in-Ok.ensures.ok) x))))

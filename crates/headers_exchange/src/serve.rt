@@ -1,0 +1,86 @@
+//! One connection over a reader and a writer that block.
+ghost use Rattle.std.specs.Prelude.{◌≡◌, ◌≢◌, ℕ, List, [], length, is_ok, IfOk, OnOk, IsTrue};
+ghost use Rattle.std.specs.Io.KnownBytes.{Appends, Consumes};
+ghost use Rattle.headers_exchange.specs.Connection.{Exchanged, IsClosing, Turns};
+
+use crate::handler::Handler;
+use crate::machine::Machine;
+use http_server::{Config, MAX_HEADERS, State};
+use httparse::spans::{EMPTY_HEADER_SPAN, HeaderSpan};
+use std::alloc::Global;
+use std::hash::RandomState;
+use std::io;
+use std::io::{ErrorKind, Read, Write};
+
+/// Reads requests, answers them by the plans of a handler and writes the responses, until the
+/// connection is done. The keys are for the header maps, whose names the other end chooses.
+///
+/// Where a response can't be sent to its end, the connection ends there: what the handler has open is
+/// shorter than the plan says or can't be read, or out of memory. It also ends where a handler can't
+/// plan when out of memory, or its plan is no response that `http1` sends. Each is an `Err`.
+pub fn serve_exchanges<H: Handler, R: Read, W: Write>(
+    alloc: Global,
+    keys: RandomState,
+    config: Config,
+    handler: &mut H,
+    reader: &mut R,
+    writer: &mut W,
+) -> io::Result<()>
+    ensures { (received : List ℕ) × (sent : List ℕ)
+        × Consumes (R.remaining reader.old) (R.remaining reader.new) received
+        × Appends (W.contents writer.old) (W.contents writer.new) sent
+        × Exchanged H.plans H.gives config handler.old handler.new received sent (is_ok result) }
+{
+    let mut machine = Machine::new(alloc, keys, config)?;
+    let mut spans = [EMPTY_HEADER_SPAN; MAX_HEADERS];
+    // A loop is proved to end, so this one counts its turns.
+    for _ in 0..u64::MAX {
+        if turn(&mut machine, handler, &mut spans, reader, writer)? {
+            return ending(machine.state);
+        }
+    }
+    Err(ErrorKind::TimedOut.into())
+}
+
+// Takes a step, or writes or reads once. Returns whether the connection is done.
+fn turn<H: Handler, R: Read, W: Write>(
+    machine: &mut Machine,
+    handler: &mut H,
+    spans: &mut [HeaderSpan],
+    reader: &mut R,
+    writer: &mut W,
+) -> io::Result<bool>
+    requires { length spans.old ≡ MAX_HEADERS }
+    ensures turns { Turns H.plans H.gives (R.remaining reader.old) (R.remaining reader.new)
+        (W.contents writer.old) (W.contents writer.new) machine.old handler.old machine.new handler.new }
+    ensures done { IfOk result (λ done. IsTrue done → machine.new.output.items ≡ []) }
+    ensures spans { length spans.new ≡ length spans.old }
+{
+    if machine.step(handler, spans) {
+        return Ok(false);
+    }
+    if !machine.output.is_empty() {
+        if machine.write_to(writer)? == 0 {
+            return Err(ErrorKind::WriteZero.into());
+        }
+        return Ok(false);
+    }
+    // The peer may be waiting for what a buffered writer holds.
+    writer.flush()?;
+    if !machine.is_open() {
+        return Ok(true);
+    }
+    if !machine.is_sending {
+        machine.read_from(reader)?;
+    }
+    Ok(false)
+}
+
+fn ending(state: State) -> io::Result<()>
+    ensures { OnOk result (IsClosing state) }
+{
+    match state {
+        State::Closing(_) => Ok(()),
+        _ => Err(ErrorKind::ConnectionAborted.into()),
+    }
+}
