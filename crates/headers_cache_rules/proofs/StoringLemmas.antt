@@ -1,0 +1,94 @@
+-- What is stored of the fields of a response.
+use Rattle.std.proofs.Common.{◌≡◌, ◌≢◌, ◌∙◌, ℕ, Bool, true, false, List, [], ◌∷◌, ◌++◌, inl, inr, refl, sym, ap}
+use Rattle.std.specs.Prelude.{bytes_eq, codes, if◌then◌else◌}
+use Rattle.std.proofs.lemmas.Bool.{cases_Bool}
+use Rattle.std.proofs.lemmas.List.{map-append}
+use Rattle.std.proofs.lemmas.Slice.Eq.{bytes_eq-Decides}
+use Rattle.http_header.specs.FieldValue.{FieldValue}
+use Rattle.http_header.specs.HeaderMap.{Entries, keys}
+use Rattle.headers.specs.LineMap.{Field, LineMap, field_of, fields_of, lines_at, set, set_all}
+use Rattle.headers.specs.declared.Encoded.{Encoded}
+use Rattle.headers.specs.Lines.{Line}
+use Rattle.headers_gateway.specs.HopByHop.{connection_options, is_hop_by_hop}
+use Rattle.headers_cache_rules.specs.Storing.{IsAsStored, IsHopByHop, LacksDate, date_lines, or_date, removals}
+use Rattle.headers_cache_rules.proofs.FieldLemmas.{set_all-append, without_all}
+
+-- names that aren't equal are told apart
+apart : (a b : List ℕ) → b ≢ a → bytes_eq a b ≡ false
+apart a b differ =
+    elim (cases_Bool (bytes_eq a b)) [
+      | inl same ↦ absurd (differ (sym ((bytes_eq-Decides a b).0 same)))
+      | inr other ↦ other
+    ]
+
+not_true : (b : Bool) → ¬ (b ≡ true) → b ≡ false
+not_true true not = absurd (not refl)
+not_true false not = refl
+
+some_date : (second : ℕ) (lines : List Line) → lines ≢ [] → or_date second lines ≡ lines
+some_date second [] some = absurd (some refl)
+some_date second (line ∷ lines) some = refl
+
+module _ (received : ℕ) (m : Entries FieldValue) where
+  abbrev given : LineMap
+  given = lines_at m
+
+  abbrev removed : List Field
+  removed = removals (connection_options given) (keys m)
+
+  abbrev dated : List Field
+  dated = (codes "date", date_lines received) ∷ []
+
+  end_to_end : (name : List ℕ) → set_all given removed name
+      ≡ (if is_hop_by_hop true (connection_options given) name then [] else given name)
+  end_to_end name = without_all (connection_options given) m name
+
+  other : (name : List ℕ) → name ≢ codes "date"
+      → set_all given (removed ++ dated) name ≡ set_all given removed name
+  other name differ =
+      ap (λ (n : LineMap). n name) (set_all-append given removed dated)
+      ∙ rw (apart (codes "date") name differ) refl
+
+  date : set_all given (removed ++ dated) (codes "date") ≡ date_lines received
+  date = ap (λ (n : LineMap). n (codes "date")) (set_all-append given removed dated)
+
+  hops : (name : List ℕ) → IsHopByHop given name → set_all given removed name ≡ []
+  hops name is = end_to_end name ∙ rw is refl
+
+  stays : (name : List ℕ) → ¬ (IsHopByHop given name) → set_all given removed name ≡ given name
+  stays name not = end_to_end name ∙ rw (not_true _ not) refl
+
+  lacked : LacksDate given → ¬ (IsHopByHop given (codes "date"))
+      → date_lines received ≡ or_date received (given (codes "date"))
+  lacked (inl none) not = rw none refl
+  lacked (inr is) not = absurd (not is)
+
+  -- a response that lacks a Date
+  pub with_date : (fields : List Field) → LacksDate given → fields ≡ removed ++ dated
+      → IsAsStored received given (set_all given fields)
+  with_date fields lacks is =
+      record {
+        hop_by_hop = λ name hop differ. rw is (other name differ ∙ hops name hop);
+        end_to_end = λ name not differ. rw is (other name differ ∙ stays name not);
+        date = λ not. rw is (date ∙ lacked lacks not);
+        date_of_connection = λ hop. rw is date;
+      }
+
+  -- a response that has one
+  pub without_date : (fields : List Field) → ¬ (LacksDate given) → fields ≡ removed
+      → IsAsStored received given (set_all given fields)
+  without_date fields has is =
+      record {
+        hop_by_hop = λ name hop differ. rw is (hops name hop);
+        end_to_end = λ name not differ. rw is (stays name not);
+        date = λ not. rw is (stays (codes "date") not ∙ sym (some_date received _ (λ none. has (inl none))));
+        date_of_connection = λ hop. absurd (has (inr hop));
+      }
+
+-- the fields of a list with a Date after it
+pub dated_fields : (done all : List Encoded) (date : Encoded) (fields : List Field) (second : ℕ)
+    → all ≡ done ++ date ∷ [] → fields_of done ≡ fields → field_of date ≡ (codes "date", date_lines second)
+    → fields_of all ≡ fields ++ (codes "date", date_lines second) ∷ []
+dated_fields done all date fields second pushed before is =
+    ap fields_of pushed ∙ map-append field_of done (date ∷ [])
+    ∙ ap (λ (fs : List Field). fs ++ field_of date ∷ []) before ∙ ap (λ (f : Field). fields ++ f ∷ []) is

@@ -1,0 +1,13 @@
+use Rattle.headers.specs.Lines.{lines_of}
+use Rattle.headers_cache_policy.proofs.VaryLemmas.{equal_lines}
+use Rattle.headers_cache_rules.proofs.FresheningLemmas.{as_before}
+use Rattle.headers_cache_rules.proofs.freshening.says_as_before.Goals as goal
+
+pub returns-then-has_line : goal.returns-then-has_line
+returns-then-has_line c =
+    as_before c.eq_values.result (lines_of c.args.own.now) (lines_of c.args.other.now)
+    (rw c.if-has_line.true at c.has_line.ensures)
+    (equal_lines c.eq_values.result c.args.own.now c.args.other.now c.eq_values.ensures)
+
+pub returns-else-has_line : goal.returns-else-has_line
+returns-else-has_line c = λ has. absurd ((rw c.if-has_line.false at c.has_line.ensures) has)

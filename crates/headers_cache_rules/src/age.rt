@@ -1,0 +1,24 @@
+//! The field Age of a stored response.
+ghost use Rattle.std.specs.Prelude.{◌≡◌, ◌∷◌, [], IfOk, codes, decimal};
+ghost use Rattle.headers.specs.LineMap.{field_of, lines_at};
+ghost use Rattle.headers_cache_policy.specs.Age.{age_at};
+ghost use Rattle.headers_cache_policy.specs.Fields.{capped};
+
+use headers::{Encoded, HeaderMap, HeaderValue};
+use headers_cache_policy::{Times, current_age};
+use http_header::AGE;
+use std::alloc::{AllocError, Global};
+
+/// The field Age of a stored response that answers a request without validation, for `set_all` on its
+/// fields (RFC 9111, section 5.1): its current age in seconds. An age past 2^64 - 1 counts as that
+/// (section 1.2.2), so it never wraps.
+pub fn age_field(alloc: Global, response: &HeaderMap, times: Times) -> Result<Encoded, AllocError>
+    ensures { IfOk result (λ field.
+        field_of field ≡ (codes "age", decimal (capped (age_at times (lines_at response.now))) ∷ [])) }
+{
+    let age = HeaderValue::from_u64(alloc, current_age(response, times))?;
+    Ok(Encoded {
+        name: AGE,
+        lines: vec![in alloc; age]?,
+    })
+}

@@ -1,0 +1,179 @@
+//! What a response that validates a stored one makes of it.
+ghost use Rattle.std.specs.Prelude.{◌≡◌, ◌∷◌, [], ℕ, List, IfOk, OnErr, OnOk, codes};
+ghost use Rattle.std.specs.Bool.{MatchBool};
+ghost use Rattle.headers.specs.LineMap.{fields_of, lines_at, set_all};
+ghost use Rattle.headers.specs.Lines.{lines_of};
+ghost use Rattle.headers.specs.Typed.{HasLine};
+ghost use Rattle.headers_cache_policy.specs.Requests.{request_of};
+ghost use Rattle.headers_cache_policy.specs.Storing.{MayStore};
+ghost use Rattle.headers_cache_policy.specs.Updating.{IsUpdated};
+ghost use Rattle.headers_cache_rules.specs.Freshening.{IsFreshenedAs, IsHeadOf, IsRenewed, IsReusable, SaysAsBefore};
+ghost use Rattle.headers_cache_rules.specs.Freshening.{aged_anew};
+ghost use Rattle.headers_cache_rules.specs.Storing.{date_lines};
+ghost use Rattle.headers_cache_rules.specs.Stored.{fields_of_stored, request_of_stored};
+
+use crate::selection::is_sought;
+use crate::stored::StoredResponse;
+use crate::storing::{date_field, has_fair_options};
+use headers::{Encoded, HeaderMap, HeaderValue, InsertError, set_all};
+use headers_cache_policy::{Kind, RequestHead, freshening_fields, is_updated, may_store};
+use http_header::{AGE, CONTENT_LENGTH, GetAll, LAST_MODIFIED};
+use std::alloc::{AllocError, Global};
+
+/// When a request was made and when its response came, in seconds since 1970.
+#[derive(Clone, Copy, Debug, PartialEq, Eq)]
+pub struct Exchange {
+    /// When the request was made.
+    pub requested: u64,
+    /// When the response came.
+    pub received: u64,
+}
+
+/// What a validating response makes of a stored one.
+#[derive(Debug, Drop)]
+pub enum Freshened {
+    /// It isn't about the stored response, which is as it was. The request has to be sent anew without
+    /// conditions.
+    Unchanged(StoredResponse),
+    /// The stored response, updated. It stays stored.
+    Stored(StoredResponse),
+    /// The stored response, updated. It may answer the request that validated it, but is stored no
+    /// longer: its new fields forbid that, or the reuse for this request.
+    Once(StoredResponse),
+}
+
+/// Updates a stored response by a 304, or by a 200 to HEAD that is about it (RFC 9111, sections 3.2,
+/// 4.3.4 and 4.3.5). `request` is the request that the 304 answered.
+///
+/// The fields of the 304 replace those that are stored, but for those of the connection, and
+/// Content-Length, Content-Encoding and Content-Range, which describe the stored content. A 304 without
+/// Date was made when it came, and the stored Age goes. The age counts from the exchange.
+///
+/// The stored response is taken, so after an error there is nothing to serve. An error needs a 304
+/// that is about it.
+pub fn freshen(
+    alloc: Global,
+    stored: StoredResponse,
+    request: &RequestHead<'_>,
+    update: &HeaderMap,
+    exchange: Exchange,
+    kind: Kind,
+) -> Result<Freshened, InsertError>
+    ensures freshened { IfOk result
+        (IsFreshenedAs kind stored (request_of request.now) (lines_at update.now) exchange) }
+    ensures memory { OnErr result (IsUpdated (fields_of_stored stored) (lines_at update.now)) }
+{
+    // It ensures that the map is valid.
+    let _names = update.keys_len();
+    let Some(fields) = freshening_fields(alloc, &stored.response, update)? else {
+        return Ok(Freshened::Unchanged(stored));
+    };
+    let fresh = updated(alloc, stored, fields, exchange)?;
+    if is_reusable(&fresh, request, update, kind) {
+        Ok(Freshened::Stored(fresh))
+    } else {
+        Ok(Freshened::Once(fresh))
+    }
+}
+
+// The stored response with these fields in place of its own, as old as the exchange says.
+fn updated(
+    alloc: Global,
+    stored: StoredResponse,
+    fields: Vec<Encoded>,
+    exchange: Exchange,
+) -> Result<StoredResponse, InsertError>
+    ensures { IfOk result (IsRenewed stored
+        (set_all (aged_anew exchange.received (fields_of_stored stored)) (fields_of fields.items)) exchange) }
+{
+    let mut fresh = stored;
+    set_fields(&mut fresh.response, age_fields(alloc, exchange.received)?)?;
+    set_fields(&mut fresh.response, fields)?;
+    fresh.requested = exchange.requested;
+    fresh.received = exchange.received;
+    Ok(fresh)
+}
+
+fn set_fields(map: &mut HeaderMap, fields: Vec<Encoded>) -> Result<(), InsertError>
+    ensures { OnOk result ((name : List ℕ)
+        → lines_at map.new name ≡ set_all (lines_at map.old) (fields_of fields.items) name) }
+{
+    match set_all(map, fields) {
+        Ok(()) => Ok(()),
+        Err(error) => Err(error.cause),
+    }
+}
+
+// The fields that say how old a response is: Date is the time of receipt, and Age is removed.
+fn age_fields(alloc: Global, received: u64) -> Result<Vec<Encoded>, AllocError>
+    ensures { IfOk result (λ fields. fields_of fields.items
+        ≡ (codes "date", date_lines received) ∷ (codes "age", []) ∷ []) }
+{
+    let date = date_field(alloc, received)?;
+    let age = Encoded {
+        name: AGE,
+        lines: Vec::new(alloc),
+    };
+    Ok(vec![in alloc; date, age]?)
+}
+
+// Whether section 3 allows to store an updated response for the request that it answered first.
+fn may_keep(fresh: &StoredResponse, kind: Kind) -> bool
+    ensures { MatchBool result
+        (MayStore kind (request_of_stored fresh.now) fresh.now.status (fields_of_stored fresh.now))
+        (¬ (MayStore kind (request_of_stored fresh.now) fresh.now.status (fields_of_stored fresh.now))) }
+{
+    may_store(&fresh.head(), fresh.status, &fresh.response, kind)
+}
+
+// Whether an updated response may be stored and reused.
+fn is_reusable(
+    fresh: &StoredResponse,
+    request: &RequestHead<'_>,
+    update: &HeaderMap,
+    kind: Kind,
+) -> bool
+    ensures { MatchBool result (IsReusable kind (request_of request.now) (lines_at update.now) fresh.now)
+        (¬ (IsReusable kind (request_of request.now) (lines_at update.now) fresh.now)) }
+{
+    if !has_fair_options(update) || !may_keep(fresh, kind) {
+        return false;
+    }
+    may_store(request, fresh.status, &fresh.response, kind) && is_sought(fresh, request, None)
+}
+
+fn has_line(lines: &GetAll<'_, HeaderValue>) -> bool
+    ensures { MatchBool result (HasLine (lines_of lines.now)) (¬ (HasLine (lines_of lines.now))) }
+{
+    lines.iter().next().is_some()
+}
+
+// Whether the field lines of a new message, if it has some, are those that are stored.
+fn says_as_before(own: &GetAll<'_, HeaderValue>, other: &GetAll<'_, HeaderValue>) -> bool
+    ensures { MatchBool result (SaysAsBefore (lines_of own.now) (lines_of other.now))
+        (¬ (SaysAsBefore (lines_of own.now) (lines_of other.now))) }
+{
+    if has_line(other) {
+        own.eq_values(other)
+    } else {
+        true
+    }
+}
+
+/// Whether a 200 to HEAD is about a stored response to GET (RFC 9111, section 4.3.5): then `freshen`
+/// updates it, and else it is to be removed. `head` has the fields of the 200.
+///
+/// The HEAD has the validators of the stored response, if it has Last-Modified and Content-Length they
+/// are those that are stored, and it has a validator if that has one.
+pub fn is_head_of(stored: &StoredResponse, head: &HeaderMap) -> bool
+    ensures { MatchBool result (IsHeadOf (fields_of_stored stored.now) (lines_at head.now))
+        (¬ (IsHeadOf (fields_of_stored stored.now) (lines_at head.now))) }
+{
+    let stored = &stored.response;
+    is_updated(stored, head)
+        && says_as_before(&stored.get_all(LAST_MODIFIED), &head.get_all(LAST_MODIFIED))
+        && says_as_before(
+            &stored.get_all(CONTENT_LENGTH),
+            &head.get_all(CONTENT_LENGTH),
+        )
+}

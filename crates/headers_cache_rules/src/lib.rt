@@ -1,0 +1,26 @@
+//! What a cache does with the responses that it has stored, and what it stores (RFC 9111).
+//!
+//! Each rule is a pure call over fields and times: there is no store here, no clock, and no input or
+//! output. A store calls them.
+#![tactic(auto)]
+
+mod age;
+mod conditions;
+mod errors;
+mod freshening;
+mod identifying;
+mod invalidation;
+pub mod laws;
+mod selection;
+mod stored;
+mod storing;
+
+pub use crate::age::age_field;
+pub use crate::conditions::{StoredAnswer, answer_conditions};
+pub use crate::errors::serves_on_error;
+pub use crate::freshening::{Exchange, Freshened, freshen, is_head_of};
+pub use crate::identifying::updated_by;
+pub use crate::invalidation::invalidates;
+pub use crate::selection::select;
+pub use crate::stored::StoredResponse;
+pub use crate::storing::{Reception, is_stored, storing_fields};

@@ -1,0 +1,157 @@
+//! What is stored of a response.
+ghost use Rattle.std.specs.Prelude.{◌≡◌, ◌∷◌, ◌++◌, [], IfOk, OnErr, OnOk, codes, true};
+ghost use Rattle.std.specs.Bool.{MatchBool};
+ghost use Rattle.std.specs.List.{list_any};
+ghost use Rattle.http_header.specs.HeaderMap.{keys};
+ghost use Rattle.headers.specs.LineMap.{field_of, fields_of, lines_at, set_all};
+ghost use Rattle.headers.specs.Lines.{lines_of};
+ghost use Rattle.headers_fields.specs.Members.{field_members};
+ghost use Rattle.headers_gateway.specs.HopByHop.{connection_options, is_hop_by_hop, is_named};
+ghost use Rattle.headers_cache_policy.specs.Requests.{request_of};
+ghost use Rattle.headers_cache_rules.specs.Storing.{HasFairOptions, IsAsStored, IsChanged, IsStored, LacksDate};
+ghost use Rattle.headers_cache_rules.specs.Storing.{date_lines, removals, reuse_names};
+
+use headers::{Date, Encoded, HeaderMap, HeaderName, HeaderValue, encoding};
+use headers_cache_policy::{Kind, RequestHead, may_store};
+use headers_fields::{are_tokens, contains_token};
+use headers_gateway::is_hop_by_hop;
+use http::StatusCode;
+use http_header::{CONNECTION, DATE, GetAll};
+use std::alloc::{AllocError, Global};
+
+// The first second of the year 10000, since 1970.
+const END_OF_DATES: u64 = 253_402_300_800;
+
+/// Whether all of a message came (RFC 9112, section 8).
+#[derive(Clone, Copy, Debug, PartialEq, Eq)]
+pub enum Reception {
+    /// All of it.
+    Complete,
+    /// The connection ended, or the message did, before all of its content came.
+    Incomplete,
+}
+
+/// Whether a cache stores the response to a request (RFC 9111, sections 3, 3.1 and 3.3): `may_store` of
+/// `headers_cache_policy` allows it, and all of it came. If its Connection is malformed, or names a
+/// field on which reuse depends, as Cache-Control or Vary, it isn't stored.
+pub fn is_stored(
+    request: &RequestHead<'_>,
+    status: StatusCode,
+    response: &HeaderMap,
+    reception: Reception,
+    kind: Kind,
+) -> bool
+    ensures { MatchBool result (IsStored kind (request_of request.now) status (lines_at response.now) reception)
+        (¬ (IsStored kind (request_of request.now) status (lines_at response.now) reception)) }
+{
+    reception == Reception::Complete
+        && has_fair_options(response)
+        && may_store(request, status, response, kind)
+}
+
+// Whether a connection option names a field on which reuse depends.
+fn names_reuse(connection: &GetAll<'_, HeaderValue>) -> bool
+    ensures { result ≡ list_any (is_named (field_members true (lines_of connection.now))) reuse_names }
+{
+    contains_token(connection, b"age")
+        || contains_token(connection, b"cache-control")
+        || contains_token(connection, b"content-encoding")
+        || contains_token(connection, b"content-length")
+        || contains_token(connection, b"content-range")
+        || contains_token(connection, b"content-type")
+        || contains_token(connection, b"date")
+        || contains_token(connection, b"etag")
+        || contains_token(connection, b"expires")
+        || contains_token(connection, b"last-modified")
+        || contains_token(connection, b"set-cookie")
+        || contains_token(connection, b"vary")
+}
+
+/// Whether each connection option of a message is a token, and none names a field on which reuse
+/// depends.
+pub(crate) fn has_fair_options(message: &HeaderMap) -> bool
+    ensures { MatchBool result (HasFairOptions (lines_at message.now)) (¬ (HasFairOptions (lines_at message.now))) }
+{
+    let connection = message.get_all(CONNECTION);
+    are_tokens(&connection) && !names_reuse(&connection)
+}
+
+/// The fields by which the fields of a received response become those that are stored, for `set_all`
+/// (RFC 9111, section 3.1): those of a connection and of a proxy are removed, and a missing Date is
+/// the time of receipt, in seconds since 1970 (RFC 9110, section 6.6.1). All others stay.
+///
+/// Fails only if it runs out of memory, which needs something to change.
+pub fn storing_fields(
+    alloc: Global,
+    response: &HeaderMap,
+    received: u64,
+) -> Result<Vec<Encoded>, AllocError>
+    ensures fields { IfOk result (λ fields. IsAsStored received (lines_at response.now)
+        (set_all (lines_at response.now) (fields_of fields.items))) }
+    ensures memory { OnErr result (IsChanged response.now (lines_at response.now)) }
+{
+    let mut fields = hop_by_hop_fields(alloc, response)?;
+    if lacks_date(response) {
+        let date = date_field(alloc, received)?;
+        fields.push(date)?;
+    }
+    Ok(fields)
+}
+
+// Whether a field is one of the connection or of a proxy.
+fn is_of_connection(response: &HeaderMap, name: &HeaderName) -> bool
+    ensures { result ≡ is_hop_by_hop true (connection_options (lines_at response.now)) name.now }
+{
+    is_hop_by_hop(true, &response.get_all(CONNECTION), name.as_str())
+}
+
+// Appends a field without field lines.
+fn push_removal(
+    alloc: Global,
+    name: &HeaderName,
+    fields: &mut Vec<Encoded>,
+) -> Result<(), AllocError>
+    ensures { OnOk result (fields_of fields.new.items ≡ fields_of fields.old.items ++ (name.now, []) ∷ []) }
+{
+    let name = name.clone()?;
+    let lines = Vec::new(alloc);
+    fields.push(Encoded { name, lines })?;
+    Ok(())
+}
+
+// The fields of a connection and of a proxy, each without field lines.
+fn hop_by_hop_fields(alloc: Global, response: &HeaderMap) -> Result<Vec<Encoded>, AllocError>
+    ensures fields { IfOk result (λ fields. fields_of fields.items
+        ≡ removals (connection_options (lines_at response.now)) (keys response.now)) }
+    ensures memory { OnErr result (list_any (is_hop_by_hop true (connection_options (lines_at response.now)))
+        (keys response.now) ≡ true) }
+{
+    let mut fields = Vec::new(alloc);
+    for name in response.keys() {
+        if !is_of_connection(response, name) {
+            continue;
+        }
+        push_removal(alloc, name, &mut fields)?;
+    }
+    Ok(fields)
+}
+
+// Whether a response has no Date that is end-to-end.
+fn lacks_date(response: &HeaderMap) -> bool
+    ensures { MatchBool result (LacksDate (lines_at response.now)) (¬ (LacksDate (lines_at response.now))) }
+{
+    response.get_all(DATE).iter().next().is_none() || is_of_connection(response, &DATE)
+}
+
+/// Date of this second. Without field lines if it is after the year 9999, which can't be written.
+pub(crate) fn date_field(alloc: Global, second: u64) -> Result<Encoded, AllocError>
+    ensures { IfOk result (λ field. field_of field ≡ (codes "date", date_lines second)) }
+{
+    if second < END_OF_DATES {
+        return encoding(alloc, &Date::from_unix_secs(second));
+    }
+    Ok(Encoded {
+        name: DATE,
+        lines: Vec::new(alloc),
+    })
+}
