@@ -1,0 +1,325 @@
+-- What the calls of a store leave is justified by them.
+use Rattle.std.proofs.Common.{◌≡◌, ◌≢◌, ◌⊎◌, ℕ, zero, suc, ◌+◌, Bool, true, false, not, cond, List, [], ◌∷◌, ◌++◌}
+use Rattle.std.proofs.Common.{take, drop, length}
+use Rattle.std.proofs.Common.{Option, Some, None, refl, sym, ap, subst, arith, filter, remove, bytes_eq, slice_get}
+use Rattle.std.proofs.Common.{inl, inr, ◌∙◌}
+use Rattle.std.proofs.lemmas.Slice.Eq.{bytes_eq-Decides}
+use Rattle.headers.specs.LineMap.{Field, LineMap, field_of}
+use Rattle.headers_cache_policy.specs.Decisions.{IsGoodEnough, freshness_at}
+use Rattle.headers_cache_policy.specs.Directives.{directed}
+use Rattle.headers_cache_policy.specs.declared.decision.Decision.{Decision}
+use Rattle.headers_cache_policy.specs.declared.decision.Decision.TheVariants as decisions
+use Rattle.headers_cache_rules.specs.Stored.{fields_of_stored, request_of_stored, times_of}
+use Rattle.headers_cache_policy.specs.Requests.{Request}
+use Rattle.headers_cache_policy.specs.declared.kind.Kind.{Kind}
+use Rattle.headers_cache_rules.specs.Freshening.{IsFreshened, IsReusable}
+use Rattle.headers_cache_rules.specs.declared.freshening.Exchange.{Exchange}
+use Rattle.headers_cache_rules.specs.declared.storing.Reception.{Reception}
+use Rattle.headers_cache_rules.specs.declared.stored.StoredResponse.{StoredResponse}
+use Rattle.headers_cache.specs.Changes.{IsFront, IsInserted, IsLetGo, IsRefreshed, IsRestored, IsRest, IsStoredAs}
+use Rattle.headers_cache.specs.Changes.{IsTrimmed}
+use Rattle.headers_cache.specs.Contents.{Contents, Target, is_for, responses_at, used, with_target, without}
+use Rattle.headers_cache.specs.History.{Call, Has, HasUnder, History, IsJustified, Run, Step}
+use Rattle.headers_cache.specs.History.Call.{Looked, Arrived, Validated, Removed}
+use Rattle.headers_cache.specs.declared.freshening.Refreshed.{Refreshed}
+use Rattle.headers_cache.specs.declared.freshening.Refreshed.TheVariants.{Absent, Unchanged, Stored, Once}
+use Rattle.headers_cache.specs.declared.limits.Limits.{Limits}
+use Rattle.headers_cache.specs.Lookups.{IsAnswer, IsFound, age_of_stored}
+use Rattle.headers_cache.specs.Served.{IsRightlyServed, Serves}
+use Rattle.headers_cache.specs.declared.lookup.Lookup.{Lookup}
+use Rattle.headers_cache.specs.declared.lookup.Lookup.TheVariants.{Serve, ServeAndRevalidate, Validate, ValidateOrServe}
+use Rattle.headers_cache.specs.declared.lookup.Lookup.TheVariants.{Unavailable, Forward}
+
+-- ---- elements of lists
+
+pub Has-append : {X : Type 0} (xs ys : List X) (x : X) → Has (xs ++ ys) x → Has xs x ⊎ Has ys x
+Has-append [] ys x h = inr h
+Has-append (y ∷ xs) ys x (inl same) = inl (inl same)
+Has-append (y ∷ xs) ys x (inr h) = elim (Has-append xs ys x h) [
+  | inl a ↦ inl (inr a)
+  | inr b ↦ inr b
+]
+
+pub Has-take : {X : Type 0} (n : ℕ) (xs : List X) (x : X) → Has (take n xs) x → Has xs x
+Has-take zero xs x h = absurd h
+Has-take (suc n) [] x h = absurd h
+Has-take (suc n) (y ∷ xs) x (inl same) = inl same
+Has-take (suc n) (y ∷ xs) x (inr h) = inr (Has-take n xs x h)
+
+pub Has-drop : {X : Type 0} (n : ℕ) (xs : List X) (x : X) → Has (drop n xs) x → Has xs x
+Has-drop zero xs x h = h
+Has-drop (suc n) [] x h = absurd h
+Has-drop (suc n) (y ∷ xs) x h = inr (Has-drop n xs x h)
+
+pub Has-remove : {X : Type 0} (xs : List X) (i : ℕ) (x : X) → Has (remove xs i) x → Has xs x
+Has-remove xs i x h = elim (Has-append (take i xs) (drop (suc i) xs) x h) [
+  | inl a ↦ Has-take i xs x a
+  | inr b ↦ Has-drop (suc i) xs x b
+]
+
+pub Has-filter : {X : Type 0} (p : X → Bool) (xs : List X) (x : X) → Has (filter p xs) x → Has xs x × (p x ≡ true)
+Has-filter p [] x h = absurd h
+Has-filter p (y ∷ xs) x h = (elim (p y) as (λ b. p y ≡ b → Has (cond b (y ∷ filter p xs) (filter p xs)) x → Has (y ∷
+    xs) x × (p x ≡ true)) [
+      | true ↦ λ t k. elim k [
+        | inl same ↦ (inl same, subst (λ z. p z ≡ true) same t)
+        | inr r ↦ let on = Has-filter p xs x r in (inr on.0, on.1)
+      ]
+      | false ↦ λ t k. let on = Has-filter p xs x k in (inr on.0, on.1)
+    ]) refl h
+
+pub Has-slice_get : {X : Type 0} (xs : List X) (i : ℕ) (x : X) → slice_get xs i ≡ Some x → Has xs x
+Has-slice_get [] i x h = absurd (grind (arith, h))
+Has-slice_get (y ∷ xs) zero x h = inl (grind (arith, h))
+Has-slice_get (y ∷ xs) (suc i) x h = inr (Has-slice_get xs i x h)
+
+-- ---- what a store has
+
+pub Has-without : (target : List ℕ) (contents : Contents) (entry : Target) → Has (without target contents) entry
+    → Has contents entry × (target ≢ entry.0)
+Has-without target contents entry h =
+    let kept = Has-filter (λ e. not (is_for target e)) contents entry h in
+    (kept.0, λ same. grind (arith, kept.1, (bytes_eq-Decides target entry.0).1 same))
+
+pub Has-used : (target : List ℕ) (contents : Contents) (entry : Target) → Has (used target contents) entry → Has
+    contents entry
+Has-used target contents entry h = elim (Has-append (filter (is_for target) contents) (without target contents) entry
+    h) [
+      | inl a ↦ (Has-filter (is_for target) contents entry a).0
+      | inr b ↦ (Has-without target contents entry b).0
+    ]
+
+pub Has-with_target : (target : List ℕ) (responses : List StoredResponse) (contents : Contents) (entry : Target)
+    → Has (with_target target responses contents) entry → ((target, responses) ≡ entry) ⊎ Has contents entry
+Has-with_target target [] contents entry h = inr h
+Has-with_target target (response ∷ responses) contents entry h = h
+
+pub HasUnder-weaker : (old new : Contents) → ((entry : Target) → Has new entry → Has old entry) → (target : List ℕ)
+    (stored : StoredResponse) → HasUnder new target stored → HasUnder old target stored
+HasUnder-weaker old new weaker target stored h =
+    record { responses = h.responses; at = weaker (target, h.responses) h.at; among = h.among }
+
+pub HasUnder-responses_at : (target : List ℕ) (contents : Contents) (stored : StoredResponse)
+    → Has (responses_at target contents) stored → HasUnder contents target stored
+HasUnder-responses_at target [] stored h = absurd h
+HasUnder-responses_at target (entry ∷ contents) stored h = (elim (is_for target entry) as (λ b. is_for target entry ≡
+    b → Has (cond b entry.1 (responses_at target contents)) stored → HasUnder (entry ∷ contents) target stored) [
+      | true ↦ λ t k. record {
+        responses = entry.1;
+        at = inl (ap (λ key. (key, entry.1)) (sym ((bytes_eq-Decides target
+            entry.0).0 t)));
+        among = k;
+      }
+      | false ↦ λ t k. let under = HasUnder-responses_at target contents stored k in
+          record { responses = under.responses; at = inr under.at; among = under.among }
+    ]) refl h
+
+-- ---- what a call leaves
+
+Has-rest : (new : Request) (all rest : List StoredResponse) → IsRest new all rest → (stored : StoredResponse)
+    → Has rest stored → Has all stored
+Has-rest new all rest (inl none) stored h = subst (λ l. Has l stored) none.1 h
+Has-rest new all rest (inr (place, found, inl removed)) stored h =
+    Has-remove all place stored (subst (λ l. Has l stored) removed.1 h)
+Has-rest new all rest (inr (place, found, inr other)) stored h = subst (λ l. Has l stored) other.1 h
+
+module _ (kind : Kind) (limits : Limits) where
+  -- what is stored under a target is justified
+  abbrev pub AreJustified : History → Contents → Type 0
+  AreJustified calls contents =
+      (target : List ℕ) (stored : StoredResponse) → HasUnder contents target stored → IsJustified kind target calls
+      stored
+
+  module _ (calls : History) (old new : Contents) (before : AreJustified calls old) where
+    weaker : ((entry : Target) → Has new entry → Has old entry) → AreJustified calls new
+    weaker fewer target stored h = before target stored (HasUnder-weaker old new fewer target stored h)
+
+    fewer-front : (target : List ℕ) → IsFront (without target old) new → (entry : Target) → Has new entry → Has old
+        entry
+    fewer-front target front entry h =
+        (Has-without target old entry (Has-take front.count (without target old) entry (subst (λ l. Has l entry)
+        front.front h))).0
+
+    fewer-without : (target : List ℕ) → new ≡ without target old → (entry : Target) → Has new entry → Has old entry
+    fewer-without target left entry h = (Has-without target old entry (subst (λ l. Has l entry) left h)).0
+
+    -- those that stay under the target
+    stays : (target : List ℕ) (stored : StoredResponse) → Has (responses_at target old) stored → IsJustified kind
+        target calls stored
+    stays target stored h = before target stored (HasUnder-responses_at target old stored h)
+
+    looked : (target : List ℕ) → new ≡ used target old → AreJustified (Looked target ∷ calls) new
+    looked target left other stored h =
+        weaker (λ entry k. Has-used target old entry (subst (λ l. Has l entry) left k)) other stored h
+
+    removed : (target : List ℕ) → new ≡ without target old → AreJustified (Removed target ∷ calls) new
+    removed target left other stored h =
+        let kept = Has-without target old (other, h.responses) (subst (λ l. Has l (other, h.responses)) left h.at) in
+        (kept.1, before other stored (record { responses = h.responses; at = kept.0; among = h.among }))
+
+    -- the responses that stay under a target beside one more, and the other targets
+    put : (target : List ℕ) (kept : List StoredResponse) (one : StoredResponse) (rest : Contents)
+        → new ≡ (target, kept ++ one ∷ []) ∷ rest
+        → ((stored : StoredResponse) → Has kept stored → Has (responses_at target old) stored)
+        → ((entry : Target) → Has rest entry → Has old entry)
+        → (other : List ℕ) (stored : StoredResponse) → HasUnder new other stored
+        → IsJustified kind other calls stored ⊎ ((target ≡ other) × (one ≡ stored))
+    put target kept one rest left inside outside other stored h =
+        elim (subst (λ l. Has l (other, h.responses)) left h.at) [
+          | inl same ↦
+              let name : target ≡ other = ap (λ entry. entry.0) same in
+              let list : kept ++ one ∷ [] ≡ h.responses = ap (λ entry. entry.1) same in
+              elim (Has-append kept (one ∷ []) stored (subst (λ l. Has l stored) (sym list) h.among)) [
+                | inl a ↦ inl (subst (λ t. IsJustified kind t calls stored) name (stays target stored (inside stored
+                    a)))
+                | inr b ↦ elim b [
+                  | inl is ↦ inr (name, is)
+                  | inr none ↦ absurd none
+                ]
+              ]
+          | inr k ↦ inl (before other stored (record {
+            responses = h.responses;
+            at = outside (other, h.responses) k;
+            among = h.among;
+          }))
+        ]
+
+    arrived : (target : List ℕ) (came : StoredResponse) (reception : Reception) → Step kind limits (Arrived target
+        came reception) old new
+        → AreJustified (Arrived target came reception ∷ calls) new
+    arrived target came reception (inl same) other stored h =
+        inl (weaker (λ entry k. subst (λ l. Has l entry) same k) other stored h)
+    arrived target came reception (inr (inl (one, allowed, kept_as, inserted))) other stored h =
+        elim (put target inserted.kept one inserted.rest inserted.put
+        (λ s k. Has-rest (request_of_stored one) (responses_at target old) inserted.others inserted.beside s
+        (Has-drop inserted.trimmed.count inserted.others s (subst (λ l. Has l s) inserted.trimmed.left k)))
+        (λ entry k. (Has-without target old entry (Has-take inserted.room.count (without target old) entry (subst (λ
+        l. Has l entry) inserted.room.front k))).0)
+        other stored h) [
+          | inl was ↦ inl was
+          | inr is ↦ inr (is.0, allowed, subst (IsStoredAs came) is.1 kept_as)
+        ]
+    arrived target came reception (inr (inr front)) other stored h = inl (weaker (fewer-front target front) other
+        stored h)
+
+    validated : (target : List ℕ) (request : Request) (update : LineMap) (exchange : Exchange)
+        → Step kind limits (Validated target request update exchange) old new
+        → AreJustified (Validated target request update exchange ∷ calls) new
+    validated target request update exchange (inl (Absent, r)) other stored h =
+        inl (weaker (λ entry k. subst (λ l. Has l entry) r.1 k) other stored h)
+    validated target request update exchange (inl (Unchanged, r)) other stored h =
+        inl (weaker (λ entry k. subst (λ l. Has l entry) r.1 k) other stored h)
+    validated target request update exchange (inl (Stored at, r)) other stored h =
+        let was = r.refreshed.selected.response in
+        elim (put target (remove (responses_at target old) r.refreshed.place) r.fresh (without target old) r.put
+        (λ s k. Has-remove (responses_at target old) r.refreshed.place s k)
+        (λ entry k. (Has-without target old entry k).0) other stored h) [
+          | inl kept ↦ inl kept
+          | inr is ↦
+              let justified = stays target was (Has-slice_get (responses_at target old) r.refreshed.place was
+              r.refreshed.selected.at) in
+              inr (
+                is.0,
+                (
+                  was,
+                  subst (λ t. IsJustified kind t calls was) is.0 justified,
+                  r.refreshed.selected.is,
+                  r.refreshed.about,
+                  subst (IsFreshened was update exchange) is.1 r.refreshed.freshened,
+                  subst (IsReusable kind request update) is.1 r.reusable,
+                ),
+              )
+        ]
+    validated target request update exchange (inl (Once fresh, r)) other stored h =
+        let has = subst (λ l. Has l (other, h.responses)) r.put h.at in
+        let all = responses_at target old in
+        elim (Has-with_target target (remove all r.refreshed.place) (without target old) (other, h.responses) has) [
+          | inl same ↦
+              let list = subst (λ l. Has l stored) (sym (ap (λ entry. entry.1) same)) h.among in
+              inl (subst (λ t. IsJustified kind t calls stored) (ap (λ entry. entry.0) same) (stays target stored
+              (Has-remove all r.refreshed.place stored list)))
+          | inr k ↦ inl (before other stored (record {
+            responses = h.responses;
+            at = (Has-without target old (
+              other,
+              h.responses,
+            ) k).0;
+            among = h.among;
+          }))
+        ]
+    validated target request update exchange (inr left) other stored h = inl (weaker (fewer-without target left) other
+        stored h)
+
+  step : (call : Call) (calls : History) (old new : Contents) → AreJustified calls old → Step kind limits call old new
+      → AreJustified (call ∷ calls) new
+  step (Looked target) calls old new before change = looked calls old new before target change
+  step (Arrived target came reception) calls old new before change = arrived calls old new before target came
+      reception change
+  step (Validated target request update exchange) calls old new before change =
+      validated calls old new before target request update exchange change
+  step (Removed target) calls old new before change = removed calls old new before target change
+
+  -- whatever the calls are, what they leave is justified by them
+  pub run-justified : (calls : History) (contents : Contents) → Run kind limits calls contents → AreJustified calls
+      contents
+  run-justified [] contents none target stored h = absurd (subst (λ l. Has l (target, h.responses)) none h.at)
+  run-justified (call ∷ calls) contents (old, ran, change) target stored h =
+      step call calls old contents (run-justified calls old ran) change target stored h
+
+-- ---- what is served
+
+module _ (kind : Kind) (limits : Limits) (calls : History) (contents : Contents) (ran : Run kind limits calls contents)
+    (target : List ℕ) (request : Request) (now : ℕ) where
+  -- a stored response that is found for a request, and is good enough
+  served : (decision : Decision) (place : ℕ) (found : IsFound kind request now (responses_at target contents) decision
+      place)
+      → (age : Field) → age ≡ age_of_stored found.selected.response now
+      → IsGoodEnough kind (directed request.fields) (directed (fields_of_stored found.selected.response))
+      (freshness_at found.decided.stated (times_of found.selected.response now) (fields_of_stored
+      found.selected.response))
+      → IsRightlyServed kind target calls request now (responses_at target contents) place age
+  served decision place found age same good =
+      record {
+        response = found.selected.response;
+        at = found.selected.at;
+        justified = run-justified kind limits calls contents ran target found.selected.response
+            (HasUnder-responses_at target contents found.selected.response (Has-slice_get (responses_at target
+            contents) place found.selected.response found.selected.at));
+        matches = found.selected.is;
+        stated = found.decided.stated;
+        lifetime = found.decided.lifetime;
+        good = good;
+        age = same;
+      }
+
+  pub lookup-served : (lookup : Lookup) → IsAnswer kind request now (responses_at target contents) lookup → (place :
+      ℕ) (age : Field)
+      → Serves lookup place age → IsRightlyServed kind target calls request now (responses_at target contents) place age
+  lookup-served (Serve at line) (inl is) place age same =
+      subst (λ p. IsRightlyServed kind target calls request now (responses_at target contents) p age) same.0
+      (subst (IsRightlyServed kind target calls request now (responses_at target contents) at) same.1
+      (served decisions.Serve at is.found (field_of line) is.age (
+        is.found.decided.answers.0,
+        inl
+            is.found.decided.answers.1,
+      )))
+  lookup-served (Serve at line) (inr is) place age same =
+      subst (λ p. IsRightlyServed kind target calls request now (responses_at target contents) p age) same.0
+      (subst (IsRightlyServed kind target calls request now (responses_at target contents) at) same.1
+      (served decisions.ServeStale at is.found (field_of line) is.age (
+        is.found.decided.answers.0,
+        inr (inr
+            is.found.decided.answers.3),
+      )))
+  lookup-served (ServeAndRevalidate at line) is place age same =
+      subst (λ p. IsRightlyServed kind target calls request now (responses_at target contents) p age) same.0
+      (subst (IsRightlyServed kind target calls request now (responses_at target contents) at) same.1
+      (served decisions.ServeAndRevalidate at is.found (field_of line) is.age (
+        is.found.decided.answers.0,
+        inr (inl
+            is.found.decided.answers.2),
+      )))
+  lookup-served (Validate at fields) is place age none = absurd none
+  lookup-served (ValidateOrServe at fields) is place age none = absurd none
+  lookup-served Unavailable is place age none = absurd none
+  lookup-served Forward is place age none = absurd none

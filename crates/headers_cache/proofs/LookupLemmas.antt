@@ -1,0 +1,86 @@
+-- What a lookup answers.
+use Rattle.std.proofs.Common.{◌≡◌, ◌≢◌, ◌⊎◌, ℕ, List, [], ◌∷◌, get_or, slice_get, Some, None, Result, Ok, Err, IfOk}
+use Rattle.std.proofs.Common.{OnOk, refl, sym, ap, subst, inl, inr, ◌∙◌}
+use Rattle.std.proofs.lemmas.Option.{get_or_from_slice_get}
+use Rattle.headers.specs.LineMap.{field_of, fields_of}
+use Rattle.headers_cache_policy.specs.Decisions.{AnswersUnstored, Decides, DecidesMatched}
+use Rattle.headers_cache_policy.specs.Requests.{Request}
+use Rattle.headers_cache_policy.specs.declared.age.Times.{Times}
+use Rattle.headers_cache_policy.specs.declared.decision.Decision.{Decision}
+use Rattle.headers_cache_policy.specs.declared.decision.Decision.TheVariants as decisions
+use Rattle.headers_cache_policy.specs.declared.kind.Kind.{Kind}
+use Rattle.headers_cache_rules.specs.Selection.{IsCandidate, IsMostRecent}
+use Rattle.headers_cache_rules.specs.Stored.{fields_of_stored, request_of_stored, times_of}
+use Rattle.headers_cache_rules.specs.declared.stored.StoredResponse.{StoredResponse}
+use Rattle.headers_cache.specs.Lookups.{IsAnswer, IsAsked, IsFound, IsLookupOf, IsServed}
+use Rattle.headers_cache.specs.declared.lookup.Lookup.{Lookup}
+use Rattle.headers_cache.specs.declared.lookup.Lookup.TheVariants.{Serve, ServeAndRevalidate, Validate, ValidateOrServe}
+use Rattle.headers_cache.specs.declared.lookup.Lookup.TheVariants.{Unavailable, Forward}
+
+pub on_ok : {A E : Type 0} {P Q : Type 0} (result : Result A E) → (P → Q) → OnOk result P → OnOk result Q
+on_ok (Ok x) weaker h = weaker h
+on_ok (Err e) weaker h = h
+
+pub if_ok : {A E : Type 0} {P Q : A → Type 0} (result : Result A E) → ((x : A) → P x → Q x) → IfOk result P → IfOk
+    result Q
+if_ok (Ok x) weaker h = weaker x h
+if_ok (Err e) weaker h = h
+
+module _ (kind : Kind) (request : Request) (now : ℕ) (responses : List StoredResponse) (place : ℕ)
+    (selected : IsMostRecent (IsCandidate request) responses place) (decision : Decision) where
+  -- the policy decides so about the selected response
+  abbrev IsDecided : Decision → Type 0
+  IsDecided = DecidesMatched kind request.fields (fields_of_stored selected.response) (times_of selected.response now)
+
+  found_as : IsDecided decision → (other : Decision) → decision ≡ other → IsFound kind request now responses other place
+  found_as decided other same = record { selected = selected; decided = subst IsDecided same decided }
+
+  answer_by : IsDecided decision → (lookup : Lookup) → IsLookupOf selected.response now decision place lookup
+      → IsAnswer kind request now responses lookup
+  unfolding found_as
+  answer_by decided (Serve at age) is = elim is.0 [
+    | inl same ↦ inl (subst (λ p. IsServed kind request now responses decisions.Serve p (field_of age)) (sym is.1)
+        (record { found = found_as decided decisions.Serve same; age = is.2 }))
+    | inr same ↦ inr (subst (λ p. IsServed kind request now responses decisions.ServeStale p (field_of age)) (sym is.1)
+        (record { found = found_as decided decisions.ServeStale same; age = is.2 }))
+  ]
+  answer_by decided (ServeAndRevalidate at age) is =
+      subst (λ p. IsServed kind request now responses decisions.ServeAndRevalidate p (field_of age)) (sym is.1)
+      (record { found = found_as decided decisions.ServeAndRevalidate is.0; age = is.2 })
+  answer_by decided (Validate at fields) is =
+      subst (λ p. IsAsked kind request now responses decisions.Revalidate p (fields_of fields.items)) (sym is.1)
+      (record { found = found_as decided decisions.Revalidate is.0; fields = is.2 })
+  answer_by decided (ValidateOrServe at fields) is =
+      subst (λ p. IsAsked kind request now responses decisions.RevalidateOrServe p (fields_of fields.items)) (sym is.1)
+      (record { found = found_as decided decisions.RevalidateOrServe is.0; fields = is.2 })
+  answer_by decided Unavailable is = inl (place, found_as decided decisions.Unavailable is)
+  answer_by decided Forward is = absurd ((subst IsDecided is decided).answers)
+
+  -- the response at the place, as the code has it
+  pub answer_decided : (stored : StoredResponse) → stored ≡ get_or responses place stored → (head : Request)
+      → head ≡ request_of_stored stored → (times : Times) → times ≡ times_of stored now
+      → Decides kind head request (fields_of_stored stored) times decision → (lookup : Lookup)
+      → IsLookupOf stored now decision place lookup → IsAnswer kind request now responses lookup
+  answer_decided stored at head of_head times of_times decides lookup is =
+      let same : stored ≡ selected.response = at ∙ get_or_from_slice_get responses place selected.response stored
+      selected.at in
+      let by_head = subst (λ h. Decides kind h request (fields_of_stored stored) times decision) of_head decides in
+      let by_times = subst (λ t. Decides kind (request_of_stored stored) request (fields_of_stored stored) t decision)
+      of_times by_head in
+      let by_stored = subst (λ s. Decides kind (request_of_stored s) request (fields_of_stored s) (times_of s now)
+      decision) same by_times in
+      elim by_stored [
+        | inl suits ↦ answer_by suits.1 lookup (subst (λ s. IsLookupOf s now decision place lookup) same is)
+        | inr other ↦ absurd (other.0 selected.is)
+      ]
+
+-- a request that no stored response suits is forwarded, if it isn't 504
+pub unstored_forwards : (request : Request) (decision : Decision) → AnswersUnstored request decision
+    → decision ≢ decisions.Unavailable → AnswersUnstored request decisions.Fetch
+unstored_forwards request decisions.Serve is other = absurd is
+unstored_forwards request decisions.ServeAndRevalidate is other = absurd is
+unstored_forwards request decisions.ServeStale is other = absurd is
+unstored_forwards request decisions.Revalidate is other = absurd is
+unstored_forwards request decisions.RevalidateOrServe is other = absurd is
+unstored_forwards request decisions.Unavailable is other = absurd (other refl)
+unstored_forwards request decisions.Fetch is other = is

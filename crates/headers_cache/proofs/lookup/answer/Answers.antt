@@ -1,0 +1,12 @@
+use Rattle.headers_cache_policy.specs.Requests.{request_of}
+use Rattle.headers_cache.proofs.LookupLemmas.{answer_decided, if_ok}
+use Rattle.headers_cache.proofs.lookup.answer.Goals as goal
+
+pub returns-in-Some : goal.returns-in-Some
+returns-in-Some c =
+    if_ok c.found.result
+    (λ lookup is. answer_decided c.args.kind (request_of c.args.request.now) c.args.now c.args.responses.now
+    c.in-Some.place
+    c.in-Some.ensures c.decide-decision.result c.index-responses-place.result c.index-responses-place.is
+    (request_of c.head.result) c.head.ensures c.times.result c.times.ensures c.decide-decision.ensures lookup is)
+    c.found.ensures

@@ -1,0 +1,110 @@
+-- What the calls of a store make of what it has (RFC 9111, sections 3, 4.3.4 and 4.4).
+use Rattle.std.specs.Prelude.{◌≡◌, ◌≢◌, ◌⊎◌, ℕ, ◌+◌, ◌-◌, ◌<◌, ◌≤◌, List, [], ◌∷◌, ◌++◌, Some, None, length, take, drop}
+use Rattle.std.specs.Prelude.{remove}
+use Rattle.headers.specs.LineMap.{LineMap}
+use Rattle.headers_cache_policy.specs.Requests.{Request}
+use Rattle.headers_cache_policy.specs.Updating.{IsUpdated}
+use Rattle.headers_cache_policy.specs.declared.kind.Kind.{Kind}
+use Rattle.headers_cache_rules.specs.Freshening.{IsFreshened, IsReusable}
+use Rattle.headers_cache_rules.specs.Selection.{IsCandidate, IsMostRecent, IsSelected}
+use Rattle.headers_cache_rules.specs.Stored.{fields_of_stored, request_of_stored}
+use Rattle.headers_cache_rules.specs.Storing.{IsAsStored, IsStored}
+use Rattle.headers_cache_rules.specs.declared.freshening.Exchange.{Exchange}
+use Rattle.headers_cache_rules.specs.declared.storing.Reception.{Reception}
+use Rattle.headers_cache_rules.specs.declared.stored.StoredResponse.{StoredResponse}
+use Rattle.headers_cache.specs.Contents.{Contents, bytes_of, responses_at, size_of, with_target, without}
+use Rattle.headers_cache.specs.Room.{IsLongestWithRoom}
+use Rattle.headers_cache.specs.declared.limits.Limits.{Limits}
+use Rattle.headers_cache.specs.declared.freshening.Refreshed.{Refreshed}
+use Rattle.headers_cache.specs.declared.freshening.Refreshed.TheVariants.{Absent, Unchanged, Stored, Once}
+
+-- the first targets of these, in their order: what an error leaves
+pub record IsFront (old new : Contents) : Type 0 where
+  pub count : ℕ
+  pub front : new ≡ take count old
+
+-- ---- a new response
+
+-- the response as it came, and as it is stored (section 3.1)
+pub record IsStoredAs (came stored : StoredResponse) : Type 0 where
+  pub method : stored.method ≡ came.method
+  pub request : stored.request ≡ came.request
+  pub status : stored.status ≡ came.status
+  pub content : stored.content ≡ came.content
+  pub requested : stored.requested ≡ came.requested
+  pub received : stored.received ≡ came.received
+  pub fields : IsAsStored came.received (fields_of_stored came) (fields_of_stored stored)
+
+-- a cache of this kind stores the response
+abbrev pub IsToStore : Kind → StoredResponse → Reception → Type 0
+IsToStore kind came reception =
+    IsStored kind (request_of_stored came) came.status (fields_of_stored came) reception
+
+-- so many responses, with so many bytes, may be under one target
+pub record FitsAlone (limits : Limits) (responses bytes : ℕ) : Type 0 where
+  pub variants : responses ≤ limits.variants
+  pub few : responses ≤ limits.responses
+  pub light : bytes ≤ limits.bytes
+
+-- What is left of the responses of a target beside one to a new request: without the one that was selected for that
+-- request so far, if it has the same method (section 4.3.3).
+abbrev pub IsRest : Request → List StoredResponse → List StoredResponse → Type 0
+IsRest request all rest =
+    (IsSelected (IsCandidate request) all None × (rest ≡ all))
+    ⊎ ((place : ℕ) × (found : IsMostRecent (IsCandidate request) all place)
+    × (((found.response.method ≡ request.method) × (rest ≡ remove all place))
+    ⊎ ((found.response.method ≢ request.method) × (rest ≡ all))))
+
+-- the oldest of the responses go, as few as leave room for one more of this size
+pub record IsTrimmed (limits : Limits) (size : ℕ) (old new : List StoredResponse) : Type 0 where
+  pub count : ℕ
+  pub left : new ≡ drop count old
+  pub fits : FitsAlone limits (length new + 1) (bytes_of new + size)
+  pub fewest : 0 < count → ¬ (FitsAlone limits (length (drop (count - 1) old) + 1) (bytes_of (drop (count - 1) old) +
+      size))
+
+-- The new response is stored under the target, which becomes the most recently used; the least recently used others go,
+-- as few as leave room.
+pub record IsInserted (limits : Limits) (target : List ℕ) (new : StoredResponse) (old contents : Contents) : Type 0
+  where
+    pub others : List StoredResponse
+    pub kept : List StoredResponse
+    pub rest : Contents
+    pub beside : IsRest (request_of_stored new) (responses_at target old) others
+    pub trimmed : IsTrimmed limits (size_of new) others kept
+    pub room : IsLongestWithRoom limits (length kept + 1) (bytes_of kept + size_of new) (without target old) rest
+    pub put : contents ≡ (target, kept ++ new ∷ []) ∷ rest
+
+-- ---- a response that validates a stored one
+
+module _ (kind : Kind) (target : List ℕ) (request : Request) (update : LineMap) (exchange : Exchange) (old new :
+    Contents)
+  where
+    -- the selected response is updated
+    pub record IsRefreshedTo (fresh : StoredResponse) : Type 0 where
+      pub place : ℕ
+      pub selected : IsMostRecent (IsCandidate request) (responses_at target old) place
+      pub about : IsUpdated (fields_of_stored selected.response) update
+      pub freshened : IsFreshened selected.response update exchange fresh
+
+    -- it stays stored, and is the most recent one
+    pub record IsRestored (stored_at : ℕ) : Type 0 where
+      pub fresh : StoredResponse
+      pub refreshed : IsRefreshedTo fresh
+      pub reusable : IsReusable kind request update fresh
+      pub at : stored_at ≡ length (remove (responses_at target old) refreshed.place)
+      pub put : new ≡ (target, remove (responses_at target old) refreshed.place ++ fresh ∷ []) ∷ without target old
+
+    -- it is stored no longer, and answers this request once
+    pub record IsLetGo (fresh : StoredResponse) : Type 0 where
+      pub refreshed : IsRefreshedTo fresh
+      pub unusable : ¬ (IsReusable kind request update fresh)
+      pub put : new ≡ with_target target (remove (responses_at target old) refreshed.place) (without target old)
+
+    -- what becomes of the response that is selected for the request
+    abbrev pub IsRefreshed : Refreshed → Type 0
+    IsRefreshed Absent = IsSelected (IsCandidate request) (responses_at target old) None × (new ≡ old)
+    IsRefreshed Unchanged = ((place : ℕ) × (found : IsMostRecent (IsCandidate request) (responses_at target old) place)
+        × ¬ (IsUpdated (fields_of_stored found.response) update)) × (new ≡ old)
+    IsRefreshed (Stored at) = IsRestored at
+    IsRefreshed (Once fresh) = IsLetGo fresh

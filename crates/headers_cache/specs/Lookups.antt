@@ -1,0 +1,72 @@
+-- What a store answers to a request (RFC 9111, section 4).
+use Rattle.std.specs.Prelude.{◌≡◌, ◌⊎◌, ℕ, List, [], ◌∷◌, None, codes, decimal}
+use Rattle.headers.specs.LineMap.{Field, field_of, fields_of}
+use Rattle.headers_cache_policy.specs.Age.{age_at}
+use Rattle.headers_cache_policy.specs.Decisions.{AnswersUnstored, DecidesMatched}
+use Rattle.headers_cache_policy.specs.Fields.{capped}
+use Rattle.headers_cache_policy.specs.Requests.{Request}
+use Rattle.headers_cache_policy.specs.Validating.{validation_fields}
+use Rattle.headers_cache_policy.specs.declared.decision.Decision.{Decision}
+use Rattle.headers_cache_policy.specs.declared.decision.Decision.TheVariants as decisions
+use Rattle.headers_cache_policy.specs.declared.kind.Kind.{Kind}
+use Rattle.headers_cache_rules.specs.Selection.{IsCandidate, IsMostRecent, IsSelected}
+use Rattle.headers_cache_rules.specs.Stored.{fields_of_stored, times_of}
+use Rattle.headers_cache_rules.specs.declared.stored.StoredResponse.{StoredResponse}
+use Rattle.headers_cache.specs.declared.lookup.Lookup.{Lookup}
+use Rattle.headers_cache.specs.declared.lookup.Lookup.TheVariants.{Serve, ServeAndRevalidate, Validate, ValidateOrServe}
+use Rattle.headers_cache.specs.declared.lookup.Lookup.TheVariants.{Unavailable, Forward}
+
+-- Age of a stored response that is served (section 5.1)
+abbrev pub age_of_stored : StoredResponse → ℕ → Field
+age_of_stored stored now = (codes "age", decimal (capped (age_at (times_of stored now) (fields_of_stored stored))) ∷ [])
+
+-- the fields by which a request asks whether a stored response is still good (section 4.3.1)
+abbrev pub conditions_of : StoredResponse → List Field
+conditions_of stored = validation_fields stored.received (fields_of_stored stored)
+
+-- what the decision about a stored response comes to
+abbrev pub IsLookupOf : StoredResponse → ℕ → Decision → ℕ → Lookup → Type 0
+IsLookupOf stored now decision place (Serve at age) =
+    ((decision ≡ decisions.Serve) ⊎ (decision ≡ decisions.ServeStale)) × (at ≡ place)
+    × (field_of age ≡ age_of_stored stored now)
+IsLookupOf stored now decision place (ServeAndRevalidate at age) =
+    (decision ≡ decisions.ServeAndRevalidate) × (at ≡ place) × (field_of age ≡ age_of_stored stored now)
+IsLookupOf stored now decision place (Validate at fields) =
+    (decision ≡ decisions.Revalidate) × (at ≡ place) × (fields_of fields.items ≡ conditions_of stored)
+IsLookupOf stored now decision place (ValidateOrServe at fields) =
+    (decision ≡ decisions.RevalidateOrServe) × (at ≡ place) × (fields_of fields.items ≡ conditions_of stored)
+IsLookupOf stored now decision place Unavailable = decision ≡ decisions.Unavailable
+IsLookupOf stored now decision place Forward = decision ≡ decisions.Fetch
+
+module _ (kind : Kind) (request : Request) (now : ℕ) (responses : List StoredResponse) where
+  -- The response at the place is the one that is selected for the request (section 4.1), and the policy decides so
+  -- about it.
+  pub record IsFound (decision : Decision) (place : ℕ) : Type 0 where
+    pub selected : IsMostRecent (IsCandidate request) responses place
+    pub decided : DecidesMatched kind request.fields (fields_of_stored selected.response)
+        (times_of selected.response now) decision
+
+  -- none is selected
+  abbrev pub IsUnmatched : Type 0
+  IsUnmatched = IsSelected (IsCandidate request) responses None
+
+  -- it is found so, and has this field Age
+  pub record IsServed (decision : Decision) (place : ℕ) (line : Field) : Type 0 where
+    pub found : IsFound decision place
+    pub age : line ≡ age_of_stored found.selected.response now
+
+  -- it is found so, and the origin is asked by these fields
+  pub record IsAsked (decision : Decision) (place : ℕ) (sent : List Field) : Type 0 where
+    pub found : IsFound decision place
+    pub fields : sent ≡ conditions_of found.selected.response
+
+  -- which facts give each answer
+  abbrev pub IsAnswer : Lookup → Type 0
+  IsAnswer (Serve place age) =
+      IsServed decisions.Serve place (field_of age) ⊎ IsServed decisions.ServeStale place (field_of age)
+  IsAnswer (ServeAndRevalidate place age) = IsServed decisions.ServeAndRevalidate place (field_of age)
+  IsAnswer (Validate place fields) = IsAsked decisions.Revalidate place (fields_of fields.items)
+  IsAnswer (ValidateOrServe place fields) = IsAsked decisions.RevalidateOrServe place (fields_of fields.items)
+  IsAnswer Unavailable = ((place : ℕ) × IsFound decisions.Unavailable place)
+      ⊎ (IsUnmatched × AnswersUnstored request decisions.Unavailable)
+  IsAnswer Forward = IsUnmatched × AnswersUnstored request decisions.Fetch

@@ -1,0 +1,36 @@
+//! What a request that isn't safe removes.
+ghost use Rattle.std.specs.Prelude.{◌≡◌};
+ghost use Rattle.headers_cache_rules.specs.Invalidation.{Invalidates};
+ghost use Rattle.headers_cache.specs.Contents.{without};
+ghost use Rattle.headers_cache.specs.Kept.{contents_of};
+
+use crate::store::Store;
+use headers_cache_rules::invalidates;
+use http::{Method, StatusCode};
+use std::alloc::Global;
+
+impl Store {
+    /// Removes what is stored under the target of a request, if the response to it invalidates that
+    /// (RFC 9111, section 4.4): the method isn't safe, and the status is 2xx or 3xx.
+    pub fn invalidate(&mut self, alloc: Global, target: &str, method: &Method, status: StatusCode)
+        ensures invalid { Invalidates method.now status
+            → contents_of self.new ≡ without target.now (contents_of self.old) }
+        ensures valid { ¬ (Invalidates method.now status) → contents_of self.new ≡ contents_of self.old }
+        ensures kind { self.new.kind ≡ self.old.kind }
+        ensures limits { self.new.limits ≡ self.old.limits }
+    {
+        if invalidates(method, status) {
+            self.remove(alloc, target);
+        }
+    }
+
+    /// Removes what is stored under a target, as one that Location or Content-Location of such a
+    /// response names.
+    pub fn remove(&mut self, alloc: Global, target: &str)
+        ensures contents { contents_of self.new ≡ without target.now (contents_of self.old) }
+        ensures kind { self.new.kind ≡ self.old.kind }
+        ensures limits { self.new.limits ≡ self.old.limits }
+    {
+        drop(self.take_out(alloc, target));
+    }
+}

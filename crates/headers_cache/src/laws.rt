@@ -1,0 +1,33 @@
+//! What follows for every list of calls. A proof cites a law by calling it.
+ghost use Rattle.std.specs.Prelude.{ℕ, List};
+ghost use Rattle.headers.specs.LineMap.{Field};
+ghost use Rattle.headers_cache_policy.specs.Requests.{Request};
+ghost use Rattle.headers_cache_policy.specs.declared.kind.Kind.{Kind};
+ghost use Rattle.headers_cache_rules.specs.declared.stored.StoredResponse.{StoredResponse};
+ghost use Rattle.headers_cache.specs.Contents.{Contents, responses_at};
+ghost use Rattle.headers_cache.specs.History.{HasUnder, History, IsJustified, Run};
+ghost use Rattle.headers_cache.specs.Lookups.{IsAnswer};
+ghost use Rattle.headers_cache.specs.Served.{IsRightlyServed, Serves};
+ghost use Rattle.headers_cache.specs.declared.limits.Limits.{Limits};
+ghost use Rattle.headers_cache.specs.declared.lookup.Lookup.{Lookup};
+
+/// Whatever calls are made of a new store, whether or not they run out of memory: each response that
+/// it has under a target came from the origin for a request to this target, may be stored, and has its
+/// fields as they came, or as responses that validated it left them. Since it came, nothing was removed
+/// under this target.
+pub fn calls_justify_what_is_stored()
+    ensures { (kind : Kind) (limits : Limits) (calls : History) (contents : Contents) → Run kind limits calls contents
+        → (target : List ℕ) (stored : StoredResponse) → HasUnder contents target stored
+        → IsJustified kind target calls stored }
+{}
+
+/// Whatever calls are made of a new store, a lookup after them serves nothing but what they justify,
+/// and what it serves matches the request, and is fresh, or allowed to be served stale by each
+/// directive that applies.
+pub fn lookups_serve_what_calls_justify()
+    ensures { (kind : Kind) (limits : Limits) (calls : History) (contents : Contents) → Run kind limits calls contents
+        → (target : List ℕ) (request : Request) (now : ℕ) (lookup : Lookup)
+        → IsAnswer kind request now (responses_at target contents) lookup → (place : ℕ) (age : Field)
+        → Serves lookup place age
+        → IsRightlyServed kind target calls request now (responses_at target contents) place age }
+{}

@@ -1,0 +1,18 @@
+//! A cache over time: which stored response answers a request, and what is stored, freshened and
+//! removed (RFC 9111).
+#![tactic(auto)]
+
+mod entries;
+mod freshening;
+mod invalidating;
+pub mod laws;
+mod limits;
+mod lookup;
+mod making;
+mod store;
+mod storing;
+
+pub use crate::freshening::Refreshed;
+pub use crate::limits::Limits;
+pub use crate::lookup::Lookup;
+pub use crate::store::Store;

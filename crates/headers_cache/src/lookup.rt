@@ -1,0 +1,157 @@
+//! What a store answers to a request.
+ghost use Rattle.std.specs.Prelude.{◌≡◌, IfOk, option_copied, slice_get};
+ghost use Rattle.headers_cache_policy.specs.Requests.{request_of};
+ghost use Rattle.headers_cache.specs.Contents.{responses_at, used};
+ghost use Rattle.headers_cache.specs.Kept.{contents_of};
+ghost use Rattle.headers_cache.specs.Lookups.{IsAnswer, IsLookupOf};
+
+use crate::store::Store;
+use headers::Encoded;
+use headers_cache_policy::{
+    Decision, Kind, RequestHead, decide, decide_unstored, validation_fields,
+};
+use headers_cache_rules::{StoredResponse, age_field, select};
+use std::alloc::{AllocError, Global};
+
+/// What is done with a request. A place is that of a response among those that are stored under the
+/// target of the request: `Store::response` returns it.
+#[derive(Debug, Drop)]
+pub enum Lookup {
+    /// The stored response at the place is the answer, with this field Age in place of its own. It is
+    /// fresh, or the request takes it though it is stale (`max-stale`).
+    Serve(usize, Encoded),
+    /// The same, and the origin is to be asked after that whether it is still good
+    /// (`stale-while-revalidate`).
+    ServeAndRevalidate(usize, Encoded),
+    /// The origin has to say whether the stored response at the place is still good: the request is
+    /// forwarded with these fields, by `set_all`.
+    Validate(usize, Vec<Encoded>),
+    /// The same, but if the origin can't be reached or answers 500, 502, 503 or 504, the stored
+    /// response may be the answer (`stale-if-error`).
+    ValidateOrServe(usize, Vec<Encoded>),
+    /// The answer is 504: no stored response is good enough, and the request forbids to ask on
+    /// (`only-if-cached`).
+    Unavailable,
+    /// The request is forwarded as it is.
+    Forward,
+}
+
+// What is done with a request that the response at the place is selected for.
+fn found(
+    alloc: Global,
+    stored: &StoredResponse,
+    place: usize,
+    decision: Decision,
+    now: u64,
+) -> Result<Lookup, AllocError>
+    ensures { IfOk result (λ lookup. IsLookupOf stored.now now decision place lookup) }
+{
+    Ok(match decision {
+        Decision::Serve | Decision::ServeStale => {
+            Lookup::Serve(
+                place,
+                age_field(alloc, &stored.response, stored.times(now))?,
+            )
+        }
+        Decision::ServeAndRevalidate => {
+            Lookup::ServeAndRevalidate(
+                place,
+                age_field(alloc, &stored.response, stored.times(now))?,
+            )
+        }
+        Decision::Revalidate => {
+            Lookup::Validate(
+                place,
+                validation_fields(alloc, &stored.response, stored.received)?,
+            )
+        }
+        Decision::RevalidateOrServe => {
+            Lookup::ValidateOrServe(
+                place,
+                validation_fields(alloc, &stored.response, stored.received)?,
+            )
+        }
+        Decision::Unavailable => Lookup::Unavailable,
+        Decision::Fetch => Lookup::Forward,
+    })
+}
+
+// What is done with a request to a target under which these responses are stored.
+pub(crate) fn answer(
+    alloc: Global,
+    responses: &[StoredResponse],
+    request: &RequestHead<'_>,
+    now: u64,
+    kind: Kind,
+) -> Result<Lookup, AllocError>
+    ensures { IfOk result (IsAnswer kind (request_of request.now) now responses.now) }
+{
+    match select(responses, request) {
+        Some(place) => {
+            let stored = &responses[place];
+            let decision = decide(
+                &stored.head(),
+                request,
+                &stored.response,
+                stored.times(now),
+                kind,
+            );
+            found(alloc, stored, place, decision, now)
+        }
+        None => match decide_unstored(request) {
+            Decision::Unavailable => Ok(Lookup::Unavailable),
+            _ => Ok(Lookup::Forward),
+        },
+    }
+}
+
+impl Store {
+    /// What a cache does with a request to a target (RFC 9111, section 4). The target becomes the most
+    /// recently used. `now` is the present, in seconds since 1970.
+    ///
+    /// Fails only if it runs out of memory.
+    pub fn lookup(
+        &mut self,
+        alloc: Global,
+        target: &str,
+        request: &RequestHead<'_>,
+        now: u64,
+    ) -> Result<Lookup, AllocError>
+        ensures answer { IfOk result (IsAnswer self.old.kind (request_of request.now) now
+            (responses_at target.now (contents_of self.new))) }
+        ensures contents { contents_of self.new ≡ used target.now (contents_of self.old) }
+        ensures kind { self.new.kind ≡ self.old.kind }
+        ensures limits { self.new.limits ≡ self.old.limits }
+    {
+        self.touch(target);
+        answer(alloc, self.responses(target), request, now, self.kind)
+    }
+
+    /// The responses that are stored under a target, in the order in which they were stored.
+    pub fn responses(&self, target: &str) -> &[StoredResponse]
+        ensures { result.now ≡ responses_at target.now (contents_of self.now) }
+    {
+        match self.targets.peek(target) {
+            Some(responses) => responses.as_slice(),
+            None => &[],
+        }
+    }
+
+    /// The stored response at a place.
+    pub fn response(&self, target: &str, place: usize) -> Option<&StoredResponse>
+        ensures { option_copied result ≡ slice_get (responses_at target.now (contents_of self.now)) place }
+    {
+        self.responses(target).get(place)
+    }
+
+    // Makes a target the most recently used.
+    fn touch(&mut self, target: &str)
+        ensures contents { contents_of self.new ≡ used target.now (contents_of self.old) }
+        ensures kind { self.new.kind ≡ self.old.kind }
+        ensures limits { self.new.limits ≡ self.old.limits }
+    {
+        // Shows that no target is there twice.
+        let _targets = self.targets.len();
+        self.targets.promote(target);
+    }
+}

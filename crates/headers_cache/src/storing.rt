@@ -1,0 +1,143 @@
+//! What is stored.
+ghost use Rattle.std.specs.Prelude.{◌≡◌, ◌≢◌, ◌⊎◌, ◌+◌, ◌<◌, ◌≤◌, ◌^◌, ℕ, List, IfOk, OnOk, OnErr, true, false, length};
+ghost use Rattle.std.specs.Bool.{MatchBool};
+ghost use Rattle.headers.specs.LineMap.{fields_of, lines_at, set_all};
+ghost use Rattle.headers_cache_policy.specs.Requests.{request_of};
+ghost use Rattle.headers_cache.specs.Changes.{FitsAlone, IsFront, IsInserted, IsRest, IsStoredAs, IsToStore, IsTrimmed};
+ghost use Rattle.headers_cache.specs.Contents.{bytes_of, size_of, without};
+ghost use Rattle.headers_cache.specs.Kept.{contents_of};
+
+use crate::entries::bytes_of;
+use crate::limits::Limits;
+use crate::store::Store;
+use headers::{Encoded, HeaderMap, InsertError, set_all};
+use headers_cache_policy::RequestHead;
+use headers_cache_rules::{Reception, StoredResponse, is_stored, select, storing_fields};
+use http::Method;
+use std::alloc::{AllocError, Global};
+
+fn set_fields(map: &mut HeaderMap, fields: Vec<Encoded>) -> Result<(), InsertError>
+    ensures { OnOk result ((name : List ℕ)
+        → lines_at map.new name ≡ set_all (lines_at map.old) (fields_of fields.items) name) }
+{
+    match set_all(map, fields) {
+        Ok(()) => Ok(()),
+        Err(error) => Err(error.cause),
+    }
+}
+
+// The response as it is stored.
+fn as_stored(alloc: Global, came: StoredResponse) -> Result<StoredResponse, InsertError>
+    ensures { IfOk result (IsStoredAs came) }
+{
+    let fields = storing_fields(alloc, &came.response, came.received)?;
+    let mut stored = came;
+    set_fields(&mut stored.response, fields)?;
+    Ok(stored)
+}
+
+// Whether there may be one more response of this size beside these.
+fn fits(responses: &[StoredResponse], size: usize, limits: Limits) -> bool
+    requires { bytes_of responses.now < 2 ^ 64 }
+    ensures { MatchBool result
+        (FitsAlone limits (length responses.now + 1) (bytes_of responses.now + size))
+        (¬ (FitsAlone limits (length responses.now + 1) (bytes_of responses.now + size))) }
+{
+    responses.len() < limits.variants
+        && responses.len() < limits.responses
+        && size <= limits.bytes
+        && bytes_of(responses) <= limits.bytes - size
+}
+
+// Whether the stored response answered a request with this method.
+fn has_method(stored: &StoredResponse, method: &Method) -> bool
+    ensures { MatchBool result (stored.now.method ≡ method.now) (stored.now.method ≢ method.now) }
+{
+    stored.method == *method
+}
+
+// Removes the response that one to a new request supersedes.
+fn supersede(responses: &mut Vec<StoredResponse>, request: &RequestHead<'_>)
+    ensures rest { IsRest (request_of request.now) responses.old.items responses.new.items }
+    ensures lighter { bytes_of responses.new.items ≤ bytes_of responses.old.items }
+{
+    if let Some(place) = select(responses, request) {
+        if has_method(&responses[place], request.method) {
+            responses.remove(place);
+        }
+    }
+}
+
+// Removes the oldest responses, until there may be one more of this size.
+fn trim(responses: &mut Vec<StoredResponse>, size: usize, limits: Limits)
+    requires alone { FitsAlone limits 1 size }
+    requires light { bytes_of responses.old.items < 2 ^ 64 }
+    ensures { IsTrimmed limits size responses.old.items responses.new.items }
+{
+    while !fits(responses, size, limits) {
+        responses.remove(0);
+    }
+}
+
+impl Store {
+    /// Stores the response to a request, if a cache of this kind may (RFC 9111, section 3): `came` has
+    /// the request, the response as it came from the origin, and their times. Returns whether it was
+    /// stored: a response that is larger than the store may be isn't.
+    ///
+    /// It supersedes the stored response that was selected for its request so far, if that answered
+    /// the same method. If there is too little room for it, older responses of its target go first,
+    /// and then the targets that weren't used for the longest time.
+    ///
+    /// After an error nothing is stored that wasn't stored before.
+    pub fn store(
+        &mut self,
+        alloc: Global,
+        target: &str,
+        came: StoredResponse,
+        reception: Reception,
+    ) -> Result<bool, InsertError>
+        ensures stored { result ≡ Ok true → (stored : StoredResponse) × IsToStore self.old.kind came reception
+            × IsStoredAs came stored
+            × IsInserted self.old.limits target.now stored (contents_of self.old) (contents_of self.new) }
+        ensures unstored { result ≡ Ok false
+            → ((¬ (IsToStore self.old.kind came reception)) ⊎ (¬ (FitsAlone self.old.limits 1 (size_of came))))
+            × (contents_of self.new ≡ contents_of self.old) }
+        ensures err { OnErr result ((contents_of self.new ≡ contents_of self.old)
+            ⊎ IsFront (without target.now (contents_of self.old)) (contents_of self.new)) }
+        ensures kind { self.new.kind ≡ self.old.kind }
+        ensures limits { self.new.limits ≡ self.old.limits }
+    {
+        let is_stored = is_stored(
+            &came.head(),
+            came.status,
+            &came.response,
+            reception,
+            self.kind,
+        );
+        if !is_stored || !fits(&[], came.content.len(), self.limits) {
+            return Ok(false);
+        }
+        let stored = as_stored(alloc, came)?;
+        match self.insert(alloc, target, stored) {
+            Ok(()) => Ok(true),
+            Err(AllocError) => Err(InsertError::Memory),
+        }
+    }
+
+    // Stores a response.
+    fn insert(&mut self, alloc: Global, target: &str, new: StoredResponse) -> Result<(), AllocError>
+        requires { FitsAlone self.old.limits 1 (size_of new) }
+        ensures ok { OnOk result
+            (IsInserted self.old.limits target.now new (contents_of self.old) (contents_of self.new)) }
+        ensures err { OnErr result (IsFront (without target.now (contents_of self.old)) (contents_of self.new)) }
+        ensures kind { self.new.kind ≡ self.old.kind }
+        ensures limits { self.new.limits ≡ self.old.limits }
+    {
+        let mut responses = self.take_out(alloc, target);
+        supersede(&mut responses, &new.head());
+        trim(&mut responses, new.content.len(), self.limits);
+        let bytes = bytes_of(&responses) + new.content.len();
+        self.make_room(responses.len() + 1, bytes);
+        self.put_with(alloc, target, responses, new)
+    }
+}
