@@ -1,0 +1,3 @@
+mod DistinctLemmas
+mod MatchLemmas
+mod NowhereLemmas

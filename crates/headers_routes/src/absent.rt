@@ -1,0 +1,62 @@
+//! What answers where there is no resource.
+ghost use Rattle.std.specs.Prelude.{◌≡◌, IfOk, false};
+ghost use Rattle.headers_routes.specs.Routes.{IsNowhere};
+
+use headers::{HeaderMap, HeaderValue};
+use headers_cors_policy::CorsPolicy;
+use headers_preconditions::Boundary;
+use headers_resource::{MethodRule, Negotiation, Resource, State};
+use http::Method;
+use std::alloc::{AllocError, Global};
+
+// A method that is answered, but never performed.
+fn rule_for(alloc: Global, method: Method) -> MethodRule
+    ensures method { result.method ≡ method }
+    ensures creates { result.creates ≡ false }
+{
+    MethodRule {
+        method,
+        takes: HeaderMap::new(alloc),
+        creates: false,
+        needs_condition: false,
+    }
+}
+
+/// The resource at each path that has none: it is absent, no method makes it, and each method of the
+/// RFC is answered by 404. The server is asked for by these hosts, or by any.
+pub fn nowhere(
+    alloc: Global,
+    hosts: Option<Vec<HeaderValue>>,
+    boundary: Boundary,
+    cors: Option<CorsPolicy>,
+) -> Result<Resource, AllocError>
+    ensures nowhere { IfOk result IsNowhere }
+    ensures hosts { IfOk result (λ resource. resource.hosts ≡ hosts) }
+    ensures cors { IfOk result (λ resource. resource.cors ≡ cors) }
+{
+    let rules = vec![in alloc;
+        rule_for(alloc, Method::GET),
+        rule_for(alloc, Method::POST),
+        rule_for(alloc, Method::PUT),
+        rule_for(alloc, Method::DELETE),
+        rule_for(alloc, Method::CONNECT),
+        rule_for(alloc, Method::TRACE),
+        rule_for(alloc, Method::PATCH),
+    ]?;
+    Ok(Resource {
+        hosts,
+        rules,
+        state: State::Absent,
+        representations: Vec::new(alloc),
+        negotiation: Negotiation {
+            media_type: false,
+            language: false,
+            coding: false,
+            is_strict: false,
+        },
+        boundary,
+        needs_length: false,
+        limit: None,
+        cors,
+    })
+}

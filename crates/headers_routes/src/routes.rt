@@ -1,0 +1,50 @@
+//! Routes to resources.
+ghost use Rattle.std.specs.Prelude.{◌≡◌, IfOk, Ok};
+ghost use Rattle.matchit.specs.Seek.{first};
+ghost use Rattle.headers_resource.specs.Requests.{request_of};
+ghost use Rattle.headers_routes.specs.Routes.{IsAnswerAt, IsTaken};
+
+use headers_resource::{Answer, RequestHead, Resource, answer_request};
+use matchit::{Params, Router};
+use std::alloc::{AllocError, Global};
+
+/// The resources of a server by the paths of their targets.
+#[derive(Drop)]
+pub struct Routes<T> {
+    /// The routes, each with what the server wants to know of it.
+    pub router: Router<T>,
+    /// What answers where there is no route, as `nowhere` makes it.
+    pub nowhere: Resource,
+}
+
+impl<T: Drop> Routes<T> {
+    /// Answers a request by the path of its target: as the resource of its route says, which
+    /// `describe` makes of the value and the parameters of that route, or as `nowhere` says if no
+    /// route matches. `present` is the time, in seconds since the start of 1970.
+    pub fn answer_at<E: From<AllocError>, F: FnOnce(&T, &Params<'_, '_>) -> Result<Resource, E>>(
+        &self,
+        alloc: Global,
+        path: &str,
+        request: &RequestHead<'_>,
+        present: u64,
+        describe: F,
+    ) -> Result<Answer, E>
+        requires { F.IsAlwaysCallable describe }
+        ensures { IfOk result (IsAnswerAt present self.now.nowhere (request_of request.now)
+            (λ route resource. (value : _) × (params : _) × (value.now ≡ route.value)
+            × IsTaken route path.now params.now × F.post describe value params (Ok resource))
+            (first self.now.router path.now)) }
+    {
+        match self.router.at(path) {
+            Ok(found) => {
+                let resource = describe(found.value, &found.params)?;
+                let answer = answer_request(alloc, &resource, request, present)?;
+                Ok(answer)
+            }
+            Err(_) => {
+                let answer = answer_request(alloc, &self.nowhere, request, present)?;
+                Ok(answer)
+            }
+        }
+    }
+}
