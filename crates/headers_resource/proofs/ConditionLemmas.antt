@@ -1,6 +1,6 @@
 -- Conditions are evaluated on the representation that the request without them gets.
-use Rattle.std.proofs.Common.{◌≡◌, ℕ, Bool, true, false, List, Option, Some, None, refl, sym, ◌∙◌, ap}
-use Rattle.headers.specs.LineMap.{Field, LineMap}
+use Rattle.std.proofs.Common.{◌≡◌, ℕ, Bool, true, false, List, Option, Some, None, refl, sym, ◌∙◌}
+use Rattle.headers.specs.LineMap.{Field}
 use Rattle.headers_preconditions.specs.declared.plan.Plan.{Plan}
 use Rattle.headers_preconditions.specs.declared.response.Response.{Response}
 use Rattle.headers_resource.specs.Answers.{GivesIf, IsAnswer, IsSelected, is_admitted, is_sent, sent_for}

@@ -3,6 +3,8 @@ mod AnswerLemmas
 mod ConditionLemmas
 mod HeadLemmas
 mod OneReasonLemmas
+mod OtherFieldLemmas
+mod OwnFieldLemmas
 mod PickLemmas
 mod PlanLemmas
 mod ReasonLemmas

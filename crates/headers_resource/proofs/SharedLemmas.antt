@@ -2,7 +2,6 @@
 use Rattle.std.proofs.Common.{◌≡◌, ◌↔◌, ℕ, List, [], ◌∷◌, ◌++◌, Option, Some, refl, sym, ◌∙◌, ap, subst}
 use Rattle.std.specs.Prelude.{codes}
 use Rattle.headers.specs.LineMap.{Field, LineMap, fields_of, set, set_all}
-use Rattle.headers.specs.Lines.{Line}
 use Rattle.headers_cors_policy.specs.Browser.{CorsCheck, IsOkStatus, IsPreflightFor, PreflightPasses, Request as Sent}
 use Rattle.headers_cors_policy.specs.Policy.{Policy}
 use Rattle.headers_cors_policy.specs.Rules.{AllowsCredentials, AllowsOrigin, AllowsRequest, IsLawful, IsPolicyOf}

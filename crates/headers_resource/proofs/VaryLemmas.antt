@@ -362,7 +362,7 @@ module _ (resource : Resource) (r s : Request) (alike : AreAlike r s) where
         ++ fields_of response.fields.items)
         alike.asks.if_range
 
-  same_first : (reason : Reason)
+  pub same_first : (reason : Reason)
       → (depends_on_selection reason ≡ true → SelectAlike resource.negotiation r.fields s.fields)
       → IsFirst (applies resource r) reason → IsFirst (applies resource s) reason
   same_first reason select h =
@@ -379,7 +379,7 @@ module _ (resource : Resource) (r s : Request) (alike : AreAlike r s) where
             }
       ]
 
-  gives_alike : (present : ℕ) (b : Bool) (reason : Reason) (status : Option ℕ) (sent : Sends) (fields : List Field)
+  pub gives_alike : (present : ℕ) (b : Bool) (reason : Reason) (status : Option ℕ) (sent : Sends) (fields : List Field)
       → (b ≡ true → SelectAlike resource.negotiation r.fields s.fields)
       → GivesIf b present resource r reason status sent fields → GivesIf b present resource s reason status sent fields
   gives_alike present true reason status sent fields select h =

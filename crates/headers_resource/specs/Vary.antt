@@ -24,3 +24,12 @@ pub record AreAlike (r s : Request) : Type 0 where
   pub content_type : r.fields (codes "content-type") ≡ s.fields (codes "content-type")
   pub content_encoding : r.fields (codes "content-encoding") ≡ s.fields (codes "content-encoding")
   pub asks : AskAlike r.fields s.fields
+
+-- the fields that select a representation, and those by which a policy for requests from other origins decides, are
+-- the same
+pub record ChooseAlike (r s : LineMap) : Type 0 where
+  pub accept : r (codes "accept") ≡ s (codes "accept")
+  pub accept_language : r (codes "accept-language") ≡ s (codes "accept-language")
+  pub accept_encoding : r (codes "accept-encoding") ≡ s (codes "accept-encoding")
+  pub origin : r (codes "origin") ≡ s (codes "origin")
+  pub requested_method : r (codes "access-control-request-method") ≡ s (codes "access-control-request-method")

@@ -1,6 +1,8 @@
 //! What follows from the definitions alone. A proof cites a law by calling it.
-ghost use Rattle.std.specs.Prelude.{◌≡◌, ◌≢◌, ◌↔◌, ◌∷◌, [], ℕ, Contains, Option, Some, codes, false};
+ghost use Rattle.std.specs.Prelude.{◌≡◌, ◌≢◌, ◌↔◌, ◌⊎◌, ◌∷◌, [], ℕ, Contains, Option, Some, codes, false};
 ghost use Rattle.headers.specs.LineMap.{LineMap, fields_of, set_all};
+ghost use Rattle.headers.specs.Merge.{merge};
+ghost use Rattle.headers.specs.Places.{comma};
 ghost use Rattle.headers_cors_policy.specs.Browser.{CorsCheck, IsOkStatus, IsPreflightFor, PreflightPasses};
 ghost use Rattle.headers_cors_policy.specs.Browser.{Request as Sent};
 ghost use Rattle.headers_cors_policy.specs.Cache.{Serves};
@@ -12,12 +14,14 @@ ghost use Rattle.headers_resource.specs.Answers.{AreSame, IsAnswer, IsSelected};
 ghost use Rattle.headers_resource.specs.Applies.{applies, methods};
 ghost use Rattle.headers_resource.specs.Reasons.{Before, IsFirst};
 ghost use Rattle.headers_resource.specs.Requests.{Request, get_of, head_of, unconditional};
-ghost use Rattle.headers_resource.specs.Vary.{AreAlike};
+ghost use Rattle.headers_resource.specs.Vary.{AreAlike, ChooseAlike};
 ghost use Rattle.headers_preconditions.specs.declared.plan.Plan.{Plan};
+ghost use Rattle.headers_preconditions.specs.declared.plan.Plan.TheVariants.{Full, NotModified};
 ghost use Rattle.headers_resource.specs.declared.answer.Answer.{Answer};
 ghost use Rattle.headers_resource.specs.declared.answer.Sends.TheVariants.{Planned};
 ghost use Rattle.headers_resource.specs.declared.reason.Reason.{Reason};
-ghost use Rattle.headers_resource.specs.declared.reason.Reason.TheVariants.{Admitted, MethodNotAllowed};
+ghost use Rattle.headers_resource.specs.declared.reason.Reason.TheVariants.{Admitted, MethodNotAllowed, Options};
+ghost use Rattle.headers_resource.specs.declared.reason.Reason.TheVariants.{UnknownMethod, UnmetExpectation};
 ghost use Rattle.headers_resource.specs.declared.resource.Resource.{Resource};
 
 /// Every request has a first reason, and no other: reasons of one stage exclude each other.
@@ -101,4 +105,50 @@ pub fn conditions_are_about_the_selected()
         (plan other : Plan) → IsAnswer present resource request a
         → IsAnswer present resource (unconditional request) b → a.sends ≡ Planned p plan → b.sends ≡ Planned q other
         → p ≡ q }
+{}
+
+/// An answer depends on the method, the target, the content and these fields alone. Whatever other fields
+/// a request has, as those that a gateway adds, the answer is the same.
+pub fn other_fields_change_nothing()
+    ensures { (present : ℕ) (resource : Resource) (r s : Request) (answer : Answer) → AreAlike r s
+        → ChooseAlike r.fields s.fields
+        → IsAnswer present resource r answer ↔ IsAnswer present resource s answer }
+{}
+
+/// What OPTIONS says agrees with what the methods then get (RFC 9110, sections 9.3.7 and 10.2.1): its
+/// Allow, and that of a 405, is the list of the methods of the resource. A method of the list is never
+/// answered by 405 or 501, and any other is answered by 400, 421, 501 or 405.
+pub fn options_agrees_with_methods()
+    ensures told { (present : ℕ) (resource : Resource) (request : Request) (answer : Answer) (before : LineMap)
+        → IsAnswer present resource request answer
+        → (answer.reason ≡ Options) ⊎ (answer.reason ≡ MethodNotAllowed)
+        → set_all before (fields_of answer.fields.items) (codes "allow")
+        ≡ merge comma (methods resource.rules.items) ∷ [] }
+    ensures listed { (present : ℕ) (resource : Resource) (request : Request) (answer : Answer)
+        → IsAnswer present resource request answer → Contains (methods resource.rules.items) request.method
+        → (answer.reason ≢ MethodNotAllowed) × (answer.reason ≢ UnknownMethod) }
+    ensures others { (present : ℕ) (resource : Resource) (request : Request) (answer : Answer)
+        → IsAnswer present resource request answer → ¬ (Contains (methods resource.rules.items) request.method)
+        → Before answer.reason UnmetExpectation × (answer.reason ≢ Options) }
+{}
+
+/// A preflight for a resource with a policy is answered by 204, and a browser sends the request after
+/// it exactly if the rules of the policy allow it.
+pub fn preflight_is_answered()
+    ensures { (present : ℕ) (resource : Resource) (request : Request) (answer : Answer) (rules : CorsRules)
+        (policy : Policy) (before : LineMap) (sent : Sent) → resource.cors ≡ Some policy
+        → IsAnswer present resource request answer → answer.reason ≡ Options → IsLawful rules
+        → IsPolicyOf rules policy → IsPreflightFor sent request.method request.fields
+        → (answer.status ≡ Some 204)
+        × (PreflightPasses 204 (set_all before (fields_of answer.fields.items)) sent ↔ AllowsRequest rules sent) }
+{}
+
+/// A 304 has the ETag of the 200 that the request would get without its conditions (RFC 9110, section
+/// 15.4.5).
+pub fn not_modified_has_the_tag()
+    ensures { (present : ℕ) (resource : Resource) (request : Request) (a b : Answer) (p q : Option ℕ)
+        (before : LineMap) → IsAnswer present resource request a
+        → IsAnswer present resource (unconditional request) b → a.sends ≡ Planned p NotModified
+        → b.sends ≡ Planned q Full → set_all before (fields_of a.fields.items) (codes "etag")
+        ≡ set_all before (fields_of b.fields.items) (codes "etag") }
 {}

@@ -1,0 +1,48 @@
+-- What a client behind gateways gets of a response is what the server sent.
+use Rattle.std.proofs.Common.{◌≡◌, ◌≢◌, ℕ, Bool, true, false, List, [], ◌∷◌, refl, sym, ◌∙◌, ap, arith}
+use Rattle.std.specs.Prelude.{All, ◌||◌, codes}
+use Rattle.std.proofs.lemmas.List.Elements.{All-rest}
+use Rattle.headers.specs.Lines.{Line}
+use Rattle.headers_chain.specs.Responses.{HasNoOptions, IsPassedBack, Returns}
+use Rattle.headers_fields.specs.Members.{field_members}
+use Rattle.headers_fields.specs.Scan.{Member}
+use Rattle.headers_gateway.specs.Forwarding.{own_names}
+use Rattle.headers_gateway.specs.HopByHop.{connection_options, is_hop_by_hop, is_known}
+use Rattle.headers_gateway.specs.Responses.{IsForwardedResponse, Response}
+use Rattle.headers_gateway.specs.declared.gateway.Gateway.{Gateway}
+use Rattle.headers_gateway.specs.declared.response.ForwardedResponse.{ForwardedResponse}
+use Rattle.headers_chain.proofs.WayLemmas.{apart}
+
+-- a response without connection options keeps the lines of each field that isn't for one connection
+module _ (gateway : Gateway) (date : ℕ) (response next : Response) (sent : ForwardedResponse)
+    (forwarded : IsForwardedResponse gateway date response sent) (passed : IsPassedBack response sent next)
+    (none : HasNoOptions response.fields) where
+  kept : (name : List ℕ) → is_known gateway.consumes_credentials name ≡ false → All (λ own. own ≢ name) own_names
+      → next.fields name ≡ response.fields name
+  kept name other not_own =
+      let options : connection_options response.fields ≡ []
+      = ap (λ (lines : List Line). field_members true lines) none in
+      let end_to_end : is_hop_by_hop gateway.consumes_credentials (connection_options response.fields) name ≡ false
+      = ap (λ (members : List Member). is_hop_by_hop gateway.consumes_credentials members name) options
+      ∙ ap (λ (b : Bool). b || false) other in
+      passed.fields name ∙ forwarded.fields.end_to_end name end_to_end not_own
+
+  still_none : HasNoOptions next.fields
+  still_none =
+      passed.fields (codes "connection")
+      ∙ forwarded.fields.hop_by_hop (codes "connection") refl (apart (codes "connection") refl)
+
+module _ (name : List ℕ) (not_own : All (λ own. own ≢ name) own_names) where
+  abbrev Crosses : Gateway → Type 0
+  Crosses gateway = is_known gateway.consumes_credentials name ≡ false
+
+  pub unchanged : (gateways : List Gateway) (response last : Response) → Returns gateways response last
+      → HasNoOptions response.fields → All Crosses gateways → last.fields name ≡ response.fields name
+  unchanged [] response last way none others = ap (λ (r : Response). r.fields name) (sym way)
+  unchanged (gateway ∷ gateways) response last way none others =
+      let next : Response = way.2 in
+      let here : Crosses gateway = others 0 gateway (omega arith) in
+      unchanged gateways next last way.5
+      (still_none gateway way.0 response next way.1 way.3 way.4 none)
+      (All-rest Crosses gateway gateways (gateway ∷ gateways) refl others)
+      ∙ kept gateway way.0 response next way.1 way.3 way.4 none name here not_own
