@@ -5,8 +5,9 @@
  * What holds of every call
  *
  * - A text is a pointer and a count of bytes; no NUL ends it. It is read, and never kept after the call.
- * - No pointer may be null or stale, also if its count is 0. What a pointer that isn't `const` points to may overlap
- *   nothing else that is handed in. It need not be set before the call. A `bool` that is handed in is true or false.
+ * - A text or a room whose count is 0 may have any pointer: (NULL, 0) is the empty text. No other pointer may be null
+ *   or stale. What a pointer that isn't `const` points to may overlap nothing else that is handed in. It need not be
+ *   set before the call. A `bool` that is handed in is true or false.
  * - The result is a status. Unless a call says otherwise, what it would have written is as it was if the status
  *   isn't TYPED_HEADERS_DONE.
  * - Several lines of a field are one text: each line ends in LF, which the last one needn't have. A CR before a LF, or
@@ -111,12 +112,25 @@ struct typed_headers_cache_directives {
     uint8_t is_public;
     uint8_t is_private;
     uint8_t immutable;
+    uint8_t proxy_revalidate;
 };
 
 /* A range of bytes: its first and its last position, counted from 0, both included. */
 struct typed_headers_bytes_range {
     uint64_t first;
     uint64_t last;
+};
+
+/* The part of a representation that a message carries. A flag is 0 if the numbers aren't said. */
+struct typed_headers_content_range {
+    /* The first and the last position of the range, counted from 0, both included. */
+    uint64_t first;
+    uint64_t last;
+    /* How many bytes the whole has. */
+    uint64_t length;
+    /* Whether there is a range, and whether the length is known. */
+    uint8_t has_range;
+    uint8_t has_length;
 };
 
 /* A text: bytes, and how many they are. */
@@ -208,6 +222,17 @@ uint8_t typed_headers_canonical(const uint8_t *section, size_t section_length, c
                                 uint8_t *room, size_t room_length, size_t *written);
 
 /*
+ * The canonical field lines of a header: what the typed header of this name writes of the value that the lines say,
+ * each line with a LF. `name` is the name of a field, in any case: of the 51 headers that docs/C.md lists. The lines of
+ * `authorization` and `proxy-authorization` are read as credentials of Basic, or else of Bearer. The lines of a name
+ * that no header has are as they came.
+ *
+ * Refused: the name is no field name, or the header rejects the lines.
+ */
+uint8_t typed_headers_field(const uint8_t *name, size_t name_length, const uint8_t *lines, size_t lines_length,
+                            uint8_t *room, size_t room_length, size_t *written);
+
+/*
  * The seconds of `age`: the only line, a number below 2^64 (RFC 9111, section 5.1). Refused: there are several lines,
  * or the line is no number.
  */
@@ -266,6 +291,26 @@ uint8_t typed_headers_cache_control(const uint8_t *lines, size_t lines_length,
  */
 uint8_t typed_headers_ranges(const uint8_t *lines, size_t lines_length, uint64_t length,
                              struct typed_headers_bytes_range *room, size_t room_length, size_t *written);
+
+/*
+ * The date of a second since the start of 1970, as IMF-fixdate, 29 bytes (RFC 9110, section 5.6.7). Refused: the date
+ * lies past the year 9999.
+ */
+uint8_t typed_headers_format_date(uint64_t second, uint8_t *room, size_t room_length, size_t *written);
+
+/*
+ * The line of `content-range` for a range, for the length of the whole, or for both (RFC 9110, section 14.4). Refused:
+ * the first position is past the last, the last isn't below the length, or neither a range nor a length is said.
+ */
+uint8_t typed_headers_format_content_range(const struct typed_headers_content_range *range, uint8_t *room,
+                                           size_t room_length, size_t *written);
+
+/*
+ * The entity tag with this opaque part: in quotes, and behind `W/` if it is weak (RFC 9110, section 8.8.3). Refused:
+ * the opaque part has a quote, a space, or a control byte.
+ */
+uint8_t typed_headers_format_etag(bool is_weak, const uint8_t *opaque, size_t opaque_length, uint8_t *room,
+                                  size_t room_length, size_t *written);
 
 /*
  * What the preconditions of a request come to (RFC 9110, section 13.2.2): `*answer` is 0 if the method is to be

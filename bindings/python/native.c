@@ -232,6 +232,323 @@ TEXT_OF_LINES(media_type)
 TEXT_OF_LINES(essence)
 TEXT_OF_LINES(websocket_accept)
 
+struct named_lines {
+    struct text name;
+    struct text lines;
+};
+
+static uint8_t write_field(const void *given, uint8_t *room, size_t room_length, size_t *written) {
+    const struct named_lines *it = given;
+    return typed_headers_field(BYTES(it->name), BYTES(it->lines), room, room_length, written);
+}
+
+static PyObject *field(PyObject *module, PyObject *arguments) {
+    struct named_lines it;
+    struct lines lines = {{NULL, 0}, NULL, NULL, false};
+    PyObject *given, *found = NULL;
+    (void)module;
+    if (PyArg_ParseTuple(arguments, TEXT "O", INTO(it.name), &given) && read_lines(given, &lines)) {
+        it.lines = lines.text;
+        found = lines.is_rejected ? Py_BuildValue("By", TYPED_HEADERS_REFUSED, "") : with_text(write_field, &it);
+    }
+    free_lines(&lines);
+    return found;
+}
+
+/*
+ * Values whose type is a frozen dataclass: an instance of the given class, or the status. The names are the members that
+ * the class declares.
+ */
+
+enum member { OPAQUE, WEAK, FIRST, LAST, RANGE, LENGTH, TYPE, SUBTYPE, PARAMETERS, MEMBERS };
+
+static const char *const MEMBER_TEXTS[MEMBERS] = {"opaque", "weak", "first",   "last",      "range",
+                                                  "length", "type", "subtype", "parameters"};
+static PyObject *member_names[MEMBERS];
+
+static bool make_member_names(void) {
+    for (int member = 0; member < MEMBERS; member++) {
+        member_names[member] = PyUnicode_InternFromString(MEMBER_TEXTS[member]);
+        if (!member_names[member]) {
+            return false;
+        }
+    }
+    return true;
+}
+
+static bool set_member(PyObject *value, enum member name, PyObject *member) {
+    bool is_set = member && PyObject_GenericSetAttr(value, member_names[name], member) == 0;
+    Py_XDECREF(member);
+    return is_set;
+}
+
+static PyObject *new_value(PyObject *type) { return PyType_GenericNew((PyTypeObject *)type, NULL, NULL); }
+
+static PyObject *etag_value(PyObject *type, struct text tag) {
+    PyObject *value = new_value(type);
+    const bool is_weak = tag.length > 2 && tag.bytes[0] == 'W';
+    const Py_ssize_t before = is_weak ? 3 : 1;
+    const char *opaque = (const char *)tag.bytes + before;
+    if (value && (!set_member(value, OPAQUE, PyUnicode_DecodeLatin1(opaque, tag.length - before - 1, NULL)) ||
+                  !set_member(value, WEAK, PyBool_FromLong(is_weak)))) {
+        Py_CLEAR(value);
+    }
+    return value;
+}
+
+static PyObject *etag(PyObject *module, PyObject *arguments) {
+    struct lines lines = {{NULL, 0}, NULL, NULL, false};
+    PyObject *type, *given, *found = NULL;
+    uint8_t equal, status = TYPED_HEADERS_REFUSED;
+    (void)module;
+    if (PyArg_ParseTuple(arguments, "OO", &type, &given) && read_lines(given, &lines)) {
+        if (!lines.is_rejected && PyTuple_Size(given) == 1) {
+            status = typed_headers_weak_eq(BYTES(lines.text), BYTES(lines.text), &equal);
+        }
+        found = status == TYPED_HEADERS_DONE ? etag_value(type, lines.text) : PyLong_FromLong(status);
+    }
+    free_lines(&lines);
+    return found;
+}
+
+/* A number of the canonical text, and what follows it. */
+static const char *read_decimal(const char *at, uint64_t *number) {
+    for (*number = 0; *at >= '0' && *at <= '9'; at++) {
+        *number = *number * 10 + (uint64_t)(*at - '0');
+    }
+    return at;
+}
+
+static PyObject *range_value(PyObject *type, const char **at) {
+    uint64_t first, last;
+    if (**at == '*') {
+        ++*at;
+        Py_RETURN_NONE;
+    }
+    *at = read_decimal(read_decimal(*at, &first) + 1, &last);
+    PyObject *range = new_value(type);
+    if (range && (!set_member(range, FIRST, PyLong_FromUnsignedLongLong(first)) ||
+                  !set_member(range, LAST, PyLong_FromUnsignedLongLong(last)))) {
+        Py_CLEAR(range);
+    }
+    return range;
+}
+
+/* The value of a canonical field line. */
+static PyObject *content_range_value(PyObject *type, PyObject *range_type, const char *line) {
+    const char *at = line + strlen("bytes ");
+    PyObject *value = new_value(type), *range = range_value(range_type, &at);
+    uint64_t length = 0;
+    const bool has_length = *++at != '*';
+    read_decimal(at, &length);
+    if (!value) {
+        Py_XDECREF(range);
+    } else if (!set_member(value, RANGE, range) || !set_member(value, LENGTH, optional(length, has_length))) {
+        Py_CLEAR(value);
+    }
+    return value;
+}
+
+static PyObject *content_range(PyObject *module, PyObject *arguments) {
+    static const char name[] = "content-range";
+    struct lines lines = {{NULL, 0}, NULL, NULL, false};
+    PyObject *type, *range_type, *given, *found = NULL;
+    /* (the longest canonical line, and its end) */
+    uint8_t line[sizeof "bytes 18446744073709551615-18446744073709551615/18446744073709551615\n"];
+    uint8_t status = TYPED_HEADERS_REFUSED;
+    size_t written;
+    (void)module;
+    if (PyArg_ParseTuple(arguments, "OOO", &type, &range_type, &given) && read_lines(given, &lines)) {
+        if (!lines.is_rejected) {
+            status = typed_headers_field((const uint8_t *)name, strlen(name), BYTES(lines.text), line, sizeof line,
+                                         &written);
+        }
+        found = status == TYPED_HEADERS_DONE ? content_range_value(type, range_type, (const char *)line)
+                                             : PyLong_FromLong(status);
+    }
+    free_lines(&lines);
+    return found;
+}
+
+/* Where a parameter's value ends: at a semicolon that isn't between quotes. */
+static const char *value_end(const char *at, const char *end) {
+    for (bool is_quoted = false; at < end && (is_quoted || *at != ';'); at++) {
+        if (is_quoted && *at == '\\') {
+            at++;
+        } else if (*at == '"') {
+            is_quoted = !is_quoted;
+        }
+    }
+    return at;
+}
+
+/* The names and values of the parameters of a canonical media type, each behind a semicolon and a space. */
+static PyObject *parameters_of(const char *at, const char *end) {
+    PyObject *list = PyList_New(0), *found = NULL;
+    while (list && at < end) {
+        const char *name = at + 2, *value = memchr(name, '=', (size_t)(end - name));
+        at = value_end(value + 1, end);
+        PyObject *pair = Py_BuildValue("NN", PyUnicode_DecodeLatin1(name, value - name, NULL),
+                                       PyUnicode_DecodeLatin1(value + 1, at - value - 1, NULL));
+        if (!pair || PyList_Append(list, pair)) {
+            Py_CLEAR(list);
+        }
+        Py_XDECREF(pair);
+    }
+    if (list) {
+        found = PyList_AsTuple(list);
+        Py_DECREF(list);
+    }
+    return found;
+}
+
+/* The value of a canonical media type. */
+static PyObject *media_type_value(PyObject *type, PyObject *text) {
+    char *at;
+    Py_ssize_t length;
+    PyObject *value = new_value(type);
+    if (!value || PyBytes_AsStringAndSize(text, &at, &length)) {
+        Py_XDECREF(value);
+        return NULL;
+    }
+    const char *end = at + length, *slash = memchr(at, '/', (size_t)length), *behind = value_end(at, end);
+    if (!set_member(value, TYPE, PyUnicode_DecodeLatin1(at, slash - at, NULL)) ||
+        !set_member(value, SUBTYPE, PyUnicode_DecodeLatin1(slash + 1, behind - slash - 1, NULL)) ||
+        !set_member(value, PARAMETERS, parameters_of(behind, end))) {
+        Py_CLEAR(value);
+    }
+    return value;
+}
+
+static PyObject *media_type_as(PyObject *module, PyObject *arguments) {
+    struct lines lines = {{NULL, 0}, NULL, NULL, false};
+    PyObject *type, *given, *text = NULL, *found = NULL;
+    uint8_t status = TYPED_HEADERS_REFUSED;
+    (void)module;
+    if (PyArg_ParseTuple(arguments, "OO", &type, &given) && read_lines(given, &lines)) {
+        text = lines.is_rejected ? PyBytes_FromString("") : written_text(write_media_type, &lines.text, &status);
+        if (text) {
+            found = status == TYPED_HEADERS_DONE ? media_type_value(type, text) : PyLong_FromLong(status);
+        }
+        Py_XDECREF(text);
+    }
+    free_lines(&lines);
+    return found;
+}
+
+/* A header section. */
+
+static bool is_value_byte(char byte) {
+    const unsigned char it = (unsigned char)byte;
+    return it == '\t' || (it >= ' ' && it != 0x7F);
+}
+
+static bool is_name_byte(char byte) { return byte != ':' && byte != '\r' && byte != '\n'; }
+
+/* Adds a name or a value, and what ends it, to a section. False if it can't be one, or if there is no memory. */
+static bool add_part(PyObject *part, bool (*is_allowed)(char), const char *end, struct text *section, uint8_t **room) {
+    PyObject *bytes = bytes_of(part);
+    char *at;
+    Py_ssize_t length;
+    bool is_added = bytes && PyBytes_AsStringAndSize(bytes, &at, &length) == 0;
+    for (Py_ssize_t place = 0; is_added && place < length; place++) {
+        is_added = is_allowed(at[place]);
+    }
+    const size_t before = (size_t)section->length, after = strlen(end);
+    uint8_t *more = is_added ? PyMem_Realloc(*room, before + (size_t)length + after) : NULL;
+    if (more) {
+        memcpy(more + before, at, (size_t)length);
+        memcpy(more + before + (size_t)length, end, after);
+        *room = more;
+        section->length = (Py_ssize_t)(before + (size_t)length + after);
+    }
+    Py_XDECREF(bytes);
+    return more != NULL;
+}
+
+/* The section of a dictionary of names to single values. None of another one, and if a name or a value can be none. */
+static PyObject *section(PyObject *module, PyObject *arguments) {
+    PyObject *fields, *name, *value, *found = NULL;
+    struct text made = {NULL, 0};
+    uint8_t *room = NULL;
+    Py_ssize_t place = 0;
+    (void)module;
+    if (!PyArg_ParseTuple(arguments, "O", &fields)) {
+        return NULL;
+    }
+    bool is_made = PyDict_CheckExact(fields);
+    while (is_made && PyDict_Next(fields, &place, &name, &value)) {
+        const Py_ssize_t before = made.length;
+        is_made = add_part(name, is_name_byte, ": ", &made, &room) && made.length > before + 2 &&
+                  add_part(value, is_value_byte, "\n", &made, &room);
+    }
+    PyErr_Clear();
+    if (is_made) {
+        found = PyBytes_FromStringAndSize((const char *)room, made.length);
+    } else {
+        found = Py_None;
+        Py_INCREF(found);
+    }
+    PyMem_Free(room);
+    return found;
+}
+
+/* Values, formatted. */
+
+static uint8_t write_date(const void *given, uint8_t *room, size_t room_length, size_t *written) {
+    return typed_headers_format_date(*(const uint64_t *)given, room, room_length, written);
+}
+
+static PyObject *format_date(PyObject *module, PyObject *arguments) {
+    PyObject *given;
+    uint64_t second;
+    (void)module;
+    if (!PyArg_ParseTuple(arguments, "O", &given)) {
+        return NULL;
+    }
+    second = PyLong_AsUnsignedLongLong(given);
+    return PyErr_Occurred() ? NULL : with_text(write_date, &second);
+}
+
+static uint8_t write_content_range(const void *given, uint8_t *room, size_t room_length, size_t *written) {
+    return typed_headers_format_content_range(given, room, room_length, written);
+}
+
+static PyObject *format_content_range(PyObject *module, PyObject *arguments) {
+    struct typed_headers_content_range it = {0};
+    PyObject *range, *length;
+    bool has_length;
+    (void)module;
+    if (!PyArg_ParseTuple(arguments, "OO", &range, &length) || !read_optional(length, &it.length, &has_length)) {
+        return NULL;
+    }
+    unsigned long long first = 0, last = 0;
+    it.has_length = has_length;
+    it.has_range = range != Py_None;
+    if (it.has_range && !PyArg_ParseTuple(range, "KK", &first, &last)) {
+        return NULL;
+    }
+    it.first = first;
+    it.last = last;
+    return with_text(write_content_range, &it);
+}
+
+struct tag_parts {
+    int is_weak;
+    struct text opaque;
+};
+
+static uint8_t write_etag(const void *given, uint8_t *room, size_t room_length, size_t *written) {
+    const struct tag_parts *it = given;
+    return typed_headers_format_etag(it->is_weak, BYTES(it->opaque), room, room_length, written);
+}
+
+static PyObject *format_etag(PyObject *module, PyObject *arguments) {
+    struct tag_parts it;
+    (void)module;
+    return PyArg_ParseTuple(arguments, "p" TEXT, &it.is_weak, INTO(it.opaque)) ? with_text(write_etag, &it) : NULL;
+}
+
 static uint8_t write_canonical(const void *given, uint8_t *room, size_t room_length, size_t *written) {
     const struct text *section = given;
     return typed_headers_canonical(BYTES(*section), &keys, room, room_length, written);
@@ -283,12 +600,12 @@ static PyObject *cache_control(PyObject *module, PyObject *arguments) {
     }
     uint8_t status = lines.is_rejected ? TYPED_HEADERS_REFUSED : typed_headers_cache_control(BYTES(lines.text), &it);
     free_lines(&lines);
-    return Py_BuildValue("B(NNNN)(BBBBBBBBB)", status, optional(it.max_age.seconds, it.max_age.is_set),
+    return Py_BuildValue("B(NNNN)(BBBBBBBBBB)", status, optional(it.max_age.seconds, it.max_age.is_set),
                          optional(it.max_stale.seconds, it.max_stale.is_set),
                          optional(it.min_fresh.seconds, it.min_fresh.is_set),
                          optional(it.s_maxage.seconds, it.s_maxage.is_set), it.no_cache, it.no_store, it.no_transform,
                          it.only_if_cached, it.must_revalidate, it.must_understand, it.is_public, it.is_private,
-                         it.immutable);
+                         it.immutable, it.proxy_revalidate);
 }
 
 /* Ranges, as the calls for texts. */
@@ -296,7 +613,20 @@ static PyObject *cache_control(PyObject *module, PyObject *arguments) {
 typedef uint8_t ranges_call(const void *given, struct typed_headers_bytes_range *room, size_t room_length,
                             size_t *written);
 
-static PyObject *written_ranges(ranges_call *call, const void *given, uint8_t *status) {
+/* A range as a pair of numbers, or as an instance of a frozen dataclass. */
+static PyObject *one_range(PyObject *type, const struct typed_headers_bytes_range *range) {
+    if (!type) {
+        return Py_BuildValue("KK", (unsigned long long)range->first, (unsigned long long)range->last);
+    }
+    PyObject *value = new_value(type);
+    if (value && (!set_member(value, FIRST, PyLong_FromUnsignedLongLong(range->first)) ||
+                  !set_member(value, LAST, PyLong_FromUnsignedLongLong(range->last)))) {
+        Py_CLEAR(value);
+    }
+    return value;
+}
+
+static PyObject *written_ranges(ranges_call *call, const void *given, PyObject *type, uint8_t *status) {
     struct typed_headers_bytes_range few[FEW_RANGES], *room = few;
     size_t length = FEW_RANGES, written = 0;
     while ((*status = call(given, room, length, &written)) == TYPED_HEADERS_NO_ROOM) {
@@ -311,8 +641,7 @@ static PyObject *written_ranges(ranges_call *call, const void *given, uint8_t *s
     }
     PyObject *found = PyList_New(0);
     for (size_t place = 0; found && *status == TYPED_HEADERS_DONE && place < written; place++) {
-        PyObject *range = Py_BuildValue("KK", (unsigned long long)room[place].first,
-                                        (unsigned long long)room[place].last);
+        PyObject *range = one_range(type, &room[place]);
         if (!range || PyList_Append(found, range)) {
             Py_CLEAR(found);
         }
@@ -350,10 +679,29 @@ static PyObject *ranges(PyObject *module, PyObject *arguments) {
     if (PyArg_ParseTuple(arguments, "OO", &given, &length) && read_number(length, &it.length) &&
         read_lines(given, &lines)) {
         it.lines = lines.text;
-        found = lines.is_rejected ? PyList_New(0) : written_ranges(write_ranges, &it, &status);
+        found = lines.is_rejected ? PyList_New(0) : written_ranges(write_ranges, &it, NULL, &status);
     }
     free_lines(&lines);
     return found ? Py_BuildValue("BN", status, found) : NULL;
+}
+
+static PyObject *ranges_as(PyObject *module, PyObject *arguments) {
+    struct lines lines = {{NULL, 0}, NULL, NULL, false};
+    struct ranges_of it;
+    PyObject *type, *given, *length, *found = NULL;
+    uint8_t status = TYPED_HEADERS_REFUSED;
+    (void)module;
+    if (PyArg_ParseTuple(arguments, "OOO", &type, &given, &length) && read_number(length, &it.length) &&
+        read_lines(given, &lines)) {
+        it.lines = lines.text;
+        found = lines.is_rejected ? PyList_New(0) : written_ranges(write_ranges, &it, type, &status);
+    }
+    free_lines(&lines);
+    if (found && status != TYPED_HEADERS_DONE) {
+        Py_DECREF(found);
+        found = PyLong_FromLong(status);
+    }
+    return found;
 }
 
 /* Conditional requests. */
@@ -407,7 +755,7 @@ static PyObject *select_part(PyObject *module, PyObject *arguments) {
     if (!read_request(arguments, true, &it)) {
         return NULL;
     }
-    PyObject *found = written_ranges(write_selection, &it, &status);
+    PyObject *found = written_ranges(write_selection, &it, NULL, &status);
     return found ? Py_BuildValue("BHN", status, answer, found) : NULL;
 }
 
@@ -536,9 +884,11 @@ static PyObject *validators(PyObject *module, PyObject *arguments) {
 
 #define METHOD(name) {#name, name, METH_VARARGS, NULL}
 static PyMethodDef methods[] = {
-    METHOD(age),         METHOD(cache_control), METHOD(canonical),  METHOD(content_length),
+    METHOD(age),         METHOD(cache_control), METHOD(canonical),  METHOD(content_length), METHOD(content_range),
+    METHOD(etag),        METHOD(media_type_as), METHOD(ranges_as),  METHOD(section),
     METHOD(cors_answer), METHOD(current_age),   METHOD(date),       METHOD(decide),
-    METHOD(essence),     METHOD(evaluate),      METHOD(expires),    METHOD(last_modified),
+    METHOD(essence),     METHOD(evaluate),      METHOD(expires),    METHOD(field),
+    METHOD(format_content_range), METHOD(format_date), METHOD(format_etag), METHOD(last_modified),
     METHOD(lifetime),    METHOD(may_store),     METHOD(media_type), METHOD(ranges),
     METHOD(strong_eq),   METHOD(use_keys),      METHOD(validators), METHOD(version),
     METHOD(weak_eq),     METHOD(websocket_accept), {"select", select_part, METH_VARARGS, NULL}, {NULL, NULL, 0, NULL},
@@ -549,5 +899,5 @@ static struct PyModuleDef definition = {
 };
 
 PyMODINIT_FUNC PyInit__native(void) {
-    return PyModule_Create(&definition);
+    return make_member_names() ? PyModule_Create(&definition) : NULL;
 }

@@ -1,7 +1,7 @@
 /*
  * Makes the calls of rows, and compares the answers with those that are wanted.
  *
- *     test FILE..
+ *     test [--null] FILE..
  *
  * A row is `CALL WORD.. = ANSWER`, as crates/headers_replay/README.md tells; rows of other calls are passed over. Each
  * call is made over bytes that end where memory that nothing may touch begins. One that writes bytes is made with each
@@ -13,6 +13,7 @@
 #include <stdio.h>
 #include <stdlib.h>
 #include <string.h>
+#include <strings.h>
 #include <sys/mman.h>
 
 enum { MOST_WORDS = 2048, AREA = 1 << 24, SHORT = 300, FILL = 0xA5 };
@@ -46,6 +47,9 @@ void __wrap_free(void *block) {
     __real_free(block);
 }
 
+/* Whether empty texts and rooms are handed in as null pointers. */
+static bool is_null;
+
 /* An area of memory before a page that nothing may touch. */
 struct area {
     uint8_t *end;
@@ -67,6 +71,9 @@ struct text {
 };
 
 static struct text put(struct area area, const char *bytes, size_t length) {
+    if (is_null && !length) {
+        return (struct text){NULL, 0};
+    }
     memcpy(area.end - length, bytes, length);
     return (struct text){area.end - length, length};
 }
@@ -166,7 +173,7 @@ static struct gift make(call_fn *call, const void *arguments, size_t room, size_
     refused_request = refused;
     blocks = 0;
     is_counting = true;
-    gift.status = call(arguments, &gift.number, room_area.end - room, room, &gift.written);
+    gift.status = call(arguments, &gift.number, is_null && !room ? NULL : room_area.end - room, room, &gift.written);
     is_counting = false;
     return gift;
 }
@@ -382,6 +389,8 @@ static uint8_t call_cache_control(const void *arguments, uint64_t *number, uint8
         length += numbers[i].is_set ? sprintf(shown + length, " %llu", (unsigned long long)numbers[i].seconds)
                                     : sprintf(shown + length, numbers[i].seconds ? " unset" : " (none)");
     }
+    const char *proxy = given.proxy_revalidate == 1 ? " proxy" : given.proxy_revalidate ? " neither" : "";
+    length += sprintf(shown + length, "%s", proxy);
     *written = length;
     if (length > room_length) {
         return TYPED_HEADERS_NO_ROOM;
@@ -396,10 +405,160 @@ static void check_cache_control(const struct row *row) {
         check(row, call_cache_control, &text, refusal(text), NO_NUMBER, NO_TEXT);
         return;
     }
-    /* Before the getters stands the line that is written. */
+    /* Before the getters stands the line that is written, and no getter tells of `proxy-revalidate`. */
+    static char wanted[AREA];
     const char *getters = strchr(row->answer + 2, ' ');
-    check(row, call_cache_control, &text, TYPED_HEADERS_DONE, NO_NUMBER,
-          (struct word){(char *)getters, strlen(getters)});
+    const char *proxy = strstr(row->answer, "proxy-revalidate");
+    size_t length = sprintf(wanted, "%s%s", getters, proxy && proxy < getters ? " proxy" : "");
+    check(row, call_cache_control, &text, TYPED_HEADERS_DONE, NO_NUMBER, (struct word){wanted, length});
+}
+
+/* The canonical lines of a field. */
+struct field_call {
+    struct text name, lines;
+};
+
+static uint8_t call_field(const void *arguments, uint64_t *number, uint8_t *room, size_t room_length,
+                          size_t *written) {
+    const struct field_call *call = arguments;
+    (void)number;
+    return typed_headers_field(call->name.bytes, call->name.length, call->lines.bytes, call->lines.length, room,
+                               room_length, written);
+}
+
+/* The name of the field of a type, with the case of the type. */
+static size_t name_of_type(const char *type, char *name) {
+    static const struct {
+        const char *type, *name;
+    } others[] = {{"AuthorizationBasic", "Authorization"},
+                  {"AuthorizationBearer", "Authorization"},
+                  {"ProxyAuthorizationBasic", "Proxy-Authorization"},
+                  {"ProxyAuthorizationBearer", "Proxy-Authorization"},
+                  {"ETag", "ETag"}};
+    for (size_t i = 0; i < sizeof others / sizeof *others; i++) {
+        if (strcmp(type, others[i].type) == 0) {
+            return sprintf(name, "%s", others[i].name);
+        }
+    }
+    size_t length = 0;
+    for (const char *at = type; *at; at++) {
+        if (at > type && *at >= 'A' && *at <= 'Z') {
+            name[length++] = '-';
+        }
+        name[length++] = *at;
+    }
+    return length;
+}
+
+/* Whether the first line begins with the scheme that the type isn't of. */
+static bool has_other_scheme(const struct row *row, const char *type) {
+    const char *scheme = strstr(type, "Basic") ? "bearer " : "basic ";
+    return strstr(type, "Authorization") && row->count && row->words[0].length >= strlen(scheme) &&
+           strncasecmp(row->words[0].bytes, scheme, strlen(scheme)) == 0;
+}
+
+/* `TYPE.decode LINE..`: of the answer the lines that are written count. */
+static void check_field(const struct row *row, const char *type) {
+    static char wanted[AREA];
+    char name[64];
+    const size_t name_length = name_of_type(type, name);
+    struct field_call call = {put(third_area, name, name_length), lines(row, 0)};
+    if (!call.lines.length) {
+        check(row, call_field, &call, TYPED_HEADERS_ABSENT, NO_NUMBER, NO_TEXT);
+        return;
+    }
+    if (is_answer(row, "(refused)")) {
+        if (!has_other_scheme(row, type)) {
+            check(row, call_field, &call, TYPED_HEADERS_REFUSED, NO_NUMBER, NO_TEXT);
+        }
+        return;
+    }
+    size_t length = 0;
+    for (size_t i = 1, count = strtoull(row->answer, NULL, 10); i <= count; i++) {
+        struct word line = answer_word(row, i);
+        memcpy(wanted + length, line.bytes, line.length);
+        length += line.length;
+        wanted[length++] = '\n';
+    }
+    check(row, call_field, &call, TYPED_HEADERS_DONE, NO_NUMBER, (struct word){wanted, length});
+}
+
+/* Values, formatted. */
+static uint8_t call_format_date(const void *arguments, uint64_t *number, uint8_t *room, size_t room_length,
+                                size_t *written) {
+    (void)number;
+    return typed_headers_format_date(*(const uint64_t *)arguments, room, room_length, written);
+}
+
+/* `Date.from_unix_secs SECOND` */
+static void check_format_date(const struct row *row) {
+    uint64_t second = strtoull(row->words[0].bytes, NULL, 10);
+    check(row, call_format_date, &second, TYPED_HEADERS_DONE, NO_NUMBER, answer_word(row, 1));
+    second += 253402300800;
+    check(row, call_format_date, &second, TYPED_HEADERS_REFUSED, NO_NUMBER, NO_TEXT);
+}
+
+static uint8_t call_format_range(const void *arguments, uint64_t *number, uint8_t *room, size_t room_length,
+                                 size_t *written) {
+    (void)number;
+    return typed_headers_format_content_range(arguments, room, room_length, written);
+}
+
+/* `ContentRange.bytes FIRST LAST LENGTH`: of the answer the line counts, if both bounds are included. */
+static void check_format_range(const struct row *row) {
+    struct typed_headers_content_range range = {.has_range = 1, .has_length = !is_word(&row->words[2], "(none)")};
+    if (row->words[0].bytes[0] != 'i' || row->words[1].bytes[0] != 'i') {
+        return;
+    }
+    range.first = strtoull(row->words[0].bytes + 1, NULL, 10);
+    range.last = strtoull(row->words[1].bytes + 1, NULL, 10);
+    range.length = range.has_length ? strtoull(row->words[2].bytes, NULL, 10) : 7;
+    if (range.first > range.last || (range.has_length && range.last >= range.length)) {
+        check(row, call_format_range, &range, TYPED_HEADERS_REFUSED, NO_NUMBER, NO_TEXT);
+    } else {
+        check(row, call_format_range, &range, TYPED_HEADERS_DONE, NO_NUMBER, answer_word(row, 1));
+    }
+    range.has_range = range.has_length = 0;
+    check(row, call_format_range, &range, TYPED_HEADERS_REFUSED, NO_NUMBER, NO_TEXT);
+}
+
+/* `ContentRange.unsatisfied_bytes LENGTH` */
+static void check_format_length(const struct row *row) {
+    struct typed_headers_content_range range = {.first = 9, .has_length = 255};
+    range.length = strtoull(row->words[0].bytes, NULL, 10);
+    check(row, call_format_range, &range, TYPED_HEADERS_DONE, NO_NUMBER, answer_word(row, 1));
+}
+
+struct tag_call {
+    bool is_weak;
+    struct text opaque;
+};
+
+static uint8_t call_format_tag(const void *arguments, uint64_t *number, uint8_t *room, size_t room_length,
+                               size_t *written) {
+    const struct tag_call *call = arguments;
+    (void)number;
+    return typed_headers_format_etag(call->is_weak, call->opaque.bytes, call->opaque.length, room, room_length,
+                                     written);
+}
+
+/* `ETag.decode LINE`, if the line has the form of a tag: what its parts are formatted as. */
+static void check_format_tag(const struct row *row) {
+    if (row->count != 1) {
+        return;
+    }
+    const char *bytes = row->words[0].bytes, *end = bytes + row->words[0].length;
+    struct tag_call call = {.is_weak = end - bytes > 1 && memcmp(bytes, "W/", 2) == 0};
+    bytes += call.is_weak ? 2 : 0;
+    if (end - bytes < 2 || *bytes != '"' || end[-1] != '"') {
+        return;
+    }
+    call.opaque = put(first_area, bytes + 1, end - bytes - 2);
+    if (is_answer(row, "(refused)")) {
+        check(row, call_format_tag, &call, TYPED_HEADERS_REFUSED, NO_NUMBER, NO_TEXT);
+    } else {
+        check(row, call_format_tag, &call, TYPED_HEADERS_DONE, NO_NUMBER, answer_word(row, 1));
+    }
 }
 
 /* The ranges for a length, whose bytes are those of the room. */
@@ -416,6 +575,9 @@ struct range_room {
 
 static struct range_room range_room(uint8_t *room, size_t room_length) {
     const size_t size = sizeof(struct typed_headers_bytes_range);
+    if (!room) {
+        return (struct range_room){NULL, 0};
+    }
     return (struct range_room){(void *)(room + room_length % size), room_length / size};
 }
 
@@ -857,6 +1019,12 @@ static void check_validators(const struct row *row) {
 }
 
 static void make_row(struct row *row) {
+    const char *decode = strstr(row->call, ".decode");
+    if (decode && strcmp(decode, ".decode") == 0) {
+        char type[64];
+        snprintf(type, sizeof type, "%.*s", (int)(decode - row->call), row->call);
+        check_field(row, type);
+    }
     static const char *numbers[] = {"Age", "ContentLength", "Date", "Expires", "LastModified"};
     for (int i = 0; i < 5; i++) {
         char call[32];
@@ -874,6 +1042,13 @@ static void make_row(struct row *row) {
         check_tags(row);
     } else if (strcmp(row->call, "ETag.decode") == 0) {
         check_tag(row);
+        check_format_tag(row);
+    } else if (strcmp(row->call, "Date.from_unix_secs") == 0) {
+        check_format_date(row);
+    } else if (strcmp(row->call, "ContentRange.bytes") == 0) {
+        check_format_range(row);
+    } else if (strcmp(row->call, "ContentRange.unsatisfied_bytes") == 0) {
+        check_format_length(row);
     } else if (strcmp(row->call, "CacheControl.decode") == 0) {
         check_cache_control(row);
     } else if (strcmp(row->call, "Range.satisfiable_ranges") == 0) {
@@ -970,7 +1145,8 @@ int main(int count, char **names) {
         rule_areas[i] = new_area();
     }
     room_area = new_area();
-    for (int i = 1; i < count; i++) {
+    is_null = count > 1 && strcmp(names[1], "--null") == 0;
+    for (int i = 1 + is_null; i < count; i++) {
         read_file(names[i]);
     }
     printf("%zu rows, %zu refusals of memory, %zu answered otherwise\n", rows, refusals, wrong);

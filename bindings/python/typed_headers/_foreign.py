@@ -7,8 +7,9 @@ The extension `_native` has the same calls, and takes a fifth of the time.
 
 import ctypes
 import os
+import re
 from pathlib import Path
-from typing import Any, Callable, List, Optional, Tuple, Union
+from typing import Any, Callable, List, Optional, Tuple, Type, TypeVar, Union
 
 SONAME = "libtyped_headers.so.1"
 _REFUSED, _NO_ROOM = 1, 3
@@ -23,6 +24,7 @@ _FLAGS = (
     "is_public",
     "is_private",
     "immutable",
+    "proxy_revalidate",
 )
 
 
@@ -40,6 +42,16 @@ class _Directives(ctypes.Structure):
 
 class _Range(ctypes.Structure):
     _fields_ = [("first", ctypes.c_uint64), ("last", ctypes.c_uint64)]
+
+
+class _ContentRange(ctypes.Structure):
+    _fields_ = [
+        ("first", ctypes.c_uint64),
+        ("last", ctypes.c_uint64),
+        ("length", ctypes.c_uint64),
+        ("has_range", ctypes.c_uint8),
+        ("has_length", ctypes.c_uint8),
+    ]
 
 
 class _Target(ctypes.Structure):
@@ -106,6 +118,10 @@ def _call(name: str, *arguments: Any) -> _Call:
     return call
 
 
+_field = _call("field", *_TEXT, *_TEXT, *_ROOM)
+_format_date = _call("format_date", ctypes.c_uint64, *_ROOM)
+_format_content_range = _call("format_content_range", ctypes.POINTER(_ContentRange), *_ROOM)
+_format_etag = _call("format_etag", ctypes.c_bool, *_TEXT, *_ROOM)
 _age = _call("age", *_TEXT, _NUMBER)
 _content_length = _call("content_length", *_TEXT, _NUMBER)
 _date = _call("date", *_TEXT, _NUMBER)
@@ -210,6 +226,81 @@ def _text_of_lines(call: _Call, lines: Lines) -> Tuple[int, bytes]:
     return (_REFUSED, b"") if text is None else _text(call, text, len(text))
 
 
+def field(name: bytes, lines: Lines) -> Tuple[int, bytes]:
+    """The canonical field lines, each with a line end."""
+    text = _joined(lines)
+    return (_REFUSED, b"") if text is None else _text(_field, name, len(name), text, len(text))
+
+
+Value = TypeVar("Value")
+
+
+def _value(cls: Type[Value], **members: Any) -> Value:
+    """An instance of a frozen dataclass, of members that need no check."""
+    value = object.__new__(cls)
+    value.__dict__.update(members)
+    return value
+
+
+def etag(cls: Type[Value], lines: Lines) -> Union[Value, int]:
+    """An entity tag as an instance of the class, or the status."""
+    status = weak_eq(lines, lines)[0] if len(lines) == 1 else _REFUSED
+    if status:
+        return status
+    line = lines[0]
+    text = line if isinstance(line, str) else bytes(line).decode("latin-1")
+    weak = text.startswith("W/")
+    return _value(cls, opaque=text[3:-1] if weak else text[1:-1], weak=weak)
+
+
+_CONTENT_RANGE = re.compile(rb"bytes (?:(\d+)-(\d+)|\*)/(?:(\d+)|\*)\n")
+
+
+def content_range(cls: Type[Value], range_cls: Type[Any], lines: Lines) -> Union[Value, int]:
+    """A content range as an instance of the class, with its range as one of another class, or the status."""
+    status, line = field(b"content-range", lines)
+    if status:
+        return status
+    found = _CONTENT_RANGE.fullmatch(line)
+    assert found, "this is the library's canonical field line"
+    part = None if found[1] is None else _value(range_cls, first=int(found[1]), last=int(found[2]))
+    return _value(cls, range=part, length=None if found[3] is None else int(found[3]))
+
+
+# A parameter in the canonical text of a media type.
+_PARAMETER = re.compile(r'; ([^=]+)=("(?:[^"\\]|\\.)*"|[^;"]+)', re.DOTALL)
+
+
+def media_type_as(cls: Type[Value], lines: Lines) -> Union[Value, int]:
+    """A media type as an instance of the class, or the status."""
+    status, found = media_type(lines)
+    if status:
+        return status
+    text = found.decode("latin-1")
+    essence_text = text.partition(";")[0]
+    kind, _, subtype = essence_text.partition("/")
+    return _value(cls, type=kind, subtype=subtype, parameters=tuple(_PARAMETER.findall(text, len(essence_text))))
+
+
+def section(fields: object) -> Optional[bytes]:
+    """The section of a dictionary of names to single values, which only the extension makes."""
+    return None
+
+
+def format_date(second: int) -> Tuple[int, bytes]:
+    return _text(_format_date, second)
+
+
+def format_content_range(range: Optional[Tuple[int, int]], length: Optional[int]) -> Tuple[int, bytes]:
+    first, last = range or (0, 0)
+    parts = _ContentRange(first, last, length or 0, range is not None, length is not None)
+    return _text(_format_content_range, ctypes.byref(parts))
+
+
+def format_etag(is_weak: bool, opaque: bytes) -> Tuple[int, bytes]:
+    return _text(_format_etag, is_weak, opaque, len(opaque))
+
+
 def media_type(lines: Lines) -> Tuple[int, bytes]:
     return _text_of_lines(_media_type, lines)
 
@@ -241,7 +332,6 @@ def weak_eq(one: Lines, other: Lines) -> Tuple[int, int]:
     return _compare(_weak_eq, one, other)
 
 
-
 def cache_control(lines: Lines) -> Tuple[int, Tuple[Optional[int], ...], Tuple[int, ...]]:
     """The seconds of `max-age`, `max-stale`, `min-fresh` and `s-maxage`, and the flags."""
     text, given = _joined(lines), _Directives()
@@ -264,6 +354,12 @@ def _positions(call: _Call, *arguments: Any) -> Tuple[int, List[Tuple[int, int]]
 def ranges(lines: Lines, length: int) -> Tuple[int, List[Tuple[int, int]]]:
     text = _joined(lines)
     return (_REFUSED, []) if text is None else _positions(_ranges, text, len(text), length)
+
+
+def ranges_as(cls: Type[Value], lines: Lines, length: int) -> Union[List[Value], int]:
+    """The ranges as instances of the class, or the status."""
+    status, found = ranges(lines, length)
+    return status or [_value(cls, first=first, last=last) for first, last in found]
 
 
 def _request(

@@ -190,10 +190,7 @@ def wrong_section(what: str, section: bytes) -> InvalidSection:
 
 def canonical_lines(field: str, lines: Sequence[bytes]) -> List[bytes]:
     """The field lines that the value of a known field encodes to. `InvalidField` if the given lines encode none."""
-    # One call that takes a name and its lines would do; until the library has it, this is a section of one name.
-    name = field.encode("ascii")
-    status, found = calls.canonical(b"".join([name + b":" + line + b"\n" for line in lines]))
-    check(status, lambda: rejected(field, lines))
-    if found.startswith(b"! "):
-        raise rejected(field, lines)
-    return [line[len(name) + 2 :] for line in found.split(b"\n")[:-1]]
+    status, found = calls.field(field.encode("ascii"), tuple(lines))
+    if status:
+        raise failed(status, field, lines)
+    return found.split(b"\n")[:-1]

@@ -8,7 +8,7 @@ from typing import Optional, Tuple, Union
 from . import _library
 from ._library import Text, Time
 from .errors import HeaderError
-from .headers import Headers, HeadersLike
+from .headers import Headers, HeadersLike, section_of
 from .values import ByteRange, ETag
 
 __all__ = ["Precondition", "Selection", "Target", "evaluate", "select"]
@@ -55,7 +55,7 @@ _Request = Tuple[bytes, bytes, bytes, Optional[int], int, bool, bool]
 
 
 def _request(method: Text, request: HeadersLike, target: Target, now: Optional[Time]) -> _Request:
-    verb, section = _library.to_bytes(method, "method"), Headers(request).section
+    verb, section = _library.to_bytes(method, "method"), section_of(request)
     tag = b"" if target.etag is None else _library.to_bytes(str(target.etag), "etag")
     modified = None if target.last_modified is None else _library.to_seconds(target.last_modified, "last_modified")
     present = int(time.time()) if now is None else _library.to_seconds(now, "now")
@@ -92,7 +92,8 @@ def evaluate(
     <Precondition.FAILED: 412>
     """
     status, answer = _library.calls.evaluate(*_request(method, request, target, now))
-    _library.check(status, lambda: _refused(method, request, target))
+    if status:
+        _library.check(status, lambda: _refused(method, request, target))
     return _PRECONDITIONS[answer]
 
 

@@ -219,6 +219,11 @@ class Headers:
         return StrictTransportSecurity.parse(*lines) if lines else None
 
 
+def section_of(fields: "HeadersLike") -> bytes:
+    """The header section as bytes, as `Headers` has it."""
+    return _library.calls.section(fields) or Headers(fields).section
+
+
 def _values(given: Union[Text, Iterable[Text]]) -> Iterable[Text]:
     return (given,) if isinstance(given, (str, bytes, bytearray, memoryview)) else given
 

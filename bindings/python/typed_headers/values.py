@@ -6,7 +6,6 @@ Texts are `str` with a character for each byte (ISO 8859-1), as in WSGI and `htt
 import re
 from dataclasses import dataclass, fields
 from datetime import datetime, timedelta, timezone
-from email.utils import format_datetime
 from enum import Enum
 from typing import Any, List, Optional, Tuple, Type, TypeVar
 
@@ -78,14 +77,9 @@ def format_date(time: Time) -> str:
     'Sun, 06 Nov 1994 08:49:37 GMT'
     """
     seconds = _library.to_seconds(time, "time")
-    try:
-        text = format_datetime(_library.to_datetime(seconds), usegmt=True)
-    except OverflowError:
-        raise HeaderError(f"time: {seconds} lies past the year 9999") from None
-    # The text is Python's; the library has to read the same time from it.
-    if _library.number(_library.calls.date, "date", (text,)) != seconds:
-        raise AssertionError(f"{text} isn't the date of {seconds}")
-    return text
+    status, text = _library.calls.format_date(seconds)
+    _library.check(status, lambda: HeaderError(f"time: {seconds} lies past the year 9999"))
+    return _library.to_str(text)
 
 
 def websocket_accept(line: Text, *more: Text) -> str:
@@ -153,14 +147,10 @@ class ETag:
     @classmethod
     def parse(cls, line: Text, *more: Text) -> "ETag":
         """The entity tag that the only field line of `ETag` is."""
-        if more:
-            raise _library.rejected("etag", _library.to_lines("etag", (line, *more)))
-        status, _ = _library.calls.weak_eq((line,), (line,))
-        if status:
-            raise _library.failed(status, "etag", (line,))
-        text = line if isinstance(line, str) else _library.to_str(bytes(line))
-        weak = text.startswith("W/")
-        return _made(cls, opaque=text[3:-1] if weak else text[1:-1], weak=weak)
+        found = _library.calls.etag(cls, (line, *more))
+        if isinstance(found, int):
+            raise _library.failed(found, "etag", (line, *more))
+        return found
 
     def __str__(self) -> str:
         return f'W/"{self.opaque}"' if self.weak else f'"{self.opaque}"'
@@ -172,10 +162,6 @@ class ETag:
     def matches_weakly(self, other: "ETag") -> bool:
         """Whether both tags are equal but for `W/` (RFC 9110, section 8.8.3.2)."""
         return _library.calls.weak_eq((str(self),), (str(other),))[1] == 1
-
-
-# A parameter in the canonical text of a media type.
-_PARAMETER = re.compile(r'; ([^=]+)=("(?:[^"\\]|\\.)*"|[^;"]+)', re.DOTALL)
 
 
 @dataclass(frozen=True)
@@ -208,13 +194,10 @@ class MediaType:
     @classmethod
     def parse(cls, line: Text, *more: Text) -> "MediaType":
         """The media type that the first field line of `Content-Type` is."""
-        status, found = _library.calls.media_type((line, *more))
-        if status:
-            raise _library.failed(status, "content-type", (line, *more))
-        essence, mark, _ = _library.to_str(found).partition(";")
-        kind, _, subtype = essence.partition("/")
-        parameters = tuple(_PARAMETER.findall(_library.to_str(found), len(essence))) if mark else ()
-        return _made(cls, type=kind, subtype=subtype, parameters=parameters)
+        found = _library.calls.media_type_as(cls, (line, *more))
+        if isinstance(found, int):
+            raise _library.failed(found, "content-type", (line, *more))
+        return found
 
     def __str__(self) -> str:
         return self.essence + "".join(f"; {name}={value}" for name, value in self.parameters)
@@ -249,6 +232,7 @@ _FLAGS = (
     "public",
     "private",
     "immutable",
+    "proxy_revalidate",
 )
 
 
@@ -293,10 +277,6 @@ class CacheControl:
             raise _library.failed(status, "cache-control", lines)
         members = dict(zip(_SECONDS, seconds))
         members.update(zip(_FLAGS, map(bool, flags)))
-        # The call has no flag for this directive yet; the canonical field line has its name.
-        members["proxy_revalidate"] = False
-        if any(b"proxy-revalidate" in _library.to_bytes(it, "cache-control").lower() for it in lines):
-            members["proxy_revalidate"] = "proxy-revalidate" in _only("cache-control", lines).split(", ")
         return _made(cls, **members)
 
     def __str__(self) -> str:
@@ -367,8 +347,10 @@ class Range:
 
     def satisfiable(self, length: int) -> List[ByteRange]:
         """The ranges that a representation of so many bytes can satisfy, in order (RFC 9110, section 14.1.2)."""
-        size = _library.to_number(length, "length")
-        return [_made(ByteRange, first=first, last=last) for first, last in self._positions((self.text,), size)]
+        found = _library.calls.ranges_as(ByteRange, (self.text,), _library.to_number(length, "length"))
+        if isinstance(found, int):
+            raise _library.failed(found, "range", (self.text,))
+        return found
 
     @staticmethod
     def _positions(lines: Tuple[Text, ...], length: int) -> List[Tuple[int, int]]:
@@ -376,9 +358,6 @@ class Range:
         if status:
             raise _library.failed(status, "range", lines)
         return found
-
-
-_CONTENT_RANGE = re.compile(r"bytes (?:(\d+)-(\d+)|\*)/(?:(\d+)|\*)")
 
 
 @dataclass(frozen=True)
@@ -405,10 +384,10 @@ class ContentRange:
     @classmethod
     def parse(cls, line: Text, *more: Text) -> "ContentRange":
         """The range of the first field line."""
-        found = _CONTENT_RANGE.fullmatch(_only("content-range", (line, *more)))
-        assert found, "this is the library's canonical field line"
-        part = None if found[1] is None else ByteRange(int(found[1]), int(found[2]))
-        return _made(cls, range=part, length=None if found[3] is None else int(found[3]))
+        found = _library.calls.content_range(cls, ByteRange, (line, *more))
+        if isinstance(found, int):
+            raise _library.failed(found, "content-range", (line, *more))
+        return found
 
     def __str__(self) -> str:
         part = "*" if self.range is None else f"{self.range.first}-{self.range.last}"

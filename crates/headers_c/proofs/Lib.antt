@@ -1,2 +1,3 @@
+pub mod DirectiveLemmas
 pub mod RuleLemmas
 pub mod TagLemmas

@@ -28,6 +28,7 @@ shown directives =
       is_public = flag_of directives.public;
       is_private = flag_of directives.private;
       immutable = flag_of directives.immutable;
+      proxy_revalidate = flag_of directives.proxy_revalidate;
     }
 
 -- the lines direct what is shown

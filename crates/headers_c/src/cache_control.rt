@@ -5,8 +5,9 @@ ghost use Rattle.headers_c.specs.CacheDirectives.{flag_of, reads_directives, sec
 ghost use Rattle.headers_c_parts.specs.Endings.{Gives};
 ghost use Rattle.headers_c_parts.specs.FieldText.{FieldDecodes};
 
-use headers::CacheControl;
-use headers_c_parts::{DONE, read_field};
+use headers::{CacheControl, Refused, decode_values};
+use headers_c_fields::has_flag;
+use headers_c_parts::{DONE, Failure, read_values};
 use std::alloc::Global;
 use std::time::Duration;
 
@@ -38,6 +39,7 @@ pub struct CacheDirectives {
     pub is_public: u8,
     pub is_private: u8,
     pub immutable: u8,
+    pub proxy_revalidate: u8,
 }
 
 /// The directives that the lines of `cache-control` set.
@@ -49,12 +51,28 @@ pub extern "C" fn typed_headers_cache_control(
 ) -> u8
     ensures { Gives (FieldDecodes reads_directives lines.now) directives.old directives.new result }
 {
-    match read_field::<CacheControl>(alloc, lines) {
-        Ok(cache) => {
-            *directives = shown(&cache);
+    match read_directives(alloc, lines) {
+        Ok(read) => {
+            *directives = read;
             DONE
         }
         Err(failure) => failure.status(),
+    }
+}
+
+fn read_directives(alloc: Global, lines: &[u8]) -> Result<CacheDirectives, Failure>
+    ensures { FieldDecodes reads_directives lines.now result }
+{
+    let Some(values) = read_values(alloc, lines)? else {
+        return Err(Failure::Refused);
+    };
+    if values.is_empty() {
+        return Err(Failure::Absent);
+    }
+    match decode_values::<CacheControl>(alloc, values.as_slice()) {
+        Ok(cache) => Ok(shown(&cache, has_flag(values.as_slice(), "proxy-revalidate"))),
+        Err(Refused::Invalid(_)) => Err(Failure::Refused),
+        Err(Refused::Memory(_)) => Err(Failure::Memory),
     }
 }
 
@@ -80,8 +98,8 @@ fn seconds_of(duration: Option<Duration>) -> DirectiveSeconds
     }
 }
 
-fn shown(cache: &CacheControl) -> CacheDirectives
-    ensures { result ≡ shown cache.now }
+fn shown(cache: &CacheControl, proxy_revalidate: bool) -> CacheDirectives
+    ensures { cache.now.proxy_revalidate ≡ proxy_revalidate → result ≡ shown cache.now }
 {
     CacheDirectives {
         max_age: seconds_of(cache.max_age()),
@@ -97,5 +115,6 @@ fn shown(cache: &CacheControl) -> CacheDirectives
         is_public: flag_of(cache.public()),
         is_private: flag_of(cache.private()),
         immutable: flag_of(cache.immutable()),
+        proxy_revalidate: flag_of(proxy_revalidate),
     }
 }

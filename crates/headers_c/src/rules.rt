@@ -5,10 +5,9 @@ ghost use Rattle.headers_c.specs.Rules.{Allows, Finds, IsPolicyAnswer, IsRulesAn
 
 use crate::preconditions::read_method;
 use headers::{HeaderName, HeaderValue, Origin, Refused, decode_values};
-use headers_c_parts::{Failure, read_values};
+use headers_c_parts::{Failure, read_name, read_values};
 use headers_cors_policy::{Allowed, AllowedNames, CorsPolicy, CorsRules, RulesError};
 use http::Method;
-use http_header::HeaderNameError;
 use std::alloc::Global;
 
 /// What a server allows requests from other origins. A text has one value a line, and the line `*`
@@ -71,11 +70,7 @@ impl Listed for HeaderName {
     ghost reads = { reads_name };
 
     fn read(alloc: Global, line: &HeaderValue) -> Result<HeaderName, Failure> {
-        match HeaderName::from_bytes(alloc, line.as_bytes()) {
-            Ok(name) => Ok(name),
-            Err(HeaderNameError::Invalid) => Err(Failure::Refused),
-            Err(HeaderNameError::OutOfMemory) => Err(Failure::Memory),
-        }
+        read_name(alloc, line.as_bytes())
     }
 }
 

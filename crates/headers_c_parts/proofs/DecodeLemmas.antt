@@ -14,7 +14,7 @@ pub FieldDecodes-fails : {V W : Type 0} (reads : List Line → V → Type 0) (ot
     → FieldDecodes reads text (Err failure) → FieldDecodes others text (Err failure)
 FieldDecodes-fails reads others text Refused same says =
     (says.0, λ w read. let other = same w read.1 in says.1 other.0 (read.0, other.1))
-FieldDecodes-fails reads others text Memory same says = tt
+FieldDecodes-fails reads others text Memory same says = says
 FieldDecodes-fails reads others text Absent same says = says
 FieldDecodes-fails reads others text TooLarge same says = says
 

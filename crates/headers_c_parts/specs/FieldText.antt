@@ -1,7 +1,9 @@
 -- The lines of a field as one text.
 use Rattle.std.specs.Prelude.{◌≡◌, ℕ, ◌-◌, List, [], ◌∷◌, length, take, slice_index, All, if◌then◌else◌, ◌==◌, ⊤}
 use Rattle.std.specs.Prelude.{Result, Ok, Err}
+use Rattle.http_header.specs.FieldName.{IsFieldName}
 use Rattle.http_header.specs.FieldValue.{IsFieldValue}
+use Rattle.http_header.specs.Token.{lowercase}
 use Rattle.headers.specs.Lines.{Line}
 use Rattle.headers.specs.Typed.{HasLine}
 use Rattle.headers_section.specs.Section.{input_lines}
@@ -23,11 +25,19 @@ abbrev pub FieldReads : {V : Type 0} → (List Line → V → Type 0) → List �
 FieldReads reads text value = All IsFieldValue (field_lines text) × reads (field_lines text) value
 
 -- What an answer says of a text: a value only if its lines read it, `Refused` only if there are lines and they read
--- nothing, `Absent` only if there is no line.
+-- nothing, `Absent` only if there is no line, and `Memory` only if there are lines.
 abbrev pub FieldDecodes : {V : Type 0} → (List Line → V → Type 0) → List ℕ → Result V Failure → Type 0
 FieldDecodes reads text (Ok value) = HasLine (field_lines text) × FieldReads reads text value
 FieldDecodes {V} reads text (Err Refused) =
     HasLine (field_lines text) × ((value : V) → ¬ (FieldReads reads text value))
 FieldDecodes reads text (Err Absent) = field_lines text ≡ []
-FieldDecodes reads text (Err Memory) = ⊤
+FieldDecodes reads text (Err Memory) = HasLine (field_lines text)
 FieldDecodes reads text (Err TooLarge) = ⊥
+
+-- the name of these bytes, in lower case; `Refused` only if they are none
+abbrev pub IsNameOf : List ℕ → Result (List ℕ) Failure → Type 0
+IsNameOf bytes (Ok name) = IsFieldName bytes × (name ≡ lowercase bytes)
+IsNameOf bytes (Err Refused) = ¬ (IsFieldName bytes)
+IsNameOf bytes (Err Memory) = ⊤
+IsNameOf bytes (Err Absent) = ⊥
+IsNameOf bytes (Err TooLarge) = ⊥

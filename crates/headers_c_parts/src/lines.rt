@@ -1,7 +1,8 @@
 //! The lines of a field.
-ghost use Rattle.std.specs.Prelude.{◌≡◌, ◌<◌, ◌∷◌, [], length, All, IfOk, IfSome, IfNone};
+ghost use Rattle.std.specs.Prelude.{◌≡◌, ◌<◌, ◌∷◌, [], length, All, IfOk, IfSome, IfNone, IsErr};
 ghost use Rattle.http_header.specs.FieldValue.{IsFieldValue, plain_value};
 ghost use Rattle.headers.specs.Lines.{lines_of};
+ghost use Rattle.headers.specs.Typed.{HasLine};
 ghost use Rattle.headers_section.specs.Section.{input_lines};
 ghost use Rattle.headers_c_parts.specs.FieldText.{without_last, field_lines, FieldDecodes};
 
@@ -54,6 +55,7 @@ pub fn read_values(alloc: Global, text: &[u8]) -> Result<Option<Vec<HeaderValue>
     ensures some { IfOk result (λ found. IfSome found (λ values. (field_lines text.now ≡ lines_of values.items)
         × All IsFieldValue (field_lines text.now))) }
     ensures none { IfOk result (λ found. IfNone found (¬ (All IsFieldValue (field_lines text.now)))) }
+    ensures memory { IsErr result → HasLine (field_lines text.now) }
 {
     let mut values = Vec::new(alloc);
     if text.is_empty() {

@@ -9,6 +9,7 @@ mod runs;
 mod status;
 mod text;
 
+pub use crate::block::read_block;
 pub use crate::field::read_map;
 pub use crate::runs::{run, run_with_keys, run_with_system_keys};
 pub use crate::status::{Outcome, RunError, exit_status};

@@ -43,6 +43,7 @@ pub struct CacheDirectives {
     pub is_public: u8,
     pub is_private: u8,
     pub immutable: u8,
+    pub proxy_revalidate: u8,
 }
 
 #[repr(C)]
@@ -50,6 +51,16 @@ pub struct CacheDirectives {
 pub struct BytesRange {
     pub first: u64,
     pub last: u64,
+}
+
+#[repr(C)]
+#[derive(Clone, Copy, Debug, Default, PartialEq, Eq, Hash)]
+pub struct ContentRange {
+    pub first: u64,
+    pub last: u64,
+    pub length: u64,
+    pub has_range: u8,
+    pub has_length: u8,
 }
 
 #[repr(C)]
@@ -114,6 +125,30 @@ extern "C" {
         section: *const u8,
         section_length: usize,
         keys: *const Keys,
+        room: *mut u8,
+        room_length: usize,
+        written: *mut usize,
+    ) -> u8;
+    pub fn typed_headers_field(
+        name: *const u8,
+        name_length: usize,
+        lines: *const u8,
+        lines_length: usize,
+        room: *mut u8,
+        room_length: usize,
+        written: *mut usize,
+    ) -> u8;
+    pub fn typed_headers_format_date(second: u64, room: *mut u8, room_length: usize, written: *mut usize) -> u8;
+    pub fn typed_headers_format_content_range(
+        range: *const ContentRange,
+        room: *mut u8,
+        room_length: usize,
+        written: *mut usize,
+    ) -> u8;
+    pub fn typed_headers_format_etag(
+        is_weak: bool,
+        opaque: *const u8,
+        opaque_length: usize,
         room: *mut u8,
         room_length: usize,
         written: *mut usize,

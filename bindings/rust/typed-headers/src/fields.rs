@@ -74,6 +74,88 @@ where
     Ok(found.map(|(bytes, _)| bytes))
 }
 
+/// The canonical field lines of a header: what the value of the lines encodes to. `None` if there is no line.
+///
+/// The lines of `authorization` and `proxy-authorization` are decoded as credentials of Basic, else of Bearer. Those of a
+/// name that no header has are as they came.
+///
+/// ```
+/// let found = typed_headers::canonical_field("If-None-Match", ["\"a\"", "W/\"b\""])?.unwrap();
+/// assert_eq!(found, [b"\"a\", W/\"b\""]);
+/// assert!(typed_headers::canonical_field("Age", ["seven"]).is_err());
+/// # Ok::<(), typed_headers::Error>(())
+/// ```
+pub fn canonical_field<I>(name: impl AsRef<[u8]>, lines: I) -> Result<Option<Vec<Vec<u8>>>, Error>
+where
+    I: IntoIterator,
+    I::Item: AsRef<[u8]>,
+{
+    let (name, text) = (name.as_ref(), joined(lines)?);
+    // SAFETY: as above.
+    let found = written(text.len() + 28, |room, length, count| unsafe {
+        sys::typed_headers_field(name.as_ptr(), name.len(), text.as_ptr(), text.len(), room, length, count)
+    })?;
+    Ok(found.map(|(bytes, _)| {
+        bytes.split_inclusive(|byte| *byte == b'\n').map(|line| line[..line.len() - 1].to_vec()).collect()
+    }))
+}
+
+/// The date of a second since the start of 1970, as HTTP writes it (RFC 9110, section 5.6.7).
+///
+/// ```
+/// assert_eq!(typed_headers::format_date(784_111_777)?, b"Sun, 06 Nov 1994 08:49:37 GMT");
+/// assert!(typed_headers::format_date(u64::MAX).is_err());
+/// # Ok::<(), typed_headers::Error>(())
+/// ```
+pub fn format_date(second: u64) -> Result<Vec<u8>, Error> {
+    // SAFETY: as above.
+    let found =
+        written(29, |room, length, count| unsafe { sys::typed_headers_format_date(second, room, length, count) })?;
+    Ok(found.map(|(bytes, _)| bytes).unwrap_or_default())
+}
+
+/// The line of `Content-Range` for a range, for the length of the whole, or for both (RFC 9110, section 14.4).
+///
+/// ```
+/// use typed_headers::{ByteRange, format_content_range};
+///
+/// assert_eq!(format_content_range(Some(ByteRange { first: 0, last: 4 }), Some(10))?, b"bytes 0-4/10");
+/// assert_eq!(format_content_range(None, Some(10))?, b"bytes */10");
+/// assert!(format_content_range(None, None).is_err());
+/// # Ok::<(), typed_headers::Error>(())
+/// ```
+pub fn format_content_range(range: Option<ByteRange>, length: Option<u64>) -> Result<Vec<u8>, Error> {
+    let part = range.unwrap_or_default();
+    let given = sys::ContentRange {
+        first: part.first,
+        last: part.last,
+        length: length.unwrap_or_default(),
+        has_range: range.is_some().into(),
+        has_length: length.is_some().into(),
+    };
+    // SAFETY: as above.
+    let found = written(68, |room, length, count| unsafe {
+        sys::typed_headers_format_content_range(&given, room, length, count)
+    })?;
+    Ok(found.map(|(bytes, _)| bytes).unwrap_or_default())
+}
+
+/// The entity tag with this opaque part (RFC 9110, section 8.8.3).
+///
+/// ```
+/// assert_eq!(typed_headers::format_etag(true, "a")?, b"W/\"a\"");
+/// assert!(typed_headers::format_etag(false, "\"").is_err());
+/// # Ok::<(), typed_headers::Error>(())
+/// ```
+pub fn format_etag(is_weak: bool, opaque: impl AsRef<[u8]>) -> Result<Vec<u8>, Error> {
+    let opaque = opaque.as_ref();
+    // SAFETY: as above.
+    let found = written(opaque.len() + 4, |room, length, count| unsafe {
+        sys::typed_headers_format_etag(is_weak, opaque.as_ptr(), opaque.len(), room, length, count)
+    })?;
+    Ok(found.map(|(bytes, _)| bytes).unwrap_or_default())
+}
+
 /// The canonical text of the media type of `Content-Type` (RFC 9110, section 8.3).
 ///
 /// ```
@@ -159,6 +241,7 @@ pub struct CacheControl {
     pub is_public: bool,
     pub is_private: bool,
     pub immutable: bool,
+    pub proxy_revalidate: bool,
 }
 
 /// The directives of `Cache-Control` (RFC 9111, section 5.2).
@@ -193,6 +276,7 @@ where
         is_public: given.is_public == 1,
         is_private: given.is_private == 1,
         immutable: given.immutable == 1,
+        proxy_revalidate: given.proxy_revalidate == 1,
     }))
 }
 

@@ -33,8 +33,8 @@ pub use conditions::{evaluate, select, Precondition, Selection, Target};
 pub use cors::{CorsAnswer, CorsKind, CorsRules, CORS_FIELDS};
 pub use error::Error;
 pub use fields::{
-    age, cache_control, content_length, date, essence, expires, last_modified, media_type, ranges, strong_eq, weak_eq,
-    websocket_accept, CacheControl, Canonical,
+    age, cache_control, canonical_field, content_length, date, essence, expires, format_content_range, format_date,
+    format_etag, last_modified, media_type, ranges, strong_eq, weak_eq, websocket_accept, CacheControl, Canonical,
 };
 pub use text::Section;
 

@@ -23,7 +23,7 @@ returns-in-Ok-bytes_ranges c =
     (Ok ranges, (says.0, (says.1.0, (c.in-Ok.range.bytes, says.1.1, given))), written)
 
 pub returns-in-Ok : goal.returns-in-Ok
-returns-in-Ok c = (Err Memory, tt, (c.status.ensures, refl, refl))
+returns-in-Ok c = let says = c.in-Ok.ensures in (Err Memory, says.0, (c.status.ensures, refl, refl))
 
 pub returns : goal.returns
 returns c =

@@ -1,0 +1,10 @@
+//! Fields as C sees them: what their lines say, how they are written, and values that are formatted.
+#![tactic(auto)]
+
+mod flags;
+mod formats;
+mod written;
+
+pub use crate::flags::has_flag;
+pub use crate::formats::{ContentRangeParts, format_content_range, format_date, format_tag};
+pub use crate::written::{lines_text, written_lines};
