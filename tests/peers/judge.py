@@ -8,13 +8,12 @@ is 0 exactly if nothing was wrong.
 """
 import argparse
 import importlib
-import itertools
-import re
 import sys
 import time
 import traceback
 from pathlib import Path
 
+from common import pages
 from common.part import Context, Part
 
 PARTS = ("caching", "conditional", "negotiation", "cors", "handshake")
@@ -40,30 +39,6 @@ def run_part(name: str, context: Context) -> Part:
         return part
 
 
-def paragraphs(lines: list[str]) -> list[str]:
-    """The lines of a section, with each paragraph on one line."""
-    found = []
-    for is_text, group in itertools.groupby(lines, lambda it: bool(it) and not it.startswith("|")):
-        found += [" ".join(group)] if is_text else list(group)
-    return found
-
-
-def sections_of(text: str) -> dict[str, str]:
-    """The sections of a page by their titles."""
-    parts = re.split(r"^## (.*)\n", text, flags=re.MULTILINE)
-    return dict(zip(parts[1::2], (it.strip() for it in parts[2::2])))
-
-
-def write_table(path: Path, parts: list[Part]) -> None:
-    sections = sections_of(path.read_text("utf-8")) if path.exists() else {}
-    for part in parts:
-        if part.section and not part.missing:
-            sections[part.title] = "\n".join(paragraphs(part.section)).strip()
-    head = "\n".join(paragraphs(HEAD.strip().split("\n")))
-    text = "\n\n".join([TITLE, head, *(f"## {title}\n\n{body}" for title, body in sections.items())])
-    path.write_text(text + "\n", "utf-8")
-
-
 def main() -> int:
     words = argparse.ArgumentParser()
     words.add_argument("--inputs", type=int, default=100_000, help="how many inputs each model is given")
@@ -85,7 +60,7 @@ def main() -> int:
         verdict = "held" if not part.faults else "failed"
         missing = f"; missing: {'; '.join(dict.fromkeys(part.missing))}" if part.missing else ""
         lines.append(f"{name}: {verdict}: {'; '.join(part.counts)}{missing} ({time.time() - began:.0f} s)")
-    write_table(given.table, parts)
+    pages.write(given.table, TITLE, HEAD, parts)
     print("\n".join(lines))
     return 1 if any(part.faults for part in parts) else 0
 
