@@ -2,7 +2,7 @@
 
     examples.py FOLDER
 
-They are in README.md and in the README of the package for C: the blocks after `release: ` (tools/check_docs says how
+They are in the pages of PAGES: the blocks after `release: ` (tools/check_docs says how
 a block is marked). A `file: NAME` is written, a `run` is run, and an `output` is what the command before it has to
 print. The Debian packages are where the first command looks for them.
 """
@@ -12,7 +12,7 @@ from importlib.machinery import SourceFileLoader
 from pathlib import Path
 
 TOP = Path(__file__).resolve().parents[2]
-PAGES = ("README.md", "bindings/c/README.md")
+PAGES = ("README.md", "docs/INSPECT.md", "bindings/c/README.md")
 ENVIRONMENT = {
     "PATH": "/usr/local/sbin:/usr/local/bin:/usr/sbin:/usr/bin:/sbin:/bin",
     "HOME": "/root",
