@@ -404,7 +404,8 @@ module _ (gateway : Gateway) (message : Message) (m : Entries FieldValue) (uniqu
           ≡ replaced (option_map decimal message.hops) (lines_at m (codes "max-forwards"))
       by None e =
           kept (codes "max-forwards") (
-          goes consumes message options (codes "max-forwards") (hops_end_to_end further options unprotected consumes) refl
+          goes consumes message options (codes "max-forwards")
+          (hops_end_to_end further options unprotected consumes) refl
           (never (is_some message.host)) (never (is_some message.date)) (rw e refl))
           ∙ ap (λ lines. lines_at m (codes "max-forwards") ++ lines) (own_hops gateway.pseudonym message)
           ∙ rw e (append-nil (lines_at m (codes "max-forwards")))

@@ -1,6 +1,7 @@
 -- The tests of Host hold of exactly what its grammar has.
 use Rattle.std.proofs.Common.{◌≡◌, ◌⊎◌, ℕ, ◌+◌, ◌<◌, ◌≤◌, Bool, true, false, not, List, [], ◌∷◌, ◌++◌, length, get_or}
-use Rattle.std.proofs.Common.{◌-◌, take, take_all, drop, Option, Some, None, Result, Ok, Err, refl, sym, ◌∙◌, ap, ap₂, subst, arith}
+use Rattle.std.proofs.Common.{◌-◌, take, take_all, drop, Option, Some, None, Result}
+use Rattle.std.proofs.Common.{Ok, Err, refl, sym, ◌∙◌, ap, ap₂, subst, arith}
 use Rattle.std.proofs.Common.{inl, inr, codes, cond, decimal, suc, append_assoc, append-nil}
 use Rattle.std.specs.Prelude.{◌==◌, ◌||◌, ◌&&◌, ◌↔◌, is_ok, is_some, nat_lt}
 use Rattle.std.specs.Char.{is_ascii_digit, is_ascii_hexdigit}
@@ -11,7 +12,8 @@ use Rattle.std.specs.Str.Parse.{AllDigits}
 use Rattle.std.specs.declared.net.ipv6_addr.Ipv6Addr.{Ipv6Addr}
 use Rattle.std.proofs.Math.Seq.{drop-append-add, drop-append_seam, drop-cons, take-append_seam}
 use Rattle.std.proofs.NetLemmas.Ipv6.{EndsGroups-nil, read_ipv6_complete, read_ipv6_sound}
-use Rattle.std.proofs.lemmas.Bool.{and_from, and_left, and_parts, cases_Bool, cases_eq, eqb-true, false≢true, or_cases, or_left}
+use Rattle.std.proofs.lemmas.Bool.{and_from, and_left, and_parts, cases_Bool, cases_eq, eqb-true, false≢true}
+use Rattle.std.proofs.lemmas.Bool.{or_cases, or_left}
 use Rattle.std.proofs.lemmas.Bool.{or_right}
 use Rattle.std.proofs.lemmas.Bool.Decides.{nat_tests}
 use Rattle.std.proofs.lemmas.Fmt.{decimal_is_IsNumeral}
@@ -19,7 +21,8 @@ use Rattle.std.proofs.lemmas.List.{take-append-drop}
 use Rattle.std.proofs.lemmas.List.Folds.{length-prefix_len}
 use Rattle.std.proofs.lemmas.List.Sums.{prefix_len_stops}
 use Rattle.headers.specs.Lines.{Line}
-use Rattle.headers_gateway.specs.HostTests.{begins_encoded, begins_part, is_address, is_dotted_address, is_future_address, is_host}
+use Rattle.headers_gateway.specs.HostTests.{begins_encoded, begins_part, is_address, is_dotted_address}
+use Rattle.headers_gateway.specs.HostTests.{is_future_address, is_host}
 use Rattle.headers_gateway.specs.HostTests.{is_ipv6, is_literal_host, is_named_host, is_port, is_reg_name, is_versioned}
 use Rattle.headers_gateway.specs.HostTests.{literal_len, name_len, version_len}
 use Rattle.headers_gateway.specs.Hosts.{HasHost, IsAddress, IsFutureAddress, IsHost, IsIpLiteral, IsRegName, IsUriHost}

@@ -9,7 +9,7 @@ use Rattle.headers.specs.LineMap.{LineMap}
 use Rattle.headers.specs.Lines.{Line}
 use Rattle.headers.specs.Typed.{HasLine}
 use Rattle.headers_fields.specs.Members.{field_members}
-use Rattle.headers_gateway.specs.Framing.{HasInvalidLength, RejectsFraming, States, StatesLength}
+use Rattle.headers_gateway.specs.Framing.{HasInvalidLength, RejectsFraming, States, StatesLength, ends_chunked}
 use Rattle.headers_gateway.specs.Framing.{codings, first_number, is_chunked, lengths, writes_length}
 use Rattle.headers_gateway.specs.Hops.{HasHops, HasInvalidHops, counts_hops, hops_in}
 use Rattle.headers_gateway.specs.declared.framing.Framing.{Framing}
@@ -57,6 +57,9 @@ unframed protocol message Chunked Rejection.InvalidLength f r = no_line _ r.pres
 unframed protocol message Unstated Rejection.UnknownCoding f r = no_line _ r.0 f.1
 unframed protocol message (Length n) Rejection.UnknownCoding f r = no_line _ r.0 f.1
 unframed protocol message Chunked Rejection.UnknownCoding f r = cc (r.1, f.1)
+unframed protocol message Unstated Rejection.LastCodingNotChunked f r = no_line _ r.0 f.1
+unframed protocol message (Length n) Rejection.LastCodingNotChunked f r = no_line _ r.0 f.1
+unframed protocol message Chunked Rejection.LastCodingNotChunked f r = cc (r.1, f.1)
 unframed protocol message Unstated Rejection.CodingInHttp10 f r = no_line _ r.0 f.1
 unframed protocol message (Length n) Rejection.CodingInHttp10 f r = no_line _ r.0 f.1
 unframed protocol message Chunked Rejection.CodingInHttp10 f r = cc (f.2, r.1)
@@ -112,6 +115,14 @@ framed_or_not protocol message = by (codings message) refl (lengths message) ref
     coded Http10 v c h l = inl (Rejection.CodingInHttp10, (h, v))
     coded Http11 v c h l = inr (Chunked, (l, c, v))
 
+    uncoded : HasLine (codings message) → is_chunked (codings message) ≡ false
+        → (rejection : Rejection) × RejectsFraming protocol message rejection
+    uncoded h f =
+        elim (cases_Bool (ends_chunked (codings message))) [
+          | inl t ↦ (Rejection.UnknownCoding, (h, f, t))
+          | inr e ↦ (Rejection.LastCodingNotChunked, (h, f, e))
+        ]
+
     by : (cs : List Line) → codings message ≡ cs → (ls : List Line) → lengths message ≡ ls
         → IsFramedOrNot protocol message
     by [] c [] l = inr (Unstated, (l, c))
@@ -126,7 +137,7 @@ framed_or_not protocol message = by (codings message) refl (lengths message) ref
     by (coding ∷ others) c [] l =
         elim (cases_Bool (is_chunked (codings message))) [
           | inl t ↦ coded protocol refl t (some_line _ coding others c) l
-          | inr f ↦ inl (Rejection.UnknownCoding, (some_line _ coding others c, f))
+          | inr f ↦ inl (uncoded (some_line _ coding others c) f)
         ]
     by (coding ∷ others) c (line ∷ rest) l =
         inl (Rejection.LengthAndCoding, (some_line _ line rest l, some_line _ coding others c))

@@ -26,6 +26,8 @@ unaccepted gateway request framing hops Rejection.InvalidLength a h r =
     unframed request.protocol request.fields framing Rejection.InvalidLength a.states r
 unaccepted gateway request framing hops Rejection.UnknownCoding a h r =
     unframed request.protocol request.fields framing Rejection.UnknownCoding a.states r
+unaccepted gateway request framing hops Rejection.LastCodingNotChunked a h r =
+    unframed request.protocol request.fields framing Rejection.LastCodingNotChunked a.states r
 unaccepted gateway request framing hops Rejection.CodingInHttp10 a h r =
     unframed request.protocol request.fields framing Rejection.CodingInHttp10 a.states r
 unaccepted gateway request framing hops Rejection.InvalidOption a h r = cc (a.options.listed, r)
@@ -92,6 +94,7 @@ some_outcome gateway request =
     unframe Rejection.LengthAndCoding r = (Rejection.LengthAndCoding, r)
     unframe Rejection.InvalidLength r = (Rejection.InvalidLength, r)
     unframe Rejection.UnknownCoding r = (Rejection.UnknownCoding, r)
+    unframe Rejection.LastCodingNotChunked r = (Rejection.LastCodingNotChunked, r)
     unframe Rejection.CodingInHttp10 r = (Rejection.CodingInHttp10, r)
     unframe Rejection.InvalidOption r = absurd r
     unframe Rejection.ProtectedOption r = absurd r

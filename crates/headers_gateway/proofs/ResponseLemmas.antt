@@ -59,6 +59,8 @@ unaccepted gateway response framing Rejection.InvalidLength a r =
     unstated _ _ _ framing Rejection.InvalidLength a.states r.0 r.1
 unaccepted gateway response framing Rejection.UnknownCoding a r =
     unstated _ _ _ framing Rejection.UnknownCoding a.states r.0 r.1
+unaccepted gateway response framing Rejection.LastCodingNotChunked a r =
+    unstated _ _ _ framing Rejection.LastCodingNotChunked a.states r.0 r.1
 unaccepted gateway response framing Rejection.CodingInHttp10 a r =
     unstated _ _ _ framing Rejection.CodingInHttp10 a.states r.0 r.1
 unaccepted gateway response framing Rejection.InvalidOption a r = cc (a.options.listed, r)
@@ -104,6 +106,7 @@ some_response_outcome gateway response =
     unframe e Rejection.LengthAndCoding r = (Rejection.LengthAndCoding, (e, r))
     unframe e Rejection.InvalidLength r = (Rejection.InvalidLength, (e, r))
     unframe e Rejection.UnknownCoding r = (Rejection.UnknownCoding, (e, r))
+    unframe e Rejection.LastCodingNotChunked r = (Rejection.LastCodingNotChunked, (e, r))
     unframe e Rejection.CodingInHttp10 r = (Rejection.CodingInHttp10, (e, r))
     unframe e Rejection.InvalidOption r = absurd r
     unframe e Rejection.ProtectedOption r = absurd r

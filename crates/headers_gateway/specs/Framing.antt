@@ -2,12 +2,13 @@
 use Rattle.std.specs.Prelude.{◌≡◌, ℕ, ◌==◌, ◌-◌, ◌<◌, ◌^◌, Bool, true, false, List, [], ◌∷◌, Option, Some, None}
 use Rattle.std.specs.Prelude.{codes, decimal}
 use Rattle.std.specs.Prelude.{bytes_eq}
-use Rattle.std.specs.List.{list_all}
+use Rattle.std.specs.List.{last_or, list_all}
 use Rattle.std.specs.Option.{option_map_or}
 use Rattle.headers.specs.LineMap.{LineMap}
 use Rattle.headers.specs.Lines.{Line, only_line}
 use Rattle.headers.specs.Typed.{HasLine}
 use Rattle.http_header.specs.Token.{lowercase}
+use Rattle.headers_fields.specs.Directives.{is_same_token}
 use Rattle.headers_fields.specs.Members.{field_members}
 use Rattle.headers_fields.specs.Numbers.{number_within}
 use Rattle.headers_fields.specs.Scan.{Member}
@@ -27,6 +28,11 @@ says_chunked line = bytes_eq (lowercase line) (codes "chunked")
 
 abbrev pub is_chunked : List Line → Bool
 is_chunked lines = option_map_or says_chunked (only_line lines) false
+
+-- the last transfer coding is `chunked`, so that the content says itself where it ends
+abbrev pub ends_chunked : List Line → Bool
+ends_chunked lines =
+    option_map_or (is_same_token (codes "chunked")) (last_or None (field_members true lines)) false
 
 -- the number that a member writes in digits alone, or 2^64 - 1 if it is greater
 abbrev pub member_number : Member → Option ℕ
@@ -59,7 +65,8 @@ HasLength lines (Some len) = StatesLength lines len
 abbrev pub IsCoded : List Line → Coding → Type 0
 IsCoded lines Coding.Absent = lines ≡ []
 IsCoded lines Coding.Chunked = is_chunked lines ≡ true
-IsCoded lines Coding.Unknown = HasLine lines × (is_chunked lines ≡ false)
+IsCoded lines Coding.Unknown = HasLine lines × (is_chunked lines ≡ false) × (ends_chunked lines ≡ true)
+IsCoded lines Coding.Endless = HasLine lines × (is_chunked lines ≡ false) × (ends_chunked lines ≡ false)
 
 -- ---- what both say
 
@@ -80,7 +87,9 @@ abbrev pub RejectsFraming : Protocol → LineMap → Rejection → Type 0
 RejectsFraming protocol message Rejection.LengthAndCoding = HasLine (lengths message) × HasLine (codings message)
 RejectsFraming protocol message Rejection.InvalidLength = HasInvalidLength (lengths message)
 RejectsFraming protocol message Rejection.UnknownCoding = HasLine (codings message)
-    × (is_chunked (codings message) ≡ false)
+    × (is_chunked (codings message) ≡ false) × (ends_chunked (codings message) ≡ true)
+RejectsFraming protocol message Rejection.LastCodingNotChunked = HasLine (codings message)
+    × (is_chunked (codings message) ≡ false) × (ends_chunked (codings message) ≡ false)
 RejectsFraming protocol message Rejection.CodingInHttp10 = HasLine (codings message) × (protocol ≡ Http10)
 RejectsFraming protocol message rejection = ⊥
 

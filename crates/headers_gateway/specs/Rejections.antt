@@ -6,6 +6,7 @@ abbrev pub status_of : Rejection → ℕ
 status_of Rejection.LengthAndCoding = 400
 status_of Rejection.InvalidLength = 400
 status_of Rejection.UnknownCoding = 501
+status_of Rejection.LastCodingNotChunked = 400
 status_of Rejection.CodingInHttp10 = 400
 status_of Rejection.InvalidOption = 400
 status_of Rejection.ProtectedOption = 400
@@ -19,6 +20,7 @@ abbrev pub rejection_text : Rejection → List ℕ
 rejection_text Rejection.LengthAndCoding = codes "both content-length and transfer-encoding"
 rejection_text Rejection.InvalidLength = codes "invalid content-length"
 rejection_text Rejection.UnknownCoding = codes "unknown transfer coding"
+rejection_text Rejection.LastCodingNotChunked = codes "the last transfer coding isn't chunked"
 rejection_text Rejection.CodingInHttp10 = codes "transfer-encoding in HTTP/1.0"
 rejection_text Rejection.InvalidOption = codes "invalid connection"
 rejection_text Rejection.ProtectedOption = codes "a connection option names a field of all recipients"

@@ -37,8 +37,9 @@ fn is_continue(member: Result<&[u8], Malformed>) -> bool
     }
 }
 
-/// Whether each member of Expect is `100-continue`.
-pub(crate) fn has_known_expectation(fields: &HeaderMap) -> bool
+/// Whether each member of Expect is `100-continue` (RFC 9110, section 10.1.1). A request with another one
+/// is answered by 417.
+pub fn has_known_expectation(fields: &HeaderMap) -> bool
     ensures { result ≡ has_known_expectation (lines_at fields.now (codes "expect")) }
 {
     let mut members = FieldMembers::new(&fields.get_all(EXPECT));

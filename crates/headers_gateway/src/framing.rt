@@ -7,7 +7,7 @@ ghost use Rattle.headers.specs.Lines.{lines_of};
 ghost use Rattle.headers.specs.Typed.{HasLine};
 ghost use Rattle.headers_fields.specs.Members.{field_left, field_members, member_of};
 ghost use Rattle.headers_gateway.specs.Framing.{HasInvalidLength, HasLength, IsCoded, RejectsFraming, States};
-ghost use Rattle.headers_gateway.specs.Framing.{member_number, says_chunked, writes_length};
+ghost use Rattle.headers_gateway.specs.Framing.{ends_chunked, member_number, says_chunked, writes_length};
 
 use crate::protocol::Protocol;
 use crate::rejection::Rejection;
@@ -31,7 +31,10 @@ pub enum Framing {
 enum Coding {
     Absent,
     Chunked,
+    // Ends in `chunked`, and isn't that alone.
     Unknown,
+    // Doesn't end in `chunked`.
+    Endless,
 }
 
 /// What the fields of a message state about its content. What recipients are known to disagree on is
@@ -47,6 +50,7 @@ pub(crate) fn stated_framing(protocol: Protocol, message: &HeaderMap) -> Result<
             Err(Malformed) => Err(Rejection::InvalidLength),
         },
         Coding::Unknown => Err(Rejection::UnknownCoding),
+        Coding::Endless => Err(Rejection::LastCodingNotChunked),
         Coding::Chunked => {
             if has_length(message) {
                 return Err(Rejection::LengthAndCoding);
@@ -79,13 +83,28 @@ fn coding_of(message: &HeaderMap) -> Coding
     let Some(line) = lines.next() else {
         return Coding::Absent;
     };
-    if lines.next().is_some() {
-        return Coding::Unknown;
+    if lines.next().is_none() && says_chunked(line) {
+        return Coding::Chunked;
     }
-    if says_chunked(line) {
-        Coding::Chunked
-    } else {
+    if ends_chunked(message) {
         Coding::Unknown
+    } else {
+        Coding::Endless
+    }
+}
+
+// Whether the last transfer coding is `chunked`.
+fn ends_chunked(message: &HeaderMap) -> bool
+    ensures { result ≡ ends_chunked (lines_at message.now (codes "transfer-encoding")) }
+{
+    let mut last = None;
+    let mut members = FieldMembers::new(&message.get_all(TRANSFER_ENCODING));
+    while let Some(member) = members.next() {
+        last = Some(member);
+    }
+    match last {
+        Some(Ok(text)) => text.eq_ignore_ascii_case(b"chunked"),
+        _ => false,
     }
 }
 

@@ -22,7 +22,7 @@ mod response;
 mod trailers;
 mod via;
 
-pub use crate::expectation::{Expectation, expectation_of};
+pub use crate::expectation::{Expectation, expectation_of, has_known_expectation};
 pub use crate::field_line::FieldLine;
 pub use crate::framing::Framing;
 pub use crate::gateway::Gateway;

@@ -13,8 +13,11 @@ pub enum Rejection {
     /// The members of Content-Length aren't one number in digits, or it is 2^64 - 1 or more (RFC
     /// 9112, section 6.3).
     InvalidLength,
-    /// Its transfer coding isn't `chunked` alone (RFC 9112, section 6.1).
+    /// It has transfer codings before `chunked`, or several field lines of them (RFC 9112, section 6.1).
     UnknownCoding,
+    /// Its last transfer coding isn't `chunked`, so nothing says where the content ends (RFC 9112,
+    /// section 6.3).
+    LastCodingNotChunked,
     /// It is of HTTP/1.0 and has Transfer-Encoding (RFC 9112, section 6.1).
     CodingInHttp10,
     /// Connection isn't a list of tokens (RFC 9110, section 7.6.1).
@@ -60,6 +63,7 @@ impl fmt::Display for Rejection {
             Rejection::LengthAndCoding => "both content-length and transfer-encoding",
             Rejection::InvalidLength => "invalid content-length",
             Rejection::UnknownCoding => "unknown transfer coding",
+            Rejection::LastCodingNotChunked => "the last transfer coding isn't chunked",
             Rejection::CodingInHttp10 => "transfer-encoding in HTTP/1.0",
             Rejection::InvalidOption => "invalid connection",
             Rejection::ProtectedOption => "a connection option names a field of all recipients",
