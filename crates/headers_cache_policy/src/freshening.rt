@@ -22,7 +22,8 @@ use std::alloc::{AllocError, Global};
 /// those for a proxy do, and Content-Length, Content-Encoding and Content-Range, which describe the
 /// stored content.
 ///
-/// Fails only if it runs out of memory, which needs a 304 with a field that is about this response.
+/// Fails only if it runs out of memory, which needs a 304 that is about this response and has a field
+/// that doesn't stay as it is.
 pub fn freshening_fields(
     alloc: Global,
     stored: &HeaderMap,
@@ -30,20 +31,19 @@ pub fn freshening_fields(
 ) -> Result<Option<Vec<Encoded>>, AllocError>
     ensures fields { IfOk result (λ found.
         FreshensIf (lines_at stored.now) update.now (option_map (λ v. v.items) found)) }
-    ensures memory { OnErr result (IsUpdated (lines_at stored.now) (lines_at update.now) × (update.now ≢ [])) }
+    ensures memory { OnErr result
+        (IsUpdated (lines_at stored.now) (lines_at update.now) × (freshening_fields update.now ≢ [])) }
 {
     if !is_updated(stored, update) {
         return Ok(None);
-    }
-    if update.is_empty() {
-        return Ok(Some(Vec::new(alloc)));
     }
     Ok(Some(taken(alloc, update)?))
 }
 
 // The fields that the stored response takes over.
 fn taken(alloc: Global, update: &HeaderMap) -> Result<Vec<Encoded>, AllocError>
-    ensures { IfOk result (λ fields. fields_of fields.items ≡ freshening_fields update.now) }
+    ensures fields { IfOk result (λ fields. fields_of fields.items ≡ freshening_fields update.now) }
+    ensures memory { OnErr result (freshening_fields update.now ≢ []) }
 {
     let mut fields = Vec::new(alloc);
     for name in update.keys() {
