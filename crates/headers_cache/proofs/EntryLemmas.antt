@@ -1,6 +1,6 @@
 -- What a store's entries are and count, before and after the calls of the map that has them.
 use Rattle.std.proofs.Common.{◌≡◌, ℕ, zero, suc, ◌+◌, ◌-◌, ◌<◌, ◌≤◌, Bool, true, false, not, cond, List, [], ◌∷◌}
-use Rattle.std.proofs.Common.{◌++◌, map, length, take, drop, get_or}
+use Rattle.std.proofs.Common.{◌++◌, length, take, get_or}
 use Rattle.std.proofs.Common.{Option, Some, None, refl, sym, ap, subst, arith, filter, sum_by, bytes_eq, string_bytes}
 use Rattle.std.proofs.Common.{string_eq, String, Vec, slice_get, option_map, ◌∙◌}
 use Rattle.std.specs.List.{AllByRecursion, IsDistinct}
@@ -8,7 +8,7 @@ use Rattle.std.specs.Map.{keys_of, lookup, lookup_entry, remove_entry}
 use Rattle.std.specs.Option.{option_map_or}
 use Rattle.lru.specs.LruCache.{lru_cache, promoted, put_entries}
 use Rattle.std.proofs.lemmas.List.{take-map, length-map, length-take, length-take-le, take_all}
-use Rattle.std.proofs.lemmas.List.Sums.{sum_by-cons, sum_by_more, sum_by-take-le}
+use Rattle.std.proofs.lemmas.List.Sums.{sum_by-cons, sum_by_more}
 use Rattle.std.proofs.lemmas.Map.Keys.{IsDistinct-head, IsDistinct-tail}
 use Rattle.std.proofs.lemmas.Option.{get_or_from_slice_get, slice_get-get_or, slice_get-map, slice_get_within}
 use Rattle.std.proofs.lemmas.Slice.Eq.{bytes_eq-Decides}
@@ -89,7 +89,8 @@ module _ {Y Z : Type 0} where
         (shown (cond b es (e ∷ remove_entry (is_key target) es))) + f (option_map_or (λ (responses : Vec
         StoredResponse Z). responses.items) (cond b (Some e.1) (lookup (is_key target) es)) []) ≡ sum_by (λ (entry :
         Target). f entry.1) (shown (e ∷ es))) [
-          | true ↦ rw (sum_by-cons (λ (entry : Target). f entry.1) (string_bytes e.0, e.1.items) (shown es)) (omega arith)
+          | true ↦
+              rw (sum_by-cons (λ (entry : Target). f entry.1) (string_bytes e.0, e.1.items) (shown es)) (omega arith)
           | false ↦ rw (
             sum_by-cons (λ (entry : Target). f entry.1) (string_bytes e.0, e.1.items) (shown es),
             sum_by-cons

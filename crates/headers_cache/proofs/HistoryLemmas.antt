@@ -1,8 +1,8 @@
 -- What the calls of a store leave is justified by them.
-use Rattle.std.proofs.Common.{◌≡◌, ◌≢◌, ◌⊎◌, ℕ, zero, suc, ◌+◌, Bool, true, false, not, cond, List, [], ◌∷◌, ◌++◌}
-use Rattle.std.proofs.Common.{take, drop, length}
-use Rattle.std.proofs.Common.{Option, Some, None, refl, sym, ap, subst, arith, filter, remove, bytes_eq, slice_get}
-use Rattle.std.proofs.Common.{inl, inr, ◌∙◌}
+use Rattle.std.proofs.Common.{◌≡◌, ◌≢◌, ◌⊎◌, ℕ, zero, suc, Bool, true, false, not, cond, List, [], ◌∷◌, ◌++◌}
+use Rattle.std.proofs.Common.{take, drop}
+use Rattle.std.proofs.Common.{Option, Some, None, refl, sym, ap, subst, arith, filter, remove, slice_get}
+use Rattle.std.proofs.Common.{inl, inr}
 use Rattle.std.proofs.lemmas.Slice.Eq.{bytes_eq-Decides}
 use Rattle.headers.specs.LineMap.{Field, LineMap, field_of}
 use Rattle.headers_cache_policy.specs.Decisions.{IsGoodEnough, freshness_at}
@@ -12,16 +12,16 @@ use Rattle.headers_cache_policy.specs.declared.decision.Decision.TheVariants as 
 use Rattle.headers_cache_rules.specs.Stored.{fields_of_stored, request_of_stored, times_of}
 use Rattle.headers_cache_policy.specs.Requests.{Request}
 use Rattle.headers_cache_policy.specs.declared.kind.Kind.{Kind}
-use Rattle.headers_cache_rules.specs.Freshening.{IsFreshened, IsReusable}
+use Rattle.headers_cache_rules.specs.Freshening.{IsReusable}
 use Rattle.headers_cache_rules.specs.declared.freshening.Exchange.{Exchange}
 use Rattle.headers_cache_rules.specs.declared.storing.Reception.{Reception}
 use Rattle.headers_cache_rules.specs.declared.stored.StoredResponse.{StoredResponse}
-use Rattle.headers_cache.specs.Changes.{IsFront, IsInserted, IsLetGo, IsRefreshed, IsRestored, IsRest, IsStoredAs}
-use Rattle.headers_cache.specs.Changes.{IsTrimmed}
+use Rattle.headers_cache.specs.Changes.{IsFront, IsRefreshedTo, IsRest}
+use Rattle.headers_cache.specs.Changes.{IsStoredAs}
 use Rattle.headers_cache.specs.Contents.{Contents, Target, is_for, responses_at, used, with_target, without}
 use Rattle.headers_cache.specs.History.{Call, Has, HasUnder, History, IsJustified, Run, Step}
-use Rattle.headers_cache.specs.History.Call.{Looked, Arrived, Validated, Removed}
-use Rattle.headers_cache.specs.declared.freshening.Refreshed.{Refreshed}
+use Rattle.headers_cache.specs.History.Call.{Looked, Arrived, Validated, Described, Answered, Removed}
+use Rattle.headers_cache.specs.Updates.{AreLeft, BecomesBeside, BecomesByHead}
 use Rattle.headers_cache.specs.declared.freshening.Refreshed.TheVariants.{Absent, Unchanged, Stored, Once}
 use Rattle.headers_cache.specs.declared.limits.Limits.{Limits}
 use Rattle.headers_cache.specs.Lookups.{IsAnswer, IsFound, age_of_stored}
@@ -73,6 +73,22 @@ Has-slice_get [] i x h = absurd (grind (arith, h))
 Has-slice_get (y ∷ xs) zero x h = inl (grind (arith, h))
 Has-slice_get (y ∷ xs) (suc i) x h = inr (Has-slice_get xs i x h)
 
+some-same : {X : Type 0} (x y : X) → Some x ≡ Some y → x ≡ y
+some-same x y same = grind (arith, same)
+
+-- what is left of stored responses was made of one of them
+pub Has-left : (B : StoredResponse → Option StoredResponse → Type 0) (all left : List StoredResponse) → AreLeft B all
+    left → (stored : StoredResponse) → Has left stored
+    → (old : StoredResponse) × Has all old × B old (Some stored)
+Has-left B [] left none stored h = absurd (subst (λ l. Has l stored) none h)
+Has-left B (one ∷ all) left (None, rest, becomes, are, put) stored h =
+    let on = Has-left B all rest are stored (subst (λ l. Has l stored) put h) in (on.0, inr on.1, on.2)
+Has-left B (one ∷ all) left (Some fresh, rest, becomes, are, put) stored h =
+    elim (subst (λ l. Has l stored) put h) [
+      | inl same ↦ (one, inl refl, subst (λ s. B one (Some s)) same becomes)
+      | inr r ↦ let on = Has-left B all rest are stored r in (on.0, inr on.1, on.2)
+    ]
+
 -- ---- what a store has
 
 pub Has-without : (target : List ℕ) (contents : Contents) (entry : Target) → Has (without target contents) entry
@@ -113,6 +129,27 @@ HasUnder-responses_at target (entry ∷ contents) stored h = (elim (is_for targe
       | false ↦ λ t k. let under = HasUnder-responses_at target contents stored k in
           record { responses = under.responses; at = inr under.at; among = under.among }
     ]) refl h
+
+-- what is under a target that was put first
+pub under-put : (target : List ℕ) (responses : List StoredResponse) (rest new : Contents) → new ≡ (target, responses)
+    ∷ rest → (other : List ℕ) (stored : StoredResponse) → HasUnder new other stored
+    → HasUnder rest other stored ⊎ ((target ≡ other) × Has responses stored)
+under-put target responses rest new put other stored h =
+    elim (subst (λ l. Has l (other, h.responses)) put h.at) [
+      | inl same ↦ inr (
+        ap (λ entry. entry.0) same,
+        subst (λ l. Has l stored) (sym (ap (λ entry. entry.1) same)) h.among,
+      )
+      | inr k ↦ inl (record { responses = h.responses; at = k; among = h.among })
+    ]
+
+-- the same, where it is put only if it has responses
+pub under-with_target : (target : List ℕ) (responses : List StoredResponse) (rest new : Contents)
+    → new ≡ with_target target responses rest → (other : List ℕ) (stored : StoredResponse) → HasUnder new other stored
+    → HasUnder rest other stored ⊎ ((target ≡ other) × Has responses stored)
+under-with_target target [] rest new put other stored h = inl (subst (λ l. HasUnder l other stored) put h)
+under-with_target target (response ∷ responses) rest new put other stored h =
+    under-put target (response ∷ responses) rest new put other stored h
 
 -- ---- what a call leaves
 
@@ -157,32 +194,12 @@ module _ (kind : Kind) (limits : Limits) where
         let kept = Has-without target old (other, h.responses) (subst (λ l. Has l (other, h.responses)) left h.at) in
         (kept.1, before other stored (record { responses = h.responses; at = kept.0; among = h.among }))
 
-    -- the responses that stay under a target beside one more, and the other targets
-    put : (target : List ℕ) (kept : List StoredResponse) (one : StoredResponse) (rest : Contents)
-        → new ≡ (target, kept ++ one ∷ []) ∷ rest
-        → ((stored : StoredResponse) → Has kept stored → Has (responses_at target old) stored)
-        → ((entry : Target) → Has rest entry → Has old entry)
-        → (other : List ℕ) (stored : StoredResponse) → HasUnder new other stored
-        → IsJustified kind other calls stored ⊎ ((target ≡ other) × (one ≡ stored))
-    put target kept one rest left inside outside other stored h =
-        elim (subst (λ l. Has l (other, h.responses)) left h.at) [
-          | inl same ↦
-              let name : target ≡ other = ap (λ entry. entry.0) same in
-              let list : kept ++ one ∷ [] ≡ h.responses = ap (λ entry. entry.1) same in
-              elim (Has-append kept (one ∷ []) stored (subst (λ l. Has l stored) (sym list) h.among)) [
-                | inl a ↦ inl (subst (λ t. IsJustified kind t calls stored) name (stays target stored (inside stored
-                    a)))
-                | inr b ↦ elim b [
-                  | inl is ↦ inr (name, is)
-                  | inr none ↦ absurd none
-                ]
-              ]
-          | inr k ↦ inl (before other stored (record {
-            responses = h.responses;
-            at = outside (other, h.responses) k;
-            among = h.among;
-          }))
-        ]
+    -- those of other targets
+    apart : (target other : List ℕ) (stored : StoredResponse) → HasUnder (without target old) other stored
+        → IsJustified kind other calls stored
+    apart target other stored h =
+        before other stored (HasUnder-weaker old (without target old) (λ entry k. (Has-without target old entry k).0)
+        other stored h)
 
     arrived : (target : List ℕ) (came : StoredResponse) (reception : Reception) → Step kind limits (Arrived target
         came reception) old new
@@ -190,65 +207,127 @@ module _ (kind : Kind) (limits : Limits) where
     arrived target came reception (inl same) other stored h =
         inl (weaker (λ entry k. subst (λ l. Has l entry) same k) other stored h)
     arrived target came reception (inr (inl (one, allowed, kept_as, inserted))) other stored h =
-        elim (put target inserted.kept one inserted.rest inserted.put
-        (λ s k. Has-rest (request_of_stored one) (responses_at target old) inserted.others inserted.beside s
-        (Has-drop inserted.trimmed.count inserted.others s (subst (λ l. Has l s) inserted.trimmed.left k)))
-        (λ entry k. (Has-without target old entry (Has-take inserted.room.count (without target old) entry (subst (λ
-        l. Has l entry) inserted.room.front k))).0)
-        other stored h) [
-          | inl was ↦ inl was
-          | inr is ↦ inr (is.0, allowed, subst (IsStoredAs came) is.1 kept_as)
+        elim (under-put target (inserted.kept ++ one ∷ []) inserted.rest new inserted.put other stored h) [
+          | inl under ↦ inl (before other stored (HasUnder-weaker old inserted.rest
+              (λ entry k. (Has-without target old entry (Has-take inserted.room.count (without target old) entry
+              (subst (λ l. Has l entry) inserted.room.front k))).0) other stored under))
+          | inr is ↦ elim (Has-append inserted.kept (one ∷ []) stored is.1) [
+            | inl a ↦ inl (subst (λ t. IsJustified kind t calls stored) is.0 (stays target stored
+                (Has-rest (request_of_stored one) (responses_at target old) inserted.others inserted.beside stored
+                (Has-drop inserted.trimmed.count inserted.others stored
+                (subst (λ l. Has l stored) inserted.trimmed.left a)))))
+            | inr b ↦ elim b [
+              | inl same ↦ inr (is.0, allowed, subst (IsStoredAs came) same kept_as)
+              | inr none ↦ absurd none
+            ]
+          ]
         ]
     arrived target came reception (inr (inr front)) other stored h = inl (weaker (fewer-front target front) other
         stored h)
 
-    validated : (target : List ℕ) (request : Request) (update : LineMap) (exchange : Exchange)
-        → Step kind limits (Validated target request update exchange) old new
-        → AreJustified (Validated target request update exchange ∷ calls) new
-    validated target request update exchange (inl (Absent, r)) other stored h =
-        inl (weaker (λ entry k. subst (λ l. Has l entry) r.1 k) other stored h)
-    validated target request update exchange (inl (Unchanged, r)) other stored h =
-        inl (weaker (λ entry k. subst (λ l. Has l entry) r.1 k) other stored h)
-    validated target request update exchange (inl (Stored at, r)) other stored h =
-        let was = r.refreshed.selected.response in
-        elim (put target (remove (responses_at target old) r.refreshed.place) r.fresh (without target old) r.put
-        (λ s k. Has-remove (responses_at target old) r.refreshed.place s k)
-        (λ entry k. (Has-without target old entry k).0) other stored h) [
-          | inl kept ↦ inl kept
-          | inr is ↦
-              let justified = stays target was (Has-slice_get (responses_at target old) r.refreshed.place was
-              r.refreshed.selected.at) in
-              inr (
-                is.0,
-                (
-                  was,
-                  subst (λ t. IsJustified kind t calls was) is.0 justified,
-                  r.refreshed.selected.is,
-                  r.refreshed.about,
-                  subst (IsFreshened was update exchange) is.1 r.refreshed.freshened,
-                  subst (IsReusable kind request update) is.1 r.reusable,
-                ),
-              )
-        ]
-    validated target request update exchange (inl (Once fresh, r)) other stored h =
-        let has = subst (λ l. Has l (other, h.responses)) r.put h.at in
-        let all = responses_at target old in
-        elim (Has-with_target target (remove all r.refreshed.place) (without target old) (other, h.responses) has) [
-          | inl same ↦
-              let list = subst (λ l. Has l stored) (sym (ap (λ entry. entry.1) same)) h.among in
-              inl (subst (λ t. IsJustified kind t calls stored) (ap (λ entry. entry.0) same) (stays target stored
-              (Has-remove all r.refreshed.place stored list)))
-          | inr k ↦ inl (before other stored (record {
-            responses = h.responses;
-            at = (Has-without target old (
-              other,
-              h.responses,
-            ) k).0;
-            among = h.among;
-          }))
-        ]
-    validated target request update exchange (inr left) other stored h = inl (weaker (fewer-without target left) other
-        stored h)
+    module _ (target : List ℕ) (request : Request) (update : LineMap) (exchange : Exchange) where
+      -- one of the responses that a 304 left beside its answer
+      beside : (those left : List StoredResponse) → AreLeft (BecomesBeside kind request update exchange) those left
+          → ((stored : StoredResponse) → Has those stored → Has (responses_at target old) stored)
+          → (stored : StoredResponse) → Has left stored
+          → IsJustified kind target (Validated target request update exchange ∷ calls) stored
+      beside those left are within stored h =
+          let was = Has-left (BecomesBeside kind request update exchange) those left are stored h in
+          let justified = stays target was.0 (within was.0 was.1) in
+          elim was.2 [
+            | inl is ↦ inr (
+              refl,
+              (was.0, justified, is.0.sought.0, is.0.sought.1, is.1.0, is.1.1),
+            )
+            | inr same ↦ inl (subst (IsJustified kind target calls) (sym (some-same stored was.0 same.1)) justified)
+          ]
+
+      -- the answer itself
+      answered : (fresh : StoredResponse) (left : List StoredResponse)
+          → (r : IsRefreshedTo kind target request update exchange old new fresh left)
+          → IsReusable kind request update fresh
+          → IsJustified kind target (Validated target request update exchange ∷ calls) fresh
+      answered fresh left r reusable =
+          let was = r.selected.response in
+          inr (
+            refl,
+            (
+              was,
+              stays target was (Has-slice_get (responses_at target old) r.place was r.selected.at),
+              r.selected.is.0,
+              r.selected.is.1,
+              r.freshened,
+              reusable,
+            ),
+          )
+
+      others : (place : ℕ) (stored : StoredResponse) → Has (remove (responses_at target old) place) stored
+          → Has (responses_at target old) stored
+      others place stored k = Has-remove (responses_at target old) place stored k
+
+      validated : Step kind limits (Validated target request update exchange) old new
+          → AreJustified (Validated target request update exchange ∷ calls) new
+      validated (inl (Absent, r)) other stored h = inl (weaker (λ entry k. subst (λ l. Has l entry) r.1 k) other
+          stored h)
+      validated (inl (Unchanged, r)) other stored h = inl (weaker (λ entry k. subst (λ l. Has l entry) r.2 k) other
+          stored h)
+      validated (inl (Stored at, r)) other stored h =
+          elim (under-put target (r.left ++ r.fresh ∷ []) (without target old) new r.put other stored h) [
+            | inl under ↦ inl (apart target other stored under)
+            | inr is ↦
+                subst (λ t. IsJustified kind t (Validated target request update exchange ∷ calls) stored) is.0
+                (elim (Has-append r.left (r.fresh ∷ []) stored is.1) [
+                  | inl a ↦ beside (remove (responses_at target old) r.refreshed.place) r.left r.refreshed.beside
+                      (others r.refreshed.place) stored a
+                  | inr b ↦ elim b [
+                    | inl same ↦ subst (IsJustified kind target (Validated target request update exchange ∷ calls)) same
+                        (answered r.fresh r.left r.refreshed r.reusable)
+                    | inr none ↦ absurd none
+                  ]
+                ])
+          ]
+      validated (inl (Once fresh, r)) other stored h =
+          elim (under-with_target target r.left (without target old) new r.put other stored h) [
+            | inl under ↦ inl (apart target other stored under)
+            | inr is ↦
+                subst (λ t. IsJustified kind t (Validated target request update exchange ∷ calls) stored) is.0
+                (beside (remove (responses_at target old) r.refreshed.place) r.left r.refreshed.beside
+                (others r.refreshed.place) stored is.1)
+          ]
+      validated (inr left) other stored h = inl (weaker (fewer-without target left) other stored h)
+
+      -- one of the responses that a HEAD left
+      by_head : (left : List StoredResponse)
+          → AreLeft (BecomesByHead kind request update exchange) (responses_at target old) left
+          → (stored : StoredResponse) → Has left stored
+          → IsJustified kind target (Described target request update exchange ∷ calls) stored
+      by_head left are stored h =
+          let was = Has-left (BecomesByHead kind request update exchange) (responses_at target old) left are stored h in
+          let justified = stays target was.0 was.1 in
+          elim was.2 [
+            | inl is ↦ inr (refl, (was.0, justified, is.0, is.1, is.2.0, is.2.1))
+            | inr rest ↦ elim rest [
+              | inl gone ↦ absurd (grind (arith, gone.2))
+              | inr same ↦ inl (subst (IsJustified kind target calls) (sym (some-same stored was.0 same.1)) justified)
+            ]
+          ]
+
+      described : Step kind limits (Described target request update exchange) old new
+          → AreJustified (Described target request update exchange ∷ calls) new
+      described (inl r) other stored h =
+          elim (under-with_target target r.left (without target old) new r.put other stored h) [
+            | inl under ↦ inl (apart target other stored under)
+            | inr is ↦ subst (λ t. IsJustified kind t (Described target request update exchange ∷ calls) stored) is.0
+                (by_head r.left r.each stored is.1)
+          ]
+      described (inr left) other stored h = inl (weaker (fewer-without target left) other stored h)
+
+    answered_request : (target method : List ℕ) (status : ℕ) → Step kind limits (Answered target method status) old new
+        → AreJustified (Answered target method status ∷ calls) new
+    answered_request target method status (inl (is, left)) other stored h =
+        let kept = removed target left other stored h in ((λ _. kept.0), kept.1)
+    answered_request target method status (inr (isnt, same)) other stored h =
+        ((λ is. absurd (isnt is)), weaker (λ entry k. subst (λ l. Has l entry) same k) other stored h)
 
   step : (call : Call) (calls : History) (old new : Contents) → AreJustified calls old → Step kind limits call old new
       → AreJustified (call ∷ calls) new
@@ -257,6 +336,10 @@ module _ (kind : Kind) (limits : Limits) where
       reception change
   step (Validated target request update exchange) calls old new before change =
       validated calls old new before target request update exchange change
+  step (Described target request head exchange) calls old new before change =
+      described calls old new before target request head exchange change
+  step (Answered target method status) calls old new before change =
+      answered_request calls old new before target method status change
   step (Removed target) calls old new before change = removed calls old new before target change
 
   -- whatever the calls are, what they leave is justified by them

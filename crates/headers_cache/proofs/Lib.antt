@@ -1,5 +1,7 @@
 pub mod EntryLemmas
 pub mod HistoryLemmas
+pub mod LawLemmas
 pub mod LookupLemmas
 pub mod RefreshLemmas
 pub mod StoringLemmas
+pub mod UpdateLemmas

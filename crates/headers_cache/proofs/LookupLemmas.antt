@@ -1,6 +1,6 @@
 -- What a lookup answers.
-use Rattle.std.proofs.Common.{◌≡◌, ◌≢◌, ◌⊎◌, ℕ, List, [], ◌∷◌, get_or, slice_get, Some, None, Result, Ok, Err, IfOk}
-use Rattle.std.proofs.Common.{OnOk, refl, sym, ap, subst, inl, inr, ◌∙◌}
+use Rattle.std.proofs.Common.{◌≡◌, ◌≢◌, ℕ, List, get_or, Result, Ok, Err, IfOk}
+use Rattle.std.proofs.Common.{OnErr, OnOk, refl, sym, subst, inl, inr, ◌∙◌}
 use Rattle.std.proofs.lemmas.Option.{get_or_from_slice_get}
 use Rattle.headers.specs.LineMap.{field_of, fields_of}
 use Rattle.headers_cache_policy.specs.Decisions.{AnswersUnstored, Decides, DecidesMatched}
@@ -12,7 +12,7 @@ use Rattle.headers_cache_policy.specs.declared.kind.Kind.{Kind}
 use Rattle.headers_cache_rules.specs.Selection.{IsCandidate, IsMostRecent}
 use Rattle.headers_cache_rules.specs.Stored.{fields_of_stored, request_of_stored, times_of}
 use Rattle.headers_cache_rules.specs.declared.stored.StoredResponse.{StoredResponse}
-use Rattle.headers_cache.specs.Lookups.{IsAnswer, IsAsked, IsFound, IsLookupOf, IsServed}
+use Rattle.headers_cache.specs.Lookups.{HasFields, IsAnswer, IsAsked, IsFound, IsLookupOf, IsServed}
 use Rattle.headers_cache.specs.declared.lookup.Lookup.{Lookup}
 use Rattle.headers_cache.specs.declared.lookup.Lookup.TheVariants.{Serve, ServeAndRevalidate, Validate, ValidateOrServe}
 use Rattle.headers_cache.specs.declared.lookup.Lookup.TheVariants.{Unavailable, Forward}
@@ -20,6 +20,10 @@ use Rattle.headers_cache.specs.declared.lookup.Lookup.TheVariants.{Unavailable, 
 pub on_ok : {A E : Type 0} {P Q : Type 0} (result : Result A E) → (P → Q) → OnOk result P → OnOk result Q
 on_ok (Ok x) weaker h = weaker h
 on_ok (Err e) weaker h = h
+
+pub on_err : {A E : Type 0} {P Q : Type 0} (result : Result A E) → (P → Q) → OnErr result P → OnErr result Q
+on_err (Ok x) weaker h = h
+on_err (Err e) weaker h = weaker h
 
 pub if_ok : {A E : Type 0} {P Q : A → Type 0} (result : Result A E) → ((x : A) → P x → Q x) → IfOk result P → IfOk
     result Q
@@ -57,22 +61,31 @@ module _ (kind : Kind) (request : Request) (now : ℕ) (responses : List StoredR
   answer_by decided Forward is = absurd ((subst IsDecided is decided).answers)
 
   -- the response at the place, as the code has it
-  pub answer_decided : (stored : StoredResponse) → stored ≡ get_or responses place stored → (head : Request)
-      → head ≡ request_of_stored stored → (times : Times) → times ≡ times_of stored now
-      → Decides kind head request (fields_of_stored stored) times decision → (lookup : Lookup)
-      → IsLookupOf stored now decision place lookup → IsAnswer kind request now responses lookup
-  answer_decided stored at head of_head times of_times decides lookup is =
-      let same : stored ≡ selected.response = at ∙ get_or_from_slice_get responses place selected.response stored
-      selected.at in
-      let by_head = subst (λ h. Decides kind h request (fields_of_stored stored) times decision) of_head decides in
-      let by_times = subst (λ t. Decides kind (request_of_stored stored) request (fields_of_stored stored) t decision)
-      of_times by_head in
-      let by_stored = subst (λ s. Decides kind (request_of_stored s) request (fields_of_stored s) (times_of s now)
-      decision) same by_times in
-      elim by_stored [
-        | inl suits ↦ answer_by suits.1 lookup (subst (λ s. IsLookupOf s now decision place lookup) same is)
-        | inr other ↦ absurd (other.0 selected.is)
-      ]
+  module _ (stored : StoredResponse) (at : stored ≡ get_or responses place stored) (head : Request)
+      (of_head : head ≡ request_of_stored stored) (times : Times) (of_times : times ≡ times_of stored now)
+      (decides : Decides kind head request (fields_of_stored stored) times decision) where
+    same_stored : stored ≡ selected.response
+    same_stored = at ∙ get_or_from_slice_get responses place selected.response stored selected.at
+
+    is_decided : IsDecided decision
+    is_decided =
+        let by_head = subst (λ h. Decides kind h request (fields_of_stored stored) times decision) of_head decides in
+        let by_times = subst (λ t. Decides kind (request_of_stored stored) request (fields_of_stored stored) t decision)
+        of_times by_head in
+        let by_stored = subst (λ s. Decides kind (request_of_stored s) request (fields_of_stored s) (times_of s now)
+        decision) same_stored by_times in
+        elim by_stored [
+          | inl suits ↦ suits.1
+          | inr other ↦ absurd (other.0 selected.is)
+        ]
+
+    pub answer_decided : (lookup : Lookup) → IsLookupOf stored now decision place lookup
+        → IsAnswer kind request now responses lookup
+    answer_decided lookup is =
+        answer_by is_decided lookup (subst (λ s. IsLookupOf s now decision place lookup) same_stored is)
+
+    pub has_fields : decision ≢ decisions.Unavailable → HasFields kind request now responses
+    has_fields other = (decision, place, record { selected = selected; decided = is_decided }, other)
 
 -- a request that no stored response suits is forwarded, if it isn't 504
 pub unstored_forwards : (request : Request) (decision : Decision) → AnswersUnstored request decision

@@ -1,76 +1,104 @@
 -- What a validating response leaves.
-use Rattle.std.proofs.Common.{◌≡◌, ℕ, ◌<◌, List, [], ◌∷◌, ◌++◌, length, get_or, remove, sym, ap, subst, ◌∙◌}
+use Rattle.std.proofs.Common.{◌≡◌, ℕ, ◌<◌, List, [], ◌∷◌, ◌++◌, Some, None, refl, length, get_or, remove, sym, ap}
+use Rattle.std.proofs.Common.{subst, ◌∙◌}
 use Rattle.std.proofs.lemmas.Option.{get_or_from_slice_get, slice_get_within}
 use Rattle.headers.specs.LineMap.{LineMap}
 use Rattle.headers_cache_policy.specs.Requests.{Request}
 use Rattle.headers_cache_policy.specs.Updating.{IsUpdated}
 use Rattle.headers_cache_policy.specs.declared.kind.Kind.{Kind}
-use Rattle.headers_cache_rules.specs.Freshening.{IsFreshened, IsFreshenedAs}
-use Rattle.headers_cache_rules.specs.Selection.{IsCandidate, IsMostRecent}
+use Rattle.headers_cache_rules.specs.Freshening.{IsFreshened, IsFreshenedAs, IsReusable}
+use Rattle.headers_cache_rules.specs.Identifying.{IsUpdatedAnswer}
 use Rattle.headers_cache_rules.specs.Stored.{fields_of_stored}
 use Rattle.headers_cache_rules.specs.declared.freshening.Exchange.{Exchange}
 use Rattle.headers_cache_rules.specs.declared.freshening.Freshened.TheVariants as outcomes
 use Rattle.headers_cache_rules.specs.declared.stored.StoredResponse.{StoredResponse}
-use Rattle.headers_cache.specs.Changes.{IsLetGo, IsRestored}
+use Rattle.headers_cache.specs.Changes.{IsLetGo, IsRefreshed, IsRefreshedByHead, IsRefreshedTo, IsRestored}
+use Rattle.headers_cache.specs.Changes.{IsUnrefreshed}
 use Rattle.headers_cache.specs.Contents.{Contents, responses_at, with_target, without}
+use Rattle.headers_cache.specs.Updates.{AreLeft, Becomes}
+use Rattle.headers_cache.specs.declared.updating.By.TheVariants.{NotModified, Head}
+use Rattle.headers_cache.specs.declared.freshening.Refreshed.{Refreshed}
+use Rattle.headers_cache.specs.declared.freshening.Refreshed.TheVariants.{Absent, Unchanged, Stored, Once}
 
-module _ (request : Request) (all : List StoredResponse) (place : ℕ) (found : IsMostRecent (IsCandidate request) all
-    place) where
-  pub within : place < length all
-  within = slice_get_within all place found.response found.at
+-- the place of the response that answers
+pub within : (request : Request) (update : LineMap) (all : List StoredResponse) (place : ℕ)
+    → IsUpdatedAnswer request update all (Some place) → place < length all
+within request update all place answers = slice_get_within all place answers.1.response answers.1.at
 
-  pub is_selected : (d : StoredResponse) → d ≡ get_or all place d → d ≡ found.response
-  is_selected d at = at ∙ get_or_from_slice_get all place found.response d found.at
-
-  pub not_about : (update : LineMap) (d : StoredResponse) → d ≡ get_or all place d → ¬ (IsUpdated (fields_of_stored d)
-      update)
-      → (p : ℕ) × (f : IsMostRecent (IsCandidate request) all p) × ¬ (IsUpdated (fields_of_stored f.response) update)
-  not_about update d at other =
-      (place, found, λ about. other (subst (λ s. IsUpdated (fields_of_stored s) update) (sym (is_selected d at)) about))
-
+-- the names are those of the code
 module _ (kind own : Kind) (target : List ℕ) (request : Request) (update : LineMap) (exchange : Exchange) (old new
     other : Contents)
-    (taken left : List StoredResponse) (place : ℕ) (found : IsMostRecent (IsCandidate request) (responses_at target
-    old) place)
+    (taken rest left : List StoredResponse) (place : ℕ)
+    (answers : IsUpdatedAnswer request update (responses_at target old) (Some place))
     (d fresh : StoredResponse) (is_own : own ≡ kind) (is_other : other ≡ without target old)
-    (is_taken : taken ≡ responses_at target old) (at : d ≡ get_or taken place d) (is_left : left ≡ remove taken place)
+    (is_taken : taken ≡ responses_at target old) (at : d ≡ get_or taken place d) (is_rest : rest ≡ remove taken place)
+    (are_left : AreLeft (λ one. Becomes own request update exchange one NotModified) rest left)
   where
-    is_d : d ≡ found.response
-    is_d = is_selected request (responses_at target old) place found d (at ∙ ap (λ l. get_or l place d) is_taken)
+    is_d : d ≡ answers.1.response
+    is_d = at ∙ ap (λ l. get_or l place d) is_taken
+        ∙ get_or_from_slice_get (responses_at target old) place answers.1.response d answers.1.at
 
-    is_rest : left ≡ remove (responses_at target old) place
-    is_rest = is_left ∙ ap (λ l. remove l place) is_taken
+    refreshed : IsFreshened d update exchange fresh
+        → IsRefreshedTo kind target request update exchange old new fresh left
+    refreshed freshened =
+        record {
+          place = place;
+          identified = answers.0;
+          selected = answers.1;
+          freshened = subst (λ s. IsFreshened s update exchange fresh) is_d freshened;
+          beside = subst (λ l. AreLeft (λ one. Becomes kind request update exchange one NotModified) l left)
+              (is_rest ∙ ap (λ l. remove l place) is_taken)
+              (subst (λ k. AreLeft (λ one. Becomes k request update exchange one NotModified) rest left) is_own
+              are_left);
+        }
 
     pub restored : IsFreshenedAs own d request update exchange (outcomes.Stored fresh) → (n : ℕ) → n ≡ length left
         → new ≡ (target, left ++ fresh ∷ []) ∷ other → IsRestored kind target request update exchange old new n
     restored freshened n is_n put =
-        let by_kind = subst (λ k. IsFreshenedAs k d request update exchange (outcomes.Stored fresh)) is_own freshened in
         record {
           fresh = fresh;
-          refreshed = record {
-            place = place;
-            selected = found;
-            about = subst (λ s. IsUpdated (fields_of_stored s) update) is_d by_kind.0;
-            freshened = subst (λ s. IsFreshened s update exchange fresh) is_d by_kind.1;
-          };
-          reusable = by_kind.2;
-          at = is_n ∙ ap length is_rest;
-          put = put ∙ (ap (λ l. (target, l ++ fresh ∷ []) ∷ other) is_rest
-              ∙ ap (λ c. (target, remove (responses_at target old) place ++ fresh ∷ []) ∷ c) is_other);
+          left = left;
+          refreshed = refreshed freshened.1;
+          reusable = subst (λ k. IsReusable k request update fresh) is_own freshened.2;
+          at = is_n;
+          put = put ∙ ap (λ c. (target, left ++ fresh ∷ []) ∷ c) is_other;
         }
 
     pub let_go : IsFreshenedAs own d request update exchange (outcomes.Once fresh) → new ≡ with_target target left other
         → IsLetGo kind target request update exchange old new fresh
     let_go freshened put =
-        let by_kind = subst (λ k. IsFreshenedAs k d request update exchange (outcomes.Once fresh)) is_own freshened in
         record {
-          refreshed = record {
-            place = place;
-            selected = found;
-            about = subst (λ s. IsUpdated (fields_of_stored s) update) is_d by_kind.0;
-            freshened = subst (λ s. IsFreshened s update exchange fresh) is_d by_kind.1;
-          };
-          unusable = by_kind.2;
-          put = put ∙ (ap (λ l. with_target target l other) is_rest
-              ∙ ap (λ c. with_target target (remove (responses_at target old) place) c) is_other);
+          left = left;
+          refreshed = refreshed freshened.1;
+          unusable = λ is. freshened.2 (subst (λ k. IsReusable k request update fresh) (sym is_own) is);
+          put = put ∙ ap (λ c. with_target target left c) is_other;
         }
+
+    -- the response that answers is updated, so it doesn't stay as it was
+    pub not_unchanged : {other_fresh : StoredResponse} → IsFreshenedAs own d request update exchange (outcomes.Unchanged
+        other_fresh) → ⊥
+    not_unchanged freshened =
+        freshened.0 (subst (λ s. IsUpdated (fields_of_stored s) update) (sym is_d) answers.1.is.1)
+
+-- what a 304 that updates none leaves
+pub none_refreshed : (kind : Kind) (target : List ℕ) (request : Request) (update : LineMap) (exchange : Exchange)
+    (contents : Contents) → IsUpdatedAnswer request update (responses_at target contents) None → (answer : Refreshed)
+    → IsUnrefreshed request (responses_at target contents) answer
+    → IsRefreshed kind target request update exchange contents contents answer
+none_refreshed kind target request update exchange contents none Absent is = (is, refl)
+none_refreshed kind target request update exchange contents none Unchanged is = (none, is, refl)
+none_refreshed kind target request update exchange contents none (Stored at) is = absurd is
+none_refreshed kind target request update exchange contents none (Once fresh) is = absurd is
+
+-- what a HEAD leaves
+pub head_refreshed : (kind own : Kind) (target : List ℕ) (request : Request) (update : LineMap) (exchange : Exchange)
+    (old new other : Contents) (taken left : List StoredResponse) → own ≡ kind → other ≡ without target old
+    → taken ≡ responses_at target old → AreLeft (λ one. Becomes own request update exchange one Head) taken left
+    → new ≡ with_target target left other → IsRefreshedByHead kind target request update exchange old new
+head_refreshed kind own target request update exchange old new other taken left is_own is_other is_taken are_left put =
+    record {
+      left = left;
+      each = subst (λ l. AreLeft (λ one. Becomes kind request update exchange one Head) l left) is_taken
+          (subst (λ k. AreLeft (λ one. Becomes k request update exchange one Head) taken left) is_own are_left);
+      put = put ∙ ap (λ c. with_target target left c) is_other;
+    }

@@ -1,19 +1,18 @@
 -- What a new response takes away.
-use Rattle.std.proofs.Common.{◌≡◌, ◌≢◌, ◌⊎◌, ℕ, zero, suc, ◌+◌, ◌-◌, ◌<◌, ◌≤◌, List, [], ◌∷◌, ◌++◌, take, drop}
+use Rattle.std.proofs.Common.{◌≡◌, ◌≢◌, ℕ, ◌+◌, ◌-◌, ◌<◌, ◌≤◌, List, [], ◌∷◌, ◌++◌, drop}
 use Rattle.std.proofs.Common.{length, get_or}
-use Rattle.std.proofs.Common.{Option, Some, None, refl, sym, ap, subst, arith, remove, sum_by, slice_get, inl, inr}
-use Rattle.std.proofs.Common.{◌∙◌, length-drop}
+use Rattle.std.proofs.Common.{refl, sym, ap, subst, arith, remove, inl, inr}
+use Rattle.std.proofs.Common.{◌∙◌}
 use Rattle.std.proofs.lemmas.List.{drop-drop}
-use Rattle.std.proofs.lemmas.List.Edits.{length-remove}
-use Rattle.std.proofs.lemmas.List.Sums.{sum_by-append, sum_by-take-drop, sum_by-remove}
-use Rattle.std.proofs.lemmas.Option.{get_or_from_slice_get, slice_get_within}
+use Rattle.std.proofs.lemmas.List.Sums.{sum_by-take-drop, sum_by-remove}
+use Rattle.std.proofs.lemmas.Option.{get_or_from_slice_get}
 use Rattle.headers_cache_policy.specs.Requests.{Request}
-use Rattle.headers_cache_rules.specs.Selection.{IsCandidate, IsMostRecent, IsSelected}
+use Rattle.headers_cache_rules.specs.Selection.{IsCandidate, IsMostRecent}
 use Rattle.headers_cache_rules.specs.Stored.{request_of_stored}
 use Rattle.headers_cache_rules.specs.declared.stored.StoredResponse.{StoredResponse}
 use Rattle.headers_cache.specs.Changes.{FitsAlone, IsInserted, IsRest, IsTrimmed}
 use Rattle.headers_cache.specs.Contents.{Contents, IsAbsent, bytes_of, responses_at, size_of, without}
-use Rattle.headers_cache.specs.Room.{HasRoom, IsLongestWithRoom}
+use Rattle.headers_cache.specs.Room.{IsLongestWithRoom}
 use Rattle.headers_cache.proofs.EntryLemmas.{IsAbsent-take, IsAbsent-without}
 use Rattle.headers_cache.specs.declared.limits.Limits.{Limits}
 
@@ -120,22 +119,3 @@ inserted limits own target new old other rest contents taken others kept request
           room_by_bytes;
       put = put;
     }
-
--- what was taken out has room again, with one response in place of another of its size
-module _ (limits : Limits) (rest : Contents) (all : List StoredResponse) (place : ℕ) (d : StoredResponse) (within :
-    place < length all)
-    (room : HasRoom limits (length all) (bytes_of all) rest) where
-  pub room_again : (size : ℕ) → size ≡ size_of (get_or all place d)
-      → HasRoom limits (length (remove all place) + 1) (bytes_of (remove all place) + size) rest
-  room_again size same =
-      record {
-        few = omega (arith, length-remove all place within, room.few);
-        light = omega (arith, bytes_of-remove all place d within, same, room.light);
-      }
-
-  pub room_without : HasRoom limits (length (remove all place)) (bytes_of (remove all place)) rest
-  room_without =
-      record {
-        few = omega (arith, length-remove all place within, room.few);
-        light = omega (arith, bytes_of-remove all place d within, room.light);
-      }

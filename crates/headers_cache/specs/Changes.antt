@@ -3,10 +3,10 @@ use Rattle.std.specs.Prelude.{◌≡◌, ◌≢◌, ◌⊎◌, ℕ, ◌+◌, ◌
 use Rattle.std.specs.Prelude.{remove}
 use Rattle.headers.specs.LineMap.{LineMap}
 use Rattle.headers_cache_policy.specs.Requests.{Request}
-use Rattle.headers_cache_policy.specs.Updating.{IsUpdated}
 use Rattle.headers_cache_policy.specs.declared.kind.Kind.{Kind}
 use Rattle.headers_cache_rules.specs.Freshening.{IsFreshened, IsReusable}
-use Rattle.headers_cache_rules.specs.Selection.{IsCandidate, IsMostRecent, IsSelected}
+use Rattle.headers_cache_rules.specs.Identifying.{IsIdentified}
+use Rattle.headers_cache_rules.specs.Selection.{IsCandidate, IsMostRecent, IsSelected, IsSought}
 use Rattle.headers_cache_rules.specs.Stored.{fields_of_stored, request_of_stored}
 use Rattle.headers_cache_rules.specs.Storing.{IsAsStored, IsStored}
 use Rattle.headers_cache_rules.specs.declared.freshening.Exchange.{Exchange}
@@ -14,6 +14,7 @@ use Rattle.headers_cache_rules.specs.declared.storing.Reception.{Reception}
 use Rattle.headers_cache_rules.specs.declared.stored.StoredResponse.{StoredResponse}
 use Rattle.headers_cache.specs.Contents.{Contents, bytes_of, responses_at, size_of, with_target, without}
 use Rattle.headers_cache.specs.Room.{IsLongestWithRoom}
+use Rattle.headers_cache.specs.Updates.{AreLeft, BecomesBeside, BecomesByHead}
 use Rattle.headers_cache.specs.declared.limits.Limits.{Limits}
 use Rattle.headers_cache.specs.declared.freshening.Refreshed.{Refreshed}
 use Rattle.headers_cache.specs.declared.freshening.Refreshed.TheVariants.{Absent, Unchanged, Stored, Once}
@@ -75,36 +76,57 @@ pub record IsInserted (limits : Limits) (target : List ℕ) (new : StoredRespons
     pub room : IsLongestWithRoom limits (length kept + 1) (bytes_of kept + size_of new) (without target old) rest
     pub put : contents ≡ (target, kept ++ new ∷ []) ∷ rest
 
--- ---- a response that validates a stored one
+-- ---- a response that validates stored ones
+
+-- what a 304 to the request makes of the responses, if it updates none
+abbrev pub IsUnrefreshed : Request → List StoredResponse → Refreshed → Type 0
+IsUnrefreshed request all Absent = IsSelected (IsCandidate request) all None
+IsUnrefreshed request all Unchanged = (place : ℕ) × IsMostRecent (IsCandidate request) all place
+IsUnrefreshed request all (Stored at) = ⊥
+IsUnrefreshed request all (Once fresh) = ⊥
 
 module _ (kind : Kind) (target : List ℕ) (request : Request) (update : LineMap) (exchange : Exchange) (old new :
     Contents)
   where
-    -- the selected response is updated
-    pub record IsRefreshedTo (fresh : StoredResponse) : Type 0 where
+    -- The most recent of the responses that the 304 updates is updated, and so are the others; those of the others that
+    -- stay stored are left (section 4.3.4).
+    pub record IsRefreshedTo (fresh : StoredResponse) (left : List StoredResponse) : Type 0 where
       pub place : ℕ
-      pub selected : IsMostRecent (IsCandidate request) (responses_at target old) place
-      pub about : IsUpdated (fields_of_stored selected.response) update
+      pub identified : IsIdentified request update (responses_at target old) place
+      pub selected : IsMostRecent (IsSought request (Some update)) (responses_at target old) place
       pub freshened : IsFreshened selected.response update exchange fresh
+      pub beside : AreLeft (BecomesBeside kind request update exchange) (remove (responses_at target old) place) left
 
-    -- it stays stored, and is the most recent one
+    -- it stays stored, as the one that was stored last
     pub record IsRestored (stored_at : ℕ) : Type 0 where
       pub fresh : StoredResponse
-      pub refreshed : IsRefreshedTo fresh
+      pub left : List StoredResponse
+      pub refreshed : IsRefreshedTo fresh left
       pub reusable : IsReusable kind request update fresh
-      pub at : stored_at ≡ length (remove (responses_at target old) refreshed.place)
-      pub put : new ≡ (target, remove (responses_at target old) refreshed.place ++ fresh ∷ []) ∷ without target old
+      pub at : stored_at ≡ length left
+      pub put : new ≡ (target, left ++ fresh ∷ []) ∷ without target old
 
     -- it is stored no longer, and answers this request once
     pub record IsLetGo (fresh : StoredResponse) : Type 0 where
-      pub refreshed : IsRefreshedTo fresh
+      pub left : List StoredResponse
+      pub refreshed : IsRefreshedTo fresh left
       pub unusable : ¬ (IsReusable kind request update fresh)
-      pub put : new ≡ with_target target (remove (responses_at target old) refreshed.place) (without target old)
+      pub put : new ≡ with_target target left (without target old)
 
-    -- what becomes of the response that is selected for the request
+    -- a 304 to the request updates none of the responses
+    abbrev pub IsAboutNone : Type 0
+    IsAboutNone = (place : ℕ) → ¬ (IsIdentified request update (responses_at target old) place)
+
+    -- what becomes of the responses that may answer the request
     abbrev pub IsRefreshed : Refreshed → Type 0
     IsRefreshed Absent = IsSelected (IsCandidate request) (responses_at target old) None × (new ≡ old)
-    IsRefreshed Unchanged = ((place : ℕ) × (found : IsMostRecent (IsCandidate request) (responses_at target old) place)
-        × ¬ (IsUpdated (fields_of_stored found.response) update)) × (new ≡ old)
+    IsRefreshed Unchanged =
+        IsAboutNone × ((place : ℕ) × IsMostRecent (IsCandidate request) (responses_at target old) place) × (new ≡ old)
     IsRefreshed (Stored at) = IsRestored at
     IsRefreshed (Once fresh) = IsLetGo fresh
+
+    -- what becomes of the responses to GET that could have been chosen for a HEAD
+    pub record IsRefreshedByHead : Type 0 where
+      pub left : List StoredResponse
+      pub each : AreLeft (BecomesByHead kind request update exchange) (responses_at target old) left
+      pub put : new ≡ with_target target left (without target old)

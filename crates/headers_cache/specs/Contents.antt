@@ -1,5 +1,5 @@
 -- What a store has.
-use Rattle.std.specs.Prelude.{◌≡◌, ℕ, ◌≤◌, Bool, false, not, List, [], ◌∷◌, ◌++◌, map, length, filter, sum_by, bytes_eq}
+use Rattle.std.specs.Prelude.{◌≡◌, ℕ, Bool, false, not, List, [], ◌∷◌, ◌++◌, map, length, filter, sum_by, bytes_eq}
 use Rattle.std.specs.Prelude.{if◌then◌else◌, string_bytes, String, Vec}
 use Rattle.std.specs.List.{AllByRecursion}
 use Rattle.headers_cache_rules.specs.declared.stored.StoredResponse.{StoredResponse}

@@ -4,14 +4,17 @@ use Rattle.headers.specs.LineMap.{LineMap}
 use Rattle.headers_cache_policy.specs.Requests.{Request}
 use Rattle.headers_cache_policy.specs.Updating.{IsUpdated}
 use Rattle.headers_cache_policy.specs.declared.kind.Kind.{Kind}
-use Rattle.headers_cache_rules.specs.Freshening.{IsFreshened, IsReusable}
+use Rattle.headers_cache_rules.specs.Freshening.{IsFreshened, IsHeadOf, IsReusable}
+use Rattle.headers_cache_rules.specs.Invalidation.{Invalidates}
 use Rattle.headers_cache_rules.specs.Selection.{IsCandidate}
 use Rattle.headers_cache_rules.specs.Stored.{fields_of_stored}
 use Rattle.headers_cache_rules.specs.declared.freshening.Exchange.{Exchange}
 use Rattle.headers_cache_rules.specs.declared.storing.Reception.{Reception}
 use Rattle.headers_cache_rules.specs.declared.stored.StoredResponse.{StoredResponse}
-use Rattle.headers_cache.specs.Changes.{IsFront, IsInserted, IsRefreshed, IsStoredAs, IsToStore}
+use Rattle.headers_cache.specs.Changes.{IsFront, IsInserted, IsRefreshed, IsRefreshedByHead, IsStoredAs}
+use Rattle.headers_cache.specs.Changes.{IsToStore}
 use Rattle.headers_cache.specs.Contents.{Contents, used, without}
+use Rattle.headers_cache.specs.Updates.{IsGetFor}
 use Rattle.headers_cache.specs.declared.freshening.Refreshed.{Refreshed}
 use Rattle.headers_cache.specs.declared.limits.Limits.{Limits}
 
@@ -21,9 +24,13 @@ pub data Call : Type 0 where
   Looked : List ℕ → Call
   -- `store`, with the request and the response as it came from the origin
   Arrived : List ℕ → StoredResponse → Reception → Call
-  -- `freshen`, with the request and the fields of the response that validates
+  -- `freshen`, with the request and the fields of the 304
   Validated : List ℕ → Request → LineMap → Exchange → Call
-  -- `remove`, or `invalidate` after a request that isn't safe and a response that is no error
+  -- `freshen_by_head`, with the HEAD and the fields of the 200
+  Described : List ℕ → Request → LineMap → Exchange → Call
+  -- `invalidate`, with the method of the request and the status of the response
+  Answered : List ℕ → List ℕ → ℕ → Call
+  -- `remove`
   Removed : List ℕ → Call
 
 -- calls of one store, the latest first
@@ -53,6 +60,10 @@ module _ (kind : Kind) (limits : Limits) where
   Step (Validated target request update exchange) old new =
       ((answer : Refreshed) × IsRefreshed kind target request update exchange old new answer)
       ⊎ (new ≡ without target old)
+  Step (Described target request head exchange) old new =
+      IsRefreshedByHead kind target request head exchange old new ⊎ (new ≡ without target old)
+  Step (Answered target method status) old new =
+      (Invalidates method status × (new ≡ without target old)) ⊎ ((¬ (Invalidates method status)) × (new ≡ old))
   Step (Removed target) old new = new ≡ without target old
 
   -- after these calls a new store has this
@@ -62,9 +73,9 @@ module _ (kind : Kind) (limits : Limits) where
 
 module _ (kind : Kind) (target : List ℕ) where
   -- The calls justify that the response is stored under the target: it came from the origin for a request to this
-  -- target, and may be stored (section 3); or it is one that the calls justified before, with the fields of a response
-  -- that validated it, and may still be stored (sections 4.3.4 and 4.3.5). Since it came, nothing was removed under
-  -- this target (section 4.4).
+  -- target, and may be stored (section 3); or it is one that the calls justified before, with the fields of a 304
+  -- (section 4.3.4) or of a 200 to HEAD (section 4.3.5) that is about it, and may still be stored. Since it came,
+  -- nothing was removed under this target (section 4.4).
   abbrev pub IsJustified : History → StoredResponse → Type 0
   IsJustified [] stored = ⊥
   IsJustified (Looked other ∷ calls) stored = IsJustified calls stored
@@ -75,4 +86,31 @@ module _ (kind : Kind) (target : List ℕ) where
       ⊎ ((other ≡ target) × ((old : StoredResponse) × IsJustified calls old × IsCandidate request old
       × IsUpdated (fields_of_stored old) update × IsFreshened old update exchange stored
       × IsReusable kind request update stored))
+  IsJustified (Described other request head exchange ∷ calls) stored =
+      IsJustified calls stored
+      ⊎ ((other ≡ target) × ((old : StoredResponse) × IsJustified calls old × IsGetFor request old
+      × IsHeadOf (fields_of_stored old) head × IsFreshened old head exchange stored
+      × IsReusable kind request head stored))
+  IsJustified (Answered other method status ∷ calls) stored =
+      (Invalidates method status → other ≢ target) × IsJustified calls stored
   IsJustified (Removed other ∷ calls) stored = (other ≢ target) × IsJustified calls stored
+
+-- the call removes what is stored under the target: `remove`, or `invalidate` after a request that isn't safe and a
+-- response that is no error (section 4.4)
+abbrev pub Removes : List ℕ → Call → Type 0
+Removes target (Looked other) = ⊥
+Removes target (Arrived other came reception) = ⊥
+Removes target (Validated other request update exchange) = ⊥
+Removes target (Described other request head exchange) = ⊥
+Removes target (Answered other method status) = (other ≡ target) × Invalidates method status
+Removes target (Removed other) = other ≡ target
+
+-- the stored response came for a request to the target: the origin sent its content, with this status
+pub record HasCome (target : List ℕ) (calls : History) (stored : StoredResponse) : Type 0 where
+  pub came : StoredResponse
+  pub reception : Reception
+  pub called : Has calls (Arrived target came reception)
+  pub method : stored.method ≡ came.method
+  pub request : stored.request ≡ came.request
+  pub status : stored.status ≡ came.status
+  pub content : stored.content ≡ came.content

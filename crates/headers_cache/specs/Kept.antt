@@ -1,5 +1,4 @@
 -- What a store's fields are.
-use Rattle.std.specs.Prelude.{◌≡◌}
 use Rattle.headers_cache.specs.Contents.{Contents, shown}
 use Rattle.headers_cache.specs.declared.store.Store.{Store}
 

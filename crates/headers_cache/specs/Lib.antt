@@ -5,3 +5,4 @@ pub mod Kept
 pub mod Lookups
 pub mod Room
 pub mod Served
+pub mod Updates

@@ -1,5 +1,5 @@
 -- What a store answers to a request (RFC 9111, section 4).
-use Rattle.std.specs.Prelude.{◌≡◌, ◌⊎◌, ℕ, List, [], ◌∷◌, None, codes, decimal}
+use Rattle.std.specs.Prelude.{◌≡◌, ◌≢◌, ◌⊎◌, ℕ, List, [], ◌∷◌, None, codes, decimal}
 use Rattle.headers.specs.LineMap.{Field, field_of, fields_of}
 use Rattle.headers_cache_policy.specs.Age.{age_at}
 use Rattle.headers_cache_policy.specs.Decisions.{AnswersUnstored, DecidesMatched}
@@ -59,6 +59,11 @@ module _ (kind : Kind) (request : Request) (now : ℕ) (responses : List StoredR
   pub record IsAsked (decision : Decision) (place : ℕ) (sent : List Field) : Type 0 where
     pub found : IsFound decision place
     pub fields : sent ≡ conditions_of found.selected.response
+
+  -- the answer has fields, which take memory: a response is selected, and the answer isn't 504
+  abbrev pub HasFields : Type 0
+  HasFields =
+      (decision : Decision) × (place : ℕ) × IsFound decision place × (decision ≢ decisions.Unavailable)
 
   -- which facts give each answer
   abbrev pub IsAnswer : Lookup → Type 0

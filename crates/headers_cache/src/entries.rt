@@ -82,6 +82,7 @@ impl Store {
         requires room { HasRoom self.old.limits (length kept.items) (bytes_of kept.items) (contents_of self.old) }
         ensures ok { OnOk result (contents_of self.new ≡ with_target target.now kept.items (contents_of self.old)) }
         ensures err { OnErr result (contents_of self.new ≡ contents_of self.old) }
+        ensures memory { OnErr result (0 < length kept.items) }
         ensures kind { self.new.kind ≡ self.old.kind }
         ensures limits { self.new.limits ≡ self.old.limits }
     {

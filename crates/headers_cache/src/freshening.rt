@@ -1,38 +1,56 @@
 //! What a validating response makes of what is stored.
-ghost use Rattle.std.specs.Prelude.{◌≡◌, ◌⊎◌, IfOk, OnErr};
+ghost use Rattle.std.specs.Prelude.{◌≡◌, ◌<◌, IfOk, OnErr, OnOk, length};
 ghost use Rattle.headers.specs.LineMap.{lines_at};
 ghost use Rattle.headers_cache_policy.specs.Requests.{request_of};
-ghost use Rattle.headers_cache.specs.Changes.{IsFront, IsRefreshed};
-ghost use Rattle.headers_cache.specs.Contents.{without};
+ghost use Rattle.headers_cache_rules.specs.Identifying.{IsIdentified};
+ghost use Rattle.headers_cache_rules.specs.Selection.{IsSomewhere};
+ghost use Rattle.headers_cache.specs.Changes.{IsRefreshed, IsRefreshedByHead, IsUnrefreshed};
+ghost use Rattle.headers_cache.specs.Contents.{responses_at, without};
+ghost use Rattle.headers_cache.specs.History.Call.{Described, Validated};
+ghost use Rattle.headers_cache.specs.History.{Step};
 ghost use Rattle.headers_cache.specs.Kept.{contents_of};
 
 use crate::store::Store;
+use crate::updating::{By, left_of};
 use headers::{HeaderMap, InsertError};
-use headers_cache_policy::{RequestHead, is_updated};
-use headers_cache_rules::{Exchange, Freshened, StoredResponse, freshen, select};
+use headers_cache_policy::RequestHead;
+use headers_cache_rules::{Exchange, Freshened, StoredResponse, freshen, select, select_updated};
 use std::alloc::Global;
 
-/// What a validating response makes of the stored response that is selected for its request.
+/// What a 304 makes of the stored responses that may answer its request.
 #[derive(Debug, Drop)]
 pub enum Refreshed {
-    /// No stored response is selected for the request. It has to be sent anew without conditions.
+    /// No stored response may answer the request. It has to be sent anew without conditions.
     Absent,
-    /// The validating response isn't about the selected one. The request has to be sent anew without
-    /// conditions.
+    /// The 304 is about none of those that may. The request has to be sent anew without conditions.
     Unchanged,
-    /// The selected response is updated, and is the answer. It is stored at this place.
+    /// A stored response is updated, and is the answer. It is stored at this place.
     Stored(usize),
-    /// The selected response is updated, and is the answer this once. It is stored no longer, since
-    /// its new fields forbid that, or its reuse for this request.
+    /// A stored response is updated, and is the answer this once. It is stored no longer, since its new
+    /// fields forbid that, or its reuse for this request.
     Once(StoredResponse),
 }
 
+// What a 304 makes of stored responses that it doesn't update.
+fn unrefreshed(responses: &[StoredResponse], request: &RequestHead<'_>) -> Refreshed
+    ensures { IsUnrefreshed (request_of request.now) responses.now result }
+{
+    match select(responses, request) {
+        Some(_) => Refreshed::Unchanged,
+        None => Refreshed::Absent,
+    }
+}
+
 impl Store {
-    /// Updates the stored response that is selected for a request, by a 304 that answered this request
-    /// with the conditions of `lookup` (RFC 9111, section 4.3.4), or by a 200 to HEAD that is about it
-    /// (section 4.3.5).
+    /// Updates stored responses by a 304 that answered this request (RFC 9111, section 4.3.4). The
+    /// answer is the most recent one of those that `updated_by` of `headers_cache_rules` names: each
+    /// one that matches the request and has the strong entity tag of the 304; the most recent one, if
+    /// the 304 has weak validators alone; and if it has none, the only one that matches.
     ///
-    /// After an error nothing is stored under the target that this request could get.
+    /// The others that it names are updated too. One of these that may be reused no longer is removed.
+    ///
+    /// Fails only if it runs out of memory, or the fields of the 304 don't fit into a map, which needs a
+    /// stored response that it updates. Then nothing is stored under the target.
     pub fn freshen(
         &mut self,
         alloc: Global,
@@ -44,28 +62,68 @@ impl Store {
         ensures ok { IfOk result (IsRefreshed self.old.kind target.now (request_of request.now) (lines_at update.now)
             exchange (contents_of self.old) (contents_of self.new)) }
         ensures err { OnErr result (contents_of self.new ≡ without target.now (contents_of self.old)) }
+        ensures memory { OnErr result (IsSomewhere (IsIdentified (request_of request.now) (lines_at update.now)
+            (responses_at target.now (contents_of self.old)))) }
+        ensures step { Step self.old.kind self.old.limits (Validated target.now (request_of request.now)
+            (lines_at update.now) exchange) (contents_of self.old) (contents_of self.new) }
         ensures kind { self.new.kind ≡ self.old.kind }
         ensures limits { self.new.limits ≡ self.old.limits }
     {
-        let Some(place) = select(self.responses(target), request) else {
-            return Ok(Refreshed::Absent);
+        let Some(place) = select_updated(self.responses(target), request, update) else {
+            return Ok(unrefreshed(self.responses(target), request));
         };
-        if !is_updated(&self.responses(target)[place].response, update) {
-            return Ok(Refreshed::Unchanged);
-        }
         let mut responses = self.take_out(alloc, target);
         let stored = responses.remove(place);
+        let by = By::NotModified;
+        let left = left_of(alloc, responses, by, request, update, exchange, self.kind)?;
         match freshen(alloc, stored, request, update, exchange, self.kind)? {
             Freshened::Stored(fresh) => {
-                let place = responses.len();
-                self.put_with(alloc, target, responses, fresh)?;
+                let place = left.len();
+                self.put_with(alloc, target, left, fresh)?;
                 Ok(Refreshed::Stored(place))
             }
             Freshened::Once(fresh) => {
-                self.put_in(alloc, target, responses)?;
+                self.put_in(alloc, target, left)?;
                 Ok(Refreshed::Once(fresh))
             }
             Freshened::Unchanged(_) => Ok(Refreshed::Unchanged),
         }
+    }
+
+    /// Updates stored responses to GET by a 200 to a HEAD (RFC 9111, section 4.3.5): each one that could
+    /// have been chosen for the HEAD, if `is_head_of` of `headers_cache_rules` says that the 200 is
+    /// about it. If it isn't, or its new fields forbid the reuse, it is removed.
+    ///
+    /// Fails only if it runs out of memory, or the fields of the 200 don't fit into a map, which needs a
+    /// stored response of the target. Then nothing is stored under the target.
+    pub fn freshen_by_head(
+        &mut self,
+        alloc: Global,
+        target: &str,
+        request: &RequestHead<'_>,
+        head: &HeaderMap,
+        exchange: Exchange,
+    ) -> Result<(), InsertError>
+        ensures ok { OnOk result (IsRefreshedByHead self.old.kind target.now (request_of request.now)
+            (lines_at head.now) exchange (contents_of self.old) (contents_of self.new)) }
+        ensures err { OnErr result (contents_of self.new ≡ without target.now (contents_of self.old)) }
+        ensures memory { OnErr result (0 < length (responses_at target.now (contents_of self.old))) }
+        ensures step { Step self.old.kind self.old.limits (Described target.now (request_of request.now)
+            (lines_at head.now) exchange) (contents_of self.old) (contents_of self.new) }
+        ensures kind { self.new.kind ≡ self.old.kind }
+        ensures limits { self.new.limits ≡ self.old.limits }
+    {
+        let responses = self.take_out(alloc, target);
+        let left = left_of(
+            alloc,
+            responses,
+            By::Head,
+            request,
+            head,
+            exchange,
+            self.kind,
+        )?;
+        self.put_in(alloc, target, left)?;
+        Ok(())
     }
 }

@@ -2,6 +2,8 @@
 ghost use Rattle.std.specs.Prelude.{◌≡◌};
 ghost use Rattle.headers_cache_rules.specs.Invalidation.{Invalidates};
 ghost use Rattle.headers_cache.specs.Contents.{without};
+ghost use Rattle.headers_cache.specs.History.Call.{Answered, Removed};
+ghost use Rattle.headers_cache.specs.History.{Step};
 ghost use Rattle.headers_cache.specs.Kept.{contents_of};
 
 use crate::store::Store;
@@ -15,6 +17,8 @@ impl Store {
     pub fn invalidate(&mut self, alloc: Global, target: &str, method: &Method, status: StatusCode)
         ensures invalid { Invalidates method.now status
             → contents_of self.new ≡ without target.now (contents_of self.old) }
+        ensures step { Step self.old.kind self.old.limits (Answered target.now method.now status) (contents_of self.old)
+            (contents_of self.new) }
         ensures valid { ¬ (Invalidates method.now status) → contents_of self.new ≡ contents_of self.old }
         ensures kind { self.new.kind ≡ self.old.kind }
         ensures limits { self.new.limits ≡ self.old.limits }
@@ -28,6 +32,8 @@ impl Store {
     /// response names.
     pub fn remove(&mut self, alloc: Global, target: &str)
         ensures contents { contents_of self.new ≡ without target.now (contents_of self.old) }
+        ensures step { Step self.old.kind self.old.limits (Removed target.now) (contents_of self.old)
+            (contents_of self.new) }
         ensures kind { self.new.kind ≡ self.old.kind }
         ensures limits { self.new.limits ≡ self.old.limits }
     {

@@ -2,6 +2,7 @@
 //! removed (RFC 9111).
 #![tactic(auto)]
 
+mod answering;
 mod entries;
 mod freshening;
 mod invalidating;
@@ -11,6 +12,7 @@ mod lookup;
 mod making;
 mod store;
 mod storing;
+mod updating;
 
 pub use crate::freshening::Refreshed;
 pub use crate::limits::Limits;

@@ -1,9 +1,12 @@
 //! What a store answers to a request.
-ghost use Rattle.std.specs.Prelude.{◌≡◌, IfOk, option_copied, slice_get};
+ghost use Rattle.std.specs.Prelude.{◌≡◌, ◌≢◌, IfOk, OnErr, option_copied, slice_get};
 ghost use Rattle.headers_cache_policy.specs.Requests.{request_of};
+ghost use Rattle.headers_cache_policy.specs.declared.decision.Decision.TheVariants as decisions;
 ghost use Rattle.headers_cache.specs.Contents.{responses_at, used};
+ghost use Rattle.headers_cache.specs.History.Call.{Looked};
+ghost use Rattle.headers_cache.specs.History.{Step};
 ghost use Rattle.headers_cache.specs.Kept.{contents_of};
-ghost use Rattle.headers_cache.specs.Lookups.{IsAnswer, IsLookupOf};
+ghost use Rattle.headers_cache.specs.Lookups.{HasFields, IsAnswer, IsLookupOf};
 
 use crate::store::Store;
 use headers::Encoded;
@@ -44,7 +47,8 @@ fn found(
     decision: Decision,
     now: u64,
 ) -> Result<Lookup, AllocError>
-    ensures { IfOk result (λ lookup. IsLookupOf stored.now now decision place lookup) }
+    ensures answer { IfOk result (λ lookup. IsLookupOf stored.now now decision place lookup) }
+    ensures memory { OnErr result (decision ≢ decisions.Unavailable) }
 {
     Ok(match decision {
         Decision::Serve | Decision::ServeStale => {
@@ -84,7 +88,8 @@ pub(crate) fn answer(
     now: u64,
     kind: Kind,
 ) -> Result<Lookup, AllocError>
-    ensures { IfOk result (IsAnswer kind (request_of request.now) now responses.now) }
+    ensures answer { IfOk result (IsAnswer kind (request_of request.now) now responses.now) }
+    ensures memory { OnErr result (HasFields kind (request_of request.now) now responses.now) }
 {
     match select(responses, request) {
         Some(place) => {
@@ -109,7 +114,8 @@ impl Store {
     /// What a cache does with a request to a target (RFC 9111, section 4). The target becomes the most
     /// recently used. `now` is the present, in seconds since 1970.
     ///
-    /// Fails only if it runs out of memory.
+    /// Fails only if it runs out of memory, which needs a stored response that is selected for the
+    /// request.
     pub fn lookup(
         &mut self,
         alloc: Global,
@@ -119,6 +125,10 @@ impl Store {
     ) -> Result<Lookup, AllocError>
         ensures answer { IfOk result (IsAnswer self.old.kind (request_of request.now) now
             (responses_at target.now (contents_of self.new))) }
+        ensures memory { OnErr result (HasFields self.old.kind (request_of request.now) now
+            (responses_at target.now (contents_of self.new))) }
+        ensures step { Step self.old.kind self.old.limits (Looked target.now) (contents_of self.old)
+            (contents_of self.new) }
         ensures contents { contents_of self.new ≡ used target.now (contents_of self.old) }
         ensures kind { self.new.kind ≡ self.old.kind }
         ensures limits { self.new.limits ≡ self.old.limits }

@@ -1,5 +1,6 @@
 //! A new store.
 ghost use Rattle.std.specs.Prelude.{◌≡◌, [], IfOk};
+ghost use Rattle.headers_cache.specs.History.{Run};
 ghost use Rattle.headers_cache.specs.Kept.{contents_of};
 
 use crate::limits::Limits;
@@ -18,6 +19,7 @@ impl Store {
         keys: RandomState,
     ) -> Result<Store, AllocError>
         ensures contents { IfOk result (λ store. contents_of store ≡ []) }
+        ensures run { IfOk result (λ store. Run kind limits [] (contents_of store)) }
         ensures kind { IfOk result (λ store. store.kind ≡ kind) }
         ensures limits { IfOk result (λ store. store.limits ≡ limits) }
     {

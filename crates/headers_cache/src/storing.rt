@@ -5,6 +5,8 @@ ghost use Rattle.headers.specs.LineMap.{fields_of, lines_at, set_all};
 ghost use Rattle.headers_cache_policy.specs.Requests.{request_of};
 ghost use Rattle.headers_cache.specs.Changes.{FitsAlone, IsFront, IsInserted, IsRest, IsStoredAs, IsToStore, IsTrimmed};
 ghost use Rattle.headers_cache.specs.Contents.{bytes_of, size_of, without};
+ghost use Rattle.headers_cache.specs.History.Call.{Arrived};
+ghost use Rattle.headers_cache.specs.History.{Step};
 ghost use Rattle.headers_cache.specs.Kept.{contents_of};
 
 use crate::entries::bytes_of;
@@ -88,7 +90,8 @@ impl Store {
     /// the same method. If there is too little room for it, older responses of its target go first,
     /// and then the targets that weren't used for the longest time.
     ///
-    /// After an error nothing is stored that wasn't stored before.
+    /// Fails only if it runs out of memory, or the fields don't fit into a map, which needs a response
+    /// that is to be stored. Then nothing is stored that wasn't stored before.
     pub fn store(
         &mut self,
         alloc: Global,
@@ -104,6 +107,10 @@ impl Store {
             × (contents_of self.new ≡ contents_of self.old) }
         ensures err { OnErr result ((contents_of self.new ≡ contents_of self.old)
             ⊎ IsFront (without target.now (contents_of self.old)) (contents_of self.new)) }
+        ensures memory { OnErr result
+            (IsToStore self.old.kind came reception × FitsAlone self.old.limits 1 (size_of came)) }
+        ensures step { Step self.old.kind self.old.limits (Arrived target.now came reception) (contents_of self.old)
+            (contents_of self.new) }
         ensures kind { self.new.kind ≡ self.old.kind }
         ensures limits { self.new.limits ≡ self.old.limits }
     {

@@ -1,18 +1,17 @@
 -- The plans that a stored response can have for a request that a cache evaluates.
-use Rattle.std.proofs.Common.{◌≡◌, ◌≢◌, ◌⊎◌, ℕ, ◌<◌, ◌≤◌, Bool, true, false, List, [], ◌∷◌, length, Option, Some, None}
-use Rattle.std.proofs.Common.{inl, inr, refl, sym, ◌∙◌, ap, subst, arith, rules}
-use Rattle.std.specs.Prelude.{◌&&◌, ◌||◌, nat_lt, codes}
+use Rattle.std.proofs.Common.{◌≡◌, ℕ, ◌<◌, Bool, true, false, List, [], ◌∷◌, length, Option, Some, None}
+use Rattle.std.proofs.Common.{inl, inr, refl, sym, ◌∙◌, arith}
+use Rattle.std.specs.Prelude.{codes}
 use Rattle.std.proofs.lemmas.Bool.{lt-ltb}
 use Rattle.http_header.specs.FieldValue.{FieldValue, plain_value}
-use Rattle.headers.specs.LineMap.{LineMap}
 use Rattle.headers.specs.Lines.{Line}
 use Rattle.headers.specs.Shapes.{only_tag}
 use Rattle.headers.specs.Typed.{HasLine}
 use Rattle.headers_cache_policy.specs.Requests.{IsGetOrHead, Request}
 use Rattle.headers_preconditions.specs.Conditions.{UnmodifiedSinceIsFalse}
 use Rattle.headers_preconditions.specs.Limits.{are_too_many}
-use Rattle.headers_preconditions.specs.Plans.{IsPlan, IsPlanned}
-use Rattle.headers_preconditions.specs.Preconditions.{Answers, IsUnconditional, StepsAnswer}
+use Rattle.headers_preconditions.specs.Plans.{IsPlanned}
+use Rattle.headers_preconditions.specs.Preconditions.{Answers, IsUnconditional}
 use Rattle.headers_preconditions.specs.declared.part.Part.{Part}
 use Rattle.headers_preconditions.specs.declared.plan.Plan.{Plan}
 use Rattle.headers_preconditions.specs.declared.plan.Plan.TheVariants as plan
@@ -83,7 +82,8 @@ module _ (now : ℕ) (request : Request) (current : Validators) (own : IsForCach
       no_resource e = absurd (cc e)
 
 -- field lines that decode to no entity tag have none
-pub no_tag : (lines : List Line) → ((tag : FieldValue) → ¬ ((only_tag {V = Line} (λ t. t)).value_of lines ≡ Some tag.bytes))
+pub no_tag : (lines : List Line)
+    → ((tag : FieldValue) → ¬ ((only_tag {V = Line} (λ t. t)).value_of lines ≡ Some tag.bytes))
     → None ≡ (only_tag {V = Line} (λ t. t)).value_of lines
 no_tag lines none = by ((only_tag {V = Line} (λ t. t)).value_of lines) refl
   where

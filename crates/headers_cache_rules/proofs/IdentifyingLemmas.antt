@@ -1,5 +1,5 @@
 -- Which stored responses a 304 updates: all, one, or none.
-use Rattle.std.proofs.Common.{◌≡◌, ◌⊎◌, ◌↔◌, ℕ, ◌+◌, ◌<◌, ◌≤◌, List, [], ◌∷◌, ◌++◌, length, get_or, Option, Some, None}
+use Rattle.std.proofs.Common.{◌≡◌, ◌≢◌, ◌⊎◌, ◌↔◌, ℕ, ◌+◌, ◌<◌, ◌≤◌, List, [], ◌∷◌, ◌++◌, length, get_or, Option, Some, None}
 use Rattle.std.proofs.Common.{inl, inr, refl, sym, ◌∙◌, ap, subst, arith, rules}
 use Rattle.std.specs.Prelude.{IsSomeAnd, IsTrue, OnErr, Result, Ok, Err, codes}
 use Rattle.std.specs.List.{AllPairs, Contains, slice_get}
@@ -11,11 +11,11 @@ use Rattle.headers.specs.LineMap.{LineMap}
 use Rattle.headers.specs.Lines.{Line, only_line}
 use Rattle.headers.specs.Typed.{HasLine}
 use Rattle.headers_cache_policy.specs.Requests.{Request}
-use Rattle.headers_cache_policy.specs.Updating.{HasStrongTag, HasValidator, IsUpdated, is_weak}
-use Rattle.headers_cache_rules.specs.Identifying.{IsIdentified, IsOnlyOne, one_more}
-use Rattle.headers_cache_rules.specs.Selection.{ArePlaces, IsAt, IsCandidate, IsMostRecent, IsOneAt, IsOnly, IsSelected}
+use Rattle.headers_cache_policy.specs.Updating.{HasStrongTag, HasValidator, is_weak}
+use Rattle.headers_cache_rules.specs.Identifying.{IsIdentified, IsOnlyOne, IsUpdatedAnswer, one_more}
+use Rattle.headers_cache_rules.specs.Selection.{ArePlaces, IsAt, IsCandidate, IsOneAt, IsOnly, IsSelected}
 use Rattle.headers_cache_rules.specs.Selection.{IsSought}
-use Rattle.headers_cache_rules.specs.Stored.{fields_of_stored}
+use Rattle.headers_cache_rules.specs.Stored.{made_at}
 use Rattle.headers_cache_rules.specs.declared.identifying.Found.{Found}
 use Rattle.headers_cache_rules.specs.declared.identifying.Found.TheVariants.{Nothing, One, Several}
 use Rattle.headers_cache_rules.specs.declared.stored.StoredResponse.{StoredResponse}
@@ -229,23 +229,11 @@ module _ (request : Request) (update : LineMap) (all : List StoredResponse) wher
         none = λ not. absurd (not (strong_is_validator update strong));
       }
 
-  -- by a weak validator the most recent one
-  pub weak_identified : ¬ (HasStrongTag update) → HasValidator update → (found : Option ℕ)
-      → IsSelected Sought all found → IsOneAt Identified found
-  weak_identified weak some None none = λ place h. none place h.sought.0 h.sought.1 h.sought.2
-  weak_identified weak some (Some place) h = (
-    record {
-      sought = (h.response, h.at, h.is);
-      weak = λ _ _. h;
-      none = λ not. absurd (not some);
-    },
-    (λ other identified. same_place (selects_one Sought all (Some other) (Some place) (identified.weak weak some) h)),
-  )
-
   -- without a validator the only one
   pub only_identified : ¬ (HasValidator update) → (place : ℕ) → IsOnlyOne (IsCandidate request) all (Some place)
       → (found : Option ℕ) → IsSelected Sought all found → IsOneAt Identified found
-  only_identified none place only None h = λ k identified. h k identified.sought.0 identified.sought.1 identified.sought.2
+  only_identified none place only None h = λ k identified.
+      h k identified.sought.0 identified.sought.1 identified.sought.2
   only_identified none place only (Some found) h =
       let same : found ≡ place = only.1 found h.response h.at h.is.0 in (
         record {
@@ -263,6 +251,55 @@ module _ (request : Request) (update : LineMap) (all : List StoredResponse) wher
   none_identified none nobody =
       λ place identified.
       nobody place (identified.sought.0, identified.sought.1, identified.sought.2.0) (identified.none none)
+
+  -- ---- the one that answers
+
+  pub answered_by_validator : HasValidator update → (found : Option ℕ) → IsSelected Sought all found
+      → IsUpdatedAnswer request update all found
+  answered_by_validator some None none = λ place h. none place h.sought.0 h.sought.1 h.sought.2
+  answered_by_validator some (Some place) h = (
+    record { sought = (h.response, h.at, h.is); weak = λ _ _. h; none = λ not. absurd (not some) },
+    h,
+  )
+
+  pub answered_alone : ¬ (HasValidator update) → (found : Option ℕ) → IsOneAt Identified found
+      → IsUpdatedAnswer request update all found
+  answered_alone none None nobody = nobody
+  answered_alone none (Some place) one =
+      let own = one.0.sought.0 in
+      let only = one.0.none none in
+      let is_own : (k : ℕ) (other : StoredResponse) → slice_get all k ≡ Some other → Sought other → other ≡ own =
+      λ k other at is. some_one other own
+      (sym at ∙ ap (slice_get all) (only k other at is.0) ∙ one.0.sought.1) in (
+        one.0,
+        record {
+          response = own;
+          at = one.0.sought.1;
+          is = one.0.sought.2;
+          newest = λ k other at is. subst (λ s. made_at s ≤ made_at own) (sym (is_own k other at is)) (omega arith);
+          last = λ k other at is later. absurd (omega (arith, later, only k other at is.0));
+        },
+      )
+
+  -- without a strong validator it is the only one
+  pub answer_alone : ¬ (HasStrongTag update) → (found : Option ℕ) → IsUpdatedAnswer request update all found
+      → IsOneAt Identified found
+  answer_alone weak None nobody = nobody
+  answer_alone weak (Some place) answers = (
+    answers.0,
+    (λ other identified.
+        let none : other ≢ place → ¬ (HasValidator update) = λ apart some.
+        apart (same_place (selects_one Sought all (Some other) (Some place) (identified.weak weak some) answers.1)) in
+        let twice : ¬ (other ≢ place) = λ apart.
+        apart (answers.0.none (none apart) other identified.sought.0 identified.sought.1 identified.sought.2.0) in
+        elim (cases_order other place) [
+          | inl same ↦ same
+          | inr differ ↦ absurd (twice (λ same. elim differ [
+            | inl lower ↦ omega (arith, lower, same)
+            | inr higher ↦ omega (arith, higher, same)
+          ]))
+        ]),
+  )
 
   -- what is one is all
   pub one_place : (place : ℕ) → IsOneAt Identified (Some place) → ArePlaces Identified (place ∷ [])

@@ -1,5 +1,6 @@
 -- The most recent of the first stored responses, and of all.
-use Rattle.std.proofs.Common.{◌≡◌, ◌⊎◌, ℕ, ◌+◌, ◌<◌, ◌≤◌, Bool, true, false, List, length, get_or, Option, Some, None, inl, inr}
+use Rattle.std.proofs.Common.{◌≡◌, ◌⊎◌, ℕ, ◌+◌, ◌<◌, ◌≤◌, Bool, true, false, List, length}
+use Rattle.std.proofs.Common.{get_or, Option, Some, None, inl, inr}
 use Rattle.std.proofs.Common.{refl, sym, ◌∙◌, ap, subst, arith}
 use Rattle.std.specs.Prelude.{option_map, nat_lt, if◌then◌else◌}
 use Rattle.std.specs.List.{slice_get}

@@ -1,16 +1,19 @@
 -- What is stored of the fields of a response.
-use Rattle.std.proofs.Common.{◌≡◌, ◌≢◌, ◌∙◌, ℕ, Bool, true, false, List, [], ◌∷◌, ◌++◌, inl, inr, refl, sym, ap}
+use Rattle.std.proofs.Common.{◌≡◌, ◌≢◌, ◌∙◌, ℕ, ◌<◌, Bool, true, false, List, [], ◌∷◌, ◌++◌, length, get_or, inl, inr}
+use Rattle.std.proofs.Common.{refl, sym, ap, arith}
 use Rattle.std.specs.Prelude.{bytes_eq, codes, if◌then◌else◌}
 use Rattle.std.proofs.lemmas.Bool.{cases_Bool}
 use Rattle.std.proofs.lemmas.List.{map-append}
+use Rattle.std.proofs.lemmas.List.Folds.{list_any_at}
 use Rattle.std.proofs.lemmas.Slice.Eq.{bytes_eq-Decides}
 use Rattle.http_header.specs.FieldValue.{FieldValue}
 use Rattle.http_header.specs.HeaderMap.{Entries, keys}
-use Rattle.headers.specs.LineMap.{Field, LineMap, field_of, fields_of, lines_at, set, set_all}
+use Rattle.headers.specs.LineMap.{Field, LineMap, field_of, fields_of, lines_at, set_all}
 use Rattle.headers.specs.declared.Encoded.{Encoded}
 use Rattle.headers.specs.Lines.{Line}
-use Rattle.headers_gateway.specs.HopByHop.{connection_options, is_hop_by_hop}
-use Rattle.headers_cache_rules.specs.Storing.{IsAsStored, IsHopByHop, LacksDate, date_lines, or_date, removals}
+use Rattle.headers_gateway.specs.HopByHop.{connection_options, is_hop_by_hop, is_named}
+use Rattle.headers_cache_rules.specs.Storing.{HasFairOptions, IsAsStored, IsHopByHop, LacksDate, date_lines}
+use Rattle.headers_cache_rules.specs.Storing.{or_date, removals, reuse_names}
 use Rattle.headers_cache_rules.proofs.FieldLemmas.{set_all-append, without_all}
 
 -- names that aren't equal are told apart
@@ -92,3 +95,18 @@ pub dated_fields : (done all : List Encoded) (date : Encoded) (fields : List Fie
 dated_fields done all date fields second pushed before is =
     ap fields_of pushed ∙ map-append field_of done (date ∷ [])
     ∙ ap (λ (fs : List Field). fs ++ field_of date ∷ []) before ∙ ap (λ (f : Field). fields ++ f ∷ []) is
+
+-- ---- fields on which reuse depends
+
+module _ (received : ℕ) (given kept : LineMap) (fair : HasFairOptions given) (is : IsAsStored received given kept) where
+  unnamed : (i : ℕ) → i < length reuse_names → is_named (connection_options given) (get_or reuse_names i []) ≡ true → ⊥
+  unnamed i within named =
+      grind (arith, fair.unnamed, list_any_at (is_named (connection_options given)) reuse_names i [] within named)
+
+  pub cache_control_stays : kept (codes "cache-control") ≡ given (codes "cache-control")
+  cache_control_stays = is.end_to_end (codes "cache-control") (unnamed 1 (omega arith))
+      (λ same. absurd (omega (arith, ap length same)))
+
+  pub expires_stays : kept (codes "expires") ≡ given (codes "expires")
+  expires_stays = is.end_to_end (codes "expires") (unnamed 8 (omega arith))
+      (λ same. absurd (omega (arith, ap length same)))

@@ -1,5 +1,5 @@
 -- What a response that validates a stored one makes of it (RFC 9111, sections 3.2, 4.3.4 and 4.3.5).
-use Rattle.std.specs.Prelude.{◌≡◌, ℕ, List, [], Some, bytes_eq, codes, if◌then◌else◌}
+use Rattle.std.specs.Prelude.{◌≡◌, ℕ, List, [], bytes_eq, codes, if◌then◌else◌}
 use Rattle.headers.specs.LineMap.{LineMap}
 use Rattle.headers.specs.Lines.{Line}
 use Rattle.headers.specs.Typed.{HasLine}
@@ -28,7 +28,8 @@ aged_anew received stored name =
 
 -- A stored response that another one validates: its request, its status and its content are as before, it is as old as
 -- that exchange, and it has these field lines.
-pub record IsRenewed (old : StoredResponse) (lines : LineMap) (exchange : Exchange) (new : StoredResponse) : Type 0 where
+pub record IsRenewed (old : StoredResponse) (lines : LineMap) (exchange : Exchange) (new : StoredResponse)
+    : Type 0 where
   pub method : new.method ≡ old.method
   pub request : new.request ≡ old.request
   pub status : new.status ≡ old.status

@@ -1,5 +1,5 @@
 -- Which responses are stored, and which of their field lines (RFC 9111, sections 3, 3.1 and 3.3).
-use Rattle.std.specs.Prelude.{◌≡◌, ◌≢◌, ◌⊎◌, ℕ, Bool, true, false, List, [], ◌∷◌, map, filter, nat_lt, codes}
+use Rattle.std.specs.Prelude.{◌≡◌, ◌≢◌, ◌⊎◌, ℕ, true, false, List, [], ◌∷◌, map, filter, nat_lt, codes}
 use Rattle.std.specs.Prelude.{if◌then◌else◌}
 use Rattle.std.specs.List.{list_any}
 use Rattle.http_header.specs.FieldValue.{FieldValue}
@@ -13,7 +13,7 @@ use Rattle.headers_cache_policy.specs.Requests.{Request}
 use Rattle.headers_cache_policy.specs.Storing.{MayStore}
 use Rattle.headers_cache_policy.specs.declared.kind.Kind.{Kind}
 use Rattle.headers_cache_rules.specs.declared.storing.Reception.{Reception}
-use Rattle.headers_cache_rules.specs.declared.storing.Reception.TheVariants.{Complete, Incomplete}
+use Rattle.headers_cache_rules.specs.declared.storing.Reception.TheVariants.{Complete}
 
 -- ---- connection options
 

@@ -2,8 +2,8 @@
 ghost use Rattle.std.specs.Prelude.{◌≡◌, IfOk, OnErr, Some};
 ghost use Rattle.headers.specs.LineMap.{lines_at};
 ghost use Rattle.headers_cache_policy.specs.Requests.{request_of};
-ghost use Rattle.headers_cache_policy.specs.Updating.{HasStrongTag, HasValidator};
-ghost use Rattle.headers_cache_rules.specs.Identifying.{IsIdentified, IsOnlyOne, one_more};
+ghost use Rattle.headers_cache_policy.specs.Updating.{HasValidator};
+ghost use Rattle.headers_cache_rules.specs.Identifying.{IsIdentified, IsOnlyOne, IsUpdatedAnswer, one_more};
 ghost use Rattle.headers_cache_rules.specs.Selection.{ArePlaces, IsAt, IsCandidate, IsOneAt, IsSomewhere, IsSought};
 
 use crate::selection::{is_sought, most_recent};
@@ -32,9 +32,26 @@ pub fn updated_by(
     if has_strong_tag(update) {
         return all_sought(alloc, stored, request, update);
     }
-    match one_updated(stored, request, update) {
+    match select_updated(stored, request, update) {
         Some(place) => Ok(vec![in alloc; place]?),
         None => Ok(Vec::new(alloc)),
+    }
+}
+
+/// The place of the stored response that answers a request to which the origin sent a 304 (RFC 9111,
+/// section 4.3.3), once that has updated it: the most recent one of those that the 304 updates
+/// (section 4.3.4).
+pub fn select_updated(
+    stored: &[StoredResponse],
+    request: &RequestHead<'_>,
+    update: &HeaderMap,
+) -> Option<usize>
+    ensures { IsUpdatedAnswer (request_of request.now) (lines_at update.now) stored.now result }
+{
+    if has_validator(update) {
+        most_recent(stored, request, Some(update))
+    } else {
+        only_updated(stored, request, update)
     }
 }
 
@@ -57,22 +74,6 @@ fn all_sought(
         }
     }
     Ok(places)
-}
-
-// The place of the stored response that a 304 without a strong validator updates.
-fn one_updated(
-    stored: &[StoredResponse],
-    request: &RequestHead<'_>,
-    update: &HeaderMap,
-) -> Option<usize>
-    requires { ¬ (HasStrongTag (lines_at update.now)) }
-    ensures { IsOneAt (IsIdentified (request_of request.now) (lines_at update.now) stored.now) result }
-{
-    if has_validator(update) {
-        most_recent(stored, request, Some(update))
-    } else {
-        only_updated(stored, request, update)
-    }
 }
 
 // The place of the stored response that a 304 without a validator updates.

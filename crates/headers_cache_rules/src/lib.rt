@@ -19,7 +19,7 @@ pub use crate::age::age_field;
 pub use crate::conditions::{StoredAnswer, answer_conditions};
 pub use crate::errors::serves_on_error;
 pub use crate::freshening::{Exchange, Freshened, freshen, is_head_of};
-pub use crate::identifying::updated_by;
+pub use crate::identifying::{select_updated, updated_by};
 pub use crate::invalidation::invalidates;
 pub use crate::selection::select;
 pub use crate::stored::StoredResponse;

@@ -1,5 +1,5 @@
 use Rattle.std.proofs.Common.{◌∙◌}
-use Rattle.headers_cache_rules.proofs.IdentifyingLemmas.{end_nothing, end_one, end_several, found_in, found_out}
+use Rattle.headers_cache_rules.proofs.IdentifyingLemmas.{end_one, found_in, found_out}
 use Rattle.headers_cache_rules.proofs.identifying.only_candidate.Goals as goal
 use Rattle.headers_cache_rules.proofs.identifying.only_candidate.Goals.{then-is_sought, else-is_sought}
 

@@ -1,7 +1,8 @@
+use Rattle.std.proofs.Common.{Some, None}
 use Rattle.std.proofs.lemmas.Result.{IfOk-weaker}
 use Rattle.headers.specs.LineMap.{lines_at}
 use Rattle.headers_cache_policy.specs.Requests.{request_of}
-use Rattle.headers_cache_rules.proofs.IdentifyingLemmas.{all_identified, no_place, one_place}
+use Rattle.headers_cache_rules.proofs.IdentifyingLemmas.{all_identified, answer_alone, no_place, one_place}
 use Rattle.headers_cache_rules.proofs.identifying.updated_by.Goals as goal
 
 pub returns-then-has_strong_tag-clause-places : goal.returns-then-has_strong_tag-clause-places
@@ -16,10 +17,12 @@ pub returns-in_ok-vec-in-Some-clause-places : goal.returns-in_ok-vec-in-Some-cla
 returns-in_ok-vec-in-Some-clause-places c =
     rw c.in_ok-vec-in-Some.ensures.items
     (one_place (request_of c.args.request.now) (lines_at c.args.update.now) c.args.stored.now c.in-Some.place
-    (rw c.in-Some.is at c.one_updated.ensures))
+    (answer_alone (request_of c.args.request.now) (lines_at c.args.update.now) c.args.stored.now
+    c.if-has_strong_tag.ensures (Some c.in-Some.place) (rw c.in-Some.is at c.select_updated.ensures)))
 
 pub returns-in-None-clause-places : goal.returns-in-None-clause-places
 returns-in-None-clause-places c =
     rw c.new.ensures.items
     (no_place (request_of c.args.request.now) (lines_at c.args.update.now) c.args.stored.now
-    (rw c.in-None.is at c.one_updated.ensures))
+    (answer_alone (request_of c.args.request.now) (lines_at c.args.update.now) c.args.stored.now
+    c.if-has_strong_tag.ensures None (rw c.in-None.is at c.select_updated.ensures)))

@@ -6,8 +6,8 @@ use Rattle.headers_gateway.specs.HopByHop.{connection_options, is_hop_by_hop}
 use Rattle.headers_cache_rules.specs.Storing.{removals}
 use Rattle.headers_cache_rules.proofs.storing.hop_by_hop_fields.Given as goal
 
--- what was removed so far, and what is removed of the names that are left; and if one of these is hop-by-hop, one of all
--- is
+-- what was removed so far, and what is removed of the names that are left; and if one of these is hop-by-hop, one of
+-- all is
 abbrev pub invariant-loop-name : goal.invariant-loop-name
 invariant-loop-name l = record {
   fields : fields_of l.fields.items ++ removals (connection_options (lines_at l.fn.response)) l.name-iterator

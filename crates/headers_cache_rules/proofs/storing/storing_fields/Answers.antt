@@ -1,7 +1,8 @@
-use Rattle.headers.specs.LineMap.{fields_of, lines_at}
+use Rattle.headers.specs.LineMap.{fields_of}
 use Rattle.headers_cache_rules.proofs.StoringLemmas.{dated_fields, with_date, without_date}
 use Rattle.headers_cache_rules.proofs.storing.storing_fields.Goals as goal
-use Rattle.headers_cache_rules.proofs.storing.storing_fields.Goals.{then-lacks_date+in_ok-date+in_ok-push, else-lacks_date}
+use Rattle.headers_cache_rules.proofs.storing.storing_fields.Goals.{else-lacks_date}
+use Rattle.headers_cache_rules.proofs.storing.storing_fields.Goals.{then-lacks_date+in_ok-date+in_ok-push}
 
 pub returns-clause-fields : goal.returns-clause-fields
 returns-clause-fields c =

@@ -1,37 +1,38 @@
-use Rattle.std.proofs.Common.{◌≡◌, ◌<◌, length, get_or, refl, sym, ap, subst, arith, ◌∙◌}
+use Rattle.std.proofs.Common.{length, sym, ap, subst, arith, Some, None, inl, ◌∙◌}
 use Rattle.headers.specs.LineMap.{lines_at}
 use Rattle.headers_cache_policy.specs.Requests.{request_of}
-use Rattle.headers_cache_policy.specs.Updating.{IsUpdated}
 use Rattle.headers_cache_rules.specs.Freshening.{IsFreshenedAs}
-use Rattle.headers_cache_rules.specs.Stored.{fields_of_stored}
-use Rattle.headers_cache_rules.specs.Selection.{IsCandidate, IsMostRecent}
+use Rattle.headers_cache_rules.specs.Identifying.{IsUpdatedAnswer}
+use Rattle.headers_cache.specs.Changes.{IsUnrefreshed}
 use Rattle.headers_cache.specs.Contents.{IsAbsent, responses_at}
 use Rattle.headers_cache.specs.Kept.{contents_of}
+use Rattle.headers_cache.specs.declared.freshening.Refreshed.TheVariants as answer
 use Rattle.headers_cache.proofs.EntryLemmas.{IsAbsent-without}
-use Rattle.headers_cache.proofs.RefreshLemmas.{let_go, not_about, restored, within}
+use Rattle.headers_cache.proofs.RefreshLemmas.{let_go, none_refreshed, not_unchanged, restored, within}
 use Rattle.headers_cache.proofs.store.Store.freshen.Goals as goal
 
-pub returns-then-not-is_updated-clause-ok : goal.returns-then-not-is_updated-clause-ok
-returns-then-not-is_updated-clause-ok c = (
-  not_about (request_of c.args.request.now) (responses_at c.args.target.now (contents_of c.args.self.now))
-      c.in-Some.place
-      (subst (λ l. IsMostRecent (IsCandidate (request_of c.args.request.now)) l c.in-Some.place) c.responses.ensures
-      c.in-Some.ensures)
-      (lines_at c.args.update.now) c.index-responses-place.result
-      (c.index-responses-place.is ∙ ap (λ l. get_or l c.in-Some.place c.index-responses-place.result)
-      c.responses-2.ensures)
-      (subst (λ s. ¬ (IsUpdated (fields_of_stored s) (lines_at c.args.update.now))) (sym c.index-responses-place.is)
-      c.if-not-is_updated.ensures),
-  refl,
-)
+pub returns-in_default-clause-ok : goal.returns-in_default-clause-ok
+returns-in_default-clause-ok c =
+    none_refreshed c.args.self.now.kind c.args.target.now (request_of c.args.request.now) (lines_at c.args.update.now)
+    c.args.exchange (contents_of c.args.self.now)
+    (subst (λ l. IsUpdatedAnswer (request_of c.args.request.now) (lines_at c.args.update.now) l None)
+    c.responses.ensures
+    c.in_default.ensures)
+    c.unrefreshed.result
+    (subst (λ l. IsUnrefreshed (request_of c.args.request.now) l c.unrefreshed.result) c.responses-in_default.ensures
+    c.unrefreshed.ensures)
+
+pub returns-in_default-clause-step : goal.returns-in_default-clause-step
+returns-in_default-clause-step c = inl (c.unrefreshed.result, returns-in_default-clause-ok c)
 
 pub remove-stored-requires : goal.remove-stored-requires
 remove-stored-requires c =
     omega (
       arith,
-      within (request_of c.args.request.now) (responses_at c.args.target.now (contents_of
-          c.args.self.now)) c.in-Some.place (subst (λ l. IsMostRecent (IsCandidate (request_of c.args.request.now)) l
-          c.in-Some.place) c.responses.ensures c.in-Some.ensures),
+      within (request_of c.args.request.now) (lines_at c.args.update.now)
+          (responses_at c.args.target.now (contents_of c.args.self.now)) c.in-Some.place
+          (subst (λ l. IsUpdatedAnswer (request_of c.args.request.now) (lines_at c.args.update.now) l (Some
+          c.in-Some.place)) c.responses.ensures c.in-Some.ensures),
       ap length c.take_out-responses.ensures.taken,
       c.take_out-responses.result.ok.0,
     )
@@ -51,27 +52,51 @@ returns-in_ok-put_with-in-Stored-clause-ok c =
     restored c.args.self.now.kind c.take_out-responses.new.self.kind c.args.target.now (request_of c.args.request.now)
     (lines_at c.args.update.now) c.args.exchange
     (contents_of c.args.self.now) (contents_of c.put_with.new.self) (contents_of c.take_out-responses.new.self)
-    c.take_out-responses.result.items c.remove-stored.new.self.items c.in-Some.place
-    (subst (λ l. IsMostRecent (IsCandidate (request_of c.args.request.now)) l c.in-Some.place) c.responses.ensures
-    c.in-Some.ensures)
+    c.take_out-responses.result.items c.remove-stored.new.self.items c.in_ok-left.left.items c.in-Some.place
+    (subst (λ l. IsUpdatedAnswer (request_of c.args.request.now) (lines_at c.args.update.now) l (Some c.in-Some.place))
+    c.responses.ensures c.in-Some.ensures)
     c.remove-stored.result c.in-Stored.fresh c.take_out-responses.ensures.kind c.take_out-responses.ensures.contents
     c.take_out-responses.ensures.taken c.remove-stored.ensures.value
-    c.remove-stored.ensures.items
+    c.remove-stored.ensures.items c.in_ok-left.ensures.left
     (subst (IsFreshenedAs c.take_out-responses.new.self.kind c.remove-stored.result (request_of c.args.request.now)
     (lines_at c.args.update.now) c.args.exchange) c.in-Stored.is c.in_ok-fresh.ensures.freshened)
-    c.len-place.result (c.len-place.ensures ∙ c.remove-stored.new.self.ok.0) c.in_ok-put_with-in-Stored.ensures.ok
+    c.len-place.result (c.len-place.ensures ∙ c.in_ok-left.left.ok.0) c.in_ok-put_with-in-Stored.ensures.ok
+
+pub returns-in_ok-put_with-in-Stored-clause-step : goal.returns-in_ok-put_with-in-Stored-clause-step
+returns-in_ok-put_with-in-Stored-clause-step c =
+    inl (answer.Stored c.len-place.result, returns-in_ok-put_with-in-Stored-clause-ok c)
 
 pub returns-in_ok-put_in-in-Once-clause-ok : goal.returns-in_ok-put_in-in-Once-clause-ok
 returns-in_ok-put_in-in-Once-clause-ok c =
     let_go c.args.self.now.kind c.take_out-responses.new.self.kind c.args.target.now (request_of c.args.request.now)
     (lines_at c.args.update.now) c.args.exchange
     (contents_of c.args.self.now) (contents_of c.put_in.new.self) (contents_of c.take_out-responses.new.self)
-    c.take_out-responses.result.items c.remove-stored.new.self.items c.in-Some.place
-    (subst (λ l. IsMostRecent (IsCandidate (request_of c.args.request.now)) l c.in-Some.place) c.responses.ensures
-    c.in-Some.ensures)
+    c.take_out-responses.result.items c.remove-stored.new.self.items c.in_ok-left.left.items c.in-Some.place
+    (subst (λ l. IsUpdatedAnswer (request_of c.args.request.now) (lines_at c.args.update.now) l (Some c.in-Some.place))
+    c.responses.ensures c.in-Some.ensures)
     c.remove-stored.result c.in-Once.fresh c.take_out-responses.ensures.kind c.take_out-responses.ensures.contents
     c.take_out-responses.ensures.taken c.remove-stored.ensures.value
-    c.remove-stored.ensures.items
+    c.remove-stored.ensures.items c.in_ok-left.ensures.left
     (subst (IsFreshenedAs c.take_out-responses.new.self.kind c.remove-stored.result (request_of c.args.request.now)
     (lines_at c.args.update.now) c.args.exchange) c.in-Once.is c.in_ok-fresh.ensures.freshened)
     c.in_ok-put_in-in-Once.ensures.ok
+
+pub returns-in_ok-put_in-in-Once-clause-step : goal.returns-in_ok-put_in-in-Once-clause-step
+returns-in_ok-put_in-in-Once-clause-step c =
+    inl (answer.Once c.in-Once.fresh, returns-in_ok-put_in-in-Once-clause-ok c)
+
+pub returns-in-Unchanged-clause-ok : goal.returns-in-Unchanged-clause-ok
+returns-in-Unchanged-clause-ok c = absurd (not_unchanged c.args.self.now.kind c.take_out-responses.new.self.kind
+    c.args.target.now (request_of c.args.request.now)
+    (lines_at c.args.update.now) c.args.exchange
+    (contents_of c.args.self.now) (contents_of c.take_out-responses.new.self)
+    (contents_of c.take_out-responses.new.self)
+    c.take_out-responses.result.items c.remove-stored.new.self.items c.in_ok-left.left.items c.in-Some.place
+    (subst (λ l. IsUpdatedAnswer (request_of c.args.request.now) (lines_at c.args.update.now) l (Some c.in-Some.place))
+    c.responses.ensures c.in-Some.ensures)
+    c.remove-stored.result c.in-Unchanged.field-0 c.take_out-responses.ensures.kind
+    c.take_out-responses.ensures.contents
+    c.take_out-responses.ensures.taken c.remove-stored.ensures.value
+    c.remove-stored.ensures.items c.in_ok-left.ensures.left
+    (subst (IsFreshenedAs c.take_out-responses.new.self.kind c.remove-stored.result (request_of c.args.request.now)
+    (lines_at c.args.update.now) c.args.exchange) c.in-Unchanged.is c.in_ok-fresh.ensures.freshened))

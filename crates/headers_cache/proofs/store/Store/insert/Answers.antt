@@ -1,6 +1,5 @@
-use Rattle.std.proofs.Common.{◌≡◌, ◌+◌, ◌∷◌, ◌++◌, [], length, ap, arith, ◌∙◌}
+use Rattle.std.proofs.Common.{◌≡◌, ◌+◌, length, ap, arith, ◌∙◌}
 use Rattle.headers_cache_policy.specs.Requests.{request_of}
-use Rattle.headers_cache.specs.Changes.{IsInserted}
 use Rattle.headers_cache.specs.Contents.{bytes_of, size_of}
 use Rattle.headers_cache.specs.Kept.{contents_of}
 use Rattle.headers_cache.proofs.LookupLemmas.{on_ok}

@@ -1,7 +1,6 @@
-use Rattle.std.proofs.Common.{◌≡◌, ℕ, ◌+◌, ◌-◌, ◌<◌, ◌≤◌, ◌∷◌, [], Some, None, length, take, refl, sym, ap, subst}
-use Rattle.std.proofs.Common.{arith, string_bytes, ◌∙◌}
-use Rattle.headers_cache.specs.Contents.{IsAbsent, byte_count, bytes_of, response_count, responses_at, without, shown}
-use Rattle.headers_cache.specs.Kept.{contents_of}
+use Rattle.std.proofs.Common.{sym, ap, subst}
+use Rattle.std.proofs.Common.{arith, ◌∙◌}
+use Rattle.headers_cache.specs.Contents.{IsAbsent, bytes_of, shown}
 use Rattle.headers_cache.proofs.EntryLemmas.{bytes-put, count-put, put-absent, shown-put, some-put}
 use Rattle.headers_cache.proofs.store.Store.put_in.Goals as goal
 

@@ -1,7 +1,6 @@
-use Rattle.std.proofs.Common.{◌≡◌, ℕ, ◌+◌, ◌-◌, ◌<◌, ◌≤◌, ◌∷◌, [], Some, None, length, take, refl, sym, ap, subst}
-use Rattle.std.proofs.Common.{arith, string_bytes, ◌∙◌}
-use Rattle.headers_cache.specs.Contents.{IsAbsent, byte_count, bytes_of, response_count, responses_at, without, shown}
-use Rattle.headers_cache.specs.Kept.{contents_of}
+use Rattle.std.proofs.Common.{sym, ap}
+use Rattle.std.proofs.Common.{arith, ◌∙◌}
+use Rattle.headers_cache.specs.Contents.{bytes_of}
 use Rattle.headers_cache.proofs.EntryLemmas.{bytes-last, count-last, none-last, shown-last}
 use Rattle.headers_cache.proofs.store.Store.remove_last.Goals as goal
 

@@ -1,4 +1,4 @@
-use Rattle.std.proofs.Common.{subst}
+use Rattle.std.proofs.Common.{inl, inr, refl, subst}
 use Rattle.headers_cache_rules.specs.Stored.{fields_of_stored}
 use Rattle.headers_cache_rules.specs.Storing.{IsStored}
 use Rattle.headers_cache.proofs.store.Store.store.Goals as goal
@@ -11,3 +11,6 @@ returns-in-Ok-clause-stored c = λ _. (
   c.in_ok-stored.ensures,
   c.in-Ok.ensures.ok,
 )
+
+pub returns-in-Ok-clause-step : goal.returns-in-Ok-clause-step
+returns-in-Ok-clause-step c = inr (inl (returns-in-Ok-clause-stored c refl))

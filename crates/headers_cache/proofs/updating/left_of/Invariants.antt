@@ -1,0 +1,21 @@
+use Rattle.std.proofs.Common.{◌≤◌, ◌+◌, length}
+use Rattle.std.specs.Vec.Iter.{into_iter_items}
+use Rattle.headers.specs.LineMap.{lines_at}
+use Rattle.headers_cache_policy.specs.Requests.{request_of}
+use Rattle.headers_cache.specs.Contents.{bytes_of}
+use Rattle.headers_cache.specs.Updates.{Becomes}
+use Rattle.headers_cache.proofs.UpdateLemmas.{Continues}
+use Rattle.headers_cache.proofs.updating.left_of.Given as goal
+
+abbrev pub invariant-loop-stored : goal.invariant-loop-stored
+invariant-loop-stored l =
+    record {
+      left : Continues
+          (λ old. Becomes l.fn.kind (request_of l.fn.request) (lines_at l.fn.update) l.fn.exchange old l.fn.by)
+          l.fn.responses.items l.left.items (into_iter_items l.all);
+      fewer : length l.left.items + length (into_iter_items l.all) ≤ length l.fn.responses.items;
+      lighter : bytes_of l.left.items + bytes_of (into_iter_items l.all) ≤ bytes_of l.fn.responses.items;
+    }
+
+abbrev pub decreases-loop-stored : goal.decreases-loop-stored
+decreases-loop-stored l = length (into_iter_items l.all)

@@ -1,0 +1,13 @@
+use Rattle.std.proofs.Common.{subst}
+use Rattle.headers.specs.LineMap.{lines_at}
+use Rattle.headers_cache_policy.specs.Requests.{request_of}
+use Rattle.headers_cache_rules.specs.Freshening.{IsFreshenedAs}
+use Rattle.headers_cache.proofs.UpdateLemmas.{becomes-none}
+use Rattle.headers_cache.proofs.updating.updated.Goals as goal
+
+pub returns-in-Once : goal.returns-in-Once
+returns-in-Once c =
+    becomes-none c.args.kind (request_of c.args.request.now) (lines_at c.args.update.now) c.args.exchange c.args.stored
+    c.in-Once.field-0
+    (subst (IsFreshenedAs c.args.kind c.args.stored (request_of c.args.request.now) (lines_at c.args.update.now)
+    c.args.exchange) c.in-Once.is c.in_ok-fresh.ensures.freshened)

@@ -1,0 +1,129 @@
+//! What a response that validates stored ones makes of them.
+ghost use Rattle.std.specs.Prelude.{◌≡◌, ◌<◌, ◌≤◌, ◌++◌, IfOk, OnErr, OnOk, length, option_to_list};
+ghost use Rattle.std.specs.Bool.{MatchBool};
+ghost use Rattle.headers.specs.LineMap.{lines_at};
+ghost use Rattle.headers_cache_policy.specs.Requests.{request_of};
+ghost use Rattle.headers_cache_policy.specs.Updating.{IsUpdated};
+ghost use Rattle.headers_cache_rules.specs.Stored.{fields_of_stored};
+ghost use Rattle.headers_cache.specs.Contents.{bytes_of};
+ghost use Rattle.headers_cache.specs.Updates.{AreLeft, Becomes, BecomesUpdated, IsGetFor, IsUpdatedToo};
+
+use headers::{HeaderMap, InsertError};
+use headers_cache_policy::{Kind, RequestHead, has_strong_tag, is_updated, matches};
+use headers_cache_rules::{Exchange, Freshened, StoredResponse, freshen, is_head_of};
+use http::Method;
+use std::alloc::{AllocError, Global};
+
+// Which response validates stored ones.
+#[derive(Clone, Copy)]
+pub(crate) enum By {
+    // A 304, which has its answer in another stored response.
+    NotModified,
+    // A 200 to HEAD.
+    Head,
+}
+
+// Whether a 304 also updates a stored response that isn't the answer.
+fn is_updated_too(stored: &StoredResponse, request: &RequestHead<'_>, update: &HeaderMap) -> bool
+    ensures { MatchBool result (IsUpdatedToo (request_of request.now) (lines_at update.now) stored.now)
+        (¬ (IsUpdatedToo (request_of request.now) (lines_at update.now) stored.now)) }
+{
+    has_strong_tag(update)
+        && matches(&stored.head(), request, &stored.response)
+        && is_updated(&stored.response, update)
+}
+
+// Whether a stored response is one to GET that could have been chosen for a HEAD.
+fn is_get_for(stored: &StoredResponse, request: &RequestHead<'_>) -> bool
+    ensures { MatchBool result (IsGetFor (request_of request.now) stored.now)
+        (¬ (IsGetFor (request_of request.now) stored.now)) }
+{
+    stored.method == Method::GET && matches(&stored.head(), request, &stored.response)
+}
+
+// The stored response as it is updated, if it stays stored.
+fn updated(
+    alloc: Global,
+    stored: StoredResponse,
+    request: &RequestHead<'_>,
+    update: &HeaderMap,
+    exchange: Exchange,
+    kind: Kind,
+) -> Result<Option<StoredResponse>, InsertError>
+    requires { IsUpdated (fields_of_stored stored) (lines_at update.now) }
+    ensures { IfOk result (BecomesUpdated kind (request_of request.now) (lines_at update.now) exchange stored) }
+{
+    match freshen(alloc, stored, request, update, exchange, kind)? {
+        Freshened::Stored(fresh) => Ok(Some(fresh)),
+        Freshened::Once(_) => Ok(None),
+        Freshened::Unchanged(_) => Ok(None),
+    }
+}
+
+// What becomes of a stored response.
+fn become_of(
+    alloc: Global,
+    stored: StoredResponse,
+    by: By,
+    request: &RequestHead<'_>,
+    update: &HeaderMap,
+    exchange: Exchange,
+    kind: Kind,
+) -> Result<Option<StoredResponse>, InsertError>
+    ensures { IfOk result (Becomes kind (request_of request.now) (lines_at update.now) exchange stored by) }
+{
+    match by {
+        By::NotModified => {
+            if is_updated_too(&stored, request, update) {
+                updated(alloc, stored, request, update, exchange, kind)
+            } else {
+                Ok(Some(stored))
+            }
+        }
+        By::Head => {
+            if !is_get_for(&stored, request) {
+                Ok(Some(stored))
+            } else if is_head_of(&stored, update) {
+                updated(alloc, stored, request, update, exchange, kind)
+            } else {
+                Ok(None)
+            }
+        }
+    }
+}
+
+// Appends a response, if there is one.
+fn append(left: &mut Vec<StoredResponse>, one: Option<StoredResponse>) -> Result<(), AllocError>
+    ensures { OnOk result (left.new.items ≡ left.old.items ++ option_to_list one) }
+{
+    if let Some(one) = one {
+        left.push(one)?;
+    }
+    Ok(())
+}
+
+// What is left of stored responses.
+pub(crate) fn left_of(
+    alloc: Global,
+    responses: Vec<StoredResponse>,
+    by: By,
+    request: &RequestHead<'_>,
+    update: &HeaderMap,
+    exchange: Exchange,
+    kind: Kind,
+) -> Result<Vec<StoredResponse>, InsertError>
+    ensures left { IfOk result (λ left.
+        AreLeft (λ old. Becomes kind (request_of request.now) (lines_at update.now) exchange old by)
+        responses.items left.items) }
+    ensures fewer { IfOk result (λ left. length left.items ≤ length responses.items) }
+    ensures lighter { IfOk result (λ left. bytes_of left.items ≤ bytes_of responses.items) }
+    ensures memory { OnErr result (0 < length responses.items) }
+{
+    let mut left = Vec::new(alloc);
+    let mut all = responses.into_iter();
+    while let Some(stored) = all.next() {
+        let fate = become_of(alloc, stored, by, request, update, exchange, kind)?;
+        append(&mut left, fate)?;
+    }
+    Ok(left)
+}
