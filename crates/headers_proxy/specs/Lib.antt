@@ -1,0 +1,4 @@
+pub mod Decisions
+pub mod Own
+pub mod Passing
+pub mod Targets

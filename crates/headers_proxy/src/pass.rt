@@ -1,0 +1,229 @@
+//! Messages on their way from one connection to the other: a head, the content in its frames, and its
+//! end.
+ghost use Rattle.std.specs.Prelude.{◌≡◌, IfOk, None, OnOk};
+ghost use Rattle.headers.specs.LineMap.{lines_at};
+ghost use Rattle.headers_gateway.specs.FieldLines.{fields_of};
+ghost use Rattle.http1.specs.Client as Asking;
+ghost use Rattle.http1.specs.Encoder.{end_refusal, end_text};
+ghost use Rattle.http1.specs.Head.{pairs};
+ghost use Rattle.http1.specs.Server as Serving;
+ghost use Rattle.http1.specs.declared.conn.Reading.TheVariants as Reads;
+ghost use Rattle.http1.specs.declared.conn.Writing.TheVariants as Writes;
+ghost use Rattle.http1.specs.declared.decode.Decoder.{Decoder};
+ghost use Rattle.http1.specs.declared.encode.Encoder.{Encoder};
+ghost use Rattle.headers_relay.specs.Content.{content_read};
+ghost use Rattle.headers_relay.specs.Relay.{Sends};
+ghost use Rattle.headers_proxy.specs.Passing.{BeginsRequest, BeginsResponse, Passes, PassesContent, PassesRequest};
+ghost use Rattle.headers_proxy.specs.Passing.{request_size, response_size};
+
+use crate::decision::Outgoing;
+use crate::proxy::Proxy;
+use bytes::BytesMut;
+use headers::HeaderMap;
+use headers_gateway::{Content, FieldLine, ForwardedResponse, Framing, Gateway, forward_trailers};
+use headers_relay::{
+    ContentSink, ContentSource, Failure, Request, Response, end_content, relay_content, send,
+    send_request_head, send_response_head,
+};
+use http1::{BodySize, Client, Header, Server};
+use std::alloc::{AllocError, Global};
+use std::hash::RandomState;
+use std::io::{Read, Write};
+
+/// The field lines as `http1` takes them.
+pub(crate) fn header_list<'a>(
+    alloc: Global,
+    fields: &'a [FieldLine],
+) -> Result<Vec<Header<'a>>, AllocError>
+    ensures { IfOk result (λ list. pairs list.items ≡ fields_of fields.now) }
+{
+    let mut list = Vec::with_capacity(alloc, fields.len())?;
+    for field in fields {
+        list.push(Header {
+            name: field.name.as_bytes(),
+            value: field.value.as_bytes(),
+        })?;
+    }
+    Ok(list)
+}
+
+fn request_size(framing: Framing) -> BodySize
+    ensures { result ≡ request_size framing }
+{
+    match framing {
+        Framing::Unstated => BodySize::Empty,
+        Framing::Length(len) => BodySize::Known(len),
+        Framing::Chunked => BodySize::Unknown,
+    }
+}
+
+fn response_size(content: Content) -> BodySize
+    ensures { result ≡ response_size content }
+{
+    match content {
+        Content::Tunnel | Content::Absent => BodySize::Empty,
+        Content::Length(len) => BodySize::Known(len),
+        Content::Chunked | Content::UntilClose => BodySize::Unknown,
+    }
+}
+
+// Passes the content on, and returns the trailer fields that are forwarded.
+fn pass_content<S: ContentSource, R: Read, T: ContentSink, W: Write>(
+    alloc: Global,
+    keys: RandomState,
+    gateway: &Gateway,
+    fields: &HeaderMap,
+    framing: Framing,
+    source: &mut S,
+    input: &mut BytesMut,
+    reader: &mut R,
+    sink: &mut T,
+    writer: &mut W,
+) -> Result<Vec<FieldLine>, Failure>
+    ensures passes { (d : Decoder) (e : Encoder) → S.reading source.old ≡ Reads.Body d
+        → T.writing sink.old ≡ Writes.Body e → IfOk result (λ sent. PassesContent gateway.now (lines_at fields.now)
+        framing d e input.old.items input.new.items (R.remaining reader.old) (R.remaining reader.new)
+        (W.contents writer.old) (W.contents writer.new) (T.writing sink.new) (fields_of sent.items)) }
+    ensures kept { T.kept sink.new ≡ T.kept sink.old }
+{
+    let trailers = relay_content(alloc, keys, source, input, reader, sink, writer)?;
+    Ok(forward_trailers(alloc, gateway, fields, framing, &trailers)?)
+}
+
+// Sends the end of a request's content.
+fn end_request<W: Write>(
+    alloc: Global,
+    client: &mut Client,
+    trailers: &[Header<'_>],
+    writer: &mut W,
+) -> Result<(), Failure>
+    ensures sends { (e : Encoder) → Asking.writing client.old ≡ Writes.Body e
+        → Sends result (W.contents writer.old) (W.contents writer.new) (end_text e (pairs trailers.now)) }
+    ensures accepted { (e : Encoder) → Asking.writing client.old ≡ Writes.Body e
+        → OnOk result (end_refusal e (pairs trailers.now) ≡ None) }
+    ensures next { OnOk result (client.new ≡ Asking.after_end client.old) }
+{
+    let mut output = BytesMut::new(alloc);
+    match client.write_end(&mut output, trailers) {
+        Ok(()) => send(writer, output.as_slice()),
+        Err(error) => Err(Failure::Unsendable(error)),
+    }
+}
+
+// Sends the head of a request to the origin server.
+fn begin_request<W: Write>(
+    alloc: Global,
+    request: &Request,
+    outgoing: &Outgoing,
+    client: &mut Client,
+    writer: &mut W,
+) -> Result<(), Failure>
+    ensures { OnOk result (BeginsRequest client.old client.new request.now outgoing.now
+        (W.contents writer.old) (W.contents writer.new)) }
+{
+    let headers = header_list(alloc, &outgoing.fields)?;
+    send_request_head(
+        alloc,
+        client,
+        request.method.as_str().as_bytes(),
+        outgoing.target.as_slice(),
+        &headers,
+        request_size(outgoing.framing),
+        writer,
+    )
+}
+
+/// Sends a request to the origin server: its head, and the content as the client sends it.
+pub(crate) fn pass_request<R: Read, W: Write>(
+    alloc: Global,
+    keys: RandomState,
+    proxy: &Proxy,
+    request: &Request,
+    outgoing: &Outgoing,
+    server: &mut Server,
+    input: &mut BytesMut,
+    reader: &mut R,
+    client: &mut Client,
+    writer: &mut W,
+) -> Result<(), Failure>
+    ensures { (d : Decoder) → content_read (Serving.writing server.old) (Serving.reading server.old) ≡ Reads.Body d
+        → OnOk result (PassesRequest proxy.now.gateway client.old client.new request.now outgoing.now d
+        input.old.items input.new.items (R.remaining reader.old) (R.remaining reader.new)
+        (W.contents writer.old) (W.contents writer.new)) }
+{
+    begin_request(alloc, request, outgoing, client, writer)?;
+    let trailers = pass_content(
+        alloc,
+        keys,
+        &proxy.gateway,
+        &request.fields,
+        outgoing.framing,
+        server,
+        input,
+        reader,
+        client,
+        writer,
+    )?;
+    let fields = header_list(alloc, &trailers)?;
+    end_request(alloc, client, &fields, writer)?;
+    Ok(())
+}
+
+/// Sends the head of a final response to the client.
+pub(crate) fn begin_response<W: Write>(
+    alloc: Global,
+    response: &Response,
+    sent: &ForwardedResponse,
+    server: &mut Server,
+    writer: &mut W,
+) -> Result<(), Failure>
+    ensures { OnOk result (BeginsResponse server.old server.new response.now sent.now
+        (W.contents writer.old) (W.contents writer.new)) }
+{
+    let headers = header_list(alloc, &sent.fields)?;
+    send_response_head(
+        alloc,
+        server,
+        response.status.as_u16(),
+        response.reason.as_slice(),
+        &headers,
+        response_size(sent.content),
+        writer,
+    )
+}
+
+/// Passes the content of a response on, as the origin server sends it.
+pub(crate) fn finish_response<R: Read, W: Write>(
+    alloc: Global,
+    keys: RandomState,
+    proxy: &Proxy,
+    response: &Response,
+    sent: &ForwardedResponse,
+    client: &mut Client,
+    input: &mut BytesMut,
+    reader: &mut R,
+    server: &mut Server,
+    writer: &mut W,
+) -> Result<(), Failure>
+    ensures { (d : Decoder) (e : Encoder) → Asking.reading client.old ≡ Reads.Body d
+        → Serving.writing server.old ≡ Writes.Body e
+        → OnOk result (Passes proxy.now.gateway (lines_at response.now.fields) sent.now.framing d e
+        input.old.items input.new.items (R.remaining reader.old) (R.remaining reader.new)
+        (W.contents writer.old) (W.contents writer.new)) }
+{
+    let trailers = pass_content(
+        alloc,
+        keys,
+        &proxy.gateway,
+        &response.fields,
+        sent.framing,
+        client,
+        input,
+        reader,
+        server,
+        writer,
+    )?;
+    let fields = header_list(alloc, &trailers)?;
+    end_content(alloc, server, &fields, writer)?;
+    Ok(())
+}
