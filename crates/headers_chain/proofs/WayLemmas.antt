@@ -52,7 +52,7 @@ not_known name e f false = rw e refl
 module _ (gateway : Gateway) (request next : Request) (sent : ForwardedRequest)
     (forwarded : IsForwarded gateway (received request) sent) (passed : IsPassedOn request sent next) where
   -- a field that no gateway writes has the lines that are meant for the server
-  same_lines : (name : List ℕ) → bytes_eq (codes "host") name ≡ false → list_any (bytes_eq name) own_names ≡ false
+  pub same_lines : (name : List ℕ) → bytes_eq (codes "host") name ≡ false → list_any (bytes_eq name) own_names ≡ false
       → bytes_eq name (codes "transfer-encoding") ≡ false → end_to_end_lines gateway request name ≡ next.fields name
   same_lines name other not_own not_coding =
       let options = connection_options request.fields in
@@ -76,7 +76,7 @@ module _ (gateway : Gateway) (request next : Request) (sent : ForwardedRequest)
         if_range = same_lines (codes "if-range") refl refl refl;
       }
 
-  alike : AreAlike (sent_directly gateway request) next
+  pub alike : AreAlike (sent_directly gateway request) next
   alike =
       record {
         protocol = sym passed.protocol;
@@ -90,7 +90,7 @@ module _ (gateway : Gateway) (request next : Request) (sent : ForwardedRequest)
         asks = asks_alike;
       }
 
-  choose_alike : ChooseAlike (end_to_end_lines gateway request) next.fields
+  pub choose_alike : ChooseAlike (end_to_end_lines gateway request) next.fields
   choose_alike =
       record {
         accept = same_lines (codes "accept") refl refl refl;
@@ -100,7 +100,7 @@ module _ (gateway : Gateway) (request next : Request) (sent : ForwardedRequest)
         requested_method = same_lines (codes "access-control-request-method") refl refl refl;
       }
 
-  no_options : connection_options next.fields ≡ []
+  pub no_options : connection_options next.fields ≡ []
   no_options =
       let none : next.fields (codes "connection") ≡ []
       = passed.fields (codes "connection") ∙ forwarded.fields.hop_by_hop (codes "connection") refl
@@ -109,9 +109,9 @@ module _ (gateway : Gateway) (request next : Request) (sent : ForwardedRequest)
 
 -- ---- a request without connection options, from a gateway to the next one
 
-module _ (gateway : Gateway) (request : Request) (modern : request.protocol ≡ Http11) (origin : request.authority ≡ None)
-    (none : connection_options request.fields ≡ []) where
-  crosses : (name : List ℕ) → bytes_eq (codes "host") name ≡ false
+module _ (gateway : Gateway) (request : Request) (modern : request.protocol ≡ Http11)
+    (origin : request.authority ≡ None) (none : connection_options request.fields ≡ []) where
+  pub crosses : (name : List ℕ) → bytes_eq (codes "host") name ≡ false
       → list_any (bytes_eq name) hop_by_hop_fields ≡ false → list_any (bytes_eq name) proxy_fields ≡ false
       → request.fields name ≡ end_to_end_lines gateway request name
   crosses name other e f =
@@ -132,7 +132,7 @@ module _ (gateway : Gateway) (request : Request) (modern : request.protocol ≡ 
         if_range = crosses (codes "if-range") refl refl refl;
       }
 
-  direct : AreAlike request (sent_directly gateway request)
+  pub direct : AreAlike request (sent_directly gateway request)
   direct =
       record {
         protocol = modern;
@@ -146,7 +146,7 @@ module _ (gateway : Gateway) (request : Request) (modern : request.protocol ≡ 
         asks = asks_direct;
       }
 
-  choose_direct : ChooseAlike request.fields (end_to_end_lines gateway request)
+  pub choose_direct : ChooseAlike request.fields (end_to_end_lines gateway request)
   choose_direct =
       record {
         accept = crosses (codes "accept") refl refl refl;

@@ -1,2 +1,4 @@
+pub mod Caches
+pub mod Chains
 pub mod Responses
 pub mod Ways

@@ -1,19 +1,31 @@
 //! What follows from the definitions. A proof cites a law by calling it.
-ghost use Rattle.std.specs.Prelude.{◌≡◌, ◌≢◌, ◌↔◌, ◌∷◌, ℕ, List, All, false};
+ghost use Rattle.std.specs.Prelude.{◌≡◌, ◌≢◌, ◌↔◌, ◌⊎◌, ◌≤◌, ◌∷◌, [], ℕ, List, All, codes, false, true};
 ghost use Rattle.headers.specs.LineMap.{LineMap, fields_of, set_all};
+ghost use Rattle.headers.specs.Lines.{Line};
+ghost use Rattle.headers_cache_policy.specs.Varying.{Suits};
+ghost use Rattle.headers_cache_policy.specs.Directives.{directed};
+ghost use Rattle.headers_cache_policy.specs.Fields.{IsPresent, greatest};
+ghost use Rattle.headers_cache_policy.specs.Storing.{IsOpen};
+ghost use Rattle.headers_cache_policy.specs.declared.kind.Kind.{Kind};
+ghost use Rattle.headers_cache_policy.specs.declared.kind.Kind.TheVariants.{Shared};
+ghost use Rattle.headers_cache.specs.declared.limits.Limits.{Limits};
+ghost use Rattle.headers_chain.specs.Caches.{IsFromStore, Reply, asked};
+ghost use Rattle.headers_chain.specs.Chains.{Hop, IsForwardedBack, IsOwn, IsSteady, IsTold, Server, behind, meant};
 ghost use Rattle.headers_cors_policy.specs.Browser.{CorsCheck, Request as Sent};
 ghost use Rattle.headers_chain.specs.Responses.{HasNoOptions, Returns};
 ghost use Rattle.headers_chain.specs.Ways.{Reaches, sent_directly};
-ghost use Rattle.headers_gateway.specs.Forwarding.{own_names};
+ghost use Rattle.headers_gateway.specs.Forwarding.{IsHopByHop, own_names};
 ghost use Rattle.headers_gateway.specs.HopByHop.{is_known};
 ghost use Rattle.headers_gateway.specs.Responses.{Response};
 ghost use Rattle.headers_gateway.specs.declared.gateway.Gateway.{Gateway};
-ghost use Rattle.headers_resource.specs.Answers.{IsAnswer};
+ghost use Rattle.headers_resource.specs.Answers.{AreSame, IsAnswer};
 ghost use Rattle.headers_resource.specs.Requests.{Request};
 ghost use Rattle.headers_resource.specs.declared.answer.Answer.{Answer};
+ghost use Rattle.headers_resource.specs.Vary.{AreAlike};
 ghost use Rattle.headers_resource.specs.declared.resource.Resource.{Resource};
 
-use headers_resource::laws::other_fields_change_nothing;
+use headers_cache::laws::lookups_serve_what_calls_justify;
+use headers_resource::laws::{members_alone_select, other_fields_change_nothing, vary_is_sound};
 
 /// Gateways are invisible to a resource: however many are between it and a client, what they forward gets
 /// exactly the answers that the client's request would get if the client sent it itself, without the fields
@@ -61,5 +73,68 @@ pub fn client_gets_the_answer()
         → All (λ own. own ≢ name) own_names
         → last.fields name ≡ set_all before (fields_of answer.fields.items) name }
 {
+    other_fields_change_nothing();
+}
+
+/// A stored answer that suits a request is the resource's answer to it. If a resource answers two requests
+/// of the same method, target, content and conditions, and a cache that has stored the first answer takes
+/// the second request for one that it answers by method and Vary (RFC 9111, sections 4 and 4.1), then both
+/// answers are the same. A cache may compare the members of Accept and the like, and not their field lines.
+pub fn stored_answer_is_the_answer()
+    ensures { (present : ℕ) (resource : Resource) (r s : Request) (a b : Answer) (before : LineMap)
+        → IsAnswer present resource r a → IsAnswer present resource s b → AreAlike r s
+        → Suits (asked r) (asked s) (set_all before (fields_of a.fields.items)) → AreSame a b }
+{
+    vary_is_sound();
+    members_alone_select();
+}
+
+/// What a client receives through any gateways and caches, in any order, is what the resource says about
+/// its request, or what one of them answers by itself. The resource says it now; or it said it at a time
+/// that is no longer ago than Age tells, and a cache on the way found it fresh, or stale in a way that each
+/// directive allows. The status, the content and each field that neither a gateway nor a cache writes are
+/// the server's.
+pub fn client_gets_what_the_resource_says()
+    ensures { (server : Server) (target : List ℕ) (host : List Line) (hops : List Hop) (now : ℕ) (request : Request)
+        (reply : Reply) → IsSteady server → now ≤ greatest → behind server target host hops now request reply
+        → IsTold server now (meant hops request) reply ⊎ IsOwn reply }
+{
+    lookups_serve_what_calls_justify();
+    vary_is_sound();
+    members_alone_select();
+    other_fields_change_nothing();
+}
+
+/// A shared cache gives away nothing that is for one client. What it serves from its store isn't `private`;
+/// and it is the content of an answer to some request, which had no Authorization, or whose answer allows
+/// that others get it (RFC 9111, sections 3.5 and 5.2.2.7).
+pub fn shared_caches_serve_nothing_private()
+    ensures private { (server : Server) (hops : List Hop) (limits : Limits) (target : List ℕ) (host : List Line)
+        (now : ℕ) (request : Request) (reply : Reply)
+        → IsFromStore Shared limits (behind server target host hops) target host now request reply
+        → (directed reply.fields).private ≡ false }
+    ensures credentials { (server : Server) (hops : List Hop) (limits : Limits) (target : List ℕ) (host : List Line)
+        (now : ℕ) (request : Request) (reply : Reply)
+        → IsFromStore Shared limits (behind server target host hops) target host now request reply
+        → (time : ℕ) × (first : Request) × (came : Reply) × behind server target host hops time first came
+        × (reply.content ≡ came.content)
+        × (IsPresent (codes "authorization") first.fields → IsOpen (directed reply.fields)) }
+{
+    lookups_serve_what_calls_justify();
+}
+
+/// No field of one connection crosses: a gateway forwards none of a response but its own Transfer-Encoding,
+/// those that Connection names included, and none comes from a store (RFC 9110, section 7.6.1).
+pub fn no_connection_field_crosses()
+    ensures forwarded { (server : Server) (hops : List Hop) (gateway : Gateway) (target : List ℕ) (host : List Line)
+        (now : ℕ) (request : Request) (reply : Reply) (name : List ℕ)
+        → (f : IsForwardedBack gateway (behind server target host hops) now request reply)
+        → IsHopByHop gateway f.behind.fields name → name ≢ codes "transfer-encoding" → reply.fields name ≡ [] }
+    ensures stored { (server : Server) (hops : List Hop) (kind : Kind) (limits : Limits) (target : List ℕ)
+        (host : List Line) (now : ℕ) (request : Request) (reply : Reply) (name : List ℕ)
+        → IsFromStore kind limits (behind server target host hops) target host now request reply
+        → is_known true name ≡ true → reply.fields name ≡ [] }
+{
+    lookups_serve_what_calls_justify();
     other_fields_change_nothing();
 }

@@ -2,6 +2,7 @@ mod AllowLemmas
 mod AnswerLemmas
 mod ConditionLemmas
 mod HeadLemmas
+mod MemberLemmas
 mod OneReasonLemmas
 mod OtherFieldLemmas
 mod OwnFieldLemmas

@@ -68,7 +68,7 @@ transferred present resource r s a alike same h =
       fields = h.fields;
     }
 
-alike_back : (r s : Request) → AreAlike r s → AreAlike s r
+pub alike_back : (r s : Request) → AreAlike r s → AreAlike s r
 alike_back r s h =
     record {
       protocol = sym h.protocol;

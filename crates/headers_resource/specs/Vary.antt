@@ -1,6 +1,9 @@
 -- Which requests a cache may take for one by Vary (RFC 9110, section 12.5.5; RFC 9111, section 4.1).
-use Rattle.std.specs.Prelude.{◌≡◌, codes}
+use Rattle.std.specs.Prelude.{◌≡◌, ◌⊎◌, List, true, codes}
 use Rattle.headers.specs.LineMap.{LineMap}
+use Rattle.headers.specs.Lines.{Line}
+use Rattle.headers.specs.Typed.{HasLine}
+use Rattle.headers_fields.specs.Members.{field_members}
 use Rattle.headers_resource.specs.Requests.{Request}
 
 -- the conditions and the range of both are the same; a cache answers requests that have some by rules of its own
@@ -31,5 +34,20 @@ pub record ChooseAlike (r s : LineMap) : Type 0 where
   pub accept : r (codes "accept") ≡ s (codes "accept")
   pub accept_language : r (codes "accept-language") ≡ s (codes "accept-language")
   pub accept_encoding : r (codes "accept-encoding") ≡ s (codes "accept-encoding")
+  pub origin : r (codes "origin") ≡ s (codes "origin")
+  pub requested_method : r (codes "access-control-request-method") ≡ s (codes "access-control-request-method")
+
+-- A list is the same in both requests, in the same field lines or in others: the lines are the same, or both requests
+-- have some, with the same members.
+abbrev pub ListAlike : List Line → List Line → Type 0
+ListAlike lines others =
+    (lines ≡ others) ⊎ (HasLine lines × HasLine others × (field_members true lines ≡ field_members true others))
+
+-- the lists by which a representation is selected are the same, and so are the fields by which a policy for requests
+-- from other origins decides
+pub record SelectTheSame (r s : LineMap) : Type 0 where
+  pub accept : ListAlike (r (codes "accept")) (s (codes "accept"))
+  pub accept_language : ListAlike (r (codes "accept-language")) (s (codes "accept-language"))
+  pub accept_encoding : ListAlike (r (codes "accept-encoding")) (s (codes "accept-encoding"))
   pub origin : r (codes "origin") ≡ s (codes "origin")
   pub requested_method : r (codes "access-control-request-method") ≡ s (codes "access-control-request-method")

@@ -14,7 +14,7 @@ ghost use Rattle.headers_resource.specs.Answers.{AreSame, IsAnswer, IsSelected};
 ghost use Rattle.headers_resource.specs.Applies.{applies, methods};
 ghost use Rattle.headers_resource.specs.Reasons.{Before, IsFirst};
 ghost use Rattle.headers_resource.specs.Requests.{Request, get_of, head_of, unconditional};
-ghost use Rattle.headers_resource.specs.Vary.{AreAlike, ChooseAlike};
+ghost use Rattle.headers_resource.specs.Vary.{AreAlike, ChooseAlike, SelectTheSame};
 ghost use Rattle.headers_preconditions.specs.declared.plan.Plan.{Plan};
 ghost use Rattle.headers_preconditions.specs.declared.plan.Plan.TheVariants.{Full, NotModified};
 ghost use Rattle.headers_resource.specs.declared.answer.Answer.{Answer};
@@ -112,6 +112,14 @@ pub fn conditions_are_about_the_selected()
 pub fn other_fields_change_nothing()
     ensures { (present : ℕ) (resource : Resource) (r s : Request) (answer : Answer) → AreAlike r s
         → ChooseAlike r.fields s.fields
+        → IsAnswer present resource r answer ↔ IsAnswer present resource s answer }
+{}
+
+/// Of Accept, Accept-Language and Accept-Encoding an answer depends on the members alone: into how many
+/// field lines they are split, and the white space around them, change nothing (RFC 9110, section 5.3).
+pub fn members_alone_select()
+    ensures { (present : ℕ) (resource : Resource) (r s : Request) (answer : Answer) → AreAlike r s
+        → SelectTheSame r.fields s.fields
         → IsAnswer present resource r answer ↔ IsAnswer present resource s answer }
 {}
 

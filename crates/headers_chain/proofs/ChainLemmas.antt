@@ -1,0 +1,369 @@
+-- What a client receives through gateways and caches is what the resource says.
+use Rattle.std.proofs.Common.{◌≡◌, ◌≢◌, ◌⊎◌, ℕ, ◌-◌, ◌≤◌, Bool, true, false, List, [], ◌∷◌, Some, None}
+use Rattle.std.proofs.Common.{refl, sym, ◌∙◌, ap, subst, inl, inr, arith}
+use Rattle.std.specs.Prelude.{All, Contains, ◌||◌, bytes_eq, codes}
+use Rattle.std.specs.List.{list_any}
+use Rattle.headers.specs.LineMap.{fields_of, set_all}
+use Rattle.headers.specs.Lines.{Line}
+use Rattle.headers_cache.specs.declared.limits.Limits.{Limits}
+use Rattle.headers_cache_policy.specs.Fields.{age_of, greatest}
+use Rattle.headers_cache_policy.specs.declared.kind.Kind.{Kind}
+use Rattle.headers_cache_rules.specs.Stored.{fields_of_stored}
+use Rattle.headers_cache_policy.specs.Decisions.{IsGoodEnough, freshness_at}
+use Rattle.headers_cache_policy.specs.Directives.{directed}
+use Rattle.headers_cache_policy.specs.Freshness.{HasLifetime}
+use Rattle.headers_cache_rules.specs.Stored.{times_of}
+use Rattle.headers_cache_rules.specs.declared.stored.StoredResponse.{StoredResponse}
+use Rattle.headers_chain.specs.Caches.{HasComeFrom, IsFromStore, IsPlain, Origin, Reply}
+use Rattle.headers_chain.specs.Chains.{Hop, IsCarried, IsForwardedBack, IsGoodAt, IsOwn, IsSteady}
+use Rattle.headers_chain.specs.Chains.{IsTold, Server, behind, meant, own_statuses}
+use Rattle.headers_chain.specs.Chains.Hop.{Forwards, Stores}
+use Rattle.headers_chain.specs.Responses.{HasNoOptions}
+use Rattle.headers_chain.specs.Ways.{end_to_end_lines, sent_directly}
+use Rattle.headers_fields.specs.Members.{field_members}
+use Rattle.headers_fields.specs.Scan.{Member}
+use Rattle.headers_gateway.specs.Forwarding.{IsHopByHop, own_names}
+use Rattle.headers_gateway.specs.HopByHop.{connection_options, hop_by_hop_fields, is_hop_by_hop, is_known, proxy_fields}
+use Rattle.headers_gateway.specs.declared.gateway.Gateway.{Gateway}
+use Rattle.headers_gateway.specs.declared.protocol.Protocol.TheVariants.{Http11}
+use Rattle.headers_resource.specs.Answers.{AreSame, IsAnswer}
+use Rattle.headers_resource.specs.Requests.{Request}
+use Rattle.headers_resource.specs.declared.answer.Answer.{Answer}
+use Rattle.headers_resource.specs.declared.resource.Resource.{Resource}
+use Rattle.headers_chain.proofs.StoreLemmas.{ServesWhatIsJustified, age_is, come, counted, counts, from, plain_alike}
+use Rattle.headers_chain.proofs.StoreLemmas.{is_stored, quiet, served, stored_as, suits}
+use Rattle.headers_chain.proofs.SuitLemmas.{MembersSelect, VaryIsSound, suited}
+use Rattle.headers_chain.proofs.WayLemmas.{ReadsNoMore, alike, apart, choose_alike, choose_direct, crosses, differs}
+use Rattle.headers_chain.proofs.WayLemmas.{direct, no_options, same_lines}
+
+-- ---- carried fields
+
+carried : (name : List ℕ) → is_known true name ≡ false → list_any (bytes_eq name) own_names ≡ false
+    → name ≢ codes "age" → IsCarried name
+carried name end_to_end not_own not_age =
+    record { end_to_end = end_to_end; not_own = differs name own_names not_own; not_age = not_age }
+
+vary_carried : IsCarried (codes "vary")
+vary_carried = carried (codes "vary") refl refl (λ e. absurd (cc e))
+
+known_by : (consumes : Bool) (name : List ℕ) → is_known true name ≡ false → is_known consumes name ≡ false
+known_by true name e = e
+known_by false name e = by (list_any (bytes_eq name) hop_by_hop_fields) e
+  where
+    by : (b : Bool) → (b || list_any (bytes_eq name) proxy_fields) ≡ false → (b || false) ≡ false
+    by true h = h
+    by false h = refl
+
+date_not_carried : (name : List ℕ) → IsCarried name → name ≢ codes "date"
+date_not_carried name h e = h.not_own 2 [] (omega arith) (sym e)
+
+-- ---- one request in place of another
+
+-- each answer to the one is an answer to the other, and both direct caches alike
+record Stands (r s : Request) : Type 0 where
+  answers : (present : ℕ) (resource : Resource) (answer : Answer) → IsAnswer present resource r answer
+      → IsAnswer present resource s answer
+  directs : r.fields (codes "cache-control") ≡ s.fields (codes "cache-control")
+
+-- both ways
+record Same (r s : Request) : Type 0 where
+  there : Stands r s
+  back : Stands s r
+
+stays : (r : Request) → Same r r
+stays r =
+    record {
+      there = record { answers = λ present resource answer h. h; directs = refl };
+      back = record { answers = λ present resource answer h. h; directs = refl };
+    }
+
+module _ (server : Server) (now : ℕ) (reply : Reply) where
+  told_as : (r s : Request) → Stands r s → IsTold server now r reply → IsTold server now s reply
+  told_as r s h t =
+      record {
+        time = t.time;
+        said =
+            record {
+              answer = t.said.answer;
+              is = h.answers t.time (server.resource t.time) t.said.answer t.said.is;
+              status = t.said.status;
+              content = t.said.content;
+              fields = t.said.fields;
+            };
+        past = t.past;
+        aged = t.aged;
+        good = good_as t.good;
+        no_options = t.no_options;
+      }
+    where
+      good_as : (t.time ≡ now) ⊎ IsGoodAt (now - t.time) r reply → (t.time ≡ now) ⊎ IsGoodAt (now - t.time) s reply
+      good_as (inl e) = inl e
+      good_as (inr g) =
+          inr (
+          record {
+            kind = g.kind;
+            stored = g.stored;
+            same = g.same;
+            asks = g.asks;
+            directs = g.directs ∙ h.directs;
+            came = g.came;
+            stated = g.stated;
+            lifetime = g.lifetime;
+            freshness = g.freshness;
+            has_lifetime = g.has_lifetime;
+            old = g.old;
+            good = g.good;
+          }
+          )
+
+module _ (reads : ReadsNoMore) where
+  -- a request without connection options is as it is meant
+  as_meant : (request : Request) → request.protocol ≡ Http11 → request.authority ≡ None
+      → connection_options request.fields ≡ [] → (hops : List Hop) → Same (meant hops request) request
+  as_meant request modern origin none [] = stays request
+  as_meant request modern origin none (Stores kind limits ∷ hops) = as_meant request modern origin none hops
+  as_meant request modern origin none (Forwards gateway ∷ hops) =
+      let both = λ (present : ℕ) (resource : Resource) (answer : Answer).
+      reads present resource request (sent_directly gateway request) answer (direct gateway request modern origin none)
+      (choose_direct gateway request modern origin none) in
+      let line : request.fields (codes "cache-control") ≡ end_to_end_lines gateway request (codes "cache-control")
+      = crosses gateway request modern origin none (codes "cache-control") refl refl refl in
+      record {
+        there =
+            record {
+              answers = λ present resource answer h. (both present resource answer).1 h;
+              directs = sym line;
+            };
+        back = record { answers = λ present resource answer h. (both present resource answer).0 h; directs = line };
+      }
+
+  plain_meant : (host : List Line) (request : Request) → IsPlain host request → (hops : List Hop)
+      → Same (meant hops request) request
+  plain_meant host request h hops =
+      as_meant request h.protocol h.authority (ap (λ (lines : List Line). field_members true lines) h.connection) hops
+
+  -- ---- a gateway
+
+  module _ (server : Server) (gateway : Gateway) (origin : Origin) (now : ℕ) (request : Request) (reply : Reply)
+      (f : IsForwardedBack gateway origin now request reply) where
+    -- what a gateway forwards is the request that is meant for the server
+    forwards : Stands f.next (sent_directly gateway request)
+    forwards =
+        record {
+          answers = λ present resource answer h.
+              (reads present resource (sent_directly gateway request) f.next answer
+              (alike gateway request f.next f.sent f.forwarded f.passed)
+              (choose_alike gateway request f.next f.sent f.forwarded f.passed)).1 h;
+          directs =
+              sym
+              (same_lines gateway request f.next f.sent f.forwarded f.passed (codes "cache-control") refl refl refl);
+        }
+
+    comes : (name : List ℕ) → HasNoOptions f.behind.fields → is_known true name ≡ false
+        → All (λ own. own ≢ name) own_names → reply.fields name ≡ f.behind.fields name
+    comes name none end_to_end not_own =
+        let options : connection_options f.response.fields ≡ []
+        = ap (λ (lines : List Line). field_members true lines) (f.response_fields (codes "connection") ∙ none) in
+        let crossing : is_hop_by_hop gateway.consumes_credentials (connection_options f.response.fields) name ≡ false
+        = ap (λ (members : List Member). is_hop_by_hop gateway.consumes_credentials members name) options
+        ∙ ap (λ (b : Bool). b || false) (known_by gateway.consumes_credentials name end_to_end) in
+        f.fields name ∙ f.forwarded_back.fields.end_to_end name crossing not_own ∙ f.response_fields name
+
+    -- fields of one connection end here, those that connection options name too
+    pub ends : (name : List ℕ) → IsHopByHop gateway f.behind.fields name → name ≢ codes "transfer-encoding"
+        → reply.fields name ≡ []
+    ends name hop other =
+        let same : connection_options f.behind.fields ≡ connection_options f.response.fields
+        = ap (λ (lines : List Line). field_members true lines) (sym (f.response_fields (codes "connection"))) in
+        f.fields name
+        ∙ f.forwarded_back.fields.hop_by_hop name
+        (subst (λ (options : List Member). is_hop_by_hop gateway.consumes_credentials options name ≡ true) same hop)
+        other
+
+    through : IsTold server now f.next f.behind → IsTold server now (sent_directly gateway request) reply
+    through t =
+        let status : reply.status ≡ f.behind.status = f.status ∙ f.response_status in
+        let told : IsTold server now f.next reply = record {
+          time = t.time;
+          said =
+              record {
+                answer = t.said.answer;
+                is = t.said.is;
+                status = t.said.status ∙ ap (λ (n : ℕ). Some n) (sym status);
+                content = f.content ∙ t.said.content;
+                fields = λ name c.
+                    comes name t.no_options c.end_to_end c.not_own ∙ t.said.fields name c
+                    ∙ ap
+                    (λ (n : ℕ). set_all (server.own t.time n) (fields_of t.said.answer.fields.items) name)
+                    (sym status);
+              };
+          past = t.past;
+          aged =
+              subst (λ (n : ℕ). now - t.time ≤ n)
+              (ap age_of (sym (comes (codes "age") t.no_options refl (differs (codes "age") own_names refl)))) t.aged;
+          good = good t.good;
+          no_options =
+              f.fields (codes "connection")
+              ∙ f.forwarded_back.fields.hop_by_hop (codes "connection") refl (apart (codes "connection") refl);
+        } in
+        told_as server now reply f.next (sent_directly gateway request) forwards told
+      where
+        good : (t.time ≡ now) ⊎ IsGoodAt (now - t.time) f.next f.behind
+            → (t.time ≡ now) ⊎ IsGoodAt (now - t.time) f.next reply
+        good (inl e) = inl e
+        good (inr g) =
+            inr (
+            record {
+              kind = g.kind;
+              stored = g.stored;
+              same = λ name c. comes name t.no_options c.end_to_end c.not_own ∙ g.same name c;
+              asks = g.asks;
+              directs = g.directs;
+              came = g.came;
+              stated = g.stated;
+              lifetime = g.lifetime;
+              freshness = g.freshness;
+              has_lifetime = g.has_lifetime;
+              old = g.old;
+              good = g.good;
+            }
+            )
+
+-- ---- a cache
+
+module _ (sound : VaryIsSound) (members : MembersSelect) (law : ServesWhatIsJustified) (server : Server)
+    (steady : IsSteady server) (kind : Kind) (limits : Limits) (origin : Origin) (target : List ℕ) (host : List Line)
+    (now : ℕ) (request : Request) (reply : Reply)
+    (f : IsFromStore kind limits origin target host now request reply) where
+  abbrev came : HasComeFrom origin host now (come law kind limits origin target host now request reply f).came
+  came = from law kind limits origin target host now request reply f
+
+  status_is : reply.status ≡ came.reply.status
+  status_is =
+      f.status ∙ (come law kind limits origin target host now request reply f).kept.status ∙ came.status
+
+  from_store : now ≤ greatest → IsTold server came.time came.request came.reply → IsTold server now request reply
+  from_store fits t =
+      let said = t.said in
+      let none = t.no_options in
+      let stored = λ (name : List ℕ) (c : IsCarried name).
+      stored_as law kind limits origin target host now request reply f none name c.end_to_end
+      (date_not_carried name c) in
+      let varies : fields_of_stored f.stored (codes "vary")
+      ≡ set_all (server.own t.time came.reply.status) (fields_of said.answer.fields.items) (codes "vary")
+      = stored (codes "vary") vary_carried ∙ said.fields (codes "vary") vary_carried in
+      let now_said = steady.answers t.time request in
+      let same : AreSame said.answer now_said.0
+      = suited sound members t.time (server.resource t.time) came.request request said.answer now_said.0
+      (server.own t.time came.reply.status) said.is now_said.1
+      (plain_alike host came.request request came.plain f.plain)
+      (suits law kind limits origin target host now request reply f
+      (set_all (server.own t.time came.reply.status) (fields_of said.answer.fields.items)) varies) in
+      let aged : now - t.time ≤ counted law kind limits origin target host now request reply f
+      = counts law kind limits origin target host now request reply f none t.time t.past fits t.aged in
+      let right = served law kind limits origin target host now request reply f in
+      let same_stored : right.response ≡ f.stored = is_stored law kind limits origin target host now request reply f in
+      record {
+        time = t.time;
+        said =
+            record {
+              answer = now_said.0;
+              is = now_said.1;
+              status = sym same.status ∙ said.status ∙ ap (λ (n : ℕ). Some n) (sym status_is);
+              content =
+                  f.content ∙ ap (λ c. c.items)
+                  (come law kind limits origin target host now request reply f).kept.content
+                  ∙ came.content ∙ said.content
+                  ∙ steady.same t.time said.answer.sends now_said.0.sends same.sends;
+              fields = λ name c.
+                  f.fields name c.not_age ∙ stored name c ∙ said.fields name c
+                  ∙ ap (λ fields. set_all (server.own t.time came.reply.status) fields name) same.fields
+                  ∙ ap
+                  (λ (n : ℕ). set_all (server.own t.time n) (fields_of now_said.0.fields.items) name)
+                  (sym status_is);
+            };
+        past = omega (arith, t.past, came.before, came.past);
+        aged =
+            subst (λ (n : ℕ). now - t.time ≤ n)
+            (sym (age_is law kind limits origin target host now request reply f)) aged;
+        good =
+            inr (
+            record {
+              kind = kind;
+              stored = fields_of_stored f.stored;
+              same = λ name c. f.fields name c.not_age;
+              asks = request.fields;
+              directs = refl;
+              came = f.stored.received;
+              stated = right.stated;
+              lifetime =
+                  subst (λ (s : StoredResponse). HasLifetime kind s.received (fields_of_stored s) right.stated)
+                  same_stored right.lifetime;
+              freshness = freshness_at right.stated (times_of f.stored now) (fields_of_stored f.stored);
+              has_lifetime = refl;
+              old = aged;
+              good =
+                  subst
+                  (λ (s : StoredResponse). IsGoodEnough kind (directed request.fields) (directed (fields_of_stored s))
+                  (freshness_at right.stated (times_of s now) (fields_of_stored s)))
+                  same_stored right.good;
+            }
+            );
+        no_options = quiet law kind limits origin target host now request reply f;
+      }
+
+-- ---- a chain
+
+module _ (reads : ReadsNoMore) (sound : VaryIsSound) (members : MembersSelect) (law : ServesWhatIsJustified)
+    (server : Server) (steady : IsSteady server) (target : List ℕ) (host : List Line) where
+  pub tells : (hops : List Hop) (now : ℕ) (request : Request) (reply : Reply) → now ≤ greatest
+      → behind server target host hops now request reply → IsTold server now (meant hops request) reply ⊎ IsOwn reply
+  tells [] now request reply fits h =
+      inl (
+      record {
+        time = now;
+        said = h.said;
+        past = omega arith;
+        aged = omega arith;
+        good = inl refl;
+        no_options = h.no_options;
+      }
+      )
+  tells (Forwards gateway ∷ hops) now request reply fits (inr own) = inr own
+  tells (Forwards gateway ∷ hops) now request reply fits (inl f) =
+      elim (tells hops now f.next f.behind fits f.answered) [
+        | inl t ↦
+            let same : Same (meant hops f.next) f.next =
+            as_meant reads f.next f.passed.protocol f.passed.authority
+            (no_options gateway request f.next f.sent f.forwarded f.passed) hops in
+            inl (
+            through reads server gateway (behind server target host hops) now request reply f
+            (told_as server now f.behind (meant hops f.next) f.next same.there t)
+            )
+        | inr own ↦
+            inr (subst (λ (n : ℕ). Contains own_statuses n) (sym (f.status ∙ f.response_status)) own)
+      ]
+  tells (Stores kind limits ∷ hops) now request reply fits (inl h) = tells hops now request reply fits h
+  tells (Stores kind limits ∷ hops) now request reply fits (inr (inr own)) = inr own
+  tells (Stores kind limits ∷ hops) now request reply fits (inr (inl f)) =
+      let origin = behind server target host hops in
+      let first = came sound members law server steady kind limits origin target host now request reply f in
+      let early : first.time ≤ greatest = omega (arith, fits, first.before, first.past) in
+      elim (tells hops first.time first.request first.reply early first.answered) [
+        | inl t ↦
+            let there : Same (meant hops first.request) first.request =
+            plain_meant reads host first.request first.plain hops in
+            let back : Same (meant hops request) request = plain_meant reads host request f.plain hops in
+            inl (
+            told_as server now reply request (meant hops request) back.back
+            (
+            from_store sound members law server steady kind limits origin target host now request reply f fits
+            (told_as server first.time first.reply (meant hops first.request) first.request there.there t)
+            )
+            )
+        | inr own ↦
+            inr (
+            subst (λ (n : ℕ). Contains own_statuses n)
+            (sym (status_is sound members law server steady kind limits origin target host now request reply f)) own
+            )
+      ]
