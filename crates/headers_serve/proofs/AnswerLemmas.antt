@@ -1,5 +1,5 @@
 -- What is known of an answer to a read of a file.
-use Rattle.std.proofs.Common.{◌≡◌, ℕ, List, [], length, Option, Some, None, MatchBool, arith, is_some, subst}
+use Rattle.std.proofs.Common.{◌≡◌, ℕ, List, [], Option, Some, None, MatchBool, arith, is_some, subst}
 use Rattle.std.proofs.lemmas.List.Elements.{All-head}
 use Rattle.http_header.specs.FieldValue.{FieldValue}
 use Rattle.headers.specs.LineMap.{LineMap}
@@ -17,7 +17,7 @@ use Rattle.headers_preconditions.specs.declared.resource.Resource.{Resource}
 use Rattle.headers_preconditions.specs.declared.response.Response.{Response as Answer}
 use Rattle.memchr.specs.Find.{FindsNeedle}
 use Rattle.headers_serve.specs.Answer.{IsAnswerOf}
-use Rattle.headers_serve.specs.File.{boundary_of, content_of, resource_of}
+use Rattle.headers_serve.specs.File.{content_of, len_of, resource_of}
 use Rattle.headers_serve.specs.Parts.{Fits, Occurs}
 use Rattle.headers_serve.specs.declared.file.File.{File}
 
@@ -32,21 +32,21 @@ Fits-from_plan present method request resource len limits NotModified h = tt
 Fits-from_plan present method request resource len limits Failed h = tt
 Fits-from_plan present method request resource len limits Unsatisfiable h = tt
 
-pub Fits-from_answer : (present : ℕ) (method : List ℕ) (request : LineMap) (file : File) (answer : Answer)
-    → IsAnswerOf present method request file answer → Fits (length file.content) answer.plan
-Fits-from_answer present method request file answer h =
-    Fits-from_plan present method request (resource_of file) (length file.content) usual_limits answer.plan h.2.plan
+pub Fits-from_answer : (present : ℕ) (boundary method : List ℕ) (request : LineMap) (file : File) (answer : Answer)
+    → IsAnswerOf present boundary method request file answer → Fits (len_of file.source) answer.plan
+Fits-from_answer present boundary method request file answer h =
+    Fits-from_plan present method request (resource_of file) (len_of file.source) usual_limits answer.plan h.2.plan
 
 -- what is answered for a file's resource and content is the answer for the file
-pub IsAnswerOf-from_response : (present : ℕ) (method : List ℕ) (request : LineMap) (file : File)
-    (resource : Resource) (content : Content) (kind : FieldValue) (digits : List ℕ) (answer : Answer)
-    → resource ≡ resource_of file → content ≡ content_of file → kind.bytes ≡ multipart_type digits
-    → digits ≡ boundary_of file
-    → IsResponse present method request resource content kind answer → IsAnswerOf present method request file answer
-IsAnswerOf-from_response present method request file resource content kind digits answer same_resource same_content
-    bytes digest h = (
+pub IsAnswerOf-from_response : (present : ℕ) (boundary method : List ℕ) (request : LineMap) (file : File)
+    (resource : Resource) (content : Content) (kind : FieldValue) (answer : Answer)
+    → resource ≡ resource_of file → content ≡ content_of file → kind.bytes ≡ multipart_type boundary
+    → IsResponse present method request resource content kind answer
+    → IsAnswerOf present boundary method request file answer
+IsAnswerOf-from_response present boundary method request file resource content kind answer same_resource same_content
+    bytes h = (
       kind,
-      subst (λ (d : List ℕ). kind.bytes ≡ multipart_type d) digest bytes,
+      bytes,
       subst (λ (r : Resource). IsResponse present method request r (content_of file) kind answer) same_resource
           (subst (λ (c : Content). IsResponse present method request resource c kind answer) same_content h),
     )

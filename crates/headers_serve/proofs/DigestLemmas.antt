@@ -6,7 +6,7 @@ use Rattle.std.proofs.lemmas.List.Elements.{All-append, All-cons, All-get_or, Al
 use Rattle.std.proofs.lemmas.List.Sums.{AllPass-from_list_all}
 use Rattle.std.specs.Int.{byte_at, bytes_high_first}
 use Rattle.std.specs.List.{AllPass, list_all}
-use Rattle.std.specs.Prelude.{All, Bool, codes, if◌then◌else◌, is_some, slice_index}
+use Rattle.std.specs.Prelude.{All, slice_index}
 use Rattle.hex.specs.Hex.{encode_lower, encode_with, lower_digits}
 use Rattle.hex.proofs.HexLemmas.{length-encode_with}
 use Rattle.http_header.specs.FieldValue.{IsFieldValue}
@@ -17,8 +17,7 @@ use Rattle.headers.specs.Text.{quote}
 use Rattle.headers_preconditions.specs.Boundaries.{is_boundary, is_boundary_byte}
 use Rattle.sha2.specs.Sha256.{digest_bytes, sha256}
 use Rattle.sha2.proofs.Facts256.{length-sha256}
-use Rattle.headers_serve.specs.File.{boundary_of, content_digest, strong_tag}
-use Rattle.headers_serve.specs.declared.file.File.{File}
+use Rattle.headers_serve.specs.File.{content_digest, strong_tag}
 
 abbrev IsByte : ℕ → Type 0
 IsByte b = b < 256
@@ -56,7 +55,7 @@ digits (b ∷ bytes) small =
     rw (high, low) others
 
 -- the digits of a digest are a boundary
-digest_is_boundary : (content : List ℕ) → is_boundary (content_digest content) ≡ true
+pub digest_is_boundary : (content : List ℕ) → is_boundary (content_digest content) ≡ true
 unfolding content_digest
 digest_is_boundary content =
     let count = length-sha256 content in
@@ -64,15 +63,6 @@ digest_is_boundary content =
     let small = sha256_small content in
     let all = digits (sha256 content) (λ i within. All-get_or IsByte (sha256 content) i 0 within small) in
     grind (arith, nat_tests)
-
-between : (has_digest : Bool) (content : List ℕ)
-    → is_boundary (if has_digest then content_digest content else codes "part-of-a-file") ≡ true
-between true content = digest_is_boundary content
-between false content = refl
-
--- what stands between parts of a file is a boundary
-pub stands_between : (file : File) → is_boundary (boundary_of file) ≡ true
-stands_between file = between (is_some file.digest) file.content
 
 tag_byte : (b : ℕ) → is_boundary_byte b ≡ true → IsTrue (is_tag_byte b)
 tag_byte b e = grind (arith, nat_tests)

@@ -1,5 +1,5 @@
 pub mod AnswerLemmas
-pub mod ChainLemmas
+pub mod ContentLemmas
 pub mod DigestLemmas
 pub mod OneResponseLemmas
 pub mod PartLemmas

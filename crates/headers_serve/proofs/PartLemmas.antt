@@ -1,6 +1,6 @@
 -- A part holds no bytes that the content doesn't.
 use Rattle.std.proofs.Common.{◌≡◌, ℕ, ◌+◌, ◌-◌, ◌<◌, List, [], ◌∷◌, length, drop, get_or, arith, ap, sym}
-use Rattle.std.proofs.Common.{◌∙◌}
+use Rattle.std.proofs.Common.{◌∙◌, subst}
 use Rattle.std.proofs.Common.{length-drop, true, false, refl, inl, inr}
 use Rattle.std.proofs.lemmas.List.{get_or-drop, get_or-take, length-take}
 use Rattle.std.specs.Prelude.{codes, slice_range}
@@ -16,9 +16,12 @@ use Rattle.headers_preconditions.specs.declared.plan.Plan.TheVariants.{Unsatisfi
 use Rattle.headers_preconditions.specs.declared.resource.Resource.{Resource}
 use Rattle.headers_preconditions.specs.declared.response.Response.{Response as Answer}
 use Rattle.headers_serve.specs.Answer.{AnswersRead, is_several}
-use Rattle.headers_serve.specs.File.{boundary_of, resource_of}
-use Rattle.headers_serve.specs.Parts.{Occurs, part_bytes}
+use Rattle.headers_serve.specs.File.{len_of, resource_of}
+use Rattle.headers_serve.specs.Parts.{IsKnownToHold, Occurs, part_bytes}
 use Rattle.headers_serve.specs.declared.file.File.{File}
+use Rattle.headers_serve.specs.declared.kept.Kept.{Kept}
+use Rattle.headers_serve.specs.declared.source.Source.{Source}
+use Rattle.headers_serve.specs.declared.source.Source.TheVariants.{Kept as InMemory}
 
 OccursAt-from_slice : (content bytes : List ℕ) (a b k : ℕ) → 0 < length bytes
     → OccursAt (slice_range content a b) bytes k → OccursAt content bytes (a + k)
@@ -58,15 +61,18 @@ head_has_none present request resource len limits NotModified h = refl
 head_has_none present request resource len limits Failed h = refl
 head_has_none present request resource len limits Unsatisfiable h = refl
 
-pub no_part_holds_boundary : (present : ℕ) (method : List ℕ) (request : LineMap) (file : File) (answer : Answer)
-    → AnswersRead present method request file answer → is_several answer.plan ≡ true
-    → (part : Part) → ¬ (Occurs (boundary_of file) (part_bytes file.content part))
-no_part_holds_boundary present method request file answer h several part =
+pub no_part_holds_boundary : (present : ℕ) (boundary method : List ℕ) (request : LineMap) (file : File)
+    (answer : Answer) (kept : Kept)
+    → AnswersRead present boundary method request file answer → is_several answer.plan ≡ true
+    → file.source ≡ InMemory kept → (part : Part) → ¬ (Occurs boundary (part_bytes kept.content part))
+no_part_holds_boundary present boundary method request file answer kept h several memory part =
     elim h [
-      | inl sent ↦ no_part_holds file.content (boundary_of file) part (sent.0 several).apart
+      | inl sent ↦
+          no_part_holds kept.content boundary part
+          (subst (λ (source : Source). ¬ (IsKnownToHold source boundary)) memory (sent.0 several).apart)
       | inr whole ↦
           let none =
-          head_has_none present request (resource_of file) (length file.content) usual_limits answer.plan
+          head_has_none present request (resource_of file) (len_of file.source) usual_limits answer.plan
           whole.3.2.plan in
           absurd (cc (none, several))
     ]

@@ -7,11 +7,11 @@ use Rattle.std.proofs.lemmas.Bool.Decides.{nat_tests}
 use Rattle.std.specs.List.{list_all, onto_first, slice_split}
 use Rattle.std.specs.Prelude.{codes, if◌then◌else◌, ◌==◌}
 use Rattle.percent_encoding.specs.Percent.{percent_decode}
-use Rattle.http_server.specs.declared.response.Response.{Response}
-use Rattle.http_server.specs.Response.{fields_of}
 use Rattle.http1.specs.Fields.{Header}
+use Rattle.headers_exchange.specs.declared.plan.Plan.{Plan as Response}
 use Rattle.headers_serve.specs.Path.{IsStorePath, ends_in_slash, is_name, is_plain, with_index}
 use Rattle.headers_serve.specs.Redirect.{AnswersFolder, IsOnHost, index_target}
+use Rattle.headers_serve.specs.Response.{fields_of}
 
 -- a byte that is no percent sign is its own
 keeps_slash : (rest : List ℕ) → percent_decode (47 ∷ rest) ≡ 47 ∷ percent_decode rest

@@ -16,7 +16,8 @@ use Rattle.headers_serve.specs.Representations.{AreOffers, IsServedAt, Represent
 use Rattle.headers_serve.specs.Representations.{place_of, represented}
 use Rattle.headers_serve.specs.declared.coding.Coding.TheVariants.{Identity, Brotli, Gzip}
 use Rattle.headers_serve.specs.declared.file.Entry.{Entry}
-use Rattle.headers_serve.specs.declared.file.Entry.TheVariants.{Missing, Forbidden, Folder, Readable}
+use Rattle.headers_serve.specs.declared.file.Entry.TheVariants.{Missing, Forbidden, Unavailable}
+use Rattle.headers_serve.specs.declared.file.Entry.TheVariants.{Folder, Readable}
 use Rattle.headers_serve.specs.declared.file.File.{File}
 
 module _ (look : List ℕ → Entry) where
@@ -85,22 +86,25 @@ module _ (look : List ℕ → Entry) where
   served_once false request path found e f x y = x ∙ sym y
   served_once true request path Missing e f x y = x ∙ sym y
   served_once true request path Forbidden e f x y = x ∙ sym y
+  served_once true request path Unavailable e f x y = x ∙ sym y
   served_once true request path Folder e f x y = x ∙ sym y
   served_once true request path (Readable file) e f x y =
       x.2 ∙ ap Readable (represents_once request path file x.0 y.0 x.1 y.1) ∙ sym y.2
 
-  -- without Accept-Encoding a request gets a file's own content
+  -- without Accept-Encoding, or where nothing is negotiated, a request gets a file's own content
   pub served_own : (negotiates : Bool) (request : LineMap) (path : List ℕ) (file : File) (e : Entry)
-      → request (codes "accept-encoding") ≡ [] → IsServedAt negotiates Has request path (Readable file) e
-      → (own : File) × (e ≡ Readable own) × (own.content ≡ file.content)
+      → (negotiates ≡ true → request (codes "accept-encoding") ≡ [])
+      → IsServedAt negotiates Has request path (Readable file) e
+      → (own : File) × (e ≡ Readable own) × (own.source ≡ file.source)
   served_own false request path file e silent x = (file, x, refl)
   served_own true request path file e silent x =
-      (x.0, x.2, ap (λ (f : File). f.content) (represents_own request path file x.0 silent x.1))
+      (x.0, x.2, ap (λ (f : File). f.source) (represents_own request path file x.0 (silent refl) x.1))
 
   -- and so does the path of a URI lead it to that
   pub leads_own : (negotiates : Bool) (request : LineMap) (path named : List ℕ) (file : File) (e : Entry)
-      → Names path (Some named) → look named ≡ Readable file → request (codes "accept-encoding") ≡ []
-      → LeadsTo negotiates Has request path e → (own : File) × (e ≡ Readable own) × (own.content ≡ file.content)
+      → Names path (Some named) → look named ≡ Readable file
+      → (negotiates ≡ true → request (codes "accept-encoding") ≡ [])
+      → LeadsTo negotiates Has request path e → (own : File) × (e ≡ Readable own) × (own.source ≡ file.source)
   leads_own negotiates request path named file e names found silent x =
       elim x [
         | inl h ↦

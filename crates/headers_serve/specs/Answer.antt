@@ -1,17 +1,17 @@
 -- What a request is answered with.
 use Rattle.std.specs.Prelude.{◌≡◌, ◌≢◌, ◌⊎◌, ℕ, Bool, true, false, List, [], ◌∷◌, ◌++◌, codes}
-use Rattle.std.specs.Prelude.{Option, Some, None, if◌then◌else◌}
+use Rattle.std.specs.Prelude.{Option, Some, None, ⊤, if◌then◌else◌, string_bytes}
 use Rattle.http.specs.declared.request.Request.{Request}
 use Rattle.http.specs.Request.{head_of}
 use Rattle.http_header.specs.FieldValue.{FieldValue}
 use Rattle.http_uri.specs.declared.uri.Uri.{Uri}
 use Rattle.http_uri.specs.Uri.{uri_path, uri_query}
-use Rattle.http_server.specs.declared.response.Response.{Response}
-use Rattle.http_server.specs.Response.{fields_of}
 use Rattle.http1.specs.Fields.{Header}
 use Rattle.headers.specs.Date.{fixdate}
 use Rattle.headers.specs.LineMap.{LineMap, lines_at}
-use Rattle.headers_cors_policy.specs.Policy.{Policy}
+use Rattle.headers_exchange.specs.declared.plan.Plan.{Plan as Response}
+use Rattle.headers_exchange.specs.declared.piece.Piece.{Piece}
+use Rattle.headers_exchange.specs.declared.piece.Piece.TheVariants.{Range}
 use Rattle.headers_preconditions.specs.Boundaries.{multipart_type}
 use Rattle.headers_preconditions.specs.Fields.{is_known_by}
 use Rattle.headers_preconditions.specs.Preconditions.{IsGetOrHead}
@@ -22,26 +22,33 @@ use Rattle.headers_preconditions.specs.declared.plan.Plan.TheVariants.{Unsatisfi
 use Rattle.headers_preconditions.specs.declared.response.Response.{Response as Answer}
 use Rattle.headers_serve.specs.Codings.{coding_name, is_encoded}
 use Rattle.headers_serve.specs.Cors.{IsShared}
-use Rattle.headers_serve.specs.File.{boundary_of, content_of, resource_of}
+use Rattle.headers_serve.specs.File.{content_of, len_of, resource_of}
 use Rattle.headers_serve.specs.Multipart.{multipart}
-use Rattle.headers_serve.specs.Parts.{Occurs, part_bytes}
+use Rattle.headers_serve.specs.Parts.{IsKnownToHold, part_extent}
 use Rattle.headers_serve.specs.Path.{Names}
 use Rattle.headers_serve.specs.Redirect.{AnswersFolder}
 use Rattle.headers_serve.specs.Representations.{IsServedAt}
-use Rattle.headers_serve.specs.Response.{IsWith, headers_of}
+use Rattle.headers_serve.specs.Response.{IsWith, fields_of, headers_of}
 use Rattle.headers_serve.specs.declared.coding.Coding.{Coding}
 use Rattle.headers_serve.specs.declared.coding.Coding.TheVariants.{Identity, Brotli, Gzip}
 use Rattle.headers_serve.specs.declared.file.Entry.{Entry}
-use Rattle.headers_serve.specs.declared.file.Entry.TheVariants.{Missing, Forbidden, Folder, Readable}
+use Rattle.headers_serve.specs.declared.file.Entry.TheVariants.{Missing, Forbidden, Unavailable}
+use Rattle.headers_serve.specs.declared.file.Entry.TheVariants.{Folder, Readable}
 use Rattle.headers_serve.specs.declared.file.File.{File}
+use Rattle.headers_serve.specs.declared.source.Source.{Source}
+use Rattle.headers_serve.specs.declared.settings.Settings.{Settings}
 
 -- ---- a read of a file
 
+-- what stands between several parts
+abbrev pub boundary_of : Settings → List ℕ
+boundary_of settings = string_bytes settings.divider.text
+
 -- The answer of `headers_preconditions` to a request for the file: by the time, in seconds since 1970, its method, its
--- conditions and its ranges, with the boundary of the file.
-abbrev pub IsAnswerOf : ℕ → List ℕ → LineMap → File → Answer → Type 0
-IsAnswerOf present method request file answer =
-    (kind : FieldValue) × (kind.bytes ≡ multipart_type (boundary_of file))
+-- conditions and its ranges, with this boundary.
+abbrev pub IsAnswerOf : ℕ → List ℕ → List ℕ → LineMap → File → Answer → Type 0
+IsAnswerOf present boundary method request file answer =
+    (kind : FieldValue) × (kind.bytes ≡ multipart_type boundary)
     × IsResponse present method request (resource_of file) (content_of file) kind answer
 
 -- the plan sends several parts
@@ -59,23 +66,23 @@ is_encoded_in None = false
 is_encoded_in (Some coding) = is_encoded coding
 
 -- The file can be sent in parts: its content has no coding, which would be that of the parts and what stands between
--- them (RFC 9110, section 8.4), and no part holds what stands between the parts (RFC 2046, section 5.1.1), since the
--- content doesn't.
-pub record IsDivisible (file : File) : Type 0 where
+-- them (RFC 9110, section 8.4), and no part is known to hold what stands between the parts (RFC 2046, section 5.1.1).
+pub record IsDivisible (boundary : List ℕ) (file : File) : Type 0 where
   pub plain : is_encoded_in file.coding ≡ false
-  pub apart : ¬ (Occurs (boundary_of file) file.content)
+  pub apart : ¬ (IsKnownToHold file.source boundary)
 
 -- the plan sends no parts, or they can be sent
-abbrev pub IsSendable : File → Plan → Type 0
-IsSendable file plan = is_several plan ≡ true → IsDivisible file
+abbrev pub IsSendable : List ℕ → File → Plan → Type 0
+IsSendable boundary file plan = is_several plan ≡ true → IsDivisible boundary file
 
 -- The answer to a read of the file. If its parts can't be sent, Range is ignored, as RFC 9110, section 14.2, lets a
 -- server do: the plan is that of a HEAD, which is that of a GET without Range.
-abbrev pub AnswersRead : ℕ → List ℕ → LineMap → File → Answer → Type 0
-AnswersRead present method request file answer =
-    (IsSendable file answer.plan × IsAnswerOf present method request file answer)
-    ⊎ ((asked : Answer) × (¬ (IsSendable file asked.plan)) × IsAnswerOf present method request file asked
-    × IsAnswerOf present (codes "HEAD") request file answer)
+abbrev pub AnswersRead : ℕ → List ℕ → List ℕ → LineMap → File → Answer → Type 0
+AnswersRead present boundary method request file answer =
+    (IsSendable boundary file answer.plan × IsAnswerOf present boundary method request file answer)
+    ⊎ ((asked : Answer) × (¬ (IsSendable boundary file asked.plan))
+    × IsAnswerOf present boundary method request file asked
+    × IsAnswerOf present boundary (codes "HEAD") request file answer)
 
 -- a cache may use the answer again
 abbrev pub is_reusable : Plan → Bool
@@ -120,33 +127,33 @@ coding_fields plan is_known (Some coding) =
 abbrev pub coding_sent : Plan → Bool → Option Coding → List Header
 coding_sent plan is_known coding = if is_reusable plan then coding_fields plan is_known coding else []
 
--- the bytes that a plan sends of the file; to a HEAD the connection sends none
-abbrev pub body_sent : File → Plan → List ℕ
-body_sent file Full = file.content
-body_sent file (Single part) = part_bytes file.content part
-body_sent file (Multiple parts) = multipart (boundary_of file) file parts.items
-body_sent file NotModified = []
-body_sent file Failed = []
-body_sent file Unsatisfiable = []
+-- the pieces that a plan sends of the file; to a HEAD the connection sends none
+abbrev pub pieces_sent : List ℕ → File → Plan → List Piece
+pieces_sent boundary file Full = Range (record { start = 0; len = len_of file.source }) ∷ []
+pieces_sent boundary file (Single part) = Range (part_extent part) ∷ []
+pieces_sent boundary file (Multiple parts) = multipart boundary file parts.items
+pieces_sent boundary file NotModified = []
+pieces_sent boundary file Failed = []
+pieces_sent boundary file Unsatisfiable = []
 
--- the response has the answer's status, its fields after those from before, and the bytes of its plan
-pub record Carries (before : List Header) (cache_control : Option FieldValue) (is_known : Bool) (file : File)
-    (answer : Answer) (response : Response) : Type 0 where
+-- the response has the answer's status, its fields after those from before, and the pieces of its plan
+pub record Carries (before : List Header) (settings : Settings) (is_known : Bool) (file : File) (answer : Answer)
+    (response : Response) : Type 0 where
   pub status : response.status ≡ answer.status
   pub headers : fields_of response
-      ≡ before ++ cache_sent answer.plan cache_control ++ coding_sent answer.plan is_known file.coding
+      ≡ before ++ cache_sent answer.plan settings.cache_control ++ coding_sent answer.plan is_known file.coding
       ++ headers_of answer.fields.items
-  pub body : response.body.items ≡ body_sent file answer.plan
+  pub pieces : response.pieces.items ≡ pieces_sent (boundary_of settings) file answer.plan
 
 -- the response to a read of the file
-abbrev pub AnswersFile : ℕ → List Header → Option FieldValue → List ℕ → LineMap → File → Response → Type 0
-AnswersFile present before cache_control method request file response =
-    (answer : Answer) × AnswersRead present method request file answer
-    × Carries before cache_control (is_known_by request) file answer response
+abbrev pub AnswersFile : ℕ → List Header → Settings → List ℕ → LineMap → File → Response → Type 0
+AnswersFile present before settings method request file response =
+    (answer : Answer) × AnswersRead present (boundary_of settings) method request file answer
+    × Carries before settings (is_known_by request) file answer response
 
 -- ---- a request
 
-module _ (present : ℕ) (before : List Header) (cache_control : Option FieldValue) (request : Request (List ℕ)) where
+module _ (present : ℕ) (before : List Header) (settings : Settings) (request : Request (List ℕ)) where
   abbrev pub method_of : List ℕ
   method_of = (head_of request).method
 
@@ -157,9 +164,10 @@ module _ (present : ℕ) (before : List Header) (cache_control : Option FieldVal
   abbrev pub AnswersEntry : Entry → Response → Type 0
   AnswersEntry Missing response = IsWith before 404 [] [] response
   AnswersEntry Forbidden response = IsWith before 403 [] [] response
+  AnswersEntry Unavailable response = IsWith before 503 [] [] response
   AnswersEntry Folder response = AnswersFolder before (uri_path uri_of) (uri_query uri_of) response
   AnswersEntry (Readable file) response =
-      AnswersFile present before cache_control method_of (lines_at (head_of request).headers) file response
+      AnswersFile present before settings method_of (lines_at (head_of request).headers) file response
 
 -- the methods that are answered
 abbrev pub allow_field : Header
@@ -179,29 +187,41 @@ LeadsTo negotiates has request path entry =
     × ((found : Entry) × has named found × IsServedAt negotiates has request named found entry))
     ⊎ (Names path None × (entry ≡ Missing))
 
--- the response to a request, where the store has this at its paths
-abbrev pub AnswersBehind : ℕ → List Header → Bool → Option FieldValue → (List ℕ → Entry → Type 0) → Request (List ℕ)
-    → Response → Type 0
-AnswersBehind present before negotiates cache_control has request response =
+-- the source from which the ranges of a response are read: the file's, where one was found
+abbrev pub Opens : Entry → Source → Type 0
+Opens Missing source = ⊤
+Opens Forbidden source = ⊤
+Opens Unavailable source = ⊤
+Opens Folder source = ⊤
+Opens (Readable file) source = source ≡ file.source
+
+-- the response to a request, where the store has this at its paths, and the source of its ranges
+abbrev pub AnswersBehind : ℕ → List Header → Settings → (List ℕ → Entry → Type 0) → Request (List ℕ) → Response
+    → Source → Type 0
+AnswersBehind present before settings has request response source =
     (IsGetOrHead (head_of request).method
     × ((entry : Entry)
-    × LeadsTo negotiates has (lines_at (head_of request).headers) (uri_path (head_of request).uri) entry
-    × AnswersEntry present before cache_control request entry response))
+    × LeadsTo settings.negotiates has (lines_at (head_of request).headers) (uri_path (head_of request).uri) entry
+    × AnswersEntry present before settings request entry response × Opens entry source))
     ⊎ ((¬ (IsGetOrHead (head_of request).method)) × AnswersOther before (head_of request).method response)
 
--- the request makes no condition, and asks for no range and no coding
-pub record AsksForAll (request : LineMap) : Type 0 where
+-- the request makes no condition, and asks for no range, and for no coding where codings are negotiated
+pub record AsksForAll (negotiates : Bool) (request : LineMap) : Type 0 where
   pub if_match : request (codes "if-match") ≡ []
   pub if_none_match : request (codes "if-none-match") ≡ []
   pub if_modified_since : request (codes "if-modified-since") ≡ []
   pub if_unmodified_since : request (codes "if-unmodified-since") ≡ []
   pub range : request (codes "range") ≡ []
-  pub accept_encoding : request (codes "accept-encoding") ≡ []
+  pub accept_encoding : negotiates ≡ true → request (codes "accept-encoding") ≡ []
 
 -- the fields of a date
 abbrev pub date_fields : Option ℕ → List Header
 date_fields None = []
 date_fields (Some seconds) = (codes "date", fixdate seconds) ∷ []
+
+-- browsers take a response for what its media type says (Fetch standard, "X-Content-Type-Options")
+abbrev pub sniff_field : Header
+sniff_field = (codes "x-content-type-options", codes "nosniff")
 
 -- the time by which a request is answered: the start of 1970 where there is no clock
 abbrev pub clock : Option ℕ → ℕ
@@ -209,16 +229,14 @@ clock None = 0
 clock (Some seconds) = seconds
 
 -- The response to a request at a moment, if there is a clock, where the store has this at its paths: after the date,
--- and what a policy for requests from other origins says, if there is one. The answer to a preflight (OPTIONS) is 204,
--- which lets it pass.
-abbrev pub IsAnswerAt : Option ℕ → Option Policy → Bool → Option FieldValue → (List ℕ → Entry → Type 0)
-    → Request (List ℕ) → Response → Type 0
-IsAnswerAt now cors negotiates cache_control has request response =
-    (shared : List Header) × IsShared cors request shared
-    × AnswersBehind (clock now) (date_fields now ++ shared) negotiates cache_control has request response
+-- that browsers shall not guess its type, and what a policy for requests from other origins says, if there is one. The
+-- answer to a preflight (OPTIONS) is 204, which lets it pass. Its ranges are of this source.
+abbrev pub IsAnswerAt : Option ℕ → Settings → (List ℕ → Entry → Type 0) → Request (List ℕ) → Response → Source → Type 0
+IsAnswerAt now settings has request response source =
+    (shared : List Header) × IsShared settings.cors request shared
+    × AnswersBehind (clock now) ((date_fields now ++ sniff_field ∷ []) ++ shared) settings has request response source
 
 -- the response to a request at some moment
-abbrev pub IsAnswer : Option Policy → Bool → Option FieldValue → (List ℕ → Entry → Type 0) → Request (List ℕ) → Response
-    → Type 0
-IsAnswer cors negotiates cache_control has request response =
-    (now : Option ℕ) × IsAnswerAt now cors negotiates cache_control has request response
+abbrev pub IsAnswer : Settings → (List ℕ → Entry → Type 0) → Request (List ℕ) → Response → Source → Type 0
+IsAnswer settings has request response source =
+    (now : Option ℕ) × IsAnswerAt now settings has request response source

@@ -1,15 +1,29 @@
--- What a file's content gives its validators.
-use Rattle.std.specs.Prelude.{ℕ, List, length, Option, Some, None, false, codes, is_some, if◌then◌else◌}
+-- What a file gives: its bytes, and its validators.
+use Rattle.std.specs.Prelude.{◌≡◌, ℕ, List, length, take, drop, Option, Some, ⊤, false}
 use Rattle.http_header.specs.FieldValue.{FieldValue, plain_value}
 use Rattle.sha2.specs.Sha256.{sha256}
 use Rattle.hex.specs.Hex.{encode_lower}
 use Rattle.headers.specs.EntityTag.{tag_text}
+use Rattle.headers_exchange.specs.Pieces.{Gives}
 use Rattle.headers_preconditions.specs.Limits.{usual_limits}
 use Rattle.headers_preconditions.specs.declared.content.Content.{Content}
 use Rattle.headers_preconditions.specs.declared.resource.Resource.{Resource}
 use Rattle.headers_preconditions.specs.declared.resource.Resource.TheVariants.{Current}
 use Rattle.headers_preconditions.specs.declared.resource.Validators.{Validators}
 use Rattle.headers_serve.specs.declared.file.File.{File}
+use Rattle.headers_serve.specs.declared.source.Source.{Source}
+use Rattle.headers_serve.specs.declared.source.Source.TheVariants.{Kept, Opened}
+
+-- how many bytes there are; of an open file, how many there were when it was opened
+abbrev pub len_of : Source → ℕ
+len_of (Kept kept) = length kept.content
+len_of (Opened opened) = opened.len
+
+-- These bytes may be read from this place on: of what is kept, those that stand there. Of an open file nothing is
+-- known.
+abbrev pub gives_at : Source → Gives
+gives_at (Kept kept) start bytes = bytes ≡ take (length bytes) (drop start kept.content)
+gives_at (Opened opened) start bytes = ⊤
 
 -- the digits of a content's SHA-256
 unfoldable pub content_digest : List ℕ → List ℕ
@@ -19,18 +33,15 @@ content_digest content = encode_lower (sha256 content)
 abbrev pub strong_tag : List ℕ → List ℕ
 strong_tag digits = tag_text (record { is_weak = false; opaque = digits })
 
--- the tag of a file that has a digest: the digest of its content
-abbrev pub tag_of : File → Option FieldValue
-tag_of file = if is_some file.digest then Some (plain_value (strong_tag (content_digest file.content))) else None
-
--- what stands between parts of a file: the digest of its content too, or the same text for each file that has none
-abbrev pub boundary_of : File → List ℕ
-boundary_of file = if is_some file.digest then content_digest file.content else codes "part-of-a-file"
+-- the tag: of bytes in memory the digest of them, of an open file the one that it came with
+abbrev pub tag_of : Source → Option FieldValue
+tag_of (Kept kept) = Some (plain_value (strong_tag (content_digest kept.content)))
+tag_of (Opened opened) = opened.tag
 
 -- what is known of a file's representation: its date is no strong validator, since a file may change twice in a second
 abbrev pub validators_of : File → Validators
 validators_of file = record {
-  etag = tag_of file;
+  etag = tag_of file.source;
   last_modified = file.modified;
   is_date_strong = false;
 }
@@ -41,7 +52,7 @@ resource_of file = Current (validators_of file)
 -- its length, its media type, and which ranges of it are sent
 abbrev pub content_of : File → Content
 content_of file = record {
-  len = Some (length file.content);
+  len = Some (len_of file.source);
   media_type = Some file.media_type;
   ranges = Some usual_limits;
 }

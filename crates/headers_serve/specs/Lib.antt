@@ -1,6 +1,5 @@
 pub mod Answer
 pub mod Codings
-pub mod Connection
 pub mod Cors
 pub mod File
 pub mod MediaTypes

@@ -1,15 +1,23 @@
 -- What a store of one file has.
-use Rattle.std.specs.Prelude.{◌≡◌, ◌≢◌, ℕ, List, string_bytes}
+use Rattle.std.specs.Prelude.{◌≡◌, ◌≢◌, ℕ, List, None, string_bytes}
 use Rattle.headers_serve.specs.declared.file.Entry.{Entry}
-use Rattle.headers_serve.specs.declared.file.Entry.TheVariants.{Missing, Forbidden, Folder, Readable}
+use Rattle.headers_serve.specs.declared.file.Entry.TheVariants.{Missing, Forbidden, Unavailable}
+use Rattle.headers_serve.specs.declared.file.Entry.TheVariants.{Folder, Readable}
+use Rattle.headers_serve.specs.declared.source.Source.{Source}
+use Rattle.headers_serve.specs.declared.source.Source.TheVariants.{Kept, Opened}
 use Rattle.headers_serve.specs.declared.memory.Memory.{Memory}
+
+-- the bytes are these, in memory
+abbrev pub IsKept : List ℕ → Source → Type 0
+IsKept content (Kept kept) = kept.content ≡ content
+IsKept content (Opened opened) = ⊥
 
 -- the file at its path, and nothing at others
 abbrev pub HasOne : Memory → List ℕ → Entry → Type 0
 HasOne store path Missing = path ≢ string_bytes store.path
 HasOne store path Forbidden = ⊥
+HasOne store path Unavailable = ⊥
 HasOne store path Folder = ⊥
 HasOne store path (Readable file) =
-    (path ≡ string_bytes store.path) × (file.content ≡ store.file.content)
-    × (file.media_type ≡ store.file.media_type) × (file.modified ≡ store.file.modified)
-    × (file.coding ≡ store.file.coding) × (file.digest ≡ store.file.digest)
+    (path ≡ string_bytes store.path) × IsKept store.content.content file.source
+    × (file.media_type ≡ store.media_type) × (file.modified ≡ store.modified) × (file.coding ≡ None)

@@ -1,10 +1,13 @@
 -- Bodies of several parts (RFC 9110, section 14.6).
-use Rattle.std.specs.Prelude.{ℕ, List, ◌++◌, codes}
+use Rattle.std.specs.Prelude.{ℕ, List, [], ◌∷◌, ◌++◌, codes}
 use Rattle.std.specs.List.{flat_map}
 use Rattle.headers.specs.ContentBytes.{content_text}
 use Rattle.headers.specs.Lines.{Line}
+use Rattle.headers_exchange.specs.declared.piece.Piece.{Piece}
+use Rattle.headers_exchange.specs.declared.piece.Piece.TheVariants.{Literal, Range}
 use Rattle.headers_preconditions.specs.declared.part.Part.{Part}
-use Rattle.headers_serve.specs.Parts.{part_bytes, part_range}
+use Rattle.headers_serve.specs.File.{len_of}
+use Rattle.headers_serve.specs.Parts.{part_extent, part_range}
 use Rattle.headers_serve.specs.declared.file.File.{File}
 
 -- one header line
@@ -15,7 +18,7 @@ header_line name line = name ++ codes ": " ++ line ++ codes "\r\n"
 abbrev pub header_text : List ℕ → List Line → List ℕ
 header_text name lines = flat_map (header_line name) lines
 
--- what stands before a part
+-- the boundary that stands before a part
 unfoldable pub opening : List ℕ → List ℕ
 opening boundary = codes "--" ++ boundary ++ codes "\r\n"
 
@@ -23,20 +26,21 @@ opening boundary = codes "--" ++ boundary ++ codes "\r\n"
 unfoldable pub part_fields : File → Part → List ℕ
 part_fields file part =
     header_line (codes "content-type") file.media_type.bytes
-    ++ header_line (codes "content-range") (content_text (part_range file.content part))
+    ++ header_line (codes "content-range") (content_text (part_range (len_of file.source) part))
 
--- a part's bytes, after an empty line and before a line's end
-unfoldable pub part_lines : List ℕ → List ℕ
-part_lines bytes = codes "\r\n" ++ bytes ++ codes "\r\n"
+-- what stands before a part's bytes: the boundary, the header lines, and an empty line
+unfoldable pub part_head : List ℕ → File → Part → List ℕ
+part_head boundary file part = opening boundary ++ part_fields file part ++ codes "\r\n"
 
--- one part after the boundary
-unfoldable pub part_text : List ℕ → File → Part → List ℕ
-part_text boundary file part = opening boundary ++ part_fields file part ++ part_lines (part_bytes file.content part)
+-- one part: what stands before its bytes, its bytes, and a line's end
+abbrev pub part_pieces : List ℕ → File → Part → List Piece
+part_pieces boundary file part =
+    Literal (part_head boundary file part) ∷ Range (part_extent part) ∷ Literal (codes "\r\n") ∷ []
 
 -- what follows the last part
 unfoldable pub closing : List ℕ → List ℕ
 closing boundary = codes "--" ++ boundary ++ codes "--\r\n"
 
 -- the parts, and the end
-abbrev pub multipart : List ℕ → File → List Part → List ℕ
-multipart boundary file parts = flat_map (part_text boundary file) parts ++ closing boundary
+abbrev pub multipart : List ℕ → File → List Part → List Piece
+multipart boundary file parts = flat_map (part_pieces boundary file) parts ++ Literal (closing boundary) ∷ []

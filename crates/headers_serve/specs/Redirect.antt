@@ -2,7 +2,7 @@
 use Rattle.std.specs.Prelude.{◌≡◌, ◌≢◌, ◌⊎◌, ℕ, true, List, [], ◌∷◌, ◌++◌, Option, Some, None, codes, slice_index}
 use Rattle.http_header.specs.FieldValue.{IsFieldValue}
 use Rattle.http1.specs.Fields.{Header}
-use Rattle.http_server.specs.declared.response.Response.{Response}
+use Rattle.headers_exchange.specs.declared.plan.Plan.{Plan as Response}
 use Rattle.headers_serve.specs.Path.{ends_in_slash}
 use Rattle.headers_serve.specs.Response.{IsWith}
 

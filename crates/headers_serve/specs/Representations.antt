@@ -11,7 +11,8 @@ use Rattle.headers_serve.specs.Path.{is_plain}
 use Rattle.headers_serve.specs.declared.coding.Coding.{Coding}
 use Rattle.headers_serve.specs.declared.coding.Coding.TheVariants.{Identity, Brotli, Gzip}
 use Rattle.headers_serve.specs.declared.file.Entry.{Entry}
-use Rattle.headers_serve.specs.declared.file.Entry.TheVariants.{Missing, Forbidden, Folder, Readable}
+use Rattle.headers_serve.specs.declared.file.Entry.TheVariants.{Missing, Forbidden, Unavailable}
+use Rattle.headers_serve.specs.declared.file.Entry.TheVariants.{Folder, Readable}
 use Rattle.headers_serve.specs.declared.file.File.{File}
 
 -- a stored content as a representation of this media type, in a coding
@@ -22,6 +23,7 @@ represented media_type coding stored = record stored { media_type = media_type; 
 abbrev pub offered : FieldValue → Coding → Entry → List File
 offered media_type coding Missing = []
 offered media_type coding Forbidden = []
+offered media_type coding Unavailable = []
 offered media_type coding Folder = []
 offered media_type coding (Readable stored) = represented media_type coding stored ∷ []
 
@@ -67,6 +69,7 @@ Represents has request path file chosen =
 abbrev pub IsServedFor : (List ℕ → Entry → Type 0) → LineMap → List ℕ → Entry → Entry → Type 0
 IsServedFor has request path Missing entry = entry ≡ Missing
 IsServedFor has request path Forbidden entry = entry ≡ Forbidden
+IsServedFor has request path Unavailable entry = entry ≡ Unavailable
 IsServedFor has request path Folder entry = entry ≡ Folder
 IsServedFor has request path (Readable file) entry =
     (chosen : File) × Represents has request path file chosen × (entry ≡ Readable chosen)

@@ -1,22 +1,27 @@
--- What stands in a response.
+-- What stands in a response. It is the plan by which `headers_exchange` sends it.
 use Rattle.std.specs.Prelude.{◌≡◌, ℕ, List, [], ◌++◌, flat_map, map}
 use Rattle.headers.specs.LineMap.{Field, LineMap, fields_of as encoded_fields, lines_at}
 use Rattle.headers.specs.declared.Encoded.{Encoded}
 use Rattle.http1.specs.Fields.{Header}
-use Rattle.http_server.specs.declared.response.Response.{Response}
-use Rattle.http_server.specs.Response.{fields_of}
+use Rattle.http_server.specs.Response.{fields}
+use Rattle.headers_exchange.specs.declared.piece.Piece.{Piece}
+use Rattle.headers_exchange.specs.declared.plan.Plan.{Plan as Response}
 
--- the response has this status, these fields after those from before, and this body
-pub record IsWith (before : List Header) (code : ℕ) (sent : List Header) (content : List ℕ) (response : Response)
+-- the names and the values of its field lines, in order
+abbrev pub fields_of : Response → List Header
+fields_of response = fields response.headers.items
+
+-- the response has this status, these fields after those from before, and these pieces
+pub record IsWith (before : List Header) (code : ℕ) (sent : List Header) (content : List Piece) (response : Response)
     : Type 0 where
   pub status : response.status ≡ code
   pub headers : fields_of response ≡ before ++ sent
-  pub body : response.body.items ≡ content
+  pub pieces : response.pieces.items ≡ content
 
--- both have the same status, the same fields in the same order, and the same body
+-- both have the same status, the same fields in the same order, and the same pieces
 abbrev pub IsSameResponse : Response → Response → Type 0
 IsSameResponse r s =
-    (r.status ≡ s.status) × (fields_of r ≡ fields_of s) × (r.body.items ≡ s.body.items)
+    (r.status ≡ s.status) × (fields_of r ≡ fields_of s) × (r.pieces.items ≡ s.pieces.items)
 
 -- the field lines of a field, each after its name
 abbrev pub lines_under : Field → List Header

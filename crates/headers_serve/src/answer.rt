@@ -1,33 +1,23 @@
 //! The answer to a read of a file.
-ghost use Rattle.std.specs.Prelude.{◌≡◌, true, IfOk, length, string_bytes};
+ghost use Rattle.std.specs.Prelude.{◌≡◌, true, IfOk, string_bytes};
 ghost use Rattle.std.specs.Bool.{MatchBool};
 ghost use Rattle.http_header.specs.FieldValue.{plain_value};
 ghost use Rattle.headers.specs.LineMap.{lines_at};
-ghost use Rattle.headers_preconditions.specs.Boundaries.{is_boundary, multipart_type};
+ghost use Rattle.headers_preconditions.specs.Boundaries.{is_boundary};
 ghost use Rattle.headers_preconditions.specs.Preconditions.{IsGetOrHead};
 ghost use Rattle.headers_serve.specs.Answer.{AnswersRead, IsAnswerOf, IsDivisible, IsSendable, is_encoded_in};
-ghost use Rattle.headers_serve.specs.File.{boundary_of, content_of, resource_of, strong_tag, tag_of};
-ghost use Rattle.headers_serve.specs.Parts.{Fits, Occurs};
+ghost use Rattle.headers_serve.specs.File.{content_digest, content_of, len_of, resource_of, strong_tag, tag_of};
+ghost use Rattle.headers_serve.specs.Parts.{Fits, IsKnownToHold, Occurs};
 
 use crate::file::File;
+use crate::kept::Kept;
+use crate::settings::Divider;
+use crate::source::Source;
 use headers::{ETag, HeaderMap, Refused};
-use headers_preconditions::{
-    Boundary, Content, Plan, RangeLimits, Resource, Response, Validators, respond,
-};
+use headers_preconditions::{Content, Plan, RangeLimits, Resource, Response, Validators, respond};
 use http::Method;
 use memchr::memmem;
 use std::alloc::{AllocError, Global};
-
-// What stands between parts of a file: the digits of its digest, if it has one.
-#[tactic(auto, unfolding(crate::specs::File::content_digest))]
-pub(crate) fn boundary_of(alloc: Global, file: &File) -> Result<String, AllocError>
-    ensures { IfOk result (λ text. string_bytes text ≡ boundary_of file.now) }
-{
-    match file.digest {
-        Some(digest) => Ok(hex::encode(alloc, digest)?),
-        None => Ok(String::from_str(alloc, "part-of-a-file")?),
-    }
-}
 
 // A strong entity tag as it is written.
 fn tag_text(alloc: Global, digits: &str) -> Result<String, AllocError>
@@ -53,23 +43,45 @@ fn strong_tag(alloc: Global, digits: &str) -> Result<ETag, AllocError>
     }
 }
 
-// The tag of a file, which says its digest.
-#[tactic(auto, using(crate::proofs::DigestLemmas::stands_between))]
-fn tag_of(alloc: Global, file: &File, boundary: &str) -> Result<Option<ETag>, AllocError>
-    requires { boundary.now ≡ boundary_of file.now }
-    ensures { IfOk result (λ tag. tag ≡ tag_of file.now) }
+// The digits of the digest of what is kept.
+#[tactic(auto, unfolding(crate::specs::File::content_digest))]
+fn digits_of(alloc: Global, kept: &Kept) -> Result<String, AllocError>
+    ensures { IfOk result (λ text. string_bytes text ≡ content_digest kept.now.content) }
 {
-    match file.digest {
-        Some(_) => Ok(Some(strong_tag(alloc, boundary)?)),
+    Ok(hex::encode(alloc, kept.digest())?)
+}
+
+// The tag of what is kept, which says its digest.
+#[tactic(auto, using(crate::proofs::DigestLemmas::digest_is_boundary))]
+fn kept_tag(alloc: Global, kept: &Kept) -> Result<ETag, AllocError>
+    ensures { IfOk result (λ tag. tag ≡ plain_value (strong_tag (content_digest kept.now.content))) }
+{
+    let digits = digits_of(alloc, kept)?;
+    strong_tag(alloc, digits.as_str())
+}
+
+fn copy_of(alloc: Global, tag: &Option<ETag>) -> Result<Option<ETag>, AllocError>
+    ensures { IfOk result (λ copy. copy ≡ tag.now) }
+{
+    match tag {
+        Some(tag) => Ok(Some(tag.clone(alloc)?)),
         None => Ok(None),
     }
 }
 
-fn resource_of(alloc: Global, file: &File, boundary: &str) -> Result<Resource, AllocError>
-    requires { boundary.now ≡ boundary_of file.now }
+fn tag_of(alloc: Global, source: &Source) -> Result<Option<ETag>, AllocError>
+    ensures { IfOk result (λ tag. tag ≡ tag_of source.now) }
+{
+    match source {
+        Source::Kept(kept) => Ok(Some(kept_tag(alloc, kept)?)),
+        Source::Opened(opened) => copy_of(alloc, &opened.tag),
+    }
+}
+
+fn resource_of(alloc: Global, file: &File) -> Result<Resource, AllocError>
     ensures { IfOk result (λ resource. resource ≡ resource_of file.now) }
 {
-    let etag = tag_of(alloc, file, boundary)?;
+    let etag = tag_of(alloc, &file.source)?;
     Ok(Resource::Current(Validators {
         etag,
         last_modified: file.modified,
@@ -82,42 +94,30 @@ fn content_of(file: &File) -> Result<Content, AllocError>
 {
     let media_type = file.media_type.clone()?;
     Ok(Content {
-        len: Some(file.content.len() as u64),
+        len: Some(file.source.len()),
         media_type: Some(media_type),
         ranges: Some(RangeLimits::usual()),
     })
 }
 
-fn boundary_with(alloc: Global, text: &str) -> Result<Boundary, AllocError>
-    requires { is_boundary text.now ≡ true }
-    ensures { IfOk result (λ boundary. boundary.bytes ≡ multipart_type text.now) }
-{
-    match Boundary::new(alloc, text) {
-        Ok(boundary) => Ok(boundary),
-        Err(Refused::Memory(refused)) => Err(refused),
-        Err(Refused::Invalid(_)) => unreachable!(),
-    }
-}
-
 // The answer to a request for the file by this method.
-#[tactic(auto, using(crate::proofs::DigestLemmas::stands_between))]
 fn answer_by(
     alloc: Global,
     method: &Method,
     request: &HeaderMap,
     present: u64,
     file: &File,
-    text: &str,
+    divider: &Divider,
 ) -> Result<Response, AllocError>
-    requires read { IsGetOrHead method.now }
-    requires text { text.now ≡ boundary_of file.now }
-    ensures { IfOk result (IsAnswerOf present method.now (lines_at request.now) file.now) }
+    requires { IsGetOrHead method.now }
+    ensures { IfOk result (IsAnswerOf present (string_bytes divider.now.text) method.now (lines_at request.now)
+        file.now) }
 {
-    let resource = resource_of(alloc, file, text)?;
+    let resource = resource_of(alloc, file)?;
     let content = content_of(file)?;
-    let boundary = boundary_with(alloc, text)?;
+    let boundary = divider.boundary();
     match respond(
-        alloc, method, request, &resource, present, &content, &boundary,
+        alloc, method, request, &resource, present, &content, boundary,
     )? {
         Some(answer) => Ok(answer),
         None => unreachable!(),
@@ -139,20 +139,28 @@ fn is_encoded(file: &File) -> bool
     }
 }
 
+// Whether the bytes are known to stand in a file.
+fn is_known_to_hold(source: &Source, bytes: &[u8]) -> bool
+    ensures { MatchBool result (IsKnownToHold source.now bytes.now) (¬ (IsKnownToHold source.now bytes.now)) }
+{
+    match source {
+        Source::Kept(kept) => occurs(bytes, kept.content().as_slice()),
+        Source::Opened(_) => false,
+    }
+}
+
 fn is_divisible(file: &File, text: &str) -> bool
-    requires { text.now ≡ boundary_of file.now }
-    ensures { MatchBool result (IsDivisible file.now) (¬ (IsDivisible file.now)) }
+    ensures { MatchBool result (IsDivisible text.now file.now) (¬ (IsDivisible text.now file.now)) }
 {
     if is_encoded(file) {
         return false;
     }
-    !occurs(text.as_bytes(), file.content.as_slice())
+    !is_known_to_hold(&file.source, text.as_bytes())
 }
 
 // Whether the file can be sent by the plan.
 fn is_sendable(plan: &Plan, file: &File, text: &str) -> bool
-    requires { text.now ≡ boundary_of file.now }
-    ensures { MatchBool result (IsSendable file.now plan.now) (¬ (IsSendable file.now plan.now)) }
+    ensures { MatchBool result (IsSendable text.now file.now plan.now) (¬ (IsSendable text.now file.now plan.now)) }
 {
     match plan {
         Plan::Multiple(_) => is_divisible(file, text),
@@ -169,18 +177,18 @@ pub(crate) fn answer_read(
     request: &HeaderMap,
     present: u64,
     file: &File,
-    text: &str,
+    divider: &Divider,
 ) -> Result<Response, AllocError>
-    requires read { IsGetOrHead method.now }
-    requires text { text.now ≡ boundary_of file.now }
-    ensures answers { IfOk result (AnswersRead present method.now (lines_at request.now) file.now) }
-    ensures fits { IfOk result (λ answer. Fits (length file.now.content) answer.plan) }
+    requires { IsGetOrHead method.now }
+    ensures answers { IfOk result (AnswersRead present (string_bytes divider.now.text) method.now
+        (lines_at request.now) file.now) }
+    ensures fits { IfOk result (λ answer. Fits (len_of file.now.source) answer.plan) }
 {
-    let asked = answer_by(alloc, method, request, present, file, text)?;
-    if is_sendable(&asked.plan, file, text) {
+    let asked = answer_by(alloc, method, request, present, file, divider)?;
+    if is_sendable(&asked.plan, file, divider.text()) {
         return Ok(asked);
     }
     let head = Method::HEAD;
-    let whole = answer_by(alloc, &head, request, present, file, text)?;
+    let whole = answer_by(alloc, &head, request, present, file, divider)?;
     Ok(whole)
 }

@@ -1,15 +1,15 @@
 //! The fields Cache-Control, Vary and Content-Encoding of an answer.
 ghost use Rattle.std.specs.Prelude.{◌≡◌, ◌++◌, OnOk};
-ghost use Rattle.http_server.specs.Response.{fields_of};
 ghost use Rattle.headers_serve.specs.Answer.{cache_fields, cache_sent, coding_fields, coding_sent, encoding_fields};
 ghost use Rattle.headers_serve.specs.Answer.{encoding_sent, is_reusable};
+ghost use Rattle.headers_serve.specs.Response.{fields_of};
 
 use crate::coding::Coding;
 use headers::HeaderValue;
+use headers_exchange::Plan as Response;
 use headers_negotiation::{AcceptEncoding, varies_by};
 use headers_preconditions::Plan;
 use http_header::{CACHE_CONTROL, CONTENT_ENCODING, VARY};
-use http_server::Response;
 use std::alloc::AllocError;
 
 // Whether a cache may use the answer again.
@@ -24,7 +24,7 @@ fn is_reusable(plan: &Plan) -> bool
 
 fn put_value(value: &Option<HeaderValue>, response: &mut Response) -> Result<(), AllocError>
     ensures headers { OnOk result (fields_of response.new ≡ fields_of response.old ++ cache_fields value.now) }
-    ensures body { response.new.body ≡ response.old.body }
+    ensures pieces { response.new.pieces.items ≡ response.old.pieces.items }
 {
     match value {
         Some(value) => response.add_header(CACHE_CONTROL, value.clone()?),
@@ -40,7 +40,7 @@ pub(crate) fn put_cache_control(
 ) -> Result<(), AllocError>
     ensures headers { OnOk result (fields_of response.new
         ≡ fields_of response.old ++ cache_sent plan.now value.now) }
-    ensures body { response.new.body ≡ response.old.body }
+    ensures pieces { response.new.pieces.items ≡ response.old.pieces.items }
 {
     if !is_reusable(plan) {
         return Ok(());
@@ -51,7 +51,7 @@ pub(crate) fn put_cache_control(
 // Adds Content-Encoding, if the coding changes a content.
 fn put_name(coding: Coding, response: &mut Response) -> Result<(), AllocError>
     ensures headers { OnOk result (fields_of response.new ≡ fields_of response.old ++ encoding_fields coding) }
-    ensures body { response.new.body ≡ response.old.body }
+    ensures pieces { response.new.pieces.items ≡ response.old.pieces.items }
 {
     match coding {
         Coding::Identity => Ok(()),
@@ -68,7 +68,7 @@ fn put_encoding(
 ) -> Result<(), AllocError>
     ensures headers { OnOk result (fields_of response.new
         ≡ fields_of response.old ++ encoding_sent plan.now is_known coding) }
-    ensures body { response.new.body ≡ response.old.body }
+    ensures pieces { response.new.pieces.items ≡ response.old.pieces.items }
 {
     match plan {
         Plan::Full => put_name(coding, response),
@@ -90,7 +90,7 @@ fn put_negotiated(
 ) -> Result<(), AllocError>
     ensures headers { OnOk result (fields_of response.new
         ≡ fields_of response.old ++ coding_fields plan.now is_known coding) }
-    ensures body { response.new.body ≡ response.old.body }
+    ensures pieces { response.new.pieces.items ≡ response.old.pieces.items }
 {
     match coding {
         Some(coding) => {
@@ -112,7 +112,7 @@ pub(crate) fn put_coding(
 ) -> Result<(), AllocError>
     ensures headers { OnOk result (fields_of response.new
         ≡ fields_of response.old ++ coding_sent plan.now is_known coding) }
-    ensures body { response.new.body ≡ response.old.body }
+    ensures pieces { response.new.pieces.items ≡ response.old.pieces.items }
 {
     if !is_reusable(plan) {
         return Ok(());

@@ -1,11 +1,14 @@
 //! A store served over one connection.
-ghost use Rattle.std.specs.Prelude.{◌≡◌, ℕ, List};
+ghost use Rattle.std.specs.Prelude.{◌≡◌, ℕ, List, is_ok};
 ghost use Rattle.std.specs.Io.KnownBytes.{Appends, Consumes};
-ghost use Rattle.headers_serve.specs.Connection.{Serves};
+ghost use Rattle.headers_exchange.specs.Connection.{Exchanged};
+ghost use Rattle.headers_serve.specs.Answer.{IsAnswer};
+ghost use Rattle.headers_serve.specs.File.{gives_at};
 
 use crate::service::FileService;
 use crate::store::Store;
-use http_server::{Config, Connection, serve};
+use headers_exchange::serve_exchanges;
+use http_server::Config;
 use std::hash::RandomState;
 use std::io;
 use std::io::{Read, Write};
@@ -13,8 +16,9 @@ use std::io::{Read, Write};
 /// Reads requests, answers them from a store and writes the responses, until the connection is done.
 /// The keys are for the header maps, whose names the other end chooses.
 ///
-/// What is written is, request by request, the response that `IsAnswer` says. An `Err` is one of the
-/// reader or the writer; what was read and written until then is as promised.
+/// What is written is, request by request, a response that `IsAnswer` says, with the bytes of the file
+/// that was opened for it. A file is read while it is sent. If it ends before its length, or reading it
+/// fails, the connection ends there, with an error, and so it does when out of memory.
 pub fn serve_store<S: Store, R: Read, W: Write>(
     keys: RandomState,
     config: Config,
@@ -22,13 +26,13 @@ pub fn serve_store<S: Store, R: Read, W: Write>(
     reader: &mut R,
     writer: &mut W,
 ) -> io::Result<()>
-    ensures served { (received : List ℕ) × (sent : List ℕ)
+    ensures { (received : List ℕ) × (sent : List ℕ)
         × Consumes (R.remaining reader.old) (R.remaining reader.new) received
         × Appends (W.contents writer.old) (W.contents writer.new) sent
-        × Serves service.old.cors service.old.negotiates service.old.cache_control (S.has service.old.store)
-        config received sent }
-    ensures kept { service.new ≡ service.old }
+        × Exchanged
+        (λ before request plan after. IsAnswer before.settings (S.has before.store) request plan after.source
+        × (after.settings ≡ before.settings) × (after.store ≡ before.store))
+        (λ now. gives_at now.source) config service.old service.new received sent (is_ok result) }
 {
-    let mut connection = Connection::new(service.alloc, keys, config);
-    serve(&mut connection, service, reader, writer)
+    serve_exchanges(service.alloc, keys, config, service, reader, writer)
 }

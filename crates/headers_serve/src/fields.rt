@@ -1,12 +1,12 @@
 //! The fields of a response.
-ghost use Rattle.std.specs.Prelude.{◌≡◌, [], ◌++◌, OnOk};
-ghost use Rattle.http_server.specs.Response.{fields_of};
+ghost use Rattle.std.specs.Prelude.{◌≡◌, [], ◌∷◌, ◌++◌, OnOk};
 ghost use Rattle.headers.specs.LineMap.{field_of};
-ghost use Rattle.headers_serve.specs.Answer.{date_fields};
-ghost use Rattle.headers_serve.specs.Response.{headers_of, lines_under};
+ghost use Rattle.headers_serve.specs.Answer.{date_fields, sniff_field};
+ghost use Rattle.headers_serve.specs.Response.{fields_of, headers_of, lines_under};
 
-use headers::{Date, Encoded, encoding};
-use http_server::Response;
+use headers::{Date, Encoded, HeaderValue, encoding};
+use headers_exchange::Plan as Response;
+use http_header::X_CONTENT_TYPE_OPTIONS;
 use std::alloc::{AllocError, Global};
 
 /// The date of a moment, if there is a clock and its year has four digits.
@@ -25,7 +25,7 @@ pub(crate) fn put_date(
 ) -> Result<(), AllocError>
     requires { fields_of response.old ≡ [] }
     ensures headers { OnOk result (fields_of response.new ≡ date_fields date.now) }
-    ensures body { response.new.body ≡ response.old.body }
+    ensures pieces { response.new.pieces.items ≡ response.old.pieces.items }
 {
     match date {
         Some(date) => add_field(response, encoding(alloc, date)?),
@@ -33,12 +33,20 @@ pub(crate) fn put_date(
     }
 }
 
+/// Tells browsers to take the response for what its media type says.
+pub(crate) fn put_sniff(response: &mut Response) -> Result<(), AllocError>
+    ensures headers { OnOk result (fields_of response.new ≡ fields_of response.old ++ sniff_field ∷ []) }
+    ensures pieces { response.new.pieces.items ≡ response.old.pieces.items }
+{
+    response.add_header(X_CONTENT_TYPE_OPTIONS, HeaderValue::from_static("nosniff"))
+}
+
 // Adds the field lines of a field.
 fn add_field(response: &mut Response, field: Encoded) -> Result<(), AllocError>
     ensures headers { OnOk result
         (fields_of response.new ≡ fields_of response.old ++ lines_under (field_of field)) }
     ensures status { response.new.status ≡ response.old.status }
-    ensures body { response.new.body ≡ response.old.body }
+    ensures pieces { response.new.pieces.items ≡ response.old.pieces.items }
 {
     let Encoded { name, lines } = field;
     for line in lines {
@@ -52,7 +60,7 @@ pub(crate) fn add_fields(response: &mut Response, fields: Vec<Encoded>) -> Resul
     ensures headers { OnOk result
         (fields_of response.new ≡ fields_of response.old ++ headers_of fields.items) }
     ensures status { response.new.status ≡ response.old.status }
-    ensures body { response.new.body ≡ response.old.body }
+    ensures pieces { response.new.pieces.items ≡ response.old.pieces.items }
 {
     for field in fields {
         add_field(response, field)?;

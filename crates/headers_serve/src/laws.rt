@@ -4,43 +4,57 @@ ghost use Rattle.http.specs.Request.{head_of};
 ghost use Rattle.http.specs.declared.request.Request.{Request};
 ghost use Rattle.http_header.specs.FieldValue.{FieldValue};
 ghost use Rattle.http_uri.specs.Uri.{uri_path};
-ghost use Rattle.http_server.specs.declared.response.Response.{Response};
-ghost use Rattle.http_server.specs.Response.{fields_of};
 ghost use Rattle.http1.specs.Fields.{Header};
 ghost use Rattle.headers.specs.LineMap.{LineMap, lines_at};
-ghost use Rattle.headers_cors_policy.specs.Policy.{Policy};
+ghost use Rattle.headers_exchange.specs.Pieces.{AreSent};
+ghost use Rattle.headers_exchange.specs.declared.piece.Piece.{Piece};
+ghost use Rattle.headers_exchange.specs.declared.plan.Plan.{Plan as Response};
 ghost use Rattle.headers_preconditions.specs.declared.part.Part.{Part};
 ghost use Rattle.headers_preconditions.specs.declared.response.Response.{Response as Answer};
 ghost use Rattle.headers_serve.specs.Answer.{AnswersBehind, AnswersRead, AsksForAll, IsAnswerAt, is_several};
-ghost use Rattle.headers_serve.specs.File.{boundary_of};
-ghost use Rattle.headers_serve.specs.Parts.{Occurs, part_bytes};
+ghost use Rattle.headers_serve.specs.File.{gives_at};
+ghost use Rattle.headers_serve.specs.Parts.{Occurs, bytes_of, part_bytes};
 ghost use Rattle.headers_serve.specs.Path.{Names};
 ghost use Rattle.headers_serve.specs.Redirect.{AnswersFolder, IsOnHost};
-ghost use Rattle.headers_serve.specs.Response.{IsSameResponse};
+ghost use Rattle.headers_serve.specs.Response.{IsSameResponse, fields_of};
 ghost use Rattle.headers_serve.specs.declared.file.Entry.TheVariants.{Readable};
 ghost use Rattle.headers_serve.specs.declared.file.Entry.{Entry};
 ghost use Rattle.headers_serve.specs.declared.file.File.{File};
+ghost use Rattle.headers_serve.specs.declared.kept.Kept.{Kept};
+ghost use Rattle.headers_serve.specs.declared.source.Source.{Source};
+ghost use Rattle.headers_serve.specs.declared.source.Source.TheVariants.{Kept as InMemory};
+ghost use Rattle.headers_serve.specs.declared.settings.Settings.{Settings};
 
 /// A request has one response at most at a moment, where the store has one entry at each path: two
-/// responses have the same status, the same fields in the same order, and the same body.
+/// responses have the same status, the same fields in the same order, and the same pieces.
 pub fn request_has_one_response()
-    ensures { (now : Option ℕ) (cors : Option Policy) (negotiates : Bool) (cache_control : Option FieldValue)
-        (look : List ℕ → Entry) (request : Request (List ℕ)) (r s : Response)
-        → IsAnswerAt now cors negotiates cache_control (λ path entry. entry ≡ look path) request r
-        → IsAnswerAt now cors negotiates cache_control (λ path entry. entry ≡ look path) request s
+    ensures { (now : Option ℕ) (settings : Settings) (look : List ℕ → Entry) (request : Request (List ℕ))
+        (r s : Response) (a b : Source)
+        → IsAnswerAt now settings (λ path entry. entry ≡ look path) request r a
+        → IsAnswerAt now settings (λ path entry. entry ≡ look path) request s b
         → IsSameResponse r s }
 {}
 
-/// A GET of a file that makes no condition and asks for no range and no coding is answered by 200 with
-/// its content.
+/// Where the ranges of pieces are of bytes in memory, exactly the bytes of these ranges are sent, each in
+/// its place among the literal ones.
+pub fn sent_bytes_are_those_of_the_ranges()
+    ensures { (kept : Kept) (pieces : List Piece) (sent : List ℕ) → AreSent (gives_at (InMemory kept)) pieces sent
+        → sent ≡ bytes_of kept.content pieces }
+{}
+
+/// A GET of a file that makes no condition and asks for no range, and for no coding where the store
+/// negotiates codings, is answered by 200. Of a file in memory exactly the content is sent.
 pub fn get_gets_the_content()
-    ensures { (present : ℕ) (negotiates : Bool) (cache_control : Option FieldValue) (look : List ℕ → Entry)
+    ensures { (present : ℕ) (settings : Settings) (look : List ℕ → Entry)
         (before : List Header) (request : Request (List ℕ)) (named : List ℕ) (file : File) (response : Response)
+        (source : Source)
         → (head_of request).method ≡ codes "GET"
         → Names (uri_path (head_of request).uri) (Some named) → look named ≡ Readable file
-        → AsksForAll (lines_at (head_of request).headers)
-        → AnswersBehind present before negotiates cache_control (λ path entry. entry ≡ look path) request response
-        → (response.status ≡ 200) × (response.body.items ≡ file.content) }
+        → AsksForAll settings.negotiates (lines_at (head_of request).headers)
+        → AnswersBehind present before settings (λ path entry. entry ≡ look path) request response source
+        → (response.status ≡ 200)
+        × ((kept : Kept) (sent : List ℕ) → file.source ≡ InMemory kept
+        → AreSent (gives_at source) response.pieces.items sent → sent ≡ kept.content) }
 {}
 
 /// A redirect of a path that names something leads to the host that was asked.
@@ -50,10 +64,12 @@ pub fn redirects_stay_on_the_host()
         → (target : List ℕ) × (fields_of response ≡ before ++ (codes "location", target) ∷ []) × IsOnHost target }
 {}
 
-/// If an answer sends several parts, none holds the boundary between them (RFC 2046, section 5.1.1),
-/// whichever part of the file it is.
+/// If an answer sends several parts of bytes in memory, none holds the boundary between them (RFC 2046,
+/// section 5.1.1), whichever part it is.
 pub fn no_part_holds_the_boundary()
-    ensures { (present : ℕ) (method : List ℕ) (request : LineMap) (file : File) (answer : Answer)
-        → AnswersRead present method request file answer → is_several answer.plan ≡ true
-        → (part : Part) → ¬ (Occurs (boundary_of file) (part_bytes file.content part)) }
+    ensures { (present : ℕ) (boundary method : List ℕ) (request : LineMap) (file : File) (answer : Answer)
+        (kept : Kept)
+        → AnswersRead present boundary method request file answer → is_several answer.plan ≡ true
+        → file.source ≡ InMemory kept
+        → (part : Part) → ¬ (Occurs boundary (part_bytes kept.content part)) }
 {}

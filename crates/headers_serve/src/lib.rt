@@ -1,5 +1,5 @@
 //! Answers requests from a store of files, with conditional requests and ranges (RFC 9110, sections
-//! 13 and 14), over any reader and writer.
+//! 13 and 14), over any reader and writer. A file is read while it is sent, and only what is sent of it.
 #![tactic(auto)]
 
 mod answer;
@@ -9,6 +9,7 @@ mod connection;
 mod cors;
 mod fields;
 mod file;
+mod kept;
 pub mod laws;
 mod media_type;
 mod memory;
@@ -17,13 +18,18 @@ mod path;
 mod redirect;
 mod representation;
 mod service;
+mod settings;
+mod source;
 mod store;
 
 pub use crate::coding::Coding;
 pub use crate::connection::serve_store;
 pub use crate::file::{Entry, File};
+pub use crate::kept::Kept;
 pub use crate::media_type::media_type_of;
 pub use crate::memory::Memory;
 pub use crate::path::{is_plain, store_path};
 pub use crate::service::FileService;
+pub use crate::settings::{Divider, Settings};
+pub use crate::source::{Opened, Source};
 pub use crate::store::Store;

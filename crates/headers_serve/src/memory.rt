@@ -1,7 +1,10 @@
 //! One file in memory.
 
 use crate::file::{Entry, File};
+use crate::kept::Kept;
+use crate::source::Source;
 use crate::store::Store;
+use headers::{HeaderValue, LastModified};
 use std::alloc::{AllocError, Global};
 
 /// A store of one file, without a clock.
@@ -9,8 +12,12 @@ use std::alloc::{AllocError, Global};
 pub struct Memory {
     /// Where it is found.
     pub path: String,
-    /// The file.
-    pub file: File,
+    /// Its bytes.
+    pub content: Kept,
+    /// Its media type, as the line of `Content-Type`.
+    pub media_type: HeaderValue,
+    /// When it was last modified, if that is known and before the year 10000.
+    pub modified: Option<LastModified>,
 }
 
 impl Store for Memory {
@@ -22,8 +29,14 @@ impl Store for Memory {
         if path != self.path.as_str() {
             return Ok(Entry::Missing);
         }
-        let file = self.file.clone()?;
-        Ok(Entry::Readable(file))
+        let kept = self.content.clone()?;
+        let media_type = self.media_type.clone()?;
+        Ok(Entry::Readable(File {
+            source: Source::Kept(kept),
+            media_type,
+            modified: self.modified,
+            coding: None,
+        }))
     }
 
     fn now(&self) -> Option<u64> {

@@ -1,129 +1,156 @@
 //! Bodies of several parts (RFC 9110, section 14.6).
-ghost use Rattle.std.specs.Prelude.{◌≡◌, ◌++◌, All, IfOk, OnOk, codes, length};
+ghost use Rattle.std.specs.Prelude.{◌≡◌, ◌++◌, ◌∷◌, [], All, IfOk, OnOk, codes};
 ghost use Rattle.headers_preconditions.specs.Parts.{IsPartOf};
+ghost use Rattle.headers_serve.specs.File.{len_of};
 ghost use Rattle.headers_serve.specs.Multipart.{closing, header_line, header_text, multipart, opening};
-ghost use Rattle.headers_serve.specs.Multipart.{part_fields, part_lines, part_text};
-ghost use Rattle.headers_serve.specs.Parts.{part_bytes};
+ghost use Rattle.headers_serve.specs.Multipart.{part_fields, part_head, part_pieces};
+ghost use Rattle.headers_serve.specs.Parts.{part_extent};
 
 use crate::file::File;
-use bytes::{BufMut, Bytes};
+use bytes::Bytes;
 use headers::{Header, HeaderName, HeaderValue, encoding};
+use headers_exchange::{Extent, Piece, Plan as Response};
 use headers_preconditions::Part;
 use http_header::CONTENT_TYPE;
-use http_server::Rope;
 use std::alloc::{AllocError, Global};
 
 // Appends a header line.
-fn push_line(body: &mut Rope, name: &HeaderName, line: &HeaderValue) -> Result<(), AllocError>
-    ensures { OnOk result (body.new.items ≡ body.old.items ++ header_line name.now line.now.bytes) }
+fn push_line(text: &mut Vec<u8>, name: &HeaderName, line: &HeaderValue) -> Result<(), AllocError>
+    ensures { OnOk result (text.new.items ≡ text.old.items ++ header_line name.now line.now.bytes) }
 {
-    body.put_slice(name.as_bytes())?;
-    body.put_slice(b": ")?;
-    body.put_slice(line.as_bytes())?;
-    body.put_slice(b"\r\n")
+    text.extend_from_slice(name.as_bytes())?;
+    text.extend_from_slice(b": ")?;
+    text.extend_from_slice(line.as_bytes())?;
+    text.extend_from_slice(b"\r\n")?;
+    Ok(())
 }
 
 // Appends the lines of a header.
-fn push_header<H: Header>(alloc: Global, body: &mut Rope, header: &H) -> Result<(), AllocError>
-    ensures { OnOk result (body.new.items ≡ body.old.items ++ header_text H.field_name (H.writes header.now)) }
+fn push_header<H: Header>(alloc: Global, text: &mut Vec<u8>, header: &H) -> Result<(), AllocError>
+    ensures { OnOk result (text.new.items ≡ text.old.items ++ header_text H.field_name (H.writes header.now)) }
 {
     let encoded = encoding(alloc, header)?;
     let name = H::name();
     for line in encoded.lines {
-        push_line(body, &name, &line)?;
+        push_line(text, &name, &line)?;
     }
     Ok(())
 }
 
-// Appends what stands before a part.
+// Appends the boundary before a part.
 #[tactic(auto, unfolding(crate::specs::Multipart::opening))]
-fn push_opening(boundary: &str, body: &mut Rope) -> Result<(), AllocError>
-    ensures { OnOk result (body.new.items ≡ body.old.items ++ opening boundary.now) }
+fn push_opening(boundary: &str, text: &mut Vec<u8>) -> Result<(), AllocError>
+    ensures { OnOk result (text.new.items ≡ text.old.items ++ opening boundary.now) }
 {
-    body.put_slice(b"--")?;
-    body.put_slice(boundary.as_bytes())?;
-    body.put_slice(b"\r\n")
+    text.extend_from_slice(b"--")?;
+    text.extend_from_slice(boundary.as_bytes())?;
+    text.extend_from_slice(b"\r\n")?;
+    Ok(())
 }
 
-fn push_media_type(media_type: &HeaderValue, body: &mut Rope) -> Result<(), AllocError>
-    ensures { OnOk result (body.new.items ≡ body.old.items ++ header_line (codes "content-type") media_type.now.bytes) }
+fn push_media_type(media_type: &HeaderValue, text: &mut Vec<u8>) -> Result<(), AllocError>
+    ensures { OnOk result (text.new.items ≡ text.old.items ++ header_line (codes "content-type") media_type.now.bytes) }
 {
     let name = CONTENT_TYPE;
-    push_line(body, &name, media_type)
+    push_line(text, &name, media_type)
 }
 
 // Appends a part's header lines.
 #[tactic(auto, unfolding(crate::specs::Multipart::part_fields))]
-fn push_fields(alloc: Global, part: Part, file: &File, body: &mut Rope) -> Result<(), AllocError>
-    ensures { OnOk result (body.new.items ≡ body.old.items ++ part_fields file.now part) }
+fn push_fields(alloc: Global, part: Part, file: &File, text: &mut Vec<u8>) -> Result<(), AllocError>
+    ensures { OnOk result (text.new.items ≡ text.old.items ++ part_fields file.now part) }
 {
-    push_media_type(&file.media_type, body)?;
-    let len = file.content.len() as u64;
-    push_header(alloc, body, &part.content_range(len))
+    push_media_type(&file.media_type, text)?;
+    let len = file.source.len();
+    push_header(alloc, text, &part.content_range(len))
 }
 
-// Appends a part's bytes.
-#[tactic(auto, unfolding(crate::specs::Multipart::part_lines))]
-fn push_bytes(bytes: Bytes, body: &mut Rope) -> Result<(), AllocError>
-    ensures { OnOk result (body.new.items ≡ body.old.items ++ part_lines bytes) }
+// What stands before a part's bytes.
+#[tactic(auto, unfolding(crate::specs::Multipart::part_head))]
+fn head_of_part(
+    alloc: Global,
+    boundary: &str,
+    part: Part,
+    file: &File,
+) -> Result<Vec<u8>, AllocError>
+    ensures { IfOk result (λ text. text.items ≡ part_head boundary.now file.now part) }
 {
-    body.put_slice(b"\r\n")?;
-    body.push(bytes)?;
-    body.put_slice(b"\r\n")
+    let mut text = Vec::new(alloc);
+    push_opening(boundary, &mut text)?;
+    push_fields(alloc, part, file, &mut text)?;
+    text.extend_from_slice(b"\r\n")?;
+    Ok(text)
 }
 
-// Appends what follows the last part.
+// What follows the last part.
 #[tactic(auto, unfolding(crate::specs::Multipart::closing))]
-fn push_closing(boundary: &str, body: &mut Rope) -> Result<(), AllocError>
-    ensures { OnOk result (body.new.items ≡ body.old.items ++ closing boundary.now) }
+fn closing(alloc: Global, boundary: &str) -> Result<Vec<u8>, AllocError>
+    ensures { IfOk result (λ text. text.items ≡ closing boundary.now) }
 {
-    body.put_slice(b"--")?;
-    body.put_slice(boundary.as_bytes())?;
-    body.put_slice(b"--\r\n")
+    let mut text = Vec::new(alloc);
+    text.extend_from_slice(b"--")?;
+    text.extend_from_slice(boundary.as_bytes())?;
+    text.extend_from_slice(b"--\r\n")?;
+    Ok(text)
 }
 
-// Appends one part, after the boundary and its header lines.
-#[tactic(auto, unfolding(crate::specs::Multipart::part_text))]
+fn push_text(text: Vec<u8>, response: &mut Response) -> Result<(), AllocError>
+    ensures pieces { OnOk result
+        (response.new.pieces.items ≡ response.old.pieces.items ++ Piece.Literal text.items ∷ []) }
+    ensures headers { response.new.headers ≡ response.old.headers }
+{
+    let bytes = Bytes::from_vec(text)?;
+    response.push(Piece::Literal(bytes))
+}
+
+/// Where a part of a file stands.
+pub(crate) fn extent_of(file: &File, part: Part) -> Extent
+    requires { IsPartOf (len_of file.now.source) part }
+    ensures { result ≡ part_extent part }
+{
+    // The length is below 2^64, so the sum is.
+    let _len = file.source.len();
+    Extent {
+        start: part.first,
+        len: part.last - part.first + 1,
+    }
+}
+
+// Appends one part.
 fn push_part(
     alloc: Global,
     boundary: &str,
     part: Part,
     file: &File,
-    body: &mut Rope,
+    response: &mut Response,
 ) -> Result<(), AllocError>
-    requires { IsPartOf (length file.now.content) part }
-    ensures { OnOk result (body.new.items ≡ body.old.items ++ part_text boundary.now file.now part) }
+    requires { IsPartOf (len_of file.now.source) part }
+    ensures pieces { OnOk result (response.new.pieces.items
+        ≡ response.old.pieces.items ++ part_pieces boundary.now file.now part) }
+    ensures headers { response.new.headers ≡ response.old.headers }
 {
-    push_opening(boundary, body)?;
-    push_fields(alloc, part, file, body)?;
-    let bytes = slice_of(file, part)?;
-    push_bytes(bytes, body)
+    let head = head_of_part(alloc, boundary, part, file)?;
+    push_text(head, response)?;
+    response.push(Piece::Range(extent_of(file, part)))?;
+    response.push(Piece::Literal(Bytes::from_static(b"\r\n")))
 }
 
-// Appends the parts and the end.
+/// Appends the parts and the end.
 pub(crate) fn push_parts(
     alloc: Global,
     boundary: &str,
     parts: &[Part],
     file: &File,
-    body: &mut Rope,
+    response: &mut Response,
 ) -> Result<(), AllocError>
-    requires { All (IsPartOf (length file.now.content)) parts.now }
-    ensures { OnOk result (body.new.items ≡ body.old.items ++ multipart boundary.now file.now parts.now) }
+    requires { All (IsPartOf (len_of file.now.source)) parts.now }
+    ensures pieces { OnOk result (response.new.pieces.items
+        ≡ response.old.pieces.items ++ multipart boundary.now file.now parts.now) }
+    ensures headers { response.new.headers ≡ response.old.headers }
 {
     for part in parts {
-        push_part(alloc, boundary, *part, file, body)?;
+        push_part(alloc, boundary, *part, file, response)?;
     }
-    push_closing(boundary, body)
-}
-
-// The bytes of a part of a file.
-pub(crate) fn slice_of(file: &File, part: Part) -> Result<Bytes, AllocError>
-    requires { IsPartOf (length file.now.content) part }
-    ensures { IfOk result (λ bytes. bytes ≡ part_bytes file.now.content part) }
-{
-    let _len = file.content.len();
-    let first = part.first as usize;
-    let last = part.last as usize;
-    file.content.slice(first..last + 1)
+    let end = closing(alloc, boundary)?;
+    push_text(end, response)
 }

@@ -1,13 +1,13 @@
 //! The answer to a request for a folder.
 ghost use Rattle.std.specs.Prelude.{◌≡◌, [], IfOk, OnOk, option_copied, option_map, string_bytes};
-ghost use Rattle.http_server.specs.Response.{fields_of};
 ghost use Rattle.headers_serve.specs.Redirect.{AnswersFolder, IsLocation, index_target};
+ghost use Rattle.headers_serve.specs.Response.{fields_of};
 
 use crate::path::ends_in_slash;
 use headers::HeaderValue;
+use headers_exchange::Plan as Response;
 use http::StatusCode;
 use http_header::{HeaderValueError, LOCATION};
-use http_server::Response;
 use std::alloc::{AllocError, Global};
 
 /// Answers a request for a folder: 301, to the path with a slash after it and the query (RFC 9110,
@@ -18,7 +18,7 @@ pub(crate) fn answer_folder(
     query: Option<&str>,
     response: &mut Response,
 ) -> Result<(), AllocError>
-    requires { response.old.body.items ≡ [] }
+    requires { response.old.pieces.items ≡ [] }
     ensures { OnOk result (AnswersFolder (fields_of response.old) path.now (option_copied query.entry) response.new) }
 {
     match location(alloc, path, query)? {

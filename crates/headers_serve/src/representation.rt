@@ -77,7 +77,7 @@ fn push_offer(
             offers.push(made)?;
             Ok(())
         }
-        Entry::Missing | Entry::Forbidden | Entry::Folder => Ok(()),
+        Entry::Missing | Entry::Forbidden | Entry::Unavailable | Entry::Folder => Ok(()),
     }
 }
 
@@ -195,6 +195,7 @@ fn served_for<S: Store>(
         }
         Entry::Missing => Ok(Entry::Missing),
         Entry::Forbidden => Ok(Entry::Forbidden),
+        Entry::Unavailable => Ok(Entry::Unavailable),
         Entry::Folder => Ok(Entry::Folder),
     }
 }

@@ -1,35 +1,37 @@
 //! The service: a request is answered from a store.
-ghost use Rattle.std.specs.Prelude.{◌≡◌, ◌≢◌, [], OnOk, IfOk, codes, length, option_copied};
+ghost use Rattle.std.specs.Prelude.{◌≡◌, ◌≢◌, [], OnOk, IfOk, codes, option_copied};
 ghost use Rattle.std.specs.Bool.{MatchBool};
 ghost use Rattle.http.specs.Request.{head_of};
 ghost use Rattle.http_uri.specs.Uri.{uri_path, uri_query};
 ghost use Rattle.headers.specs.LineMap.{lines_at};
 ghost use Rattle.headers_preconditions.specs.Fields.{is_known_by};
 ghost use Rattle.headers_preconditions.specs.Preconditions.{IsGetOrHead};
-ghost use Rattle.http_server.specs.Response.{fields_of};
 ghost use Rattle.headers_serve.specs.Answer.{AnswersBehind, AnswersEntry, AnswersFile, AnswersOther, Carries};
-ghost use Rattle.headers_serve.specs.Answer.{LeadsTo, body_sent, clock};
-ghost use Rattle.headers_serve.specs.File.{boundary_of};
+ghost use Rattle.headers_serve.specs.Answer.{LeadsTo, Opens, clock, pieces_sent};
+ghost use Rattle.headers_serve.specs.File.{len_of};
 ghost use Rattle.headers_serve.specs.Parts.{Fits};
+ghost use Rattle.headers_serve.specs.Response.{fields_of};
 
-use crate::answer::{answer_read, boundary_of};
+use crate::answer::answer_read;
 use crate::cache::{put_cache_control, put_coding};
 use crate::cors::put_shared;
-use crate::fields::{add_fields, date_of, put_date};
+use crate::fields::{add_fields, date_of, put_date, put_sniff};
 use crate::file::{Entry, File};
-use crate::multipart::{push_parts, slice_of};
+use crate::multipart::{extent_of, push_parts};
 use crate::path::store_path;
 use crate::redirect::answer_folder;
 use crate::representation::served_at;
+use crate::settings::Settings;
+use crate::source::Source;
 use crate::store::Store;
 use bytes::Bytes;
 use headers::{Date, HeaderMap, HeaderValue};
-use headers_cors_policy::CorsPolicy;
+use headers_exchange::{Extent, Handler, Piece, Plan as Response};
 use headers_preconditions::{Plan, is_get_or_head, is_known_by};
 use http::{Method, Request, StatusCode};
 use http_header::ALLOW;
-use http_server::{Response, Rope, Service};
 use std::alloc::{AllocError, Global};
+use std::io;
 
 /// Answers GET, HEAD and OPTIONS from a store, and 405 to other methods.
 #[derive(Debug, Drop)]
@@ -38,12 +40,10 @@ pub struct FileService<S: Store> {
     pub alloc: Global,
     /// Where files come from.
     pub store: S,
-    /// What Cache-Control says of the answers that a cache may use again: 200, 206 and 304.
-    pub cache_control: Option<HeaderValue>,
-    /// Whether a client may get what stands beside a file in a coding, by Accept-Encoding.
-    pub negotiates: bool,
-    /// What answers say to requests from other origins, if they say anything.
-    pub cors: Option<CorsPolicy>,
+    /// How they are served.
+    pub settings: Settings,
+    /// What the ranges of the last response are read from.
+    pub source: Source,
 }
 
 fn is_options(method: &Method) -> bool
@@ -52,29 +52,26 @@ fn is_options(method: &Method) -> bool
     *method == Method::OPTIONS
 }
 
-// Puts the bytes that a plan sends into a body.
-fn put_body(
+// Puts the pieces that a plan sends.
+fn put_pieces(
     alloc: Global,
     boundary: &str,
     plan: &Plan,
     file: &File,
-    body: &mut Rope,
+    response: &mut Response,
 ) -> Result<(), AllocError>
-    requires blank { body.old.items ≡ [] }
-    requires boundary { boundary.now ≡ boundary_of file.now }
-    requires fits { Fits (length file.now.content) plan.now }
-    ensures { OnOk result (body.new.items ≡ body_sent file.now plan.now) }
+    requires blank { response.old.pieces.items ≡ [] }
+    requires fits { Fits (len_of file.now.source) plan.now }
+    ensures pieces { OnOk result (response.new.pieces.items ≡ pieces_sent boundary.now file.now plan.now) }
+    ensures headers { response.new.headers ≡ response.old.headers }
 {
     match plan {
         Plan::Full => {
-            let content = file.content.clone()?;
-            body.push(content)
+            let len = file.source.len();
+            response.push(Piece::Range(Extent { start: 0, len }))
         }
-        Plan::Single(part) => {
-            let bytes = slice_of(file, *part)?;
-            body.push(bytes)
-        }
-        Plan::Multiple(parts) => push_parts(alloc, boundary, parts.as_slice(), file, body),
+        Plan::Single(part) => response.push(Piece::Range(extent_of(file, *part))),
+        Plan::Multiple(parts) => push_parts(alloc, boundary, parts.as_slice(), file, response),
         Plan::NotModified | Plan::Failed | Plan::Unsatisfiable => Ok(()),
     }
 }
@@ -82,23 +79,22 @@ fn put_body(
 // Fills a response with an answer to a read of a file.
 fn carry(
     alloc: Global,
-    cache_control: &Option<HeaderValue>,
+    settings: &Settings,
     request: &HeaderMap,
     file: &File,
-    boundary: &str,
     answer: headers_preconditions::Response,
     response: &mut Response,
 ) -> Result<(), AllocError>
-    requires blank { response.old.body.items ≡ [] }
-    requires boundary { boundary.now ≡ boundary_of file.now }
-    requires fits { Fits (length file.now.content) answer.plan }
-    ensures { OnOk result (Carries (fields_of response.old) cache_control.now (is_known_by (lines_at request.now))
+    requires blank { response.old.pieces.items ≡ [] }
+    requires fits { Fits (len_of file.now.source) answer.plan }
+    ensures { OnOk result (Carries (fields_of response.old) settings.now (is_known_by (lines_at request.now))
         file.now answer response.new) }
 {
-    put_cache_control(cache_control, &answer.plan, response)?;
+    put_cache_control(&settings.cache_control, &answer.plan, response)?;
     let is_known = is_known_by(request);
     put_coding(file.coding, &answer.plan, is_known, response)?;
-    put_body(alloc, boundary, &answer.plan, file, &mut response.body)?;
+    let boundary = settings.divider.text();
+    put_pieces(alloc, boundary, &answer.plan, file, response)?;
     response.status = answer.status;
     add_fields(response, answer.fields)
 }
@@ -106,7 +102,7 @@ fn carry(
 // Answers a GET or a HEAD of a file.
 fn answer_file(
     alloc: Global,
-    cache_control: &Option<HeaderValue>,
+    settings: &Settings,
     method: &Method,
     request: &HeaderMap,
     present: u64,
@@ -114,38 +110,28 @@ fn answer_file(
     response: &mut Response,
 ) -> Result<(), AllocError>
     requires read { IsGetOrHead method.now }
-    requires blank { response.old.body.items ≡ [] }
-    ensures { OnOk result (AnswersFile present (fields_of response.old) cache_control.now method.now
+    requires blank { response.old.pieces.items ≡ [] }
+    ensures { OnOk result (AnswersFile present (fields_of response.old) settings.now method.now
         (lines_at request.now) file.now response.new) }
 {
-    let text = boundary_of(alloc, file)?;
-    let boundary = text.as_str();
-    let answer = answer_read(alloc, method, request, present, file, boundary)?;
-    carry(
-        alloc,
-        cache_control,
-        request,
-        file,
-        boundary,
-        answer,
-        response,
-    )?;
+    let answer = answer_read(alloc, method, request, present, file, &settings.divider)?;
+    carry(alloc, settings, request, file, answer, response)?;
     Ok(())
 }
 
 // Answers a GET or a HEAD where this was found.
 fn answer_entry(
     alloc: Global,
-    cache_control: &Option<HeaderValue>,
+    settings: &Settings,
     request: &Request<Bytes>,
     present: u64,
     entry: &Entry,
     response: &mut Response,
 ) -> Result<(), AllocError>
     requires read { IsGetOrHead (head_of request.now).method }
-    requires blank { response.old.body.items ≡ [] }
-    ensures { OnOk result (AnswersEntry present (fields_of response.old) cache_control.now request.now
-        entry.now response.new) }
+    requires blank { response.old.pieces.items ≡ [] }
+    ensures { OnOk result (AnswersEntry present (fields_of response.old) settings.now request.now entry.now
+        response.new) }
 {
     match entry {
         Entry::Missing => {
@@ -156,6 +142,10 @@ fn answer_entry(
             response.status = StatusCode::FORBIDDEN;
             Ok(())
         }
+        Entry::Unavailable => {
+            response.status = StatusCode::SERVICE_UNAVAILABLE;
+            Ok(())
+        }
         Entry::Folder => {
             answer_folder(alloc, path_of(request), query_of(request), response)?;
             Ok(())
@@ -164,7 +154,7 @@ fn answer_entry(
             let method = request.method();
             answer_file(
                 alloc,
-                cache_control,
+                settings,
                 method,
                 request.headers(),
                 present,
@@ -211,7 +201,7 @@ fn look_up<S: Store>(
 
 // Answers a request that is no GET or HEAD.
 fn answer_other(method: &Method, response: &mut Response) -> Result<(), AllocError>
-    requires { response.old.body.items ≡ [] }
+    requires { response.old.pieces.items ≡ [] }
     ensures { OnOk result (AnswersOther (fields_of response.old) method.now response.new) }
 {
     response.add_header(ALLOW, HeaderValue::from_static("GET, HEAD, OPTIONS"))?;
@@ -233,60 +223,76 @@ fn clock(date: &Option<Date>) -> u64
     }
 }
 
-// Answers a request from a store.
+// What the ranges of a response are read from, where this was found.
+fn source_of(entry: Entry) -> Source
+    ensures { Opens entry result }
+{
+    match entry {
+        Entry::Readable(file) => {
+            let File { source, .. } = file;
+            source
+        }
+        Entry::Missing | Entry::Forbidden | Entry::Unavailable | Entry::Folder => Source::empty(),
+    }
+}
+
+// Answers a request from a store. What its ranges are read from is returned.
 fn answer<S: Store>(
     alloc: Global,
     store: &S,
-    negotiates: bool,
-    cache_control: &Option<HeaderValue>,
+    settings: &Settings,
     request: &Request<Bytes>,
     present: u64,
     response: &mut Response,
-) -> Result<(), AllocError>
-    requires { response.old.body.items ≡ [] }
-    ensures { OnOk result (AnswersBehind present (fields_of response.old) negotiates cache_control.now
-        (S.has store.now) request.now response.new) }
+) -> Result<Source, AllocError>
+    requires { response.old.pieces.items ≡ [] }
+    ensures { IfOk result (AnswersBehind present (fields_of response.old) settings.now (S.has store.now)
+        request.now response.new) }
 {
     if !is_get_or_head(request.method()) {
         answer_other(request.method(), response)?;
-        return Ok(());
+        return Ok(Source::empty());
     }
     let entry = look_up(
         alloc,
         store,
-        negotiates,
+        settings.negotiates,
         request.headers(),
         path_of(request),
     )?;
-    answer_entry(alloc, cache_control, request, present, &entry, response)?;
-    Ok(())
+    answer_entry(alloc, settings, request, present, &entry, response)?;
+    Ok(source_of(entry))
 }
 
-impl<S: Store> Service for FileService<S> {
+impl<S: Store> Handler for FileService<S> {
     ghost use Rattle.std.specs.Prelude.{◌≡◌};
     ghost use Rattle.headers_serve.specs.Answer.{IsAnswer};
+    ghost use Rattle.headers_serve.specs.File.{gives_at};
 
-    ghost answers = { λ before request response after.
-        IsAnswer before.cors before.negotiates before.cache_control (S.has before.store) request response
-        × (after ≡ before) };
+    ghost plans = { λ before request plan after.
+        IsAnswer before.settings (S.has before.store) request plan after.source
+        × (after.settings ≡ before.settings) × (after.store ≡ before.store) };
 
-    fn call(
-        &mut self,
-        request: &Request<Bytes>,
-        response: &mut Response,
-    ) -> Result<(), AllocError> {
+    ghost gives = { λ service. gives_at service.source };
+
+    fn plan(&mut self, request: &Request<Bytes>, plan: &mut Response) -> Result<(), AllocError> {
         let date = date_of(self.store.now());
-        put_date(self.alloc, response, &date)?;
-        put_shared(self.alloc, &self.cors, request, response)?;
-        answer(
+        put_date(self.alloc, plan, &date)?;
+        put_sniff(plan)?;
+        put_shared(self.alloc, &self.settings.cors, request, plan)?;
+        let source = answer(
             self.alloc,
             &self.store,
-            self.negotiates,
-            &self.cache_control,
+            &self.settings,
             request,
             clock(&date),
-            response,
+            plan,
         )?;
+        self.source = source;
         Ok(())
+    }
+
+    fn read(&self, start: u64, buffer: &mut [u8]) -> io::Result<usize> {
+        self.source.read(start, buffer)
     }
 }

@@ -11,8 +11,8 @@ pub trait Store {
     // What the store may have at a path.
     ghost has: { Self → List ℕ → Entry → Type 0 };
 
-    /// What stands at a path. The path is plain: no name in it is empty or begins with a dot, and none
-    /// holds a NUL or a backslash. So it stays below the root of the store.
+    /// What stands at a path. The error is for memory alone. The path is plain: no name in it is empty or
+    /// begins with a dot, and none holds a NUL or a backslash. So it stays below the root of the store.
     fn find(&self, alloc: Global, path: &str) -> Result<Entry, AllocError>
         requires { is_plain path.now ≡ true }
         ensures { IfOk result (has self.now path.now) };

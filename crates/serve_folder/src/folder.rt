@@ -3,15 +3,21 @@
 use crate::kept::KeptFiles;
 use crate::place::Place;
 use bytes::Bytes;
-use headers::{HeaderValue, LastModified};
-use headers_serve::{Entry, File, Store, media_type_of};
+use headers::{ETag, HeaderValue, LastModified};
+use headers_serve::{Entry, File, Kept, Opened, Source, Store, media_type_of};
 use std::alloc::{AllocError, Global};
 use std::io::{ErrorKind, Read};
+use std::os::unix::fs::MetadataExt;
 use std::time::{SystemTime, UNIX_EPOCH};
 use std::{fs, io};
 
-/// A longer file has no tag, so that its content needn't be hashed for each request.
-const MAX_TAGGED: usize = 16 * 1024 * 1024;
+/// A file of at most so many bytes is read whole, and its tag is their digest. A longer one is read while
+/// it is sent.
+const MAX_KEPT: u64 = 64 * 1024;
+
+/// A longer file that changed fewer seconds before it was opened has no tag: it may change again without
+/// another time.
+const SETTLED: u64 = 2;
 
 /// A folder of the system. A link in it that leads out of it leads to nothing.
 #[derive(Drop)]
@@ -32,34 +38,54 @@ fn seconds_of(time: SystemTime) -> Option<u64> {
     Some(time.duration_since(UNIX_EPOCH).ok()?.as_secs())
 }
 
-// What stands where the system gives this error.
-fn entry_of(error: &io::Error) -> Entry {
-    let kind = error.kind();
-    if kind == ErrorKind::NotFound || kind == ErrorKind::NotADirectory {
-        Entry::Missing
-    } else {
-        Entry::Forbidden
+// What stands where the system gives this error, or the error of memory.
+fn entry_of(error: &io::Error) -> Result<Entry, AllocError> {
+    match error.kind() {
+        ErrorKind::NotFound | ErrorKind::NotADirectory | ErrorKind::InvalidFilename => {
+            Ok(Entry::Missing)
+        }
+        ErrorKind::PermissionDenied | ErrorKind::FilesystemLoop => Ok(Entry::Forbidden),
+        ErrorKind::OutOfMemory => Err(AllocError),
+        _ => Ok(Entry::Unavailable),
     }
 }
 
-fn media_type_at(path: &str) -> HeaderValue {
-    match path.rsplit_once('.') {
-        Some((_, extension)) => media_type_of(extension),
-        None => media_type_of(""),
+// The media type of a file, by its extension in any case.
+fn media_type_at(alloc: Global, name: &str) -> Result<HeaderValue, AllocError> {
+    let mut extension = match name.rsplit_once('.') {
+        Some((_, extension)) => String::from_str(alloc, extension)?,
+        None => String::new(alloc),
+    };
+    extension.make_ascii_lowercase();
+    Ok(media_type_of(extension.as_str()))
+}
+
+// Whether a file whose times are these had not changed of late.
+fn is_settled(metadata: &fs::Metadata, now: SystemTime) -> bool {
+    let Ok(changed) = u64::try_from(metadata.ctime()) else {
+        return false;
+    };
+    match seconds_of(now) {
+        Some(seconds) => seconds.saturating_sub(changed) > SETTLED,
+        None => false,
     }
+}
+
+// The tag of a file that isn't read whole: which file it is, its length, and the nanosecond of its last
+// change.
+fn stamp_of(alloc: Global, metadata: &fs::Metadata) -> io::Result<Option<ETag>> {
+    let text = format!(in alloc;
+        "\"{:x}-{:x}-{:x}-{:x}.{:x}\"",
+        metadata.dev(),
+        metadata.ino(),
+        metadata.len(),
+        metadata.ctime(),
+        metadata.ctime_nsec()
+    )?;
+    Ok(ETag::from_str(alloc, text.as_str()).ok())
 }
 
 impl Folder<'_> {
-    // Reads a file of about this length. One byte more shows where it ends.
-    fn read(&self, place: &Place<'_>, len: usize) -> io::Result<Bytes> {
-        let mut bytes = Vec::with_capacity(self.rt.alloc(), len.saturating_add(1))?;
-        place
-            .open(self.rt)?
-            .take(self.max_file)
-            .read_to_end(&mut bytes)?;
-        Ok(Bytes::from_vec(bytes)?)
-    }
-
     // The date of a file that was last modified then.
     fn date(&self, modified: Option<SystemTime>) -> Option<LastModified> {
         if !self.has_dates {
@@ -73,28 +99,60 @@ impl Folder<'_> {
         }
     }
 
-    // The file at a place, as it was kept or as it stands there now.
-    fn file_at(
+    // The bytes of a short file as they stand now. They are kept.
+    fn keep(
         &self,
         place: &Place<'_>,
-        len: u64,
-        modified: Option<SystemTime>,
-        media_type: HeaderValue,
-    ) -> io::Result<File> {
-        let path = place.as_str();
-        if let Some(mut file) = self.kept.get(path, len, modified)? {
-            file.media_type = media_type;
-            return Ok(file);
-        }
+        file: fs::File,
+        metadata: &fs::Metadata,
+        now: SystemTime,
+    ) -> io::Result<Kept> {
+        let alloc = self.rt.alloc();
+        let mut bytes = Vec::with_capacity(alloc, (metadata.len() as usize).saturating_add(1))?;
+        file.take(MAX_KEPT).read_to_end(&mut bytes)?;
+        let kept = Kept::new(Bytes::from_vec(bytes)?);
+        self.kept.put(alloc, place.as_str(), &kept, metadata.modified().ok(), now)?;
+        Ok(kept)
+    }
+
+    // A longer file, to be read while it is sent.
+    fn leave_open(
+        &self,
+        file: fs::File,
+        metadata: &fs::Metadata,
+        now: SystemTime,
+    ) -> io::Result<Opened> {
+        let tag = if is_settled(metadata, now) {
+            stamp_of(self.rt.alloc(), metadata)?
+        } else {
+            None
+        };
+        Ok(Opened {
+            file,
+            len: metadata.len(),
+            tag,
+        })
+    }
+
+    // Opens a file. The system says of it what it is now.
+    fn open(&self, place: &Place<'_>, media_type: HeaderValue) -> io::Result<Entry> {
         let now = SystemTime::now(self.rt)?;
-        let content = self.read(place, len as usize)?;
-        let date = self.date(modified);
-        if content.len() > MAX_TAGGED {
-            return Ok(File::without_tag(content, media_type, date));
+        let file = place.open(self.rt)?;
+        let metadata = file.metadata()?;
+        if !metadata.is_file() || metadata.len() > self.max_file {
+            return Ok(Entry::Forbidden);
         }
-        let file = File::new(content, media_type, date);
-        self.kept.put(self.rt.alloc(), path, &file, modified, now)?;
-        Ok(file)
+        let source = if metadata.len() > MAX_KEPT {
+            Source::Opened(self.leave_open(file, &metadata, now)?)
+        } else {
+            Source::Kept(self.keep(place, file, &metadata, now)?)
+        };
+        Ok(Entry::Readable(File {
+            source,
+            media_type,
+            modified: self.date(metadata.modified().ok()),
+            coding: None,
+        }))
     }
 
     // What stands at a path of the system, which has this name below the root.
@@ -106,13 +164,21 @@ impl Folder<'_> {
         if metadata.is_dir() {
             return Ok(Entry::Folder);
         }
-        let len = metadata.len();
-        if !metadata.is_file() || len > self.max_file {
+        // What is no file isn't opened: a pipe would wait for its other end.
+        if !metadata.is_file() {
             return Ok(Entry::Forbidden);
         }
         let modified = metadata.modified().ok();
-        let file = self.file_at(&place, len, modified, media_type_at(name))?;
-        Ok(Entry::Readable(file))
+        let media_type = media_type_at(self.rt.alloc(), name)?;
+        match self.kept.get(place.as_str(), metadata.len(), modified)? {
+            Some(kept) => Ok(Entry::Readable(File {
+                source: Source::Kept(kept),
+                media_type,
+                modified: self.date(modified),
+                coding: None,
+            })),
+            None => self.open(&place, media_type),
+        }
     }
 }
 
@@ -125,7 +191,7 @@ impl Store for Folder<'_> {
         let full = format!(in alloc; "{}/{path}", self.root)?;
         match self.entry(full.as_str(), path) {
             Ok(entry) => Ok(entry),
-            Err(error) => Ok(entry_of(&error)),
+            Err(error) => entry_of(&error),
         }
     }
 

@@ -1,6 +1,6 @@
 //! Files that were read before.
 
-use headers_serve::File;
+use headers_serve::Kept;
 use lru::LruCache;
 use std::alloc::{AllocError, Global};
 use std::cell::RefCell;
@@ -10,17 +10,14 @@ use std::time::SystemTime;
 /// So many files are kept at most.
 const MAX_FILES: usize = 256;
 
-/// A longer file isn't kept.
-const MAX_LEN: usize = 64 * 1024;
-
 /// A file that changed fewer seconds before it was read isn't kept: it may change again without
 /// another time.
 const SETTLED: u64 = 2;
 
-// A file, and when it was last modified.
+// The bytes of a file, and when it was last modified.
 #[derive(Drop)]
 struct KeptFile {
-    file: File,
+    kept: Kept,
     modified: SystemTime,
 }
 
@@ -40,47 +37,47 @@ impl KeptFiles {
         })
     }
 
-    /// The file at a path, if it was kept and has this length and this time still.
+    /// The bytes of the file at a path, if they were kept and it has this length and this time still.
     pub fn get(
         &self,
         path: &str,
         len: u64,
         modified: Option<SystemTime>,
-    ) -> Result<Option<File>, AllocError> {
+    ) -> Result<Option<Kept>, AllocError> {
         let Ok(mut files) = self.files.try_borrow_mut() else {
             return Ok(None);
         };
         match files.get(path) {
-            Some(kept)
-                if Some(kept.modified) == modified && kept.file.content.len() as u64 == len => {
-                let file = kept.file.clone()?;
-                Ok(Some(file))
+            Some(file)
+                if Some(file.modified) == modified && file.kept.content().len() as u64 == len => {
+                let kept = file.kept.clone()?;
+                Ok(Some(kept))
             }
             _ => Ok(None),
         }
     }
 
-    /// Keeps a file, if it is short and hasn't changed of late.
+    /// Keeps the bytes of a file, if it hasn't changed of late.
     pub fn put(
         &self,
         alloc: Global,
         path: &str,
-        file: &File,
+        kept: &Kept,
         modified: Option<SystemTime>,
         now: SystemTime,
     ) -> Result<(), AllocError> {
         let Some(modified) = modified else {
             return Ok(());
         };
-        if file.content.len() > MAX_LEN || !is_settled(modified, now) {
+        if !is_settled(modified, now) {
             return Ok(());
         }
         let Ok(mut files) = self.files.try_borrow_mut() else {
             return Ok(());
         };
         let path = String::from_str(alloc, path)?;
-        let file = file.clone()?;
-        files.put(path, KeptFile { file, modified })?;
+        let kept = kept.clone()?;
+        files.put(path, KeptFile { kept, modified })?;
         Ok(())
     }
 }

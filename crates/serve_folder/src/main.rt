@@ -13,15 +13,23 @@ use crate::kept::KeptFiles;
 use crate::options::command;
 use clap::ArgMatches;
 use headers::HeaderValue;
-use headers_serve::{FileService, serve_store};
+use headers_cors_policy::CorsPolicy;
+use headers_serve::{Divider, FileService, Settings, Source, serve_store};
+use http_header::HeaderValueError;
 use http_server::Config;
+use std::alloc::{AllocError, Global};
 use std::hash::RandomState;
 use std::path::PathBuf;
 use std::process::ExitCode;
+use std::random::RandomSource;
 use std::{env, fs};
 
 // The status of a mistake in the words of the command line.
 const MISTAKE: u8 = 2;
+
+// The text is no origin.
+#[derive(Clone, Copy)]
+struct NoOrigin;
 
 // The path of a folder with every link resolved. `None` if it is no folder.
 fn folder_at(rt: &HostRuntime, path: &str) -> Option<PathBuf> {
@@ -29,49 +37,78 @@ fn folder_at(rt: &HostRuntime, path: &str) -> Option<PathBuf> {
     path.is_dir(rt).then_some(path)
 }
 
-// Serves one connection. The status is 1 if reading or writing fails.
-fn run(rt: &HostRuntime, matches: &ArgMatches<'_>) -> anyhow::Result<ExitCode> {
-    let alloc = rt.alloc();
-    let name = matches.get_str("FOLDER").unwrap_or("");
-    let Some(root) = folder_at(rt, name) else {
-        eprintln!(rt; "error: '{name}' is no folder")?;
-        return Ok(ExitCode::from(MISTAKE));
+// A boundary between parts that nobody can foresee.
+fn divider_for(rt: &HostRuntime) -> anyhow::Result<Divider> {
+    let mut bytes = [0; 16];
+    rt.fill_bytes(&mut bytes)?;
+    let text = hex::encode(rt.alloc(), bytes)?;
+    Ok(Divider::new(rt.alloc(), text)?)
+}
+
+// The value of Cache-Control, if it is asked for. Blanks around a value are no part of it.
+fn cache_control_of(
+    alloc: Global,
+    matches: &ArgMatches<'_>,
+) -> Result<Option<HeaderValue>, HeaderValueError> {
+    match matches.get_str("cache-control") {
+        Some(text) => Ok(Some(HeaderValue::from_str(alloc, text.trim())?)),
+        None => Ok(None),
+    }
+}
+
+// The policy for other origins, if it is asked for.
+fn cors_of(alloc: Global, matches: &ArgMatches<'_>) -> Result<Option<CorsPolicy>, NoOrigin> {
+    match matches.get_str("cors-origin") {
+        Some(text) => Ok(Some(policy_for(alloc, text).ok_or(NoOrigin)?)),
+        None => Ok(None),
+    }
+}
+
+// How the words of the command line have the files served. `None` if one of them is wrong; standard error
+// says which.
+fn settings_of(rt: &HostRuntime, matches: &ArgMatches<'_>) -> anyhow::Result<Option<Settings>> {
+    let Ok(cache_control) = cache_control_of(rt.alloc(), matches) else {
+        eprintln!(rt; "error: the value of '--cache-control' can't stand in a header")?;
+        return Ok(None);
     };
-    let cache_control = match matches.get_str("cache-control") {
-        Some(text) => match HeaderValue::from_str(alloc, text) {
-            Ok(value) => Some(value),
-            Err(_) => {
-                eprintln!(rt; "error: the value of '--cache-control' can't stand in a header")?;
-                return Ok(ExitCode::from(MISTAKE));
-            }
-        },
-        None => None,
+    let Ok(cors) = cors_of(rt.alloc(), matches) else {
+        eprintln!(rt; "error: the value of '--cors-origin' is no origin")?;
+        return Ok(None);
     };
-    let cors = match matches.get_str("cors-origin") {
-        Some(text) => match policy_for(alloc, text) {
-            Some(policy) => Some(policy),
-            None => {
-                eprintln!(rt; "error: '{text}' is no origin")?;
-                return Ok(ExitCode::from(MISTAKE));
-            }
-        },
-        None => None,
-    };
-    let store = Folder {
-        rt,
-        root: root.as_str(),
-        max_file: matches.get_one::<u64>("max-file").unwrap_or(0),
-        has_dates: !matches.get_flag("no-dates"),
-        kept: KeptFiles::new(alloc)?,
-    };
-    let mut service = FileService {
-        alloc,
-        store,
+    let divider = divider_for(rt)?;
+    Ok(Some(Settings {
         cache_control,
         negotiates: matches.get_flag("precompressed"),
         cors,
-    };
+        divider,
+    }))
+}
+
+// The files of the folder whose resolved path this is.
+fn folder_of<'a>(
+    rt: &'a HostRuntime,
+    matches: &ArgMatches<'_>,
+    root: &'a str,
+) -> Result<Folder<'a>, AllocError> {
+    let kept = KeptFiles::new(rt.alloc())?;
+    Ok(Folder {
+        rt,
+        root,
+        max_file: matches.get_one::<u64>("max-file").unwrap_or(u64::MAX),
+        has_dates: !matches.get_flag("no-dates"),
+        kept,
+    })
+}
+
+// Serves one connection. The status is 1 if reading or writing fails.
+fn serve(rt: &HostRuntime, store: Folder<'_>, settings: Settings) -> anyhow::Result<ExitCode> {
     let keys = RandomState::new(rt)?;
+    let mut service = FileService {
+        alloc: rt.alloc(),
+        store,
+        settings,
+        source: Source::empty(),
+    };
     let (mut reader, mut writer) = (rt.stdin(), rt.stdout());
     match serve_store(
         keys,
@@ -83,6 +120,19 @@ fn run(rt: &HostRuntime, matches: &ArgMatches<'_>) -> anyhow::Result<ExitCode> {
         Ok(()) => Ok(ExitCode::SUCCESS),
         Err(_) => Ok(ExitCode::FAILURE),
     }
+}
+
+fn run(rt: &HostRuntime, matches: &ArgMatches<'_>) -> anyhow::Result<ExitCode> {
+    let name = matches.get_str("FOLDER").unwrap_or("");
+    let Some(root) = folder_at(rt, name) else {
+        eprintln!(rt; "error: '{name}' is no folder")?;
+        return Ok(ExitCode::from(MISTAKE));
+    };
+    let Some(settings) = settings_of(rt, matches)? else {
+        return Ok(ExitCode::from(MISTAKE));
+    };
+    let store = folder_of(rt, matches, root.as_str())?;
+    serve(rt, store, settings)
 }
 
 fn main(rt: HostRuntime) -> anyhow::Result<ExitCode> {

@@ -21,7 +21,6 @@ pub fn command<'a>(alloc: Global) -> Result<Command<'a>, AllocError> {
         .long("max-file")
         .value_name("BYTES")
         .value_parser(value_parser!(u64))
-        .default_value("268435456")
         .help("A longer file is answered by 403");
     let precompressed = Arg::new(alloc, "precompressed")
         .long("precompressed")

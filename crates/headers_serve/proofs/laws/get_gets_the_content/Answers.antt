@@ -2,4 +2,4 @@ use Rattle.headers_serve.proofs.WholeLemmas.{get_whole}
 use Rattle.headers_serve.proofs.laws.get_gets_the_content.Goals as goal
 
 pub returns : goal.returns
-returns c = λ present negotiates cache_control look before. get_whole present before negotiates cache_control look
+returns c = get_whole

@@ -11,6 +11,7 @@ pub returns : goal.returns
 returns g c =
     let has = g.S.Store.has c.args.store.now in
     let entry = c.in_ok-entry.entry in
+    let negotiates = c.args.settings.now.negotiates in
     inl (
       subst (λ (method : List ℕ). IsGetOrHead method) c.method.ensures
           (rw c.if-not-is_get_or_head.false at c.is_get_or_head.ensures),
@@ -18,12 +19,13 @@ returns g c =
         entry,
         subst
             (λ (path : List ℕ).
-            LeadsTo c.args.negotiates has (lines_at (head_of c.args.request.now).headers) path entry)
+            LeadsTo negotiates has (lines_at (head_of c.args.request.now).headers) path entry)
             c.path_of.ensures
             (subst
-            (λ (headers : Entries FieldValue). LeadsTo c.args.negotiates has (lines_at headers) c.path_of.result.now
+            (λ (headers : Entries FieldValue). LeadsTo negotiates has (lines_at headers) c.path_of.result.now
             entry)
             c.headers.ensures c.in_ok-entry.ensures),
         c.in_ok-answer_entry.ensures,
+        c.source_of.ensures,
       ),
     )

@@ -2,11 +2,11 @@ use Rattle.std.proofs.Common.{ℕ, List, Option, subst}
 use Rattle.http.specs.Request.{head_of}
 use Rattle.http_header.specs.FieldValue.{FieldValue}
 use Rattle.http_header.specs.HeaderMap.{Entries}
-use Rattle.http_server.specs.Response.{fields_of}
 use Rattle.headers.specs.LineMap.{lines_at}
 use Rattle.http_uri.specs.Uri.{uri_query}
 use Rattle.headers_serve.specs.Answer.{AnswersFile}
 use Rattle.headers_serve.specs.Redirect.{AnswersFolder}
+use Rattle.headers_serve.specs.Response.{fields_of}
 use Rattle.headers_serve.proofs.service.answer_entry.Goals as goal
 
 pub returns-in_ok-answer_folder-in-Folder : goal.returns-in_ok-answer_folder-in-Folder
@@ -22,13 +22,13 @@ returns-in_ok-answer_folder-in-Folder c =
 pub returns-in_ok-answer_file-in-Readable : goal.returns-in_ok-answer_file-in-Readable
 returns-in_ok-answer_file-in-Readable c =
     let before = fields_of c.args.response.now in
-    let cache_control = c.args.cache_control.now in
+    let settings = c.args.settings.now in
     rw c.in-Readable.is
     (subst
-    (λ (method : List ℕ). AnswersFile c.args.present before cache_control method
+    (λ (method : List ℕ). AnswersFile c.args.present before settings method
     (lines_at (head_of c.args.request.now).headers) c.in-Readable.file c.answer_file.new.response)
     c.method-method.ensures
     (subst
-    (λ (headers : Entries FieldValue). AnswersFile c.args.present before cache_control c.method-method.result.now
+    (λ (headers : Entries FieldValue). AnswersFile c.args.present before settings c.method-method.result.now
     (lines_at headers) c.in-Readable.file c.answer_file.new.response)
     c.headers.ensures c.in_ok-answer_file-in-Readable.ensures))

@@ -8,7 +8,7 @@ returns-then-is_options c =
       record {
         status = refl;
         headers = rw c.from_static.ensures at c.in_ok-add_header.ensures.headers;
-        body = rw c.in_ok-add_header.ensures.body c.requires;
+        pieces = rw c.in_ok-add_header.ensures.pieces c.requires;
       },
     )
 
@@ -19,6 +19,6 @@ returns c =
       record {
         status = refl;
         headers = rw c.from_static.ensures at c.in_ok-add_header.ensures.headers;
-        body = rw c.in_ok-add_header.ensures.body c.requires;
+        pieces = rw c.in_ok-add_header.ensures.pieces c.requires;
       },
     )

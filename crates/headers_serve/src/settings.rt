@@ -1,0 +1,52 @@
+//! How files are served.
+ghost use Rattle.std.specs.Prelude.{◌≡◌, IfOk, string_bytes};
+ghost use Rattle.headers_preconditions.specs.Boundaries.{multipart_type};
+
+use headers::{HeaderValue, Refused};
+use headers_cors_policy::CorsPolicy;
+use headers_preconditions::{Boundary, InvalidBoundary};
+use std::alloc::Global;
+
+/// What stands between several parts of a file. Take digits that nobody can foresee, so that no file
+/// can be made to hold them.
+#[derive(Debug, Drop)]
+pub struct Divider {
+    text: String,
+    boundary: Boundary,
+    ghost is_boundary: { boundary.bytes ≡ multipart_type (string_bytes text) },
+}
+
+impl Divider {
+    /// A boundary of this text. `InvalidBoundary` if it is none.
+    pub fn new(alloc: Global, text: String) -> Result<Divider, Refused<InvalidBoundary>>
+        ensures { IfOk result (λ divider. divider.text ≡ text) }
+    {
+        let boundary = Boundary::new(alloc, text.as_str())?;
+        Ok(Divider { text, boundary })
+    }
+
+    pub(crate) fn text(&self) -> &str
+        ensures { result.now ≡ string_bytes self.now.text }
+    {
+        self.text.as_str()
+    }
+
+    pub(crate) fn boundary(&self) -> &Boundary
+        ensures { result.now.bytes ≡ multipart_type (string_bytes self.now.text) }
+    {
+        &self.boundary
+    }
+}
+
+/// How files are served.
+#[derive(Debug, Drop)]
+pub struct Settings {
+    /// What Cache-Control says of the answers that a cache may use again: 200, 206 and 304.
+    pub cache_control: Option<HeaderValue>,
+    /// Whether a client may get what stands beside a file in a coding, by Accept-Encoding.
+    pub negotiates: bool,
+    /// What answers say to requests from other origins, if they say anything.
+    pub cors: Option<CorsPolicy>,
+    /// What stands between several parts.
+    pub divider: Divider,
+}

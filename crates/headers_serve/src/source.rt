@@ -1,0 +1,58 @@
+//! Where the bytes of a file come from.
+ghost use Rattle.std.specs.Prelude.{◌≡◌, IfOk, take};
+ghost use Rattle.std.specs.Io.{ReadsAtMost};
+ghost use Rattle.headers_serve.specs.File.{gives_at, len_of};
+
+use crate::kept::Kept;
+use bytes::Bytes;
+use headers::ETag;
+use std::os::unix::fs::FileExt;
+use std::{fs, io};
+
+/// A file that the system has open.
+#[derive(Debug, Drop)]
+pub struct Opened {
+    /// Reads it.
+    pub file: fs::File,
+    /// How many bytes it had when it was opened.
+    pub len: u64,
+    /// Its entity tag. A strong one is for the caller to vouch for.
+    pub tag: Option<ETag>,
+}
+
+/// Where the bytes of a file come from.
+#[derive(Debug, Drop)]
+pub enum Source {
+    /// Memory.
+    Kept(Kept),
+    /// The system. It is read while it is sent.
+    Opened(Opened),
+}
+
+impl Source {
+    /// No bytes.
+    pub fn empty() -> Source {
+        Source::Kept(Kept::new(Bytes::new()))
+    }
+
+    /// How many bytes there are.
+    pub fn len(&self) -> u64
+        ensures { result ≡ len_of self.now }
+    {
+        match self {
+            Source::Kept(kept) => kept.content().len() as u64,
+            Source::Opened(opened) => opened.len,
+        }
+    }
+
+    /// Reads bytes from a place on.
+    pub(crate) fn read(&self, start: u64, buffer: &mut [u8]) -> io::Result<usize>
+        ensures bound { ReadsAtMost result buffer.new }
+        ensures bytes { IfOk result (λ count. gives_at self.now start (take count buffer.new)) }
+    {
+        match self {
+            Source::Kept(kept) => Ok(kept.read(start, buffer)),
+            Source::Opened(opened) => opened.file.read_at(buffer, start),
+        }
+    }
+}
