@@ -11,7 +11,8 @@ from common.processes import Missing
 from traffic import ORIGINS, running
 
 FIRST_PORT = 18580
-CONNECTIONS, KEPT, NEW = 4, 4000, 400
+# (fewer requests over a kept connection than after which the origin closes it: 1000)
+CONNECTIONS, KEPT, NEW = 4, 2000, 400
 LARGE = 256 << 20
 
 

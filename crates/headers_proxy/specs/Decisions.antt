@@ -64,8 +64,8 @@ abbrev pub HasHostValue : List ℕ → Option FieldValue → Type 0
 HasHostValue authority None = ¬ (IsAuthority authority)
 HasHostValue authority (Some value) = IsAuthority authority × (value.bytes ≡ authority)
 
--- The Host that takes the place of the received one: that of a target in absolute-form (RFC 9112, section 3.2.2), or the
--- origin server's for a request of HTTP/1.0 without Host.
+-- The Host that takes the place of the received one: that of a target in absolute-form (RFC 9112, section 3.2.2), or
+-- the origin server's for a request of HTTP/1.0 without Host.
 abbrev pub host_or : FieldValue → List Line → Option Line
 host_or origin [] = Some origin.bytes
 host_or origin (line ∷ lines) = None

@@ -6,6 +6,7 @@ use Rattle.http_header.specs.HeaderMap.{Entries}
 use Rattle.http1.specs.Client as Asking
 use Rattle.http1.specs.Conn.{Plan}
 use Rattle.http1.specs.Encoder.{encoder_for, end_refusal, end_text}
+use Rattle.http1.specs.Framing.{method_kind}
 use Rattle.http1.specs.Head.{head_refusal, is_request_line, is_status_line, request_text, response_text}
 use Rattle.http1.specs.Server as Serving
 use Rattle.http1.specs.declared.client.Client.{Client}
@@ -89,6 +90,7 @@ pub record PassesRequest (gateway : Gateway) (client client_after : Client) (req
       before after left left_after held_head held_after
   pub reads_head : client_after.reading ≡ client.reading
   pub is_written : client_after.writing ≡ Writes.Done
+  pub same_method : client_after.method ≡ method_kind request.method
 
 -- ---- responses
 

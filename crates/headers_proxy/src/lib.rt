@@ -2,8 +2,10 @@
 //! other, and passes the responses back (RFC 9110, sections 3.7 and 7; RFC 9112).
 #![tactic(auto)]
 
+mod answer;
 mod decision;
 mod exchange;
+pub mod laws;
 mod own;
 mod pass;
 mod proxy;

@@ -84,6 +84,8 @@ fn pass_content<S: ContentSource, R: Read, T: ContentSink, W: Write>(
         → T.writing sink.old ≡ Writes.Body e → IfOk result (λ sent. PassesContent gateway.now (lines_at fields.now)
         framing d e input.old.items input.new.items (R.remaining reader.old) (R.remaining reader.new)
         (W.contents writer.old) (W.contents writer.new) (T.writing sink.new) (fields_of sent.items)) }
+    ensures asked { (d : Decoder) (e : Encoder) → S.reading source.old ≡ Reads.Body d
+        → T.writing sink.old ≡ Writes.Body e → S.asked source.new ≡ S.asked source.old }
     ensures kept { T.kept sink.new ≡ T.kept sink.old }
 {
     let trailers = relay_content(alloc, keys, source, input, reader, sink, writer)?;
@@ -146,8 +148,11 @@ pub(crate) fn pass_request<R: Read, W: Write>(
     client: &mut Client,
     writer: &mut W,
 ) -> Result<(), Failure>
-    ensures { (d : Decoder) → content_read (Serving.writing server.old) (Serving.reading server.old) ≡ Reads.Body d
-        → OnOk result (PassesRequest proxy.now.gateway client.old client.new request.now outgoing.now d
+    ensures same { (d : Decoder) → content_read (Serving.writing server.old) (Serving.reading server.old)
+        ≡ Reads.Body d → OnOk result ((Serving.peer_minor server.new ≡ Serving.peer_minor server.old)
+        × (Serving.peer_method server.new ≡ Serving.peer_method server.old)) }
+    ensures passes { (d : Decoder) → content_read (Serving.writing server.old) (Serving.reading server.old)
+        ≡ Reads.Body d → OnOk result (PassesRequest proxy.now.gateway client.old client.new request.now outgoing.now d
         input.old.items input.new.items (R.remaining reader.old) (R.remaining reader.new)
         (W.contents writer.old) (W.contents writer.new)) }
 {

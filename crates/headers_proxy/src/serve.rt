@@ -1,6 +1,8 @@
 //! A connection of a client, and one to the origin server.
+ghost use Rattle.std.specs.Prelude.{OnOk};
+ghost use Rattle.headers_proxy.specs.Exchanges.{IsServedFrom};
 
-use crate::exchange::exchange;
+use crate::exchange::{Turn, exchange};
 use crate::proxy::{Clock, Proxy};
 use bytes::BytesMut;
 use headers_relay::Failure;
@@ -19,12 +21,16 @@ pub fn serve_gateway<C: Clock, R: Read, W: Write, S: Read, T: Write>(
     writer: &mut W,
     from_origin: &mut S,
     to_origin: &mut T,
-) -> Result<(), Failure> {
+) -> Result<(), Failure>
+    ensures { OnOk result (IsServedFrom proxy.now (R.remaining reader.old) (W.contents writer.old)
+        (S.remaining from_origin.old) (T.contents to_origin.old) (R.remaining reader.new) (W.contents writer.new)
+        (S.remaining from_origin.new) (T.contents to_origin.new)) }
+{
     let mut requests = BytesMut::new(alloc);
     let mut responses = BytesMut::new(alloc);
     // A loop is proved to end, so this one counts its turns.
     for _ in 0..u64::MAX {
-        let goes_on = exchange(
+        let turn = exchange(
             alloc,
             keys,
             clock,
@@ -36,9 +42,10 @@ pub fn serve_gateway<C: Clock, R: Read, W: Write, S: Read, T: Write>(
             from_origin,
             to_origin,
         )?;
-        if !goes_on {
-            return Ok(());
+        match turn {
+            Turn::Next => {}
+            _ => return Ok(()),
         }
     }
-    Ok(())
+    Err(Failure::CutShort)
 }

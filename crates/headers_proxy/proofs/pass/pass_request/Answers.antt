@@ -6,12 +6,12 @@ use Rattle.http1.specs.Fields.{Header}
 use Rattle.http1.specs.Head.{pairs}
 use Rattle.http1.specs.declared.client.Client.{Client}
 use Rattle.headers_gateway.specs.FieldLines.{fields_of}
-use Rattle.headers_relay.specs.Content.{Kept, after_pieces}
+use Rattle.headers_relay.specs.Content.{Asked, Kept, after_pieces}
 use Rattle.headers_proxy.proofs.PassLemmas.{sent_whole}
 use Rattle.headers_proxy.proofs.pass.pass_request.Goals as goal
 
-pub returns : goal.returns
-returns g c d reading =
+pub returns-clause-passes : goal.returns-clause-passes
+returns-clause-passes g c d reading =
     let begins = c.in_ok-begin_request.ensures in
     let e = encoder_for begins.plan.framing in
     let content = c.in_ok-trailers.ensures.passes d e reading (ap Asking.writing begins.next) in
@@ -38,4 +38,13 @@ returns g c d reading =
       reads_head = ap (λ (x : Client). x.reading) ends.next
           ∙ ap (λ (k : Kept). k.reading) c.in_ok-trailers.ensures.kept ∙ ap (λ (x : Client). x.reading) begins.next;
       is_written = ap (λ (x : Client). x.writing) ends.next;
+      same_method = ap (λ (x : Client). x.method) ends.next
+          ∙ ap (λ (k : Kept). k.method) c.in_ok-trailers.ensures.kept ∙ ap (λ (x : Client). x.method) begins.next;
     }
+
+pub returns-clause-same : goal.returns-clause-same
+returns-clause-same g c d reading =
+    let begins = c.in_ok-begin_request.ensures in
+    let asked = c.in_ok-trailers.ensures.asked d (encoder_for begins.plan.framing) reading
+    (ap Asking.writing begins.next) in
+    (ap (λ (a : Asked). a.minor) asked, ap (λ (a : Asked). a.method) asked)
