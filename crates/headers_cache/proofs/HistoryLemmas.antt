@@ -5,11 +5,11 @@ use Rattle.std.proofs.Common.{Option, Some, None, refl, sym, ap, subst, arith, f
 use Rattle.std.proofs.Common.{inl, inr}
 use Rattle.std.proofs.lemmas.Slice.Eq.{bytes_eq-Decides}
 use Rattle.headers.specs.LineMap.{Field, LineMap, field_of}
-use Rattle.headers_cache_policy.specs.Decisions.{IsGoodEnough, freshness_at}
+use Rattle.headers_cache_policy.specs.Decisions.{IsGoodEnough}
 use Rattle.headers_cache_policy.specs.Directives.{directed}
 use Rattle.headers_cache_policy.specs.declared.decision.Decision.{Decision}
 use Rattle.headers_cache_policy.specs.declared.decision.Decision.TheVariants as decisions
-use Rattle.headers_cache_rules.specs.Stored.{fields_of_stored, request_of_stored, times_of}
+use Rattle.headers_cache_rules.specs.Stored.{fields_of_stored, request_of_stored}
 use Rattle.headers_cache_policy.specs.Requests.{Request}
 use Rattle.headers_cache_policy.specs.declared.kind.Kind.{Kind}
 use Rattle.headers_cache_rules.specs.Freshening.{IsReusable}
@@ -24,7 +24,7 @@ use Rattle.headers_cache.specs.History.Call.{Looked, Arrived, Validated, Describ
 use Rattle.headers_cache.specs.Updates.{AreLeft, BecomesBeside, BecomesByHead}
 use Rattle.headers_cache.specs.declared.freshening.Refreshed.TheVariants.{Absent, Unchanged, Stored, Once}
 use Rattle.headers_cache.specs.declared.limits.Limits.{Limits}
-use Rattle.headers_cache.specs.Lookups.{IsAnswer, IsFound, age_of_stored}
+use Rattle.headers_cache.specs.Lookups.{IsAnswer, IsFound, age_of_stored, freshness_of}
 use Rattle.headers_cache.specs.Served.{IsRightlyServed, Serves}
 use Rattle.headers_cache.specs.declared.lookup.Lookup.{Lookup}
 use Rattle.headers_cache.specs.declared.lookup.Lookup.TheVariants.{Serve, ServeAndRevalidate, Validate, ValidateOrServe}
@@ -352,15 +352,14 @@ module _ (kind : Kind) (limits : Limits) where
 -- ---- what is served
 
 module _ (kind : Kind) (limits : Limits) (calls : History) (contents : Contents) (ran : Run kind limits calls contents)
-    (target : List ℕ) (request : Request) (now : ℕ) where
+    (target : List ℕ) (most : ℕ) (request : Request) (now : ℕ) where
   -- a stored response that is found for a request, and is good enough
-  served : (decision : Decision) (place : ℕ) (found : IsFound kind request now (responses_at target contents) decision
-      place)
+  served : (decision : Decision) (place : ℕ)
+      (found : IsFound kind most request now (responses_at target contents) decision place)
       → (age : Field) → age ≡ age_of_stored found.selected.response now
       → IsGoodEnough kind (directed request.fields) (directed (fields_of_stored found.selected.response))
-      (freshness_at found.decided.stated (times_of found.selected.response now) (fields_of_stored
-      found.selected.response))
-      → IsRightlyServed kind target calls request now (responses_at target contents) place age
+      (freshness_of found.lifetime found.selected.response now)
+      → IsRightlyServed kind most target calls request now (responses_at target contents) place age
   served decision place found age same good =
       record {
         response = found.selected.response;
@@ -369,38 +368,38 @@ module _ (kind : Kind) (limits : Limits) (calls : History) (contents : Contents)
             (HasUnder-responses_at target contents found.selected.response (Has-slice_get (responses_at target
             contents) place found.selected.response found.selected.at));
         matches = found.selected.is;
-        stated = found.decided.stated;
-        lifetime = found.decided.lifetime;
+        lifetime = found.lifetime;
+        fresh_for = found.fresh_for;
         good = good;
         age = same;
       }
 
-  pub lookup-served : (lookup : Lookup) → IsAnswer kind request now (responses_at target contents) lookup → (place :
-      ℕ) (age : Field)
-      → Serves lookup place age → IsRightlyServed kind target calls request now (responses_at target contents) place age
+  pub lookup-served : (lookup : Lookup) → IsAnswer kind most request now (responses_at target contents) lookup
+      → (place : ℕ) (age : Field) → Serves lookup place age
+      → IsRightlyServed kind most target calls request now (responses_at target contents) place age
   lookup-served (Serve at line) (inl is) place age same =
-      subst (λ p. IsRightlyServed kind target calls request now (responses_at target contents) p age) same.0
-      (subst (IsRightlyServed kind target calls request now (responses_at target contents) at) same.1
+      subst (λ p. IsRightlyServed kind most target calls request now (responses_at target contents) p age) same.0
+      (subst (IsRightlyServed kind most target calls request now (responses_at target contents) at) same.1
       (served decisions.Serve at is.found (field_of line) is.age (
-        is.found.decided.answers.0,
+        is.found.decided.0,
         inl
-            is.found.decided.answers.1,
+            is.found.decided.1,
       )))
   lookup-served (Serve at line) (inr is) place age same =
-      subst (λ p. IsRightlyServed kind target calls request now (responses_at target contents) p age) same.0
-      (subst (IsRightlyServed kind target calls request now (responses_at target contents) at) same.1
+      subst (λ p. IsRightlyServed kind most target calls request now (responses_at target contents) p age) same.0
+      (subst (IsRightlyServed kind most target calls request now (responses_at target contents) at) same.1
       (served decisions.ServeStale at is.found (field_of line) is.age (
-        is.found.decided.answers.0,
+        is.found.decided.0,
         inr (inr
-            is.found.decided.answers.3),
+            is.found.decided.3),
       )))
   lookup-served (ServeAndRevalidate at line) is place age same =
-      subst (λ p. IsRightlyServed kind target calls request now (responses_at target contents) p age) same.0
-      (subst (IsRightlyServed kind target calls request now (responses_at target contents) at) same.1
+      subst (λ p. IsRightlyServed kind most target calls request now (responses_at target contents) p age) same.0
+      (subst (IsRightlyServed kind most target calls request now (responses_at target contents) at) same.1
       (served decisions.ServeAndRevalidate at is.found (field_of line) is.age (
-        is.found.decided.answers.0,
+        is.found.decided.0,
         inr (inl
-            is.found.decided.answers.2),
+            is.found.decided.2),
       )))
   lookup-served (Validate at fields) is place age none = absurd none
   lookup-served (ValidateOrServe at fields) is place age none = absurd none

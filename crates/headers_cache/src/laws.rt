@@ -25,13 +25,13 @@ pub fn calls_justify_what_is_stored()
 
 /// Whatever calls are made of a new store, a lookup after them serves nothing but what they justify,
 /// and what it serves matches the request, and is fresh, or allowed to be served stale by each
-/// directive that applies.
+/// directive that applies. `most` is how many seconds `lookup_guessing` guesses at most, 0 for `lookup`.
 pub fn lookups_serve_what_calls_justify()
     ensures { (kind : Kind) (limits : Limits) (calls : History) (contents : Contents) → Run kind limits calls contents
-        → (target : List ℕ) (request : Request) (now : ℕ) (lookup : Lookup)
-        → IsAnswer kind request now (responses_at target contents) lookup → (place : ℕ) (age : Field)
+        → (target : List ℕ) (most : ℕ) (request : Request) (now : ℕ) (lookup : Lookup)
+        → IsAnswer kind most request now (responses_at target contents) lookup → (place : ℕ) (age : Field)
         → Serves lookup place age
-        → IsRightlyServed kind target calls request now (responses_at target contents) place age }
+        → IsRightlyServed kind most target calls request now (responses_at target contents) place age }
 {}
 
 /// Whatever calls are made of a new store, each response that it has came from the origin: a call of

@@ -6,12 +6,13 @@ ghost use Rattle.headers_cache.specs.Contents.{responses_at, used};
 ghost use Rattle.headers_cache.specs.History.Call.{Looked};
 ghost use Rattle.headers_cache.specs.History.{Step};
 ghost use Rattle.headers_cache.specs.Kept.{contents_of};
-ghost use Rattle.headers_cache.specs.Lookups.{HasFields, IsAnswer, IsLookupOf};
+ghost use Rattle.headers_cache.specs.Lookups.{HasFields, IsAnswer, IsDecisionOf, IsFreshFor, IsLookupOf};
 
 use crate::store::Store;
 use headers::Encoded;
 use headers_cache_policy::{
-    Decision, Kind, RequestHead, decide, decide_unstored, validation_fields,
+    Decision, Freshness, Kind, RequestHead, current_age, decide_by, decide_unstored,
+    heuristic_lifetime, lifetime, validation_fields,
 };
 use headers_cache_rules::{StoredResponse, age_field, select};
 use std::alloc::{AllocError, Global};
@@ -80,6 +81,36 @@ fn found(
     })
 }
 
+// How many seconds a stored response is fresh, if at most so many are guessed.
+fn lifetime_of(stored: &StoredResponse, kind: Kind, most: u64) -> u64
+    ensures { IsFreshFor kind most stored.now result }
+{
+    match lifetime(&stored.response, stored.received, kind) {
+        Some(seconds) => seconds,
+        None => {
+            let guess = heuristic_lifetime(stored.status, &stored.response, stored.received, kind);
+            guess.unwrap_or(0).min(most)
+        }
+    }
+}
+
+// What is done with a request, by a stored response.
+fn decision_for(
+    stored: &StoredResponse,
+    request: &RequestHead<'_>,
+    now: u64,
+    kind: Kind,
+    most: u64,
+) -> Decision
+    ensures { IsDecisionOf kind most (request_of request.now) now stored.now result }
+{
+    let freshness = Freshness {
+        lifetime: lifetime_of(stored, kind, most),
+        age: current_age(&stored.response, stored.times(now)),
+    };
+    decide_by(&stored.head(), request, &stored.response, freshness, kind)
+}
+
 // What is done with a request to a target under which these responses are stored.
 pub(crate) fn answer(
     alloc: Global,
@@ -87,20 +118,15 @@ pub(crate) fn answer(
     request: &RequestHead<'_>,
     now: u64,
     kind: Kind,
+    most: u64,
 ) -> Result<Lookup, AllocError>
-    ensures answer { IfOk result (IsAnswer kind (request_of request.now) now responses.now) }
-    ensures memory { OnErr result (HasFields kind (request_of request.now) now responses.now) }
+    ensures answer { IfOk result (IsAnswer kind most (request_of request.now) now responses.now) }
+    ensures memory { OnErr result (HasFields kind most (request_of request.now) now responses.now) }
 {
     match select(responses, request) {
         Some(place) => {
             let stored = &responses[place];
-            let decision = decide(
-                &stored.head(),
-                request,
-                &stored.response,
-                stored.times(now),
-                kind,
-            );
+            let decision = decision_for(stored, request, now, kind, most);
             found(alloc, stored, place, decision, now)
         }
         None => match decide_unstored(request) {
@@ -112,7 +138,8 @@ pub(crate) fn answer(
 
 impl Store {
     /// What a cache does with a request to a target (RFC 9111, section 4). The target becomes the most
-    /// recently used. `now` is the present, in seconds since 1970.
+    /// recently used. `now` is the present, in seconds since 1970. No lifetime is guessed: a response
+    /// whose origin states none is stale at once.
     ///
     /// Fails only if it runs out of memory, which needs a stored response that is selected for the
     /// request.
@@ -123,9 +150,33 @@ impl Store {
         request: &RequestHead<'_>,
         now: u64,
     ) -> Result<Lookup, AllocError>
-        ensures answer { IfOk result (IsAnswer self.old.kind (request_of request.now) now
+        ensures answer { IfOk result (IsAnswer self.old.kind 0 (request_of request.now) now
             (responses_at target.now (contents_of self.new))) }
-        ensures memory { OnErr result (HasFields self.old.kind (request_of request.now) now
+        ensures memory { OnErr result (HasFields self.old.kind 0 (request_of request.now) now
+            (responses_at target.now (contents_of self.new))) }
+        ensures step { Step self.old.kind self.old.limits (Looked target.now) (contents_of self.old)
+            (contents_of self.new) }
+        ensures contents { contents_of self.new ≡ used target.now (contents_of self.old) }
+        ensures kind { self.new.kind ≡ self.old.kind }
+        ensures limits { self.new.limits ≡ self.old.limits }
+    {
+        self.lookup_guessing(alloc, target, request, now, 0)
+    }
+
+    /// The same, but where the origin states no lifetime, a tenth of the time from the last modification
+    /// to the response is guessed, and at most `most` seconds (RFC 9111, section 4.2.2): a day is 86,400.
+    /// A guess needs a status that is heuristically cacheable, or `public`.
+    pub fn lookup_guessing(
+        &mut self,
+        alloc: Global,
+        target: &str,
+        request: &RequestHead<'_>,
+        now: u64,
+        most: u64,
+    ) -> Result<Lookup, AllocError>
+        ensures answer { IfOk result (IsAnswer self.old.kind most (request_of request.now) now
+            (responses_at target.now (contents_of self.new))) }
+        ensures memory { OnErr result (HasFields self.old.kind most (request_of request.now) now
             (responses_at target.now (contents_of self.new))) }
         ensures step { Step self.old.kind self.old.limits (Looked target.now) (contents_of self.old)
             (contents_of self.new) }
@@ -134,7 +185,7 @@ impl Store {
         ensures limits { self.new.limits ≡ self.old.limits }
     {
         self.touch(target);
-        answer(alloc, self.responses(target), request, now, self.kind)
+        answer(alloc, self.responses(target), request, now, self.kind, most)
     }
 
     /// The responses that are stored under a target, in the order in which they were stored.

@@ -5,17 +5,15 @@ use Rattle.headers_cache.proofs.lookup.answer.Goals as goal
 pub returns-in-Some-clause-answer : goal.returns-in-Some-clause-answer
 returns-in-Some-clause-answer c =
     if_ok c.found.result
-    (λ lookup is. answer_decided c.args.kind (request_of c.args.request.now) c.args.now c.args.responses.now
-    c.in-Some.place
-    c.in-Some.ensures c.decide-decision.result c.index-responses-place.result c.index-responses-place.is
-    (request_of c.head.result) c.head.ensures c.times.result c.times.ensures c.decide-decision.ensures lookup is)
+    (λ lookup is. answer_decided c.args.kind c.args.most (request_of c.args.request.now) c.args.now c.args.responses.now
+    c.in-Some.place c.in-Some.ensures c.decision_for-decision.result c.index-responses-place.result
+    c.index-responses-place.is c.decision_for-decision.ensures lookup is)
     c.found.ensures.answer
 
 pub returns-in-Some-clause-memory : goal.returns-in-Some-clause-memory
 returns-in-Some-clause-memory c =
     on_err c.found.result
-    (λ other. has_fields c.args.kind (request_of c.args.request.now) c.args.now c.args.responses.now
-    c.in-Some.place
-    c.in-Some.ensures c.decide-decision.result c.index-responses-place.result c.index-responses-place.is
-    (request_of c.head.result) c.head.ensures c.times.result c.times.ensures c.decide-decision.ensures other)
+    (λ other. has_fields c.args.kind c.args.most (request_of c.args.request.now) c.args.now c.args.responses.now
+    c.in-Some.place c.in-Some.ensures c.decision_for-decision.result c.index-responses-place.result
+    c.index-responses-place.is c.decision_for-decision.ensures other)
     c.found.ensures.memory
