@@ -16,14 +16,14 @@ from pathlib import Path
 from common import pages
 from common.part import Context, Part
 
-PARTS = ("caching", "conditional", "negotiation", "cors", "handshake")
+PARTS = ("caching", "histories", "conditional", "negotiation", "cors", "handshake")
 TITLE = "# Beside caches, servers, libraries and browsers"
 HEAD = """
 Each decision of this repository and its peers get the same inputs. A model of the standard judges both: a
 second reading of its text, in Python (`tests/peers`). Expected values come from the RFCs and from the peers, never
 from ours. The inputs of the models have escapes and bytes past ASCII.
 
-`tests/peers/run` wrote this page. It installs the peers from Debian, runs them at 127.0.0.1, and takes some ten
+`tests/peers/run` wrote this page. It installs the peers from Debian, runs them at 127.0.0.1, and takes some twenty
 minutes. It needs no proof, so a changed decision can be tried first.
 """
 

@@ -2,7 +2,7 @@
 use headers::Encoded;
 use headers_cache::{Limits, Lookup, Refreshed, Store};
 use headers_cache_policy::{Kind, RequestHead};
-use headers_cache_rules::{Exchange, Reception, StoredResponse};
+use headers_cache_rules::{Exchange, Reception, StoredAnswer, StoredResponse};
 use headers_rows::{Answer, Arguments, Failure};
 use http::{Method, StatusCode};
 use std::alloc::{AllocError, Global};
@@ -72,20 +72,28 @@ fn add_fields(fields: &[Encoded], answer: &mut Answer) -> Result<(), Failure> {
     Ok(())
 }
 
-// TARGET NOW METHOD REQUEST: what is done, the content of the response, and Age or the conditions.
+// TARGET NOW METHOD REQUEST, and before METHOD the greatest lifetime that is guessed: what is done,
+// the content of the response, and Age or the conditions.
 fn call_lookup(
     store: &mut Store,
+    guesses: bool,
     arguments: &mut Arguments<'_>,
     answer: &mut Answer,
 ) -> Result<(), Failure> {
+    let alloc = arguments.alloc();
     let target = arguments.text()?;
     let now = arguments.number()?;
+    let most = if guesses { arguments.number()? } else { 0 };
     let (method, fields) = (method(arguments)?, arguments.map()?);
     let request = RequestHead {
         method: &method,
         fields: &fields,
     };
-    let found = store.lookup(arguments.alloc(), &target, &request, now)?;
+    let found = if guesses {
+        store.lookup_guessing(alloc, &target, &request, now, most)?
+    } else {
+        store.lookup(alloc, &target, &request, now)?
+    };
     add_lookup(store, &target, &found, answer)
 }
 
@@ -135,7 +143,7 @@ fn call_store(
     Ok(answer.word(if is_stored { "stored" } else { "unstored" })?)
 }
 
-// TARGET REQUESTED RECEIVED METHOD REQUEST UPDATE: what becomes of the selected response.
+// TARGET REQUESTED RECEIVED METHOD REQUEST UPDATE: which response is the answer after a 304.
 fn call_freshen(
     store: &mut Store,
     arguments: &mut Arguments<'_>,
@@ -160,6 +168,63 @@ fn call_freshen(
             answer.word("once")?;
             add_stored(&response, answer)
         }
+    }
+}
+
+// TARGET REQUESTED RECEIVED METHOD REQUEST HEAD: how many responses are left under the target.
+fn call_freshen_by_head(
+    store: &mut Store,
+    arguments: &mut Arguments<'_>,
+    answer: &mut Answer,
+) -> Result<(), Failure> {
+    let target = arguments.text()?;
+    let exchange = exchange(arguments)?;
+    let (method, fields) = (method(arguments)?, arguments.map()?);
+    let head = arguments.map()?;
+    let request = RequestHead {
+        method: &method,
+        fields: &fields,
+    };
+    store.freshen_by_head(arguments.alloc(), &target, &request, &head, exchange)?;
+    Ok(answer.word(store.responses(&target).len())?)
+}
+
+// The next word, as whether ranges are answered.
+fn ranges(arguments: &mut Arguments<'_>) -> Result<bool, Failure> {
+    match arguments.word()? {
+        "ranges" => Ok(true),
+        "no_ranges" => Ok(false),
+        _ => Err(Failure::NoCall),
+    }
+}
+
+// TARGET PLACE NOW RANGES METHOD REQUEST: how the response at the place answers the conditions.
+fn call_answer(
+    store: &Store,
+    arguments: &mut Arguments<'_>,
+    answer: &mut Answer,
+) -> Result<(), Failure> {
+    let target = arguments.text()?;
+    let (place, now) = (size(arguments)?, arguments.number()?);
+    let ranges = ranges(arguments)?;
+    let (method, fields) = (method(arguments)?, arguments.map()?);
+    let request = RequestHead {
+        method: &method,
+        fields: &fields,
+    };
+    match store.answer(arguments.alloc(), &target, place, &request, now, ranges)? {
+        Some(found) => Ok(add_stored_answer(found, answer)?),
+        None => Ok(answer.none()?),
+    }
+}
+
+fn add_stored_answer(found: StoredAnswer, answer: &mut Answer) -> Result<(), AllocError> {
+    match found {
+        StoredAnswer::Whole => answer.word("whole"),
+        StoredAnswer::Part(part) => answer.word(format_args!("part {}-{}", part.first, part.last)),
+        StoredAnswer::NotModified => answer.word("not_modified"),
+        StoredAnswer::Unsatisfiable => answer.word("unsatisfiable"),
+        StoredAnswer::Forward => answer.word("forward"),
     }
 }
 
@@ -209,10 +274,13 @@ pub fn make(
     answer: &mut Answer,
 ) -> Result<(), Failure> {
     match name {
-        "lookup" => call_lookup(store, arguments, answer),
+        "lookup" => call_lookup(store, false, arguments, answer),
+        "lookup_guessing" => call_lookup(store, true, arguments, answer),
         "store" => call_store(store, Reception::Complete, arguments, answer),
         "store_incomplete" => call_store(store, Reception::Incomplete, arguments, answer),
         "freshen" => call_freshen(store, arguments, answer),
+        "freshen_by_head" => call_freshen_by_head(store, arguments, answer),
+        "answer" => call_answer(store, arguments, answer),
         "invalidate" => call_invalidate(store, arguments, answer),
         "responses" => call_responses(store, arguments, answer),
         _ => Err(Failure::NoCall),

@@ -33,10 +33,12 @@ class Cache:
 
 
 OURS = Cache("ours, shared", ["nice", PYTHON, "-B", "-m", "caching.proxy", "@PORT@", "@ORIGIN@", "shared"])
+STORE = Cache("ours, the store", ["nice", PYTHON, "-B", "-m", "caching.store_proxy", "@PORT@", "@ORIGIN@", "shared"])
 CACHES = [
     OURS,
     Cache("ours, private", ["nice", PYTHON, "-B", "-m", "caching.proxy", "@PORT@", "@ORIGIN@", "private"],
           is_shared=False),
+    STORE,
     # (its own default_grace would serve for ten seconds what is stale)
     Cache("Varnish", ["varnishd", "-F", "-a", "127.0.0.1:@PORT@", "-b", "127.0.0.1:@ORIGIN@", "-n", "@WORK@/varnish",
                       "-s",

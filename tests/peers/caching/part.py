@@ -15,7 +15,8 @@ cases both answers conform; the table counts how often a cache gives the stricte
 the other kind of cache, or if the cache asked the origin for more than its client did.
 
 Ours is a small proxy that follows `headers_cache_policy` and `headers_preconditions`. They leave some choices to their
-caller, as the key under which a response is stored; these are a few lines of Python. Varnish runs with its built-in
+caller, as the key under which a response is stored; these are a few lines of Python. *The store* is a proxy, too, whose
+responses are in `headers_cache`. Varnish runs with its built-in
 rules, `default_grace=0` and `default_keep=3600`, and nginx with `proxy_cache_revalidate on`. All others run as they
 come.
 """
@@ -73,20 +74,24 @@ def cache_of(found: list[Judged], cache: Cache) -> Judged | None:
     return next((it for it in found if it.cache is cache), None)
 
 
+def want_all_kept(part: Part, ours: Judged) -> None:
+    counts = counts_of(ours)
+    kept, broken = counts["required", "kept"], counts["required", "broken"]
+    # (one more isn't asked: the proxy hands on no response that was cut off)
+    part.want(f"required cases of a shared cache that {ours.title} keeps", f"{kept} of {kept + broken}", "97 of 97")
+    part.faults += [f"{case.id}: {[it.wrong for it in ours.results[case.id] if it.wrong]}" for case in cases.ALL
+                    if case.kind == "required" and verdict(case, ours.results[case.id], True) == "broken"]
+
+
 def run(context: Context) -> Part:
     part = Part("Caching")
     found = judge_caches(context, part)
     part.section += INTRODUCTION.strip().format(count=len(cases.ALL)).split("\n") + [""]
     table_of_caches(part, found)
     table_of_broken(part, found)
-    ours = cache_of(found, caches.OURS)
-    if ours:
-        counts = counts_of(ours)
-        kept, broken = counts["required", "kept"], counts["required", "broken"]
-        # (one more isn't asked: the proxy hands on no response that was cut off)
-        part.want("required cases of a shared cache that ours keeps", f"{kept} of {kept + broken}", "97 of 97")
-        part.faults += [f"{case.id}: {[it.wrong for it in ours.results[case.id] if it.wrong]}" for case in cases.ALL
-                        if case.kind == "required" and verdict(case, ours.results[case.id], True) == "broken"]
+    for cache in (caches.OURS, caches.STORE):
+        if ours := cache_of(found, cache):
+            want_all_kept(part, ours)
     against_libraries.compare(context, part)
     comparison = against_model.compare(context.seed, context.inputs)
     part.section += [f"`headers_cache_policy` beside a model of RFC 9111, on {context.inputs:,} random inputs:", ""]

@@ -110,12 +110,15 @@ def freshened(stored: Fields, update: Fields) -> Fields | None:
 
 @dataclass
 class Fetched:
+    """A response, its fields without those of the connection, and all that came."""
+
     status: int
     fields: Fields
     body: bytes
     asked: int
     received: int
     is_whole: bool
+    came: Fields
 
 
 def ask_origin(port: int, method: str, target: str, fields: Fields, body: bytes | None) -> Fetched:
@@ -132,10 +135,11 @@ def ask_origin(port: int, method: str, target: str, fields: Fields, body: bytes 
     response = connection.getresponse()
     content = response.read()
     named = {it.strip().lower() for it in (response.getheader("connection") or "").split(",")}
-    lines = [(name.lower(), value) for name, value in response.getheaders() if name.lower() not in HOP | named]
+    came = [(name.lower(), value) for name, value in response.getheaders()]
+    lines = [it for it in came if it[0] not in HOP | named]
     is_whole = method == "HEAD" or response.length in (0, None)
     connection.close()
-    return Fetched(response.status, lines, content, asked, int(time.time()), is_whole)
+    return Fetched(response.status, lines, content, asked, int(time.time()), is_whole, came)
 
 
 class Proxy(BaseHTTPRequestHandler):
@@ -187,7 +191,7 @@ class Proxy(BaseHTTPRequestHandler):
         try:
             fetched = ask_origin(self.origin, self.command, self.path, sent, body)
         except (OSError, http.client.HTTPException):
-            fetched = Fetched(504, [], b"", 0, 0, False)
+            fetched = Fetched(504, [], b"", 0, 0, False, [])
         if fetched.status in (500, 502, 503, 504) and on_error is not None:
             if answers:
                 self.serve(on_error, request)

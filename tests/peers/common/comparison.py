@@ -23,6 +23,14 @@ class Comparison:
             if key not in self.shortest or len(text) < len(self.shortest[key]):
                 self.shortest[key] = text
 
+    def merge(self, other: "Comparison") -> None:
+        """Adds what another one counted."""
+        self.agree.update(other.agree)
+        self.differ.update(other.differ)
+        self.malformed.update(other.malformed)
+        for key, text in other.shortest.items():
+            self.shortest[key] = min(self.shortest.get(key, text), text, key=len)
+
     @property
     def differences(self) -> int:
         return self.differ.total()
