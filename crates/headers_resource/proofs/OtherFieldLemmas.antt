@@ -45,7 +45,8 @@ shared_alike (Some policy) r s lines fields method same h =
         fields =
             is.fields
             ∙ ap
-            (λ (origin : List Line). fields_sent policy (is_preflight answer.kind) origin (varying lines (codes "vary")))
+            (λ (origin : List Line).
+            fields_sent policy (is_preflight answer.kind) origin (varying lines (codes "vary")))
             same.origin;
       },
       h.2,
@@ -55,7 +56,11 @@ transferred : (present : ℕ) (resource : Resource) (r s : Request) (a : Answer)
     → ChooseAlike r.fields s.fields → IsAnswer present resource r a → IsAnswer present resource s a
 transferred present resource r s a alike same h =
     let select : SelectAlike resource.negotiation r.fields s.fields =
-    record { media_type = λ e. same.accept; language = λ e. same.accept_language; coding = λ e. same.accept_encoding } in
+    record {
+      media_type = λ e. same.accept;
+      language = λ e. same.accept_language;
+      coding = λ e. same.accept_encoding;
+    } in
     record {
       first = same_first resource r s alike a.reason (λ e. select) h.first;
       own = h.own;

@@ -1,10 +1,11 @@
--- Allow and ETag of an answer.
+-- Allow, ETag and Last-Modified of an answer.
 use Rattle.std.proofs.Common.{◌≡◌, ◌≢◌, ◌↔◌, ◌⊎◌, ℕ, Bool, true, false, List, [], ◌∷◌, ◌++◌, Option, Some, None}
 use Rattle.std.proofs.Common.{refl, sym, ◌∙◌, ap, subst, inl, inr, lit≤, arith}
 use Rattle.std.specs.Prelude.{◌||◌, Contains, codes, if◌then◌else◌, is_some, not}
 use Rattle.std.proofs.lemmas.Bool.{cases_order}
 use Rattle.http_header.specs.FieldValue.{FieldValue}
-use Rattle.headers.specs.LineMap.{Field, LineMap, fields_of, set_all}
+use Rattle.headers.specs.Date.{fixdate}
+use Rattle.headers.specs.LineMap.{Field, LineMap, fields_of, set, set_all}
 use Rattle.headers.specs.Lines.{Line}
 use Rattle.headers.specs.Merge.{merge}
 use Rattle.headers.specs.Places.{comma}
@@ -14,7 +15,8 @@ use Rattle.headers_cors_policy.specs.Kinds.{is_preflight}
 use Rattle.headers_cors_policy.specs.Policy.{Policy}
 use Rattle.headers_cors_policy.specs.Rules.{AllowsRequest, IsLawful, IsPolicyOf}
 use Rattle.headers_cors_policy.specs.declared.rules.CorsRules.{CorsRules}
-use Rattle.headers_preconditions.specs.Fields.{etag_of, fields_sent, is_known_by, lines_sent}
+use Rattle.headers_preconditions.specs.Conditions.{modified_of}
+use Rattle.headers_preconditions.specs.Fields.{etag_of, fields_sent, is_known_by, lines_sent, modified_without}
 use Rattle.headers_preconditions.specs.Responses.{IsAnswered}
 use Rattle.headers_preconditions.specs.declared.content.Content.{Content}
 use Rattle.headers_preconditions.specs.declared.plan.Plan.{Plan}
@@ -24,7 +26,7 @@ use Rattle.headers_preconditions.specs.declared.response.Response.{Response}
 use Rattle.headers_resource.specs.Answers.{GivesIf, IsAnswer, IsShared, Stops, at_place, content_of, is_admitted}
 use Rattle.headers_resource.specs.Answers.{is_sent, response_fields, sent_for, target_of, with_metadata}
 use Rattle.headers_resource.specs.Applies.{applies, methods, rule_for}
-use Rattle.headers_resource.specs.Fields.{vary_fields, vary_lines}
+use Rattle.headers_resource.specs.Fields.{allow_field, offered_fields, types_fields, vary_fields, vary_lines}
 use Rattle.headers_resource.specs.Reasons.{Before, IsFirst, stage}
 use Rattle.headers_resource.specs.Requests.{Request, unconditional}
 use Rattle.headers_resource.specs.declared.answer.Answer.{Answer}
@@ -34,6 +36,7 @@ use Rattle.headers_resource.specs.declared.reason.Reason.{Reason}
 use Rattle.headers_resource.specs.declared.reason.Reason.TheVariants.{MethodNotAllowed, NotAcceptable, Options}
 use Rattle.headers_resource.specs.declared.reason.Reason.TheVariants.{UnknownMethod, UnmetExpectation}
 use Rattle.headers_resource.specs.declared.representation.Representation.{Representation}
+use Rattle.headers_resource.specs.declared.resource.MethodRule.{MethodRule}
 use Rattle.headers_resource.specs.declared.resource.Resource.{Resource}
 use Rattle.headers_resource.proofs.AllowLemmas.{allow_is_exact, allow_lists}
 use Rattle.headers_resource.proofs.ConditionLemmas.{same_place}
@@ -41,43 +44,66 @@ use Rattle.headers_resource.proofs.SharedLemmas.{preflight_of_answer, set_all-ap
 
 -- ---- what neither Vary nor a policy sets
 
-abbrev own_name : Bool → List ℕ
-own_name true = codes "allow"
-own_name false = codes "etag"
+data Own : Type 0 where
+  allow etag last_modified : Own
 
-vary_keeps : (which : Bool) (m : LineMap) (lines : List Line)
+abbrev own_name : Own → List ℕ
+own_name allow = codes "allow"
+own_name etag = codes "etag"
+own_name last_modified = codes "last-modified"
+
+vary_keeps : (which : Own) (m : LineMap) (lines : List Line)
     → set_all m (vary_fields lines) (own_name which) ≡ m (own_name which)
 vary_keeps which m [] = refl
-vary_keeps true m (line ∷ lines) = refl
-vary_keeps false m (line ∷ lines) = refl
+vary_keeps allow m (line ∷ lines) = refl
+vary_keeps etag m (line ∷ lines) = refl
+vary_keeps last_modified m (line ∷ lines) = refl
 
-policy_keeps : (which : Bool) (m : LineMap) (policy : Policy) (pre : Bool) (line : Option Line) (lines : List Line)
+policy_keeps : (which : Own) (m : LineMap) (policy : Policy) (pre : Bool) (line : Option Line) (lines : List Line)
     → set_all m (grant_fields policy pre line ++ vary_sent policy lines) (own_name which) ≡ m (own_name which)
 policy_keeps which m policy pre line lines = by which (is_some policy.origins) (covers_origin lines)
   where
-    by : (w b c : Bool)
+    by : (w : Own) (b c : Bool)
         → set_all m
         (grant_fields policy pre line
         ++ (if b then (if c then [] else (codes "vary", lines ++ codes "origin" ∷ []) ∷ []) else []))
         (own_name w)
         ≡ m (own_name w)
-    by true true true = refl
-    by true true false = refl
-    by true false c = refl
-    by false true true = refl
-    by false true false = refl
-    by false false c = refl
+    by allow true true = refl
+    by allow true false = refl
+    by allow false c = refl
+    by etag true true = refl
+    by etag true false = refl
+    by etag false c = refl
+    by last_modified true true = refl
+    by last_modified true false = refl
+    by last_modified false c = refl
 
-shared_keeps : (which : Bool) (m : LineMap) (cors : Option Policy) (request : Request) (lines : List Line)
+shared_keeps : (which : Own) (m : LineMap) (cors : Option Policy) (request : Request) (lines : List Line)
     (fields : List Field) → IsShared cors request lines fields → set_all m fields (own_name which) ≡ m (own_name which)
 shared_keeps which m None request lines fields none = ap (λ (fs : List Field). set_all m fs (own_name which)) none
 shared_keeps which m (Some policy) request lines fields shares =
     ap (λ (fs : List Field). set_all m fs (own_name which)) (shares.2 ∙ shares.1.fields)
     ∙ policy_keeps which m policy (is_preflight shares.0.kind) (granted policy (request.fields (codes "origin"))) lines
 
+-- ---- Allow
+
+offered_keep : (m : LineMap) (rules : List MethodRule)
+    → set_all m (offered_fields rules) (codes "allow") ≡ m (codes "allow")
+offered_keep m rules = by (rule_for rules (codes "PATCH")) (rule_for rules (codes "POST"))
+  where
+    by : (patch post : Option MethodRule)
+        → set_all m (types_fields (codes "accept-patch") patch ++ types_fields (codes "accept-post") post)
+        (codes "allow")
+        ≡ m (codes "allow")
+    by None None = refl
+    by None (Some post) = refl
+    by (Some patch) None = refl
+    by (Some patch) (Some post) = refl
+
 module _ (present : ℕ) (resource : Resource) (request : Request) (answer : Answer)
     (a : IsAnswer present resource request answer) (before : LineMap) where
-  kept : (which : Bool)
+  kept : (which : Own)
       → set_all before (fields_of answer.fields.items) (own_name which) ≡ set_all before a.own (own_name which)
   kept which =
       let vary = vary_fields (vary_lines resource answer.reason) in
@@ -87,8 +113,6 @@ module _ (present : ℕ) (resource : Resource) (request : Request) (answer : Ans
       a.shared a.is_shared
       ∙ ap (λ (m : LineMap). m (own_name which)) (set_all-append before a.own vary)
       ∙ vary_keeps which (set_all before a.own) (vary_lines resource answer.reason)
-
-  -- ---- Allow
 
   stops_by : (reason : Reason) → answer.reason ≡ reason → is_admitted reason ≡ false
       → Stops resource request reason answer.status answer.sends a.own
@@ -101,10 +125,11 @@ module _ (present : ℕ) (resource : Resource) (request : Request) (answer : Ans
   pub allow_told : (answer.reason ≡ Options) ⊎ (answer.reason ≡ MethodNotAllowed)
       → set_all before (fields_of answer.fields.items) (codes "allow") ≡ merge comma (methods resource.rules.items) ∷ []
   allow_told (inl same) =
-      kept true
+      kept allow
       ∙ ap (λ (fields : List Field). set_all before fields (codes "allow")) (stops_by Options same refl).has_fields
+      ∙ offered_keep (set before (allow_field resource.rules.items)) resource.rules.items
   allow_told (inr same) =
-      kept true
+      kept allow
       ∙ ap (λ (fields : List Field). set_all before fields (codes "allow"))
       (stops_by MethodNotAllowed same refl).has_fields
 
@@ -172,37 +197,61 @@ unlisted_is_refused present resource request answer a unlisted = (
         by true e = refl
         by false e = absurd (unlisted ((allow_is_exact resource.rules.items request.method).1 e))
 
--- ---- ETag
+-- ---- ETag and Last-Modified
 
-abbrev tag_lines : Target → List Line
-tag_lines target = lines_sent (λ (tag : FieldValue). tag.bytes) (etag_of target)
-
--- the field lines of ETag among what a plan sends
-abbrev SendsTag : Plan → Type 0
-SendsTag plan =
+-- the field lines of a field among what a plan sends are these of the target
+abbrev Tells : List ℕ → (Target → List Line) → Plan → Type 0
+Tells name lines plan =
     (fields : LineMap) (representation : Option Representation) (target : Target) (content : Content)
     (multipart : FieldValue) (before : LineMap)
     → set_all before
     (with_metadata fields representation plan (fields_sent plan (is_known_by fields) target content multipart))
-    (codes "etag")
-    ≡ tag_lines target
+    name
+    ≡ lines target
 
-full_tag : SendsTag Full
+abbrev tag_lines : Target → List Line
+tag_lines target = lines_sent (λ (tag : FieldValue). tag.bytes) (etag_of target)
+
+full_tag : Tells (codes "etag") tag_lines Full
 full_tag fields None target content multipart before = refl
 full_tag fields (Some representation) target content multipart before = refl
 
-unmodified_tag : SendsTag NotModified
+unmodified_tag : Tells (codes "etag") tag_lines NotModified
 unmodified_tag fields None target content multipart before = refl
 unmodified_tag fields (Some representation) target content multipart before = refl
 
-module _ (present : ℕ) (resource : Resource) (request : Request) (before : LineMap) where
-  abbrev tag_at : Option ℕ → List Line
-  tag_at place = tag_lines (target_of resource.state (at_place resource.representations.items place))
+abbrev date_lines : Target → List Line
+date_lines target = lines_sent fixdate (modified_of target)
 
-  tag_by : (b : Bool) (reason : Reason) (status : Option ℕ) (sent : Sends) (own : List Field) (place : Option ℕ)
-      (plan : Plan) → SendsTag plan → GivesIf b present resource request reason status sent own
-      → sent ≡ sends.Planned place plan → set_all before own (codes "etag") ≡ tag_at place
-  tag_by true reason status sent own place plan tells h e =
+full_date : Tells (codes "last-modified") date_lines Full
+full_date fields None target content multipart before = refl
+full_date fields (Some representation) target content multipart before = refl
+
+abbrev date_without_tag : Target → List Line
+date_without_tag target = lines_sent fixdate (modified_without (etag_of target) (modified_of target))
+
+unmodified_date : Tells (codes "last-modified") date_without_tag NotModified
+unmodified_date fields None target content multipart before = refl
+unmodified_date fields (Some representation) target content multipart before = refl
+
+-- without a tag, the date is that of the target
+untagged_date : (target : Target) → tag_lines target ≡ [] → date_without_tag target ≡ date_lines target
+untagged_date target none = by (etag_of target) none
+  where
+    by : (tag : Option FieldValue) → lines_sent (λ (t : FieldValue). t.bytes) tag ≡ []
+        → lines_sent fixdate (modified_without tag (modified_of target)) ≡ date_lines target
+    by None e = refl
+    by (Some tag) e = absurd (cc e)
+
+module _ (present : ℕ) (resource : Resource) (request : Request) (before : LineMap) (which : Own)
+    (lines : Target → List Line) where
+  abbrev lines_at_place : Option ℕ → List Line
+  lines_at_place place = lines (target_of resource.state (at_place resource.representations.items place))
+
+  told_by : (b : Bool) (reason : Reason) (status : Option ℕ) (sent : Sends) (own : List Field) (place : Option ℕ)
+      (plan : Plan) → Tells (own_name which) lines plan → GivesIf b present resource request reason status sent own
+      → sent ≡ sends.Planned place plan → set_all before own (own_name which) ≡ lines_at_place place
+  told_by true reason status sent own place plan tells h e =
       by h.goes.response h.goes.answered h.goes.has_fields (sym h.goes.sends ∙ e)
     where
       found : Option Representation
@@ -212,44 +261,58 @@ module _ (present : ℕ) (resource : Resource) (request : Request) (before : Lin
           → IsAnswered present request.method request.fields (target_of resource.state found) (content_of found)
           resource.boundary response
           → own ≡ response_fields request.fields found response
-          → is_sent h.place response ≡ sends.Planned place plan → set_all before own (codes "etag") ≡ tag_at place
+          → is_sent h.place response ≡ sends.Planned place plan
+          → set_all before own (own_name which) ≡ lines_at_place place
       by None is has f = absurd (cc f)
       by (Some response) is has f =
           let here : h.place ≡ place = cc f in
           let planned : response.plan ≡ plan = cc f in
-          ap (λ (fields : List Field). set_all before fields (codes "etag")) has
+          ap (λ (fields : List Field). set_all before fields (own_name which)) has
           ∙ ap
           (λ (fields : List Field). set_all before (with_metadata request.fields found response.plan fields)
-          (codes "etag"))
+          (own_name which))
           is.fields
           ∙ ap
           (λ (p : Plan). set_all before
           (with_metadata request.fields found p
           (fields_sent p (is_known_by request.fields) (target_of resource.state found) (content_of found)
           resource.boundary))
-          (codes "etag"))
+          (own_name which))
           planned
           ∙ tells request.fields found (target_of resource.state found) (content_of found) resource.boundary before
-          ∙ ap tag_at here
-  tag_by false reason status sent own place plan tells h e = absurd (by reason (sym h.sends ∙ e))
+          ∙ ap lines_at_place here
+  told_by false reason status sent own place plan tells h e = absurd (by reason (sym h.sends ∙ e))
     where
       by : (r : Reason) → sent_for r ≡ sends.Planned place plan → ⊥
       by NotAcceptable f = cc f
       by r f = cc f
 
-  tag_of : (answer : Answer) → IsAnswer present resource request answer → (place : Option ℕ) (plan : Plan)
-      → SendsTag plan → answer.sends ≡ sends.Planned place plan
-      → set_all before (fields_of answer.fields.items) (codes "etag") ≡ tag_at place
-  tag_of answer a place plan tells e =
-      kept present resource request answer a before false
-      ∙ tag_by (is_admitted answer.reason) answer.reason answer.status answer.sends a.own place plan tells a.gives e
+  told : (answer : Answer) → IsAnswer present resource request answer → (place : Option ℕ) (plan : Plan)
+      → Tells (own_name which) lines plan → answer.sends ≡ sends.Planned place plan
+      → set_all before (fields_of answer.fields.items) (own_name which) ≡ lines_at_place place
+  told answer a place plan tells e =
+      kept present resource request answer a before which
+      ∙ told_by (is_admitted answer.reason) answer.reason answer.status answer.sends a.own place plan tells a.gives e
 
-pub same_tag : (present : ℕ) (resource : Resource) (request : Request) (a b : Answer) (p q : Option ℕ)
-    (before : LineMap) → IsAnswer present resource request a → IsAnswer present resource (unconditional request) b
-    → a.sends ≡ sends.Planned p NotModified → b.sends ≡ sends.Planned q Full
-    → set_all before (fields_of a.fields.items) (codes "etag")
-    ≡ set_all before (fields_of b.fields.items) (codes "etag")
-same_tag present resource request a b p q before h k e f =
-    tag_of present resource request before a h p NotModified unmodified_tag e
-    ∙ ap (tag_at present resource request before) (same_place present resource request a b p q NotModified Full h k e f)
-    ∙ sym (tag_of present resource (unconditional request) before b k q Full full_tag f)
+module _ (present : ℕ) (resource : Resource) (request : Request) (a b : Answer) (p q : Option ℕ) (before : LineMap)
+    (h : IsAnswer present resource request a) (k : IsAnswer present resource (unconditional request) b)
+    (e : a.sends ≡ sends.Planned p NotModified) (f : b.sends ≡ sends.Planned q Full) where
+  abbrev sent_by : Answer → List ℕ → List Line
+  sent_by answer name = set_all before (fields_of answer.fields.items) name
+
+  same : p ≡ q
+  same = same_place present resource request a b p q NotModified Full h k e f
+
+  pub same_tag : sent_by a (codes "etag") ≡ sent_by b (codes "etag")
+  same_tag =
+      told present resource request before etag tag_lines a h p NotModified unmodified_tag e
+      ∙ ap (lines_at_place present resource request before etag tag_lines) same
+      ∙ sym (told present resource (unconditional request) before etag tag_lines b k q Full full_tag f)
+
+  pub same_date : sent_by a (codes "etag") ≡ [] → sent_by a (codes "last-modified") ≡ sent_by b (codes "last-modified")
+  same_date none =
+      told present resource request before last_modified date_without_tag a h p NotModified unmodified_date e
+      ∙ untagged_date (target_of resource.state (at_place resource.representations.items p))
+      (sym (told present resource request before etag tag_lines a h p NotModified unmodified_tag e) ∙ none)
+      ∙ ap (lines_at_place present resource request before last_modified date_lines) same
+      ∙ sym (told present resource (unconditional request) before last_modified date_lines b k q Full full_date f)

@@ -6,8 +6,7 @@ use Rattle.std.specs.Option.{option_map_or}
 use Rattle.http_header.specs.FieldValue.{FieldValue}
 use Rattle.headers.specs.LineMap.{LineMap, lines_at}
 use Rattle.headers.specs.Lines.{Line, only_line}
-use Rattle.headers_fields.specs.Members.{field_members}
-use Rattle.headers_fields.specs.Directives.{is_same_token}
+use Rattle.headers_gateway.specs.Expectations.{has_known_expectation}
 use Rattle.headers_gateway.specs.Requests.{has_host}
 use Rattle.headers_negotiation.specs.Codings.{encoding_quality}
 use Rattle.headers_negotiation.specs.MediaRanges.{media_type_says}
@@ -81,12 +80,6 @@ methods rules = flat_map methods_of rules ++ codes "OPTIONS" ∷ []
 abbrev pub is_unknown : Resource → Request → Bool
 is_unknown resource request =
     not (list_any (bytes_eq request.method) standard_methods || has_method resource.rules.items request.method)
-
--- ---- Expect (section 10.1.1)
-
--- each member of the field is `100-continue`, in any case
-abbrev pub is_met : List Line → Bool
-is_met lines = list_all (is_same_token (codes "100-continue")) (field_members true lines)
 
 -- ---- the state (sections 15.4 and 15.5)
 
@@ -195,7 +188,7 @@ module _ (resource : Resource) (request : Request) where
   applies UnknownMethod = is_unknown resource request
   applies MethodNotAllowed = not (has_method resource.rules.items request.method)
   applies Options = bytes_eq request.method (codes "OPTIONS")
-  applies UnmetExpectation = not (is_met (request.fields (codes "expect")))
+  applies UnmetExpectation = not (has_known_expectation (request.fields (codes "expect")))
   applies Moved = has_moved resource.state
   applies Gone = is_gone resource.state
   applies NotFound = is_absent resource.state && not (creates rule)

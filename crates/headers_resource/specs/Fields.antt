@@ -1,13 +1,13 @@
 -- The fields of an answer, and its status (RFC 9110).
 use Rattle.std.specs.Prelude.{ℕ, Bool, true, false, List, [], ◌∷◌, ◌++◌, Option, Some, None}
-use Rattle.std.specs.Prelude.{codes, if◌then◌else◌}
+use Rattle.std.specs.Prelude.{bytes_eq, codes, if◌then◌else◌}
 use Rattle.std.specs.Option.{option_map_or}
 use Rattle.http_header.specs.FieldValue.{FieldValue}
 use Rattle.headers.specs.LineMap.{Field, lines_at}
 use Rattle.headers.specs.Lines.{Line}
 use Rattle.headers.specs.Merge.{merge}
 use Rattle.headers.specs.Places.{comma}
-use Rattle.headers_resource.specs.Applies.{methods, rule}
+use Rattle.headers_resource.specs.Applies.{methods, rule, rule_for}
 use Rattle.headers_resource.specs.Requests.{Request}
 use Rattle.headers_resource.specs.declared.reason.Reason.{Reason}
 use Rattle.headers_resource.specs.declared.reason.Reason.TheVariants.{InvalidHost, Misdirected, UnknownMethod}
@@ -71,9 +71,23 @@ location_fields state.Current = []
 location_fields state.Absent = []
 location_fields state.Gone = []
 
--- Accept says which media types the method takes (section 12.5.1)
-abbrev pub accept_fields : Option MethodRule → List Field
-accept_fields rule = option_map_or (λ r. (codes "accept", lines_at r.takes (codes "accept")) ∷ []) rule []
+-- the field of this name lists the media types that a method takes
+abbrev pub types_fields : List ℕ → Option MethodRule → List Field
+types_fields name rule = option_map_or (λ r. (name, lines_at r.takes (codes "accept")) ∷ []) rule []
+
+-- Where the media type of a request isn't taken, Accept says which are (section 12.5.1). For PATCH so does Accept-Patch
+-- (RFC 5789, section 2.2).
+abbrev pub accept_fields : List ℕ → Option MethodRule → List Field
+accept_fields method rule =
+    types_fields (codes "accept") rule
+    ++ (if bytes_eq method (codes "PATCH") then types_fields (codes "accept-patch") rule else [])
+
+-- What OPTIONS says of content: Accept-Patch which media types PATCH takes (RFC 5789, section 3.1), and Accept-Post
+-- which POST takes (Linked Data Platform 1.0, section 7.1).
+abbrev pub offered_fields : List MethodRule → List Field
+offered_fields rules =
+    types_fields (codes "accept-patch") (rule_for rules (codes "PATCH"))
+    ++ types_fields (codes "accept-post") (rule_for rules (codes "POST"))
 
 -- Accept-Encoding says which codings it takes (section 12.5.3)
 abbrev pub accept_encoding_fields : Option MethodRule → List Field
@@ -84,9 +98,9 @@ module _ (resource : Resource) (request : Request) where
   -- A 415 for a media type has no Accept-Encoding, from which a client would learn that a coding is to blame (12.5.3).
   abbrev pub reason_fields : Reason → List Field
   reason_fields MethodNotAllowed = allow_field resource.rules.items ∷ []
-  reason_fields Options = allow_field resource.rules.items ∷ []
+  reason_fields Options = allow_field resource.rules.items ∷ offered_fields resource.rules.items
   reason_fields Moved = location_fields resource.state
-  reason_fields UnsupportedMediaType = accept_fields (rule resource request)
+  reason_fields UnsupportedMediaType = accept_fields request.method (rule resource request)
   reason_fields UnsupportedCoding = accept_encoding_fields (rule resource request)
   reason_fields InvalidHost = []
   reason_fields Misdirected = []

@@ -160,3 +160,14 @@ pub fn not_modified_has_the_tag()
         → b.sends ≡ Planned q Full → set_all before (fields_of a.fields.items) (codes "etag")
         ≡ set_all before (fields_of b.fields.items) (codes "etag") }
 {}
+
+/// A 304 without ETag has the Last-Modified of that 200, so a cache finds a validator by which to
+/// update what it stored (RFC 9110, section 15.4.5).
+pub fn not_modified_has_the_date()
+    ensures { (present : ℕ) (resource : Resource) (request : Request) (a b : Answer) (p q : Option ℕ)
+        (before : LineMap) → IsAnswer present resource request a
+        → IsAnswer present resource (unconditional request) b → a.sends ≡ Planned p NotModified
+        → b.sends ≡ Planned q Full → set_all before (fields_of a.fields.items) (codes "etag") ≡ []
+        → set_all before (fields_of a.fields.items) (codes "last-modified")
+        ≡ set_all before (fields_of b.fields.items) (codes "last-modified") }
+{}

@@ -12,10 +12,10 @@ use crate::representation::are_unacceptable;
 use crate::request::RequestHead;
 use crate::resource::Resource;
 use crate::target::{
-    has_method, has_moved, is_current, is_gone, is_met, is_misdirected, is_missing, is_options,
-    is_read, is_unknown, rule_for,
+    has_method, has_moved, is_current, is_gone, is_misdirected, is_missing, is_options, is_read,
+    is_unknown, rule_for,
 };
-use headers_gateway::has_host;
+use headers_gateway::{has_host, has_known_expectation};
 
 #[tactic(auto, unfolding(crate::specs::Applies::is_unacceptable))]
 fn is_unacceptable(resource: &Resource, request: &RequestHead<'_>) -> bool
@@ -45,7 +45,7 @@ fn applies(resource: &Resource, request: &RequestHead<'_>, reason: Reason) -> bo
         Reason::UnknownMethod => is_unknown(resource, request),
         Reason::MethodNotAllowed => !has_method(resource, method),
         Reason::Options => is_options(method),
-        Reason::UnmetExpectation => !is_met(fields),
+        Reason::UnmetExpectation => !has_known_expectation(fields),
         Reason::Moved => has_moved(&resource.state),
         Reason::Gone => is_gone(&resource.state),
         Reason::NotFound => is_missing(&resource.state, rule),

@@ -14,7 +14,9 @@ pub struct MethodRule {
     pub method: Method,
     /// What content the method takes, as the fields that say so in a response: Accept for its media
     /// types (section 12.5.1), and Accept-Encoding for its codings (section 12.5.3). Without the
-    /// field any is taken.
+    /// field any is taken. The field lines of Accept are also those of Accept-Patch (RFC 5789, section
+    /// 3.1) and Accept-Post: those of a rule for PATCH should name media types, without ranges and
+    /// weights.
     pub takes: HeaderMap,
     /// Whether the method is performed if there is no current representation, as PUT is (section
     /// 9.3.4). Any other method is answered by 404.

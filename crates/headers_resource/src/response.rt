@@ -10,7 +10,7 @@ ghost use Rattle.headers_resource.specs.Applies.{rule};
 ghost use Rattle.headers_resource.specs.Fields.{accept_encoding_fields, accept_fields, allow_field, lines_of_value};
 ghost use Rattle.headers_resource.specs.Fields.{location_fields};
 ghost use Rattle.headers_resource.specs.Fields.{metadata_fields, moved_status, reason_fields};
-ghost use Rattle.headers_resource.specs.Fields.{redirect_status, status_of};
+ghost use Rattle.headers_resource.specs.Fields.{offered_fields, redirect_status, status_of, types_fields};
 ghost use Rattle.headers_resource.specs.Requests.{request_of};
 
 use crate::allow::allow_field;
@@ -121,22 +121,56 @@ fn push_location(alloc: Global, fields: &mut Vec<Encoded>, state: &State) -> Res
     })?)
 }
 
-fn push_accept(
+// Appends the field of this name with the media types that a method takes.
+fn push_types(
     alloc: Global,
     fields: &mut Vec<Encoded>,
+    name: HeaderName,
     rule: Option<&MethodRule>,
 ) -> Result<(), AllocError>
     ensures { OnOk result (fields_of fields.new.items
-        ≡ fields_of fields.old.items ++ accept_fields (option_copied rule.entry)) }
+        ≡ fields_of fields.old.items ++ types_fields name (option_copied rule.entry)) }
 {
     let Some(rule) = rule else {
         return Ok(());
     };
     let lines = lines_under(alloc, &rule.takes, ACCEPT)?;
-    Ok(fields.push(Encoded {
-        name: ACCEPT,
-        lines,
-    })?)
+    Ok(fields.push(Encoded { name, lines })?)
+}
+
+fn push_accept(
+    alloc: Global,
+    fields: &mut Vec<Encoded>,
+    method: &str,
+    rule: Option<&MethodRule>,
+) -> Result<(), AllocError>
+    ensures { OnOk result (fields_of fields.new.items
+        ≡ fields_of fields.old.items ++ accept_fields method.now (option_copied rule.entry)) }
+{
+    push_types(alloc, fields, ACCEPT, rule)?;
+    if method == "PATCH" {
+        push_types(alloc, fields, HeaderName::from_static("accept-patch"), rule)?;
+    }
+    Ok(())
+}
+
+// Appends the fields by which OPTIONS says what content is taken.
+fn push_offered(
+    alloc: Global,
+    fields: &mut Vec<Encoded>,
+    rules: &[MethodRule],
+) -> Result<(), AllocError>
+    ensures { OnOk result (fields_of fields.new.items ≡ fields_of fields.old.items ++ offered_fields rules.now) }
+{
+    let (patch, post) = (rule_for(rules, "PATCH"), rule_for(rules, "POST"));
+    push_types(
+        alloc,
+        fields,
+        HeaderName::from_static("accept-patch"),
+        patch,
+    )?;
+    push_types(alloc, fields, HeaderName::from_static("accept-post"), post)?;
+    Ok(())
 }
 
 fn push_accept_encoding(
@@ -178,14 +212,17 @@ pub(crate) fn reason_fields(
     ensures { IfOk result (λ fields. fields_of fields.items
         ≡ reason_fields resource.now (request_of request.now) reason) }
 {
-    let rule = rule_for(&resource.rules, request.method.as_str());
+    let method = request.method.as_str();
+    let rule = rule_for(&resource.rules, method);
     let mut fields = Vec::new(alloc);
     match reason {
-        Reason::MethodNotAllowed | Reason::Options => {
+        Reason::MethodNotAllowed => push_allow(alloc, &mut fields, &resource.rules)?,
+        Reason::Options => {
             push_allow(alloc, &mut fields, &resource.rules)?;
+            push_offered(alloc, &mut fields, &resource.rules)?;
         }
         Reason::Moved => push_location(alloc, &mut fields, &resource.state)?,
-        Reason::UnsupportedMediaType => push_accept(alloc, &mut fields, rule)?,
+        Reason::UnsupportedMediaType => push_accept(alloc, &mut fields, method, rule)?,
         Reason::UnsupportedCoding => push_accept_encoding(alloc, &mut fields, rule)?,
         _ => {}
     }

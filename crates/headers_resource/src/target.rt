@@ -1,22 +1,19 @@
 //! The target of a request: its host, the method and the state of the resource.
-ghost use Rattle.std.specs.Prelude.{◌≡◌, ◌&&◌, bytes_eq, codes, not, option_map, option_copied, true};
-ghost use Rattle.std.specs.List.{list_all, list_any};
+ghost use Rattle.std.specs.Prelude.{◌≡◌, ◌&&◌, bytes_eq, codes, not, option_map, option_copied};
+ghost use Rattle.std.specs.List.{list_any};
 ghost use Rattle.std.specs.Option.{option_map_or};
 ghost use Rattle.headers.specs.LineMap.{lines_at};
 ghost use Rattle.headers.specs.Lines.{only_line};
 ghost use Rattle.headers_syntax.specs.AsciiCase.{same_name};
-ghost use Rattle.headers_fields.specs.Directives.{is_same_token};
-ghost use Rattle.headers_fields.specs.Members.{field_members, member_of};
 ghost use Rattle.headers_resource.specs.Applies.{creates, has_method, has_moved, host_named, is_absent, is_current};
-ghost use Rattle.headers_resource.specs.Applies.{is_gone, is_met, is_misdirected, is_own, is_read, is_unknown, ruled};
+ghost use Rattle.headers_resource.specs.Applies.{is_gone, is_misdirected, is_own, is_read, is_unknown, ruled};
 ghost use Rattle.headers_resource.specs.Applies.{rule_for, standard_methods};
 ghost use Rattle.headers_resource.specs.Requests.{request_of};
 
 use crate::request::RequestHead;
 use crate::resource::{MethodRule, Resource, State};
 use headers::{HeaderMap, HeaderValue};
-use headers_fields::{FieldMembers, Malformed};
-use http_header::{EXPECT, HOST};
+use http_header::HOST;
 
 // The only line of Host.
 fn only_host(fields: &HeaderMap) -> Option<&HeaderValue>
@@ -123,28 +120,6 @@ pub(crate) fn is_unknown(resource: &Resource, request: &RequestHead<'_>) -> bool
 {
     let method = request.method.as_str();
     !(is_standard(method) || has_method(resource, method))
-}
-
-fn is_continue(member: Result<&[u8], Malformed>) -> bool
-    ensures { result ≡ is_same_token (codes "100-continue") (member_of member.entry) }
-{
-    match member {
-        Ok(text) => text.eq_ignore_ascii_case(b"100-continue"),
-        Err(Malformed) => false,
-    }
-}
-
-// Whether each member of Expect is `100-continue`.
-pub(crate) fn is_met(fields: &HeaderMap) -> bool
-    ensures { result ≡ is_met (lines_at fields.now (codes "expect")) }
-{
-    let mut members = FieldMembers::new(&fields.get_all(EXPECT));
-    while let Some(member) = members.next() {
-        if !is_continue(member) {
-            return false;
-        }
-    }
-    true
 }
 
 pub(crate) fn has_moved(state: &State) -> bool

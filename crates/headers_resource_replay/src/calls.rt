@@ -1,5 +1,5 @@
 //! The calls of a resource.
-use crate::resources::resource_named;
+use crate::resources::{resource_named, routes};
 use headers::{Encoded, HeaderMap, HeaderValue, set_all};
 use headers_gateway::Protocol;
 use headers_preconditions::{Part, Plan};
@@ -153,6 +153,32 @@ fn call_answer(arguments: &mut Arguments<'_>, answer: &mut Answer) -> Result<(),
     answer_for(&resource, arguments, answer)
 }
 
+// A request of HTTP/1.1 without content.
+fn plain_head<'a>(method: &'a Method, fields: &'a HeaderMap) -> RequestHead<'a> {
+    let authority = None;
+    RequestHead {
+        protocol: Protocol::Http11,
+        method,
+        authority,
+        content: RequestContent::Absent,
+        fields,
+    }
+}
+
+// Answers a request of HTTP/1.1 without content by its path.
+fn call_route(arguments: &mut Arguments<'_>, answer: &mut Answer) -> Result<(), Failure> {
+    let alloc = arguments.alloc();
+    let path = arguments.word()?;
+    let method = Method::from_bytes(alloc, &arguments.bytes()?)?;
+    let fields = arguments.map()?;
+    let request = plain_head(&method, &fields);
+    let made = routes(alloc)?.answer_at(alloc, path, &request, PRESENT, |name, _| {
+        resource_named(alloc, name, State::Current)
+    })?;
+    add_outcome(&made, answer)?;
+    add_fields(made.fields, answer)
+}
+
 fn read_reason(arguments: &mut Arguments<'_>) -> Result<Reason, Failure> {
     Ok(match arguments.word()? {
         "InvalidHost" => Reason::InvalidHost,
@@ -179,6 +205,7 @@ impl Calls for Answers {
     fn make(name: &str, arguments: &mut Arguments<'_>, answer: &mut Answer) -> Result<(), Failure> {
         match name {
             "answer" => call_answer(arguments, answer),
+            "route" => call_route(arguments, answer),
             "stage" => Ok(answer.word(read_reason(arguments)?.stage())?),
             _ => Err(Failure::NoCall),
         }

@@ -6,6 +6,9 @@
 //! one of `resources.rt`, and its state is `current`, `absent`, `gone`, or the status and the
 //! location of a redirect. The content is `none`, a number of bytes, or `unsized`.
 //!
+//! `route PATH METHOD FIELDS` answers the same for a request of HTTP/1.1 without content by its path,
+//! among the routes of `resources.rt`.
+//!
 //! `stage REASON` answers the stage of a reason.
 #![tactic(auto)]
 

@@ -6,14 +6,16 @@
 //!
 //! `page` has GET of HTML in English, in German, and in English with gzip; a client that accepts none
 //! of them gets the first. `report` is a PDF document that only GET has, for any host, and 406 is
-//! sent. `inbox` has POST alone, of any content.
+//! sent. `inbox` has POST alone, of any content, and `feed` POST of JSON.
 use headers::{ETag, HeaderMap, HeaderValue, Origin, decode_values};
 use headers_cors_policy::{Allowed, CorsPolicy, CorsRules};
 use headers_preconditions::{Boundary, Content, RangeLimits, Resource as Target, Validators};
 use headers_resource::{MethodRule, Negotiation, Representation, Resource, State};
+use headers_routes::{Routes, nowhere};
 use headers_rows::Failure;
 use http::Method;
 use http_header::{ACCEPT, ACCEPT_ENCODING};
+use matchit::Router;
 use std::alloc::Global;
 
 // A rule of a method that takes any content.
@@ -204,6 +206,34 @@ fn inbox(alloc: Global, state: State) -> Result<Resource, Failure> {
     open_resource(alloc, state, rules, Vec::new(alloc), false)
 }
 
+fn feed(alloc: Global, state: State) -> Result<Resource, Failure> {
+    let mut rules = Vec::new(alloc);
+    rules.push(taking(alloc, Method::POST, "application/json", false)?)?;
+    open_resource(alloc, state, rules, Vec::new(alloc), false)
+}
+
+/// `note` at `/note`, `page` at `/pages/{name}`, and `report` at all that is below `/reports/`.
+pub fn routes(alloc: Global) -> Result<Routes<&'static str>, Failure> {
+    let mut router = Router::new(alloc);
+    for (route, name) in [
+        ("/note", "note"),
+        ("/pages/{name}", "page"),
+        ("/reports/{*path}", "report"),
+    ] {
+        if router.insert(route, name).is_err() {
+            return Err(Failure::Memory);
+        }
+    }
+    let boundary = Boundary::new(alloc, "THIS_STRING_SEPARATES")?;
+    let nowhere = nowhere(
+        alloc,
+        Some(own_hosts(alloc)?),
+        boundary,
+        Some(policy(alloc)?),
+    )?;
+    Ok(Routes { router, nowhere })
+}
+
 /// The resource of this name in this state.
 pub fn resource_named(alloc: Global, name: &str, state: State) -> Result<Resource, Failure> {
     match name {
@@ -211,6 +241,7 @@ pub fn resource_named(alloc: Global, name: &str, state: State) -> Result<Resourc
         "page" => page(alloc, state),
         "report" => report(alloc, state),
         "inbox" => inbox(alloc, state),
+        "feed" => feed(alloc, state),
         _ => Err(Failure::NoCall),
     }
 }
