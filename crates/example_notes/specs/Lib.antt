@@ -1,0 +1,4 @@
+pub mod Notes
+pub mod Plans
+pub mod Resources
+pub mod Targets

@@ -1,0 +1,40 @@
+-- What a path leads to.
+use Rattle.std.specs.Prelude.{◌≡◌, ℕ, ◌<◌, ◌^◌, List, Option, Some, None, codes}
+use Rattle.std.specs.Str.Parse.{IsNumeral, digits_value, without_leading_plus}
+use Rattle.matchit.specs.Params.{AllText, named, walk}
+use Rattle.matchit.specs.Router.{RouteOf}
+use Rattle.matchit.specs.Rows.{RowsOf}
+use Rattle.matchit.specs.Seek.{first}
+use Rattle.example_notes.specs.declared.target.Place.{Place}
+use Rattle.example_notes.specs.declared.target.Place.TheVariants as place
+use Rattle.example_notes.specs.declared.target.Target.{Target}
+use Rattle.example_notes.specs.declared.target.Target.TheVariants as target
+
+-- the digits are those of the number, perhaps after a plus
+abbrev pub IsId : List ℕ → ℕ → Type 0
+IsId digits id = IsNumeral 10 (without_leading_plus digits) × (digits_value 10 (without_leading_plus digits) ≡ id)
+
+-- a note, if the digits are those of a number of 64 bits
+abbrev pub IsNamed : Option (List ℕ) → Target → Type 0
+IsNamed None named = named ≡ target.Nowhere
+IsNamed (Some digits) target.Notes = ⊥
+IsNamed (Some digits) (target.Note id) = IsId digits id
+IsNamed (Some digits) target.Nowhere = (id : ℕ) → id < 2 ^ 64 → ¬ (IsId digits id)
+
+-- what the parameter `id` of a route takes of the path, if all that is taken is text
+abbrev pub TakesId : RouteOf Place → List ℕ → Option (List ℕ) → Type 0
+TakesId route path id =
+    AllText (walk route.pattern route.text path route.names 0 0)
+    → named (codes "id") (walk route.pattern route.text path route.names 0 0) ≡ id
+
+abbrev pub LeadsTo : Place → RouteOf Place → List ℕ → Target → Type 0
+LeadsTo place.Notes route path found = found ≡ target.Notes
+LeadsTo place.Note route path found = (id : Option (List ℕ)) × TakesId route path id × IsNamed id found
+
+abbrev pub IsTargetAt : Option (RouteOf Place) → List ℕ → Target → Type 0
+IsTargetAt None path found = found ≡ target.Nowhere
+IsTargetAt (Some route) path found = LeadsTo route.value route path found
+
+-- the target of the route that the path matches, or nothing
+abbrev pub IsTarget : RowsOf (RouteOf Place) → List ℕ → Target → Type 0
+IsTarget router path found = IsTargetAt (first router path) path found

@@ -1,0 +1,80 @@
+//! Notes, in memory.
+ghost use Rattle.std.specs.Prelude.{◌≡◌, ◌+◌, IfOk, OnOk};
+ghost use Rattle.example_notes.specs.Notes.{Removes, Writes, note_at};
+
+use bytes::Bytes;
+use std::alloc::AllocError;
+use std::collections::BTreeMap;
+
+/// A JSON text, and the number of the change that wrote it.
+#[derive(Drop)]
+pub struct Note {
+    /// The text.
+    pub text: Bytes,
+    /// The number of the change, which is its entity tag.
+    pub version: u64,
+}
+
+/// Notes by their numbers.
+#[derive(Drop)]
+pub struct Notes {
+    /// The notes.
+    pub by_id: BTreeMap<u64, Note>,
+    /// How often they changed.
+    pub changes: u64,
+}
+
+impl Notes {
+    /// The note of a number.
+    pub fn get(&self, id: u64) -> Result<Option<Note>, AllocError>
+        ensures { IfOk result (λ note. note ≡ note_at self.now id) }
+    {
+        match self.by_id.get(&id) {
+            Some(note) => Ok(Some(Note {
+                text: note.text.clone()?,
+                version: note.version,
+            })),
+            None => Ok(None),
+        }
+    }
+
+    // The number of the next change.
+    fn next(&self) -> Result<u64, AllocError>
+        ensures { IfOk result (λ version. version ≡ self.now.changes + 1) }
+    {
+        match self.changes.checked_add(1) {
+            Some(version) => Ok(version),
+            None => Err(AllocError),
+        }
+    }
+
+    /// Writes the note of a number, and returns the number of the change.
+    pub fn write(&mut self, id: u64, text: Bytes) -> Result<u64, AllocError>
+        ensures writes { OnOk result (Writes self.old id text self.new) }
+        ensures version { IfOk result (λ version. version ≡ self.old.changes + 1) }
+    {
+        let version = self.next()?;
+        self.by_id.insert(id, Note { text, version })?;
+        self.changes = version;
+        Ok(version)
+    }
+
+    /// Adds a note, whose number is that of the change.
+    pub fn add(&mut self, text: Bytes) -> Result<u64, AllocError>
+        ensures writes { OnOk result (Writes self.old (self.old.changes + 1) text self.new) }
+        ensures id { IfOk result (λ id. id ≡ self.old.changes + 1) }
+    {
+        let id = self.next()?;
+        self.write(id, text)
+    }
+
+    /// Removes the note of a number.
+    pub fn remove(&mut self, id: u64) -> Result<(), AllocError>
+        ensures { OnOk result (Removes self.old id self.new) }
+    {
+        let version = self.next()?;
+        self.by_id.remove(&id);
+        self.changes = version;
+        Ok(())
+    }
+}

@@ -1,0 +1,149 @@
+//! The collection and its notes as resources: which methods they have, and what they represent.
+ghost use Rattle.std.specs.Prelude.{◌≡◌, IfOk, false, map, option_copied};
+ghost use Rattle.std.specs.Result.{result_ok};
+ghost use Rattle.example_notes.specs.Resources.{IsJsonOf, IsResource, collection_methods, note_methods};
+
+use crate::notes::Note;
+use crate::text::tag_of;
+use headers::{ETag, HeaderMap, HeaderValue, Refused};
+use headers_cors_policy::{Allowed, AllowedNames, CorsPolicy, CorsRules};
+use headers_preconditions::{Boundary, Content, Resource as Current, Validators};
+use headers_resource::{MethodRule, Negotiation, Representation, Resource, State};
+use http::Method;
+use http_header::{ACCEPT, CONTENT_TYPE, ETAG, IF_MATCH, IF_NONE_MATCH, LOCATION};
+use std::alloc::{AllocError, Global};
+
+/// The greatest length of a note.
+const MAX_LEN: u64 = 65536;
+
+// What an allocation gives, of a text that is known to be valid.
+fn allocated<T, E: Drop>(made: Result<T, E>) -> Result<T, AllocError>
+    ensures { result_ok result ≡ result_ok made }
+{
+    match made {
+        Ok(value) => Ok(value),
+        Err(_) => Err(AllocError),
+    }
+}
+
+/// The policy for requests from other origins: scripts of any origin may use the notes.
+pub fn policy(alloc: Global) -> Result<CorsPolicy, AllocError> {
+    let mut rules = CorsRules::new(alloc, Allowed::Any);
+    rules.methods = Allowed::Listed(vec![in alloc; Method::PUT, Method::DELETE]?);
+    rules.names = AllowedNames::Listed(vec![in alloc; CONTENT_TYPE, IF_MATCH, IF_NONE_MATCH]?);
+    rules.exposed = Allowed::Listed(vec![in alloc; ETAG, LOCATION]?);
+    allocated(CorsPolicy::new(alloc, rules))
+}
+
+/// What stands between several parts. Ranges aren't sent, so no response has it.
+pub fn boundary(alloc: Global) -> Result<Boundary, AllocError> {
+    allocated(Boundary::new(alloc, "part"))
+}
+
+// A method without content.
+fn plain(alloc: Global, method: Method) -> MethodRule
+    ensures method { result.method ≡ method }
+    ensures free { result.needs_condition ≡ false }
+{
+    MethodRule {
+        method,
+        takes: HeaderMap::new(alloc),
+        creates: false,
+        needs_condition: false,
+    }
+}
+
+// A method that takes JSON.
+fn taking_json(
+    alloc: Global,
+    method: Method,
+    needs_condition: bool,
+) -> Result<MethodRule, AllocError>
+    ensures method { IfOk result (λ rule. rule.method ≡ method) }
+    ensures condition { IfOk result (λ rule. rule.needs_condition ≡ needs_condition) }
+{
+    let mut takes = HeaderMap::new(alloc);
+    let json = HeaderValue::from_static("application/json");
+    allocated(takes.insert(ACCEPT, json))?;
+    Ok(MethodRule {
+        method,
+        takes,
+        creates: false,
+        needs_condition,
+    })
+}
+
+// A text as a representation: JSON, with the number of its change as a strong tag.
+fn representation(alloc: Global, text: &Note) -> Result<Representation, AllocError>
+    ensures { IfOk result (IsJsonOf text.now) }
+{
+    let tag = tag_of(alloc, text.version)?;
+    let etag = allocated(ETag::from_str(alloc, tag.as_str()))?;
+    Ok(Representation {
+        coding: None,
+        language: None,
+        content: Content {
+            len: Some(text.text.len() as u64),
+            media_type: Some(HeaderValue::from_static("application/json")),
+            ranges: None,
+        },
+        current: Current::Current(Validators {
+            etag: Some(etag),
+            last_modified: None,
+            is_date_strong: false,
+        }),
+    })
+}
+
+// A resource with these methods, whose current text this is.
+fn resource(
+    alloc: Global,
+    rules: Vec<MethodRule>,
+    text: Option<&Note>,
+) -> Result<Resource, AllocError>
+    ensures { IfOk result (IsResource (map (λ rule. (rule.method, rule.needs_condition)) rules.items)
+        (option_copied text.entry)) }
+{
+    let (state, representations) = match text {
+        Some(text) => (
+            State::Current,
+            vec![in alloc; representation(alloc, text)?]?,
+        ),
+        None => (State::Absent, Vec::new(alloc)),
+    };
+    Ok(Resource {
+        hosts: None,
+        rules,
+        state,
+        representations,
+        negotiation: Negotiation {
+            media_type: true,
+            language: false,
+            coding: false,
+            is_strict: true,
+        },
+        boundary: boundary(alloc)?,
+        needs_length: false,
+        limit: Some(MAX_LEN),
+        cors: Some(policy(alloc)?),
+    })
+}
+
+/// The collection: it is read by GET, and POST adds a note.
+pub fn collection(alloc: Global, text: Option<&Note>) -> Result<Resource, AllocError>
+    ensures { IfOk result (IsResource collection_methods (option_copied text.entry)) }
+{
+    let get = plain(alloc, Method::GET);
+    let post = taking_json(alloc, Method::POST, false)?;
+    resource(alloc, vec![in alloc; get, post]?, text)
+}
+
+/// A note: it is read by GET, written by PUT, which must say what it overwrites, and removed by DELETE.
+pub fn note(alloc: Global, text: Option<&Note>) -> Result<Resource, AllocError>
+    ensures { IfOk result (IsResource note_methods (option_copied text.entry)) }
+{
+    let get = plain(alloc, Method::GET);
+    let put = taking_json(alloc, Method::PUT, true)?;
+    let delete = plain(alloc, Method::DELETE);
+    resource(alloc, vec![in alloc; get, put, delete]?, text)
+}

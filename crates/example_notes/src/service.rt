@@ -1,0 +1,211 @@
+//! Answers requests for notes.
+ghost use Rattle.std.specs.Prelude.{◌≡◌, [], IfOk, OnOk, map, option_copied};
+ghost use Rattle.http.specs.Request.{body_of, head_of};
+ghost use Rattle.http_header.specs.HeaderMap.{pairs};
+ghost use Rattle.http_server.specs.Response.{fields};
+ghost use Rattle.headers.specs.LineMap.{fields_of};
+ghost use Rattle.headers_resource.specs.Requests.{request_of};
+ghost use Rattle.example_notes.specs.Plans.{Carries, Does, IsAnswerAt, IsAnswerBy, IsAsked, IsText, pieces_of};
+
+use crate::notes::{Note, Notes};
+use crate::perform::{Done, only, perform};
+use crate::resource::{boundary, collection, note, policy};
+use crate::target::{Place, Target, router, target_of};
+use crate::text::list_text;
+use bytes::Bytes;
+use headers::{Encoded, HeaderMap, set_all};
+use headers_exchange::{Handler, Piece, Plan};
+use headers_gateway::Protocol;
+use headers_preconditions::Plan as Planned;
+use headers_resource::{Answer, RequestContent, RequestHead, Resource, Sends, answer_request};
+use headers_routes::{Routes, nowhere};
+use http::{Request, Version};
+use std::alloc::{AllocError, Global};
+use std::collections::BTreeMap;
+use std::io;
+
+/// Answers requests for notes.
+#[derive(Drop)]
+pub struct Service {
+    alloc: Global,
+    routes: Routes<Place>,
+    notes: Notes,
+}
+
+/// A service without notes.
+pub fn new_service(alloc: Global) -> Result<Service, AllocError> {
+    let Ok(router) = router(alloc) else {
+        return Err(AllocError);
+    };
+    let nowhere = nowhere(alloc, None, boundary(alloc)?, Some(policy(alloc)?))?;
+    let notes = Notes {
+        by_id: BTreeMap::new(alloc),
+        changes: 0,
+    };
+    Ok(Service {
+        alloc,
+        routes: Routes { router, nowhere },
+        notes,
+    })
+}
+
+// What a decision reads of a request.
+fn asked(request: &Request<Bytes>) -> RequestHead<'_>
+    ensures { IsAsked request.now (request_of result) }
+{
+    let protocol = if request.version() == Version::HTTP_10 {
+        Protocol::Http10
+    } else {
+        Protocol::Http11
+    };
+    let authority = None;
+    RequestHead {
+        protocol,
+        method: request.method(),
+        authority,
+        content: RequestContent::Sized(request.body().len() as u64),
+        fields: request.headers(),
+    }
+}
+
+// The answer of a resource to a request.
+fn answer_by(
+    alloc: Global,
+    resource: &Resource,
+    request: &Request<Bytes>,
+) -> Result<Answer, AllocError>
+    ensures { IfOk result (IsAnswerBy resource.now request.now) }
+{
+    let head = asked(request);
+    let answer = answer_request(alloc, resource, &head, 0)?;
+    Ok(answer)
+}
+
+impl Service {
+    // The current text of a target, if it has one.
+    fn text_at(&self, target: Target) -> Result<Option<Note>, AllocError>
+        ensures { IfOk result (IsText self.now.notes target) }
+    {
+        match target {
+            Target::Notes => Ok(Some(Note {
+                text: Bytes::from_string(list_text(self.alloc, &self.notes)?)?,
+                version: self.notes.changes,
+            })),
+            Target::Note(id) => self.notes.get(id),
+            Target::Nowhere => Ok(None),
+        }
+    }
+
+    // The answer to a request for a target with this text.
+    fn answer(
+        &self,
+        target: Target,
+        text: Option<&Note>,
+        request: &Request<Bytes>,
+    ) -> Result<Answer, AllocError>
+        ensures { IfOk result (IsAnswerAt self.now.routes.nowhere target (option_copied text.entry) request.now) }
+    {
+        let alloc = self.alloc;
+        match target {
+            Target::Notes => {
+                let resource = collection(alloc, text)?;
+                let answer = answer_by(alloc, &resource, request)?;
+                Ok(answer)
+            }
+            Target::Note(_) => {
+                let resource = note(alloc, text)?;
+                let answer = answer_by(alloc, &resource, request)?;
+                Ok(answer)
+            }
+            Target::Nowhere => {
+                let answer = answer_by(alloc, &self.routes.nowhere, request)?;
+                Ok(answer)
+            }
+        }
+    }
+}
+
+// Performs the method if the answer has no status.
+fn outcome(
+    alloc: Global,
+    notes: &mut Notes,
+    answer: &Answer,
+    target: Target,
+    request: &Request<Bytes>,
+) -> Result<Done, AllocError>
+    ensures { IfOk result (Does answer.now.status notes.old (head_of request.now).method target
+        (body_of request.now) notes.new) }
+{
+    match answer.status {
+        Some(status) => Ok(only(alloc, status)),
+        None => perform(alloc, notes, request.method(), target, request.body()),
+    }
+}
+
+// Adds the field lines of a map.
+fn add_lines(plan: &mut Plan, lines: &HeaderMap) -> Result<(), AllocError>
+    requires { fields plan.old.headers.items ≡ [] }
+    ensures headers { OnOk result
+        (fields plan.new.headers.items ≡ map (λ p. (p.0, p.1.bytes)) (pairs lines.now)) }
+    ensures status { plan.new.status ≡ plan.old.status }
+    ensures pieces { plan.new.pieces.items ≡ plan.old.pieces.items }
+{
+    for (name, line) in lines {
+        plan.add_header(name.clone()?, line.clone()?)?;
+    }
+    Ok(())
+}
+
+// Adds the field lines of fields that are set in their order.
+fn add_fields(alloc: Global, plan: &mut Plan, sent: Vec<Encoded>) -> Result<(), AllocError>
+    requires { fields plan.old.headers.items ≡ [] }
+    ensures headers { OnOk result (Carries (fields_of sent.items) plan.new) }
+    ensures status { plan.new.status ≡ plan.old.status }
+    ensures pieces { plan.new.pieces.items ≡ plan.old.pieces.items }
+{
+    let mut lines = HeaderMap::new(alloc);
+    match set_all(&mut lines, sent) {
+        Ok(()) => add_lines(plan, &lines),
+        Err(_) => Err(AllocError),
+    }
+}
+
+// Adds the text, if the answer sends it whole.
+fn add_content(plan: &mut Plan, sends: &Sends, text: Option<Note>) -> Result<(), AllocError>
+    requires { plan.old.pieces.items ≡ [] }
+    ensures pieces { OnOk result (plan.new.pieces.items ≡ pieces_of sends.now text) }
+    ensures status { plan.new.status ≡ plan.old.status }
+    ensures headers { plan.new.headers ≡ plan.old.headers }
+{
+    match (sends, text) {
+        (Sends::Planned(_, Planned::Full), Some(note)) => plan.push(Piece::Literal(note.text)),
+        _ => Ok(()),
+    }
+}
+
+impl Handler for Service {
+    ghost use Rattle.std.specs.Prelude.{⊤};
+    ghost use Rattle.example_notes.specs.Plans.{IsPlanned};
+
+    ghost plans = { IsPlanned };
+
+    ghost gives = { λ _ _ _. ⊤ };
+
+    fn plan(&mut self, request: &Request<Bytes>, plan: &mut Plan) -> Result<(), AllocError> {
+        let alloc = self.alloc;
+        let target = target_of(&self.routes.router, request.uri().path());
+        let text = self.text_at(target)?;
+        let mut answer = self.answer(target, text.as_ref(), request)?;
+        let mut done = outcome(alloc, &mut self.notes, &answer, target, request)?;
+        plan.status = done.status;
+        answer.fields.append(&mut done.fields)?;
+        add_content(plan, &answer.sends, text)?;
+        add_fields(alloc, plan, answer.fields)?;
+        Ok(())
+    }
+
+    // Nothing is open: each piece is literal.
+    fn read(&self, _: u64, _: &mut [u8]) -> io::Result<usize> {
+        Ok(0)
+    }
+}

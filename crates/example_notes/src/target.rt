@@ -1,0 +1,60 @@
+//! What the path of a request leads to.
+ghost use Rattle.std.specs.Prelude.{option_map};
+ghost use Rattle.example_notes.specs.Targets.{IsNamed, IsTarget};
+
+use matchit::{InsertError, Router};
+use std::alloc::Global;
+
+/// What a route leads to.
+#[derive(Clone, Copy)]
+pub enum Place {
+    /// The collection.
+    Notes,
+    /// A note of the collection.
+    Note,
+}
+
+/// What the path of a request leads to.
+#[derive(Clone, Copy)]
+pub enum Target {
+    /// The collection.
+    Notes,
+    /// The note of a number.
+    Note(u64),
+    /// Nothing.
+    Nowhere,
+}
+
+/// The routes: `/notes` and `/notes/{id}`.
+pub fn router(alloc: Global) -> Result<Router<Place>, InsertError> {
+    let mut router = Router::new(alloc);
+    router.insert("/notes", Place::Notes)?;
+    router.insert("/notes/{id}", Place::Note)?;
+    Ok(router)
+}
+
+// The note whose number is in a path.
+fn note_named(id: Option<&str>) -> Target
+    ensures { IsNamed (option_map (λ digits. digits.now) id.entry) result }
+{
+    match id {
+        Some(digits) => match digits.parse() {
+            Ok(id) => Target::Note(id),
+            Err(_) => Target::Nowhere,
+        },
+        None => Target::Nowhere,
+    }
+}
+
+/// What a path leads to.
+pub fn target_of(router: &Router<Place>, path: &str) -> Target
+    ensures { IsTarget router.now path.now result }
+{
+    match router.at(path) {
+        Ok(found) => match found.value {
+            Place::Notes => Target::Notes,
+            Place::Note => note_named(found.params.get("id")),
+        },
+        Err(_) => Target::Nowhere,
+    }
+}

@@ -1,0 +1,40 @@
+//! The texts of the collection and of the fields.
+ghost use Rattle.std.specs.Prelude.{◌≡◌, IfOk};
+ghost use Rattle.std.specs.String.{string_bytes};
+ghost use Rattle.example_notes.specs.Notes.{list_text, path_of, tag_of};
+
+use crate::notes::Notes;
+use std::alloc::{AllocError, Global};
+use std::fmt::Write;
+
+/// The path of a note.
+pub fn path_of(alloc: Global, id: u64) -> Result<String, AllocError>
+    ensures { IfOk result (λ text. string_bytes text ≡ path_of id) }
+{
+    let text = format!(in alloc; "/notes/{id}")?;
+    Ok(text)
+}
+
+/// The entity tag of what a change wrote.
+pub fn tag_of(alloc: Global, version: u64) -> Result<String, AllocError>
+    ensures { IfOk result (λ text. string_bytes text ≡ tag_of version) }
+{
+    let text = format!(in alloc; "\"{version}\"")?;
+    Ok(text)
+}
+
+/// The collection: a JSON list of the paths of its notes.
+pub fn list_text(alloc: Global, notes: &Notes) -> Result<String, AllocError>
+    ensures { IfOk result (λ text. string_bytes text ≡ list_text notes.now) }
+{
+    let mut ids = notes.by_id.keys();
+    let mut text = String::from_str(alloc, "[")?;
+    if let Some(id) = ids.next() {
+        write!(text, "\"/notes/{id}\"")?;
+    }
+    for id in ids {
+        write!(text, ",\"/notes/{id}\"")?;
+    }
+    text.push(']')?;
+    Ok(text)
+}
