@@ -5,15 +5,11 @@ use Rattle.std.specs.Prelude.{All, Contains, ◌||◌, bytes_eq, codes}
 use Rattle.std.specs.List.{list_any}
 use Rattle.headers.specs.LineMap.{fields_of, set_all}
 use Rattle.headers.specs.Lines.{Line}
+use Rattle.headers_cache.specs.Lookups.{freshness_of}
 use Rattle.headers_cache.specs.declared.limits.Limits.{Limits}
 use Rattle.headers_cache_policy.specs.Fields.{age_of, greatest}
 use Rattle.headers_cache_policy.specs.declared.kind.Kind.{Kind}
 use Rattle.headers_cache_rules.specs.Stored.{fields_of_stored}
-use Rattle.headers_cache_policy.specs.Decisions.{IsGoodEnough, freshness_at}
-use Rattle.headers_cache_policy.specs.Directives.{directed}
-use Rattle.headers_cache_policy.specs.Freshness.{HasLifetime}
-use Rattle.headers_cache_rules.specs.Stored.{times_of}
-use Rattle.headers_cache_rules.specs.declared.stored.StoredResponse.{StoredResponse}
 use Rattle.headers_chain.specs.Caches.{HasComeFrom, IsFromStore, IsPlain, Origin, Reply}
 use Rattle.headers_chain.specs.Chains.{Hop, IsCarried, IsForwardedBack, IsGoodAt, IsOwn, IsSteady}
 use Rattle.headers_chain.specs.Chains.{IsTold, Server, behind, meant, own_statuses}
@@ -30,8 +26,8 @@ use Rattle.headers_resource.specs.Answers.{AreSame, IsAnswer}
 use Rattle.headers_resource.specs.Requests.{Request}
 use Rattle.headers_resource.specs.declared.answer.Answer.{Answer}
 use Rattle.headers_resource.specs.declared.resource.Resource.{Resource}
-use Rattle.headers_chain.proofs.StoreLemmas.{ServesWhatIsJustified, age_is, come, counted, counts, from, plain_alike}
-use Rattle.headers_chain.proofs.StoreLemmas.{is_stored, quiet, served, stored_as, suits}
+use Rattle.headers_chain.proofs.StoreLemmas.{StoreLaws, age_is, come, counted, counts, from, plain_alike}
+use Rattle.headers_chain.proofs.StoreLemmas.{quiet, right, stored_as, suits}
 use Rattle.headers_chain.proofs.SuitLemmas.{MembersSelect, VaryIsSound, suited}
 use Rattle.headers_chain.proofs.WayLemmas.{ReadsNoMore, alike, apart, choose_alike, choose_direct, crosses, differs}
 use Rattle.headers_chain.proofs.WayLemmas.{direct, no_options, same_lines}
@@ -106,11 +102,9 @@ module _ (server : Server) (now : ℕ) (reply : Reply) where
             same = g.same;
             asks = g.asks;
             directs = g.directs ∙ h.directs;
-            came = g.came;
-            stated = g.stated;
-            lifetime = g.lifetime;
+            most = g.most;
             freshness = g.freshness;
-            has_lifetime = g.has_lifetime;
+            fresh_for = g.fresh_for;
             old = g.old;
             good = g.good;
           }
@@ -219,11 +213,9 @@ module _ (reads : ReadsNoMore) where
               same = λ name c. comes name t.no_options c.end_to_end c.not_own ∙ g.same name c;
               asks = g.asks;
               directs = g.directs;
-              came = g.came;
-              stated = g.stated;
-              lifetime = g.lifetime;
+              most = g.most;
               freshness = g.freshness;
-              has_lifetime = g.has_lifetime;
+              fresh_for = g.fresh_for;
               old = g.old;
               good = g.good;
             }
@@ -231,7 +223,7 @@ module _ (reads : ReadsNoMore) where
 
 -- ---- a cache
 
-module _ (sound : VaryIsSound) (members : MembersSelect) (law : ServesWhatIsJustified) (server : Server)
+module _ (sound : VaryIsSound) (members : MembersSelect) (law : StoreLaws) (server : Server)
     (steady : IsSteady server) (kind : Kind) (limits : Limits) (origin : Origin) (target : List ℕ) (host : List Line)
     (now : ℕ) (request : Request) (reply : Reply)
     (f : IsFromStore kind limits origin target host now request reply) where
@@ -261,8 +253,7 @@ module _ (sound : VaryIsSound) (members : MembersSelect) (law : ServesWhatIsJust
       (set_all (server.own t.time came.reply.status) (fields_of said.answer.fields.items)) varies) in
       let aged : now - t.time ≤ counted law kind limits origin target host now request reply f
       = counts law kind limits origin target host now request reply f none t.time t.past fits t.aged in
-      let right = served law kind limits origin target host now request reply f in
-      let same_stored : right.response ≡ f.stored = is_stored law kind limits origin target host now request reply f in
+      let known = right law kind limits origin target host now request reply f in
       record {
         time = t.time;
         said =
@@ -290,23 +281,15 @@ module _ (sound : VaryIsSound) (members : MembersSelect) (law : ServesWhatIsJust
             inr (
             record {
               kind = kind;
-              stored = fields_of_stored f.stored;
+              stored = f.stored;
               same = λ name c. f.fields name c.not_age;
               asks = request.fields;
               directs = refl;
-              came = f.stored.received;
-              stated = right.stated;
-              lifetime =
-                  subst (λ (s : StoredResponse). HasLifetime kind s.received (fields_of_stored s) right.stated)
-                  same_stored right.lifetime;
-              freshness = freshness_at right.stated (times_of f.stored now) (fields_of_stored f.stored);
-              has_lifetime = refl;
+              most = f.most;
+              freshness = freshness_of known.lifetime f.stored now;
+              fresh_for = known.fresh_for;
               old = aged;
-              good =
-                  subst
-                  (λ (s : StoredResponse). IsGoodEnough kind (directed request.fields) (directed (fields_of_stored s))
-                  (freshness_at right.stated (times_of s now) (fields_of_stored s)))
-                  same_stored right.good;
+              good = known.good;
             }
             );
         no_options = quiet law kind limits origin target host now request reply f;
@@ -314,7 +297,7 @@ module _ (sound : VaryIsSound) (members : MembersSelect) (law : ServesWhatIsJust
 
 -- ---- a chain
 
-module _ (reads : ReadsNoMore) (sound : VaryIsSound) (members : MembersSelect) (law : ServesWhatIsJustified)
+module _ (reads : ReadsNoMore) (sound : VaryIsSound) (members : MembersSelect) (law : StoreLaws)
     (server : Server) (steady : IsSteady server) (target : List ℕ) (host : List Line) where
   pub tells : (hops : List Hop) (now : ℕ) (request : Request) (reply : Reply) → now ≤ greatest
       → behind server target host hops now request reply → IsTold server now (meant hops request) reply ⊎ IsOwn reply
@@ -326,7 +309,7 @@ module _ (reads : ReadsNoMore) (sound : VaryIsSound) (members : MembersSelect) (
         past = omega arith;
         aged = omega arith;
         good = inl refl;
-        no_options = h.no_options;
+        no_options = h.none;
       }
       )
   tells (Forwards gateway ∷ hops) now request reply fits (inr own) = inr own

@@ -1,7 +1,7 @@
 -- What a cache serves from its store came from those behind it.
-use Rattle.std.proofs.Common.{◌≡◌, ◌≢◌, ℕ, ◌-◌, ◌≤◌, Bool, true, false, List, [], ◌∷◌}
+use Rattle.std.proofs.Common.{◌≡◌, ◌≢◌, ◌⊎◌, ℕ, ◌-◌, ◌≤◌, Bool, true, false, List, [], ◌∷◌}
 use Rattle.std.proofs.Common.{refl, sym, ◌∙◌, ap, subst, inl, inr, arith}
-use Rattle.std.specs.Prelude.{All, ◌||◌, codes, decimal}
+use Rattle.std.specs.Prelude.{slice_get, All, ◌||◌, codes, decimal}
 use Rattle.std.specs.List.{list_any}
 use Rattle.std.proofs.lemmas.Bool.{cases_Bool}
 use Rattle.std.proofs.lemmas.List.Elements.{All-weaker}
@@ -12,11 +12,16 @@ use Rattle.headers.specs.Lines.{Line}
 use Rattle.headers.specs.Typed.{HasLine}
 use Rattle.headers_cache.specs.Changes.{IsStoredAs, IsToStore}
 use Rattle.headers_cache.specs.Contents.{Contents, responses_at}
-use Rattle.headers_cache.specs.History.{Has, History, IsJustified, Run}
-use Rattle.headers_cache.specs.Lookups.{IsAnswer, age_of_stored}
+use Rattle.headers_cache.specs.History.{Has, HasUnder, History, IsJustified, Run}
+use Rattle.headers_cache.specs.Lookups.{IsAnswer, IsFreshFor, age_of_stored, freshness_of}
 use Rattle.headers_cache.specs.Served.{IsRightlyServed, Serves}
 use Rattle.headers_cache.specs.declared.limits.Limits.{Limits}
 use Rattle.headers_cache.specs.declared.lookup.Lookup.{Lookup}
+use Rattle.headers_cache.specs.declared.lookup.Lookup.TheVariants.{Serve, ServeAndRevalidate, Validate, ValidateOrServe}
+use Rattle.headers_cache.specs.declared.lookup.Lookup.TheVariants.{Unavailable, Forward}
+use Rattle.headers_cache.proofs.HistoryLemmas.{Has-slice_get, HasUnder-responses_at}
+use Rattle.headers_cache_policy.specs.Decisions.{Answers, IsGoodEnough, MayServeOnError}
+use Rattle.headers_cache_policy.specs.declared.decision.Decision.TheVariants as decisions
 use Rattle.headers_cache_policy.specs.Age.{age_at}
 use Rattle.headers_cache_policy.specs.Fields.{age_of, age_value, capped, greatest}
 use Rattle.headers_cache_policy.specs.Requests.{AllowsMethod, Request as Asked}
@@ -31,7 +36,8 @@ use Rattle.headers_cache_rules.specs.Stored.{fields_of_stored, times_of}
 use Rattle.headers_cache_rules.specs.Storing.{reuse_names}
 use Rattle.headers_cache_rules.specs.declared.storing.Reception.{Reception}
 use Rattle.headers_cache_rules.specs.declared.stored.StoredResponse.{StoredResponse}
-use Rattle.headers_chain.specs.Caches.{Event, HasComeFrom, IsFromStore, IsPlain, Origin, Reply, asked, calls_of}
+use Rattle.headers_chain.specs.Caches.{Event, HasComeFrom, IsFromStore, IsPlain}
+use Rattle.headers_chain.specs.Caches.{Origin, Reply, ServesOnError, asked, calls_of}
 use Rattle.headers_chain.specs.Caches.Event.{Sought, Came, Dropped}
 use Rattle.headers_chain.specs.Responses.{HasNoOptions}
 use Rattle.headers_fields.specs.Members.{field_members}
@@ -46,10 +52,20 @@ use Rattle.headers_chain.proofs.AgeLemmas.{age_of-decimal}
 abbrev pub ServesWhatIsJustified : Type 0
 ServesWhatIsJustified =
     (kind : Kind) (limits : Limits) (calls : History) (contents : Contents) → Run kind limits calls contents
-    → (target : List ℕ) (request : Asked) (now : ℕ) (lookup : Lookup)
-    → IsAnswer kind request now (responses_at target contents) lookup → (place : ℕ) (age : Field)
+    → (target : List ℕ) (most : ℕ) (request : Asked) (now : ℕ) (lookup : Lookup)
+    → IsAnswer kind most request now (responses_at target contents) lookup → (place : ℕ) (age : Field)
     → Serves lookup place age
-    → IsRightlyServed kind target calls request now (responses_at target contents) place age
+    → IsRightlyServed kind most target calls request now (responses_at target contents) place age
+
+abbrev pub JustifiesWhatIsStored : Type 0
+JustifiesWhatIsStored =
+    (kind : Kind) (limits : Limits) (calls : History) (contents : Contents) → Run kind limits calls contents
+    → (target : List ℕ) (stored : StoredResponse) → HasUnder contents target stored
+    → IsJustified kind target calls stored
+
+pub record StoreLaws : Type 0 where
+  pub serves : ServesWhatIsJustified
+  pub justifies : JustifiesWhatIsStored
 
 -- ---- how it came
 
@@ -112,25 +128,88 @@ got stored method (inr h) e = absurd (cc (h.1, e))
 
 -- ---- what is served
 
-module _ (law : ServesWhatIsJustified) (kind : Kind) (limits : Limits) (origin : Origin) (target : List ℕ)
+-- what is known of a stored response that a cache serves
+pub record IsRight (kind : Kind) (most : ℕ) (target : List ℕ) (calls : History) (request : LineMap) (asks : Asked)
+    (now : ℕ) (stored : StoredResponse) (age : Field) : Type 0 where
+  pub justified : IsJustified kind target calls stored
+  pub matches : IsCandidate asks stored
+  pub lifetime : ℕ
+  pub fresh_for : IsFreshFor kind most stored lifetime
+  pub good : IsGoodEnough kind (directed request) (directed (fields_of_stored stored))
+      (freshness_of lifetime stored now)
+      ⊎ MayServeOnError kind (directed request) (directed (fields_of_stored stored)) (freshness_of lifetime stored now)
+  pub aged : age ≡ age_of_stored stored now
+
+module _ (law : StoreLaws) (kind : Kind) (limits : Limits) (origin : Origin) (target : List ℕ)
     (host : List Line) (now : ℕ) (request : Request) (reply : Reply)
     (f : IsFromStore kind limits origin target host now request reply) where
-  pub served : IsRightlyServed kind target (calls_of f.events) (asked request) now (responses_at target f.contents)
-      f.place f.age
-  served =
-      law kind limits (calls_of f.events) f.contents f.run target (asked request) now f.lookup f.answer f.place f.age
-      f.serves
+  abbrev Right : StoredResponse → Type 0
+  Right stored =
+      IsRight kind f.most target (calls_of f.events) request.fields (asked request) now stored f.age
 
-  pub is_stored : served.response ≡ f.stored
-  is_stored = cc (sym served.at ∙ f.at)
+  at_once : Serves f.lookup f.place f.age → Right f.stored
+  at_once serves =
+      let s : IsRightlyServed kind f.most target (calls_of f.events) (asked request) now
+      (responses_at target f.contents) f.place f.age
+      = law.serves kind limits (calls_of f.events) f.contents f.run target f.most (asked request) now f.lookup f.answer
+      f.place f.age serves in
+      let same : s.response ≡ f.stored = cc (sym s.at ∙ f.at) in
+      subst Right same
+      (
+      record {
+        justified = s.justified;
+        matches = s.matches;
+        lifetime = s.lifetime;
+        fresh_for = s.fresh_for;
+        good = inl s.good;
+        aged = s.age;
+      }
+      )
+
+  under : IsJustified kind target (calls_of f.events) f.stored
+  under =
+      law.justifies kind limits (calls_of f.events) f.contents f.run target f.stored
+      (HasUnder-responses_at target f.contents f.stored
+      (Has-slice_get (responses_at target f.contents) f.place f.stored f.at))
+
+  on_error : (lookup : Lookup) → IsAnswer kind f.most (asked request) now (responses_at target f.contents) lookup
+      → ServesOnError lookup f.place → f.age ≡ age_of_stored f.stored now → Right f.stored
+  on_error (ValidateOrServe at fields) answer here aged =
+      let found = answer.found in
+      let selected = found.selected in
+      let same : selected.response ≡ f.stored
+      = cc (sym selected.at ∙ ap (λ (p : ℕ). slice_get (responses_at target f.contents) p) here ∙ f.at) in
+      let decided : Answers kind (directed request.fields) (directed (fields_of_stored f.stored))
+      (freshness_of found.lifetime f.stored now) decisions.RevalidateOrServe
+      = subst
+      (λ (s : StoredResponse). Answers kind (directed request.fields) (directed (fields_of_stored s))
+      (freshness_of found.lifetime s now) decisions.RevalidateOrServe)
+      same found.decided in
+      record {
+        justified = under;
+        matches = subst (IsCandidate (asked request)) same selected.is;
+        lifetime = found.lifetime;
+        fresh_for = subst (λ (s : StoredResponse). IsFreshFor kind f.most s found.lifetime) same found.fresh_for;
+        good = inr decided.2;
+        aged = aged;
+      }
+  on_error (Serve at age) answer here aged = absurd here
+  on_error (ServeAndRevalidate at age) answer here aged = absurd here
+  on_error (Validate at fields) answer here aged = absurd here
+  on_error Unavailable answer here aged = absurd here
+  on_error Forward answer here aged = absurd here
+
+  pub right : Right f.stored
+  right = elim f.serves [
+    | inl serves ↦ at_once serves
+    | inr h ↦ on_error f.lookup f.answer h.0 h.1
+  ]
 
   pub is_candidate : IsCandidate (asked request) f.stored
-  is_candidate = subst (IsCandidate (asked request)) is_stored served.matches
+  is_candidate = right.matches
 
   pub come : HasCome kind target f.events f.stored
-  come =
-      has_come kind target f.stored f.events
-      (subst (IsJustified kind target (calls_of f.events)) is_stored served.justified)
+  come = has_come kind target f.stored f.events right.justified
 
   pub from : HasComeFrom origin host now come.came
   from =
@@ -192,8 +271,7 @@ module _ (law : ServesWhatIsJustified) (kind : Kind) (limits : Limits) (origin :
   pub age_is : age_value reply.fields ≡ counted
   age_is =
       let line : reply.fields (codes "age") ≡ decimal counted ∷ []
-      = f.has_age ∙ ap (λ (field : Field). field.1) served.age
-      ∙ ap (λ (s : StoredResponse). (age_of_stored s now).1) is_stored in
+      = f.has_age ∙ ap (λ (field : Field). field.1) right.aged in
       ap age_of line ∙ age_of-decimal (age_at (times_of f.stored now) (fields_of_stored f.stored))
 
   -- it counts the time since the reply came, and its age by then

@@ -1,14 +1,16 @@
 -- What a cache before other servers answers (RFC 9111).
-use Rattle.std.specs.Prelude.{◌≡◌, ◌≢◌, ℕ, ◌≤◌, List, [], ◌∷◌, None, Some, codes, slice_get}
+use Rattle.std.specs.Prelude.{◌≡◌, ◌≢◌, ◌⊎◌, ℕ, ◌≤◌, List, [], ◌∷◌, None, Some, codes, slice_get}
 use Rattle.headers.specs.LineMap.{Field, LineMap, lines_at}
 use Rattle.headers.specs.Lines.{Line}
 use Rattle.headers_cache.specs.Contents.{Contents, responses_at}
 use Rattle.headers_cache.specs.History.{Call, Has, History, Run}
 use Rattle.headers_cache.specs.History.Call.{Looked, Arrived, Removed}
-use Rattle.headers_cache.specs.Lookups.{IsAnswer}
+use Rattle.headers_cache.specs.Lookups.{IsAnswer, age_of_stored}
 use Rattle.headers_cache.specs.Served.{Serves}
 use Rattle.headers_cache.specs.declared.limits.Limits.{Limits}
 use Rattle.headers_cache.specs.declared.lookup.Lookup.{Lookup}
+use Rattle.headers_cache.specs.declared.lookup.Lookup.TheVariants.{Serve, ServeAndRevalidate, Validate, ValidateOrServe}
+use Rattle.headers_cache.specs.declared.lookup.Lookup.TheVariants.{Unavailable, Forward}
 use Rattle.headers_cache_policy.specs.Requests.{Request as Asked}
 use Rattle.headers_cache_policy.specs.declared.kind.Kind.{Kind}
 use Rattle.headers_cache_rules.specs.Stored.{fields_of_stored}
@@ -94,8 +96,17 @@ module _ (origin : Origin) (host : List Line) (now : ℕ) where
   AreTrue target events = (came : StoredResponse) (reception : Reception) → Has events (Came target came reception)
       → came.method ≡ codes "GET" → HasComeFrom came
 
--- The reply is the stored response that a lookup of the cache's store serves to a plain request, with the field Age of
--- the lookup.
+-- the lookup lets the cache send the stored response at the place if the servers behind it fail (RFC 5861, section 4)
+abbrev pub ServesOnError : Lookup → ℕ → Type 0
+ServesOnError (ValidateOrServe at fields) place = at ≡ place
+ServesOnError (Validate at fields) place = ⊥
+ServesOnError (Serve at age) place = ⊥
+ServesOnError (ServeAndRevalidate at age) place = ⊥
+ServesOnError Unavailable place = ⊥
+ServesOnError Forward place = ⊥
+
+-- The reply is the stored response that a lookup of the cache's store serves to a plain request, at once or as the
+-- servers behind it fail, with its age. Where no lifetime is stated, the cache guesses so many seconds at most.
 pub record IsFromStore (kind : Kind) (limits : Limits) (origin : Origin) (target : List ℕ) (host : List Line) (now : ℕ)
     (request : Request) (reply : Reply) : Type 0 where
   pub plain : IsPlain host request
@@ -103,13 +114,14 @@ pub record IsFromStore (kind : Kind) (limits : Limits) (origin : Origin) (target
   pub true_events : AreTrue origin host now target events
   pub contents : Contents
   pub run : Run kind limits (calls_of events) contents
+  pub most : ℕ
   pub lookup : Lookup
-  pub answer : IsAnswer kind (asked request) now (responses_at target contents) lookup
+  pub answer : IsAnswer kind most (asked request) now (responses_at target contents) lookup
   pub place : ℕ
   pub age : Field
-  pub serves : Serves lookup place age
   pub stored : StoredResponse
   pub at : slice_get (responses_at target contents) place ≡ Some stored
+  pub serves : Serves lookup place age ⊎ (ServesOnError lookup place × (age ≡ age_of_stored stored now))
   pub status : reply.status ≡ stored.status
   pub content : reply.content ≡ stored.content.items
   pub fields : (name : List ℕ) → name ≢ codes "age" → reply.fields name ≡ fields_of_stored stored name

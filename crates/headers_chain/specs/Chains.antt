@@ -1,15 +1,17 @@
 -- Gateways and caches in a row before a resource, and what a client receives from them.
-use Rattle.std.specs.Prelude.{◌≡◌, ◌≢◌, ◌⊎◌, ℕ, ◌-◌, ◌≤◌, true, false, List, [], ◌∷◌, All, Contains, Option, Some}
-use Rattle.std.specs.Prelude.{codes, unwrap_or}
+use Rattle.std.specs.Prelude.{◌≡◌, ◌≢◌, ◌⊎◌, ℕ, ◌-◌, ◌≤◌, true, false, List, [], ◌∷◌, All, Contains, Some}
+use Rattle.std.specs.Prelude.{codes}
 use Rattle.headers.specs.LineMap.{LineMap, fields_of, set_all}
 use Rattle.headers.specs.Lines.{Line}
+use Rattle.headers_cache.specs.Lookups.{IsFreshFor}
 use Rattle.headers_cache.specs.declared.limits.Limits.{Limits}
-use Rattle.headers_cache_policy.specs.Decisions.{IsGoodEnough}
+use Rattle.headers_cache_policy.specs.Decisions.{IsGoodEnough, MayServeOnError}
 use Rattle.headers_cache_policy.specs.Directives.{directed}
 use Rattle.headers_cache_policy.specs.Fields.{age_value}
-use Rattle.headers_cache_policy.specs.Freshness.{HasLifetime}
 use Rattle.headers_cache_policy.specs.declared.decision.Freshness.{Freshness}
 use Rattle.headers_cache_policy.specs.declared.kind.Kind.{Kind}
+use Rattle.headers_cache_rules.specs.Stored.{fields_of_stored}
+use Rattle.headers_cache_rules.specs.declared.stored.StoredResponse.{StoredResponse}
 use Rattle.headers_chain.specs.Caches.{IsFromStore, Origin, Reply}
 use Rattle.headers_chain.specs.Responses.{HasNoOptions}
 use Rattle.headers_chain.specs.Ways.{IsPassedOn, received, sent_directly}
@@ -61,7 +63,7 @@ pub record IsSaid (server : Server) (time : ℕ) (request : Request) (reply : Re
 -- the server sends it now, without a connection option, which could name any field of it
 pub record IsSent (server : Server) (now : ℕ) (request : Request) (reply : Reply) : Type 0 where
   pub said : IsSaid server now request reply
-  pub no_options : HasNoOptions reply.fields
+  pub none : HasNoOptions reply.fields
 
 -- ---- a chain
 
@@ -116,20 +118,19 @@ meant (Stores kind limits ∷ hops) request = meant hops request
 -- ---- what a client may rely on
 
 -- A cache found the reply good enough for a request with this Cache-Control, at an age that is no less than this: it
--- is fresh, or each directive that applies allows it stale.
+-- is fresh, or each directive that applies allows it stale, maybe because the servers behind the cache failed.
 pub record IsGoodAt (age : ℕ) (request : Request) (reply : Reply) : Type 0 where
   pub kind : Kind
-  pub stored : LineMap
-  pub same : (name : List ℕ) → IsCarried name → reply.fields name ≡ stored name
+  pub stored : StoredResponse
+  pub same : (name : List ℕ) → IsCarried name → reply.fields name ≡ fields_of_stored stored name
   pub asks : LineMap
   pub directs : asks (codes "cache-control") ≡ request.fields (codes "cache-control")
-  pub came : ℕ
-  pub stated : Option ℕ
-  pub lifetime : HasLifetime kind came stored stated
+  pub most : ℕ
   pub freshness : Freshness
-  pub has_lifetime : freshness.lifetime ≡ unwrap_or stated 0
+  pub fresh_for : IsFreshFor kind most stored freshness.lifetime
   pub old : age ≤ freshness.age
-  pub good : IsGoodEnough kind (directed asks) (directed stored) freshness
+  pub good : IsGoodEnough kind (directed asks) (directed (fields_of_stored stored)) freshness
+      ⊎ MayServeOnError kind (directed asks) (directed (fields_of_stored stored)) freshness
 
 -- The reply is what the resource said about the request at some time. That is now, or a cache found it good enough; and
 -- it isn't longer ago than Age says.

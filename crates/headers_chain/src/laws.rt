@@ -24,7 +24,7 @@ ghost use Rattle.headers_resource.specs.declared.answer.Answer.{Answer};
 ghost use Rattle.headers_resource.specs.Vary.{AreAlike};
 ghost use Rattle.headers_resource.specs.declared.resource.Resource.{Resource};
 
-use headers_cache::laws::lookups_serve_what_calls_justify;
+use headers_cache::laws::{calls_justify_what_is_stored, lookups_serve_what_calls_justify};
 use headers_resource::laws::{members_alone_select, other_fields_change_nothing, vary_is_sound};
 
 /// Gateways are invisible to a resource: however many are between it and a client, what they forward gets
@@ -99,6 +99,7 @@ pub fn client_gets_what_the_resource_says()
         (reply : Reply) → IsSteady server → now ≤ greatest → behind server target host hops now request reply
         → IsTold server now (meant hops request) reply ⊎ IsOwn reply }
 {
+    calls_justify_what_is_stored();
     lookups_serve_what_calls_justify();
     vary_is_sound();
     members_alone_select();
@@ -120,6 +121,7 @@ pub fn shared_caches_serve_nothing_private()
         × (reply.content ≡ came.content)
         × (IsPresent (codes "authorization") first.fields → IsOpen (directed reply.fields)) }
 {
+    calls_justify_what_is_stored();
     lookups_serve_what_calls_justify();
 }
 
@@ -135,6 +137,7 @@ pub fn no_connection_field_crosses()
         → IsFromStore kind limits (behind server target host hops) target host now request reply
         → is_known true name ≡ true → reply.fields name ≡ [] }
 {
+    calls_justify_what_is_stored();
     lookups_serve_what_calls_justify();
     other_fields_change_nothing();
 }

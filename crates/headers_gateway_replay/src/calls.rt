@@ -1,6 +1,6 @@
 //! The calls of a gateway.
 use crate::hops::{call_connection, call_expectation, call_forwarding, call_trailers};
-use headers::{Date, HeaderName, HeaderValue, Refused};
+use headers::{Date, HeaderName, HeaderValue};
 use headers_gateway::{
     Content, FieldLine, Framing, Gateway, Protocol, Pseudonym, RequestHead, RequestOutcome,
     ResponseHead, ResponseOutcome, forward_request, forward_response,
@@ -20,16 +20,11 @@ pub(crate) fn read_gateway(arguments: &mut Arguments<'_>) -> Result<Gateway, Fai
         "relayed" => false,
         _ => return Err(Failure::NoCall),
     };
-    match Pseudonym::new(arguments.alloc(), text.as_str()) {
-        Ok(pseudonym) => {
-            let mut gateway = Gateway::new(arguments.alloc(), pseudonym);
-            gateway.consumes_credentials = consumes_credentials;
-            gateway.protected.push(HeaderName::from_static("x-client"))?;
-            Ok(gateway)
-        }
-        Err(Refused::Invalid(_)) => Err(Failure::Refused),
-        Err(Refused::Memory(_)) => Err(Failure::Memory),
-    }
+    let pseudonym = Pseudonym::new(arguments.alloc(), text.as_str())?;
+    let mut gateway = Gateway::new(arguments.alloc(), pseudonym);
+    gateway.consumes_credentials = consumes_credentials;
+    gateway.protected.push(HeaderName::from_static("x-client"))?;
+    Ok(gateway)
 }
 
 // The next word, as a version.
@@ -55,10 +50,7 @@ fn read_status(arguments: &mut Arguments<'_>) -> Result<StatusCode, Failure> {
 // The next word, as a field value, or `None` if it is `(none)`.
 pub(crate) fn read_value(arguments: &mut Arguments<'_>) -> Result<Option<HeaderValue>, Failure> {
     match arguments.option()? {
-        Some(text) => match HeaderValue::from_str(arguments.alloc(), text) {
-            Ok(value) => Ok(Some(value)),
-            Err(_) => Err(Failure::NoCall),
-        },
+        Some(text) => Ok(Some(HeaderValue::from_str(arguments.alloc(), text)?)),
         None => Ok(None),
     }
 }

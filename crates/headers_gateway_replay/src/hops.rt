@@ -31,7 +31,7 @@ fn read_flag(arguments: &mut Arguments<'_>, flag: &str) -> Result<bool, Failure>
 }
 
 fn read_hidden(arguments: &Arguments<'_>, word: &str) -> Result<Obfuscated, Failure> {
-    Obfuscated::new(arguments.alloc(), word).map_err(|_| Failure::Refused)
+    Ok(Obfuscated::new(arguments.alloc(), word)?)
 }
 
 // The next two words, as a node: its name and its port.

@@ -1,6 +1,6 @@
 use Rattle.headers_chain.specs.Chains.{behind}
 use Rattle.headers_chain.proofs.ChainLemmas.{ends}
-use Rattle.headers_chain.proofs.StoreLemmas.{stores_none}
+use Rattle.headers_chain.proofs.StoreLemmas.{StoreLaws, stores_none}
 use Rattle.headers_chain.proofs.laws.no_connection_field_crosses.Goals as goal
 
 pub returns-clause-forwarded : goal.returns-clause-forwarded
@@ -9,5 +9,9 @@ returns-clause-forwarded c server hops gateway target host now request reply nam
 
 pub returns-clause-stored : goal.returns-clause-stored
 returns-clause-stored c server hops kind limits target host now request reply name f =
-    stores_none c.lookups_serve_what_calls_justify.ensures kind limits (behind server target host hops) target host now
-    request reply f name
+    let law : StoreLaws =
+    record {
+      serves = c.lookups_serve_what_calls_justify.ensures;
+      justifies = c.calls_justify_what_is_stored.ensures;
+    } in
+    stores_none law kind limits (behind server target host hops) target host now request reply f name
