@@ -208,6 +208,84 @@ enum typed_headers_decision {
     TYPED_HEADERS_FETCH = 6
 };
 
+/* What a response carries of a representation. */
+struct typed_headers_content {
+    /* Its media type, as the line of Content-Type, or empty if it isn't known. */
+    struct typed_headers_text media_type;
+    /* How many bytes it has, if `has_length`. */
+    uint64_t length;
+    /* Whether that is known. If not, no ranges are sent. */
+    bool has_length;
+    /* Whether ranges of it are sent. */
+    bool sends_ranges;
+};
+
+/* What a response is. */
+struct typed_headers_response {
+    /* The status: 200, 206, 304, 412 or 416. 0 if the server performs the method, and answers by itself. */
+    uint16_t status;
+    /* 1 if a Content-Encoding that the server has set stays, 0 if it goes. */
+    uint8_t keeps_encoding;
+};
+
+/* How acceptable an offer is. */
+struct typed_headers_quality {
+    /* Its weight in thousandths, 1 to 1000. 0 if it isn't acceptable, or no element of the field names it. */
+    uint16_t weight;
+    /* 1 if it is acceptable, else 0. */
+    uint8_t is_acceptable;
+};
+
+/* What a server answers to an opening handshake. */
+struct typed_headers_handshake {
+    /* The status: 101, 400, 403 or 426. */
+    uint16_t status;
+    /* The rule that the request breaks, one of `typed_headers_fault`, if the status is 400; else 0. */
+    uint8_t fault;
+};
+
+/* Why a request is no opening handshake: the first rule that it breaks (RFC 6455, section 4.2.1). */
+enum typed_headers_fault {
+    /* The method isn't GET. */
+    TYPED_HEADERS_NOT_GET = 1,
+    /* The version is older than HTTP/1.1. */
+    TYPED_HEADERS_OLD_HTTP = 2,
+    /* The version is HTTP/2 or HTTP/3, which have no 101. */
+    TYPED_HEADERS_NOT_HTTP_11 = 3,
+    /* There is no Host. */
+    TYPED_HEADERS_NO_HOST = 4,
+    /* Upgrade doesn't list `websocket`. */
+    TYPED_HEADERS_NO_UPGRADE = 5,
+    /* Connection doesn't list `upgrade`. */
+    TYPED_HEADERS_NO_CONNECTION = 6,
+    /* Sec-WebSocket-Key isn't one line, the base64 of sixteen bytes. */
+    TYPED_HEADERS_NO_KEY = 7,
+    /* Sec-WebSocket-Protocol isn't a list of tokens. */
+    TYPED_HEADERS_MALFORMED_PROTOCOLS = 8,
+    /* Sec-WebSocket-Extensions isn't a list of extensions. */
+    TYPED_HEADERS_MALFORMED_EXTENSIONS = 9
+};
+
+/* Why a client must fail the connection: the first rule that a response breaks (RFC 6455, section 4.1). */
+enum typed_headers_flaw {
+    /* None: the connection is open. */
+    TYPED_HEADERS_OPEN = 0,
+    /* The status isn't 101. */
+    TYPED_HEADERS_NOT_SWITCHED = 1,
+    /* Upgrade isn't one line, `websocket`. */
+    TYPED_HEADERS_UPGRADE_MISSING = 2,
+    /* Connection doesn't list `upgrade`. */
+    TYPED_HEADERS_CONNECTION_MISSING = 3,
+    /* Sec-WebSocket-Accept isn't one line, what the key that was sent calls for. */
+    TYPED_HEADERS_WRONG_ACCEPT = 4,
+    /* Sec-WebSocket-Extensions breaks its grammar. */
+    TYPED_HEADERS_WRONG_EXTENSIONS = 5,
+    /* Sec-WebSocket-Extensions names an extension that wasn't asked for. */
+    TYPED_HEADERS_UNASKED_EXTENSION = 6,
+    /* Sec-WebSocket-Protocol has several lines, or a subprotocol that wasn't asked for. */
+    TYPED_HEADERS_UNASKED_PROTOCOL = 7
+};
+
 /*
  * The canonical text of a header section (RFC 9112, section 5). `section` is read up to its first empty line: each
  * line before it is a name, a colon and a value. The text has each name once, in lower case, at its first appearance,
@@ -327,11 +405,11 @@ uint8_t typed_headers_evaluate(const uint8_t *method, size_t method_length, cons
 
 /*
  * Which part of the target's representation, of `length` bytes, a request selects (RFC 9110, sections 13.2.2 and 14.2):
- * `*answer` is 200 if all of it, 206 if the ranges that are written, 416 if none. The ranges are in order, and more than
- * 80 positions lie between two of them. Range is ignored if there are more than 100 ranges, or if 512 bytes for each of
- * several are more than `length`: so no answer is longer than twice the representation. Of the section the fields Range
- * and If-Range count. The room and `*written` count ranges; `*answer` is given also if they don't fit. A server asks
- * this once `typed_headers_evaluate` gave 0.
+ * `*answer` is 200 if all of it, 206 if the ranges that are written, 416 if none. The ranges are in order, and more
+ * than 80 positions lie between two of them. Range is ignored if there are more than 100 ranges, or if 512 bytes for
+ * each of several are more than `length`: so no answer is longer than twice the representation. Of the section the
+ * fields Range and If-Range count. The room and `*written` count ranges; `*answer` is given also if they don't fit. A
+ * server asks this once `typed_headers_evaluate` gave 0.
  *
  * Absent: the target has no representation. Refused and too large: as for `typed_headers_evaluate`.
  */
@@ -342,11 +420,104 @@ uint8_t typed_headers_select(const uint8_t *method, size_t method_length, const 
                              size_t *written);
 
 /*
+ * The response to a GET or a HEAD of the target's current representation, by its preconditions and its ranges, and to
+ * any request whose preconditions are false (RFC 9110, sections 13.2.2 and 14.2): its status, the ranges that it sends
+ * unless it sends all, and its lines, each `name: value` and a LF, names in lower case. It sends ranges within the
+ * limits of `typed_headers_select`. A HEAD is answered as a GET without Range, but for the content.
+ *
+ * Six fields are the response's alone, and are to be taken off first: etag, last-modified, accept-ranges,
+ * content-range, content-length and content-type. So is content-encoding, unless `response->keeps_encoding`. Several
+ * ranges are sent as multipart/byteranges with this boundary: 1 to 70 letters, digits, or `'`, `+`, `-`, `.`, `_`. No
+ * range that is sent may hold it.
+ *
+ * `*written` and `*parts_written` are given also if one of them doesn't fit, and so is `*response`. What fits is
+ * written then.
+ *
+ * Refused: the method is no token, a line of the section before the first empty one is no field, `etag` is no entity
+ * tag, the date lies past the year 9999, the media type is no line, or the boundary is none. Too large: the section has
+ * more names than a map has room for (24,576).
+ */
+uint8_t typed_headers_respond(const uint8_t *method, size_t method_length, const uint8_t *section,
+                              size_t section_length, const struct typed_headers_keys *keys, const uint8_t *etag,
+                              size_t etag_length, const struct typed_headers_target *target,
+                              const struct typed_headers_content *content, const uint8_t *boundary,
+                              size_t boundary_length, struct typed_headers_response *response,
+                              struct typed_headers_bytes_range *parts, size_t parts_length, size_t *parts_written,
+                              uint8_t *room, size_t room_length, size_t *written);
+
+/*
+ * Which of a server's offers a request is served, by the lines of its `accept`, `accept-encoding` or `accept-language`
+ * (RFC 9110, section 12.5): `*place` counts from 0. `offers` has one offer a line, the most wanted first: media types
+ * with their parameters, values of Content-Encoding (`identity` for none), language tags. Of those of the greatest
+ * quality the first is chosen, and without the field the first of all.
+ *
+ * Absent: none is acceptable. Refused: a line of a text can't be one.
+ */
+uint8_t typed_headers_choose_type(const uint8_t *lines, size_t lines_length, const uint8_t *offers,
+                                  size_t offers_length, size_t *place);
+uint8_t typed_headers_choose_coding(const uint8_t *lines, size_t lines_length, const uint8_t *offers,
+                                    size_t offers_length, size_t *place);
+uint8_t typed_headers_choose_language(const uint8_t *lines, size_t lines_length, const uint8_t *offers,
+                                      size_t offers_length, size_t *place);
+
+/*
+ * Which of a server's language tags lookup finds (RFC 4647, section 3.4): where `en-GB` is asked for, `en` is found.
+ * Else as `typed_headers_choose_language`.
+ */
+uint8_t typed_headers_look_up_language(const uint8_t *lines, size_t lines_length, const uint8_t *offers,
+                                       size_t offers_length, size_t *place);
+
+/*
+ * How acceptable an offer is, by the lines of `accept`, `accept-encoding` or `accept-language` (RFC 9110, section
+ * 12.5). Without the field each has the weight 1000. Refused: a line can't be one.
+ */
+uint8_t typed_headers_type_quality(const uint8_t *lines, size_t lines_length, const uint8_t *offer,
+                                   size_t offer_length, struct typed_headers_quality *quality);
+uint8_t typed_headers_coding_quality(const uint8_t *lines, size_t lines_length, const uint8_t *offer,
+                                     size_t offer_length, struct typed_headers_quality *quality);
+uint8_t typed_headers_language_quality(const uint8_t *lines, size_t lines_length, const uint8_t *offer,
+                                       size_t offer_length, struct typed_headers_quality *quality);
+
+/*
  * What `sec-websocket-accept` answers to `sec-websocket-key`, 28 bytes: the only line (RFC 6455, section 4.2.2).
  * Refused: there are several lines, or the line isn't the base64 of sixteen bytes.
  */
 uint8_t typed_headers_websocket_accept(const uint8_t *lines, size_t lines_length, uint8_t *room, size_t room_length,
                                        size_t *written);
+
+/*
+ * What a server answers to a client's opening handshake (RFC 6455, sections 4.2.1 and 4.2.2). `version` is that of the
+ * request: 10 for HTTP/1.0, 11, 20 or 30. `protocols` has the server's own subprotocols, one a line, the most wanted
+ * first: the first that the request asks for is taken. `origins` has the origins whose scripts may open a connection,
+ * one a line, or the line `*` for any; a request without Origin is no script's, and is let in.
+ *
+ * The text is the lines of the answer, each `name: value` and a LF. sec-websocket-protocol and sec-websocket-extensions
+ * are to be taken off a 101 first. Refused: the method is no token, the version is another number, a line of a text
+ * can't be one, or a line of the section before its first empty one is no field.
+ */
+uint8_t typed_headers_websocket_respond(const uint8_t *method, size_t method_length, uint8_t version,
+                                        const uint8_t *section, size_t section_length,
+                                        const struct typed_headers_keys *keys, const uint8_t *protocols,
+                                        size_t protocols_length, const uint8_t *origins, size_t origins_length,
+                                        struct typed_headers_handshake *handshake, uint8_t *room, size_t room_length,
+                                        size_t *written);
+
+/*
+ * A client's opening handshake (RFC 6455, section 4.1). Each line is `name: value` and a LF. `nonce` is sixteen bytes
+ * at random, others for each handshake. The caller adds Host, and what it offers in sec-websocket-protocol and
+ * sec-websocket-extensions. Refused: the nonce hasn't sixteen bytes.
+ */
+uint8_t typed_headers_websocket_request(const uint8_t *nonce, size_t nonce_length, uint8_t *room, size_t room_length,
+                                        size_t *written);
+
+/*
+ * What a client that sent the section `sent` finds in a response (RFC 6455, section 4.1): `*flaw` is one of
+ * `typed_headers_flaw`. Refused: the status is no number from 100 to 999, or a line of a section before its first
+ * empty one is no field.
+ */
+uint8_t typed_headers_websocket_check(const uint8_t *sent, size_t sent_length, uint16_t status,
+                                      const uint8_t *response, size_t response_length,
+                                      const struct typed_headers_keys *keys, uint8_t *flaw);
 
 /*
  * What a server with these rules answers a request from another origin (Fetch standard, "CORS protocol"). `request` and
@@ -390,6 +561,17 @@ uint8_t typed_headers_may_store(const uint8_t *method, size_t method_length, con
  */
 uint8_t typed_headers_lifetime(const uint8_t *response, size_t response_length, const struct typed_headers_keys *keys,
                                uint64_t received, bool is_shared, uint64_t *seconds);
+
+/*
+ * For how many seconds a response may be taken as fresh if its origin doesn't say so: a tenth of the time from its last
+ * modification to its Date (RFC 9111, section 4.2.2). `received` is as above. A cache bounds this, as to a day.
+ *
+ * Absent: the origin says so, the status and `cache-control` let no cache guess, or no last modification is known.
+ * Refused: the status is no number from 100 to 999, or a line of the section before its first empty one is no field.
+ */
+uint8_t typed_headers_heuristic_lifetime(uint16_t status, const uint8_t *response, size_t response_length,
+                                         const struct typed_headers_keys *keys, uint64_t received, bool is_shared,
+                                         uint64_t *seconds);
 
 /*
  * How many seconds old a stored response is (RFC 9111, section 4.2.3). Refused: a line of the section before its first

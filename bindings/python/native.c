@@ -284,13 +284,39 @@ static bool set_member(PyObject *value, enum member name, PyObject *member) {
 
 static PyObject *new_value(PyObject *type) { return PyType_GenericNew((PyTypeObject *)type, NULL, NULL); }
 
-static PyObject *etag_value(PyObject *type, struct text tag) {
+/* The parts of a line that has the form of an entity tag. */
+struct tag_parts {
+    int is_weak;
+    struct text opaque;
+};
+
+static bool split_tag(struct text line, struct tag_parts *parts) {
+    parts->is_weak = line.length > 2 && line.bytes[0] == 'W';
+    const Py_ssize_t before = parts->is_weak ? 3 : 1;
+    parts->opaque = (struct text){line.bytes + before, line.length - before - 1};
+    return parts->opaque.length >= 0;
+}
+
+/* A line is an entity tag exactly if its parts make one, and that is the line. */
+static uint8_t tag_status(struct text line, const struct tag_parts *parts) {
+    uint8_t room[SHORT_TEXT], equal;
+    size_t written;
+    const uint8_t status = typed_headers_format_etag(parts->is_weak, BYTES(parts->opaque), room, sizeof room, &written);
+    if (status == TYPED_HEADERS_NO_ROOM) {
+        return typed_headers_weak_eq(BYTES(line), BYTES(line), &equal);
+    }
+    if (status == TYPED_HEADERS_DONE &&
+        (written != (size_t)line.length || memcmp(room, line.bytes, written) != 0)) {
+        return TYPED_HEADERS_REFUSED;
+    }
+    return status;
+}
+
+static PyObject *etag_value(PyObject *type, const struct tag_parts *parts) {
     PyObject *value = new_value(type);
-    const bool is_weak = tag.length > 2 && tag.bytes[0] == 'W';
-    const Py_ssize_t before = is_weak ? 3 : 1;
-    const char *opaque = (const char *)tag.bytes + before;
-    if (value && (!set_member(value, OPAQUE, PyUnicode_DecodeLatin1(opaque, tag.length - before - 1, NULL)) ||
-                  !set_member(value, WEAK, PyBool_FromLong(is_weak)))) {
+    const char *opaque = (const char *)parts->opaque.bytes;
+    if (value && (!set_member(value, OPAQUE, PyUnicode_DecodeLatin1(opaque, parts->opaque.length, NULL)) ||
+                  !set_member(value, WEAK, PyBool_FromLong(parts->is_weak)))) {
         Py_CLEAR(value);
     }
     return value;
@@ -298,14 +324,15 @@ static PyObject *etag_value(PyObject *type, struct text tag) {
 
 static PyObject *etag(PyObject *module, PyObject *arguments) {
     struct lines lines = {{NULL, 0}, NULL, NULL, false};
+    struct tag_parts parts;
     PyObject *type, *given, *found = NULL;
-    uint8_t equal, status = TYPED_HEADERS_REFUSED;
+    uint8_t status = TYPED_HEADERS_REFUSED;
     (void)module;
     if (PyArg_ParseTuple(arguments, "OO", &type, &given) && read_lines(given, &lines)) {
-        if (!lines.is_rejected && PyTuple_Size(given) == 1) {
-            status = typed_headers_weak_eq(BYTES(lines.text), BYTES(lines.text), &equal);
+        if (!lines.is_rejected && PyTuple_Size(given) == 1 && split_tag(lines.text, &parts)) {
+            status = tag_status(lines.text, &parts);
         }
-        found = status == TYPED_HEADERS_DONE ? etag_value(type, lines.text) : PyLong_FromLong(status);
+        found = status == TYPED_HEADERS_DONE ? etag_value(type, &parts) : PyLong_FromLong(status);
     }
     free_lines(&lines);
     return found;
@@ -532,11 +559,6 @@ static PyObject *format_content_range(PyObject *module, PyObject *arguments) {
     it.last = last;
     return with_text(write_content_range, &it);
 }
-
-struct tag_parts {
-    int is_weak;
-    struct text opaque;
-};
 
 static uint8_t write_etag(const void *given, uint8_t *room, size_t room_length, size_t *written) {
     const struct tag_parts *it = given;
@@ -826,6 +848,21 @@ static PyObject *lifetime(PyObject *module, PyObject *arguments) {
     return with_number(status, seconds);
 }
 
+static PyObject *heuristic_lifetime(PyObject *module, PyObject *arguments) {
+    struct text response;
+    PyObject *received;
+    uint64_t at, seconds = 0;
+    unsigned short code;
+    int is_shared;
+    (void)module;
+    if (!PyArg_ParseTuple(arguments, "H" TEXT "Op", &code, INTO(response), &received, &is_shared) ||
+        !read_number(received, &at)) {
+        return NULL;
+    }
+    uint8_t status = typed_headers_heuristic_lifetime(code, BYTES(response), &keys, at, is_shared, &seconds);
+    return with_number(status, seconds);
+}
+
 static bool read_moments(PyObject *const *times, struct typed_headers_moments *moments) {
     return read_number(times[0], &moments->request) && read_number(times[1], &moments->response) &&
            read_number(times[2], &moments->now);
@@ -882,6 +919,162 @@ static PyObject *validators(PyObject *module, PyObject *arguments) {
     return with_text(write_validators, &it);
 }
 
+/* The whole response. */
+
+static PyObject *respond(PyObject *module, PyObject *arguments) {
+    struct request it;
+    struct typed_headers_content content;
+    struct typed_headers_response response = {0, 0};
+    struct text media_type, boundary;
+    struct typed_headers_bytes_range few[FEW_RANGES], *parts = few;
+    uint8_t short_text[SHORT_TEXT], *room = short_text, status;
+    size_t parts_length = FEW_RANGES, room_length = SHORT_TEXT, count = 0, written = 0;
+    PyObject *last_modified, *present, *length, *ranges, *found = NULL;
+    int exists, is_date_strong, sends_ranges;
+    (void)module;
+    if (!PyArg_ParseTuple(arguments, TEXT TEXT TEXT "OOpp" TEXT "Op" TEXT, INTO(it.method), INTO(it.section),
+                          INTO(it.etag), &last_modified, &present, &exists, &is_date_strong, INTO(media_type), &length,
+                          &sends_ranges, INTO(boundary)) ||
+        !read_optional(last_modified, &it.target.last_modified, &it.target.has_last_modified) ||
+        !read_number(present, &it.target.present) ||
+        !read_optional(length, &content.length, &content.has_length)) {
+        return NULL;
+    }
+    it.target.exists = exists;
+    it.target.is_date_strong = is_date_strong;
+    content.media_type = (struct typed_headers_text){BYTES(media_type)};
+    content.sends_ranges = sends_ranges;
+    while ((status = typed_headers_respond(BYTES(it.method), BYTES(it.section), &keys, BYTES(it.etag), &it.target,
+                                           &content, BYTES(boundary), &response, parts, parts_length, &count, room,
+                                           room_length, &written)) == TYPED_HEADERS_NO_ROOM) {
+        /* (both rooms grow at most once: neither the ranges nor the text change) */
+        parts_length = count;
+        room_length = written;
+        parts = PyMem_Malloc((count + 1) * sizeof *parts);
+        room = PyMem_Malloc(written + 1);
+        if (!parts || !room) {
+            PyErr_NoMemory();
+            goto out;
+        }
+    }
+    const bool is_done = status == TYPED_HEADERS_DONE;
+    ranges = PyList_New(0);
+    for (size_t place = 0; ranges && is_done && place < count; place++) {
+        PyObject *range = one_range(NULL, &parts[place]);
+        if (!range || PyList_Append(ranges, range)) {
+            Py_CLEAR(ranges);
+        }
+        Py_XDECREF(range);
+    }
+    if (ranges) {
+        found = Py_BuildValue("BHBNy#", status, response.status, response.keeps_encoding, ranges, (const char *)room,
+                              is_done ? (Py_ssize_t)written : 0);
+    }
+out:
+    if (parts != few) {
+        PyMem_Free(parts);
+    }
+    if (room != short_text) {
+        PyMem_Free(room);
+    }
+    return found;
+}
+
+/* Content negotiation, by media types, codings, languages, or lookup. */
+
+static PyObject *choose(PyObject *module, PyObject *arguments) {
+    static uint8_t (*const calls[])(const uint8_t *, size_t, const uint8_t *, size_t, size_t *) = {
+        typed_headers_choose_type, typed_headers_choose_coding, typed_headers_choose_language,
+        typed_headers_look_up_language};
+    struct lines lines = {{NULL, 0}, NULL, NULL, false};
+    struct text offers;
+    PyObject *given, *found = NULL;
+    uint8_t status = TYPED_HEADERS_REFUSED;
+    size_t place = 0;
+    int dimension;
+    (void)module;
+    if (PyArg_ParseTuple(arguments, "iO" TEXT, &dimension, &given, INTO(offers)) && read_lines(given, &lines)) {
+        if (!lines.is_rejected) {
+            status = calls[dimension & 3](BYTES(lines.text), BYTES(offers), &place);
+        }
+        found = with_number(status, place);
+    }
+    free_lines(&lines);
+    return found;
+}
+
+static PyObject *rate(PyObject *module, PyObject *arguments) {
+    static uint8_t (*const calls[])(const uint8_t *, size_t, const uint8_t *, size_t,
+                                    struct typed_headers_quality *) = {
+        typed_headers_type_quality, typed_headers_coding_quality, typed_headers_language_quality};
+    struct lines lines = {{NULL, 0}, NULL, NULL, false};
+    struct typed_headers_quality quality = {0, 0};
+    struct text offer;
+    PyObject *given, *found = NULL;
+    uint8_t status = TYPED_HEADERS_REFUSED;
+    int dimension;
+    (void)module;
+    if (PyArg_ParseTuple(arguments, "iO" TEXT, &dimension, &given, INTO(offer)) && read_lines(given, &lines)) {
+        if (!lines.is_rejected) {
+            status = calls[(unsigned)dimension % 3](BYTES(lines.text), BYTES(offer), &quality);
+        }
+        found = Py_BuildValue("BHB", status, quality.weight, quality.is_acceptable);
+    }
+    free_lines(&lines);
+    return found;
+}
+
+/* Both ends of an opening handshake. */
+
+struct handshake_of {
+    struct text method, request, protocols, origins;
+    uint8_t version;
+    struct typed_headers_handshake *handshake;
+};
+
+static uint8_t write_handshake(const void *given, uint8_t *room, size_t room_length, size_t *written) {
+    const struct handshake_of *it = given;
+    return typed_headers_websocket_respond(BYTES(it->method), it->version, BYTES(it->request), &keys,
+                                           BYTES(it->protocols), BYTES(it->origins), it->handshake, room, room_length,
+                                           written);
+}
+
+static PyObject *websocket_respond(PyObject *module, PyObject *arguments) {
+    struct typed_headers_handshake handshake = {0, 0};
+    struct handshake_of it = {.handshake = &handshake};
+    uint8_t status;
+    (void)module;
+    if (!PyArg_ParseTuple(arguments, TEXT "B" TEXT TEXT TEXT, INTO(it.method), &it.version, INTO(it.request),
+                          INTO(it.protocols), INTO(it.origins))) {
+        return NULL;
+    }
+    PyObject *found = written_text(write_handshake, &it, &status);
+    return found ? Py_BuildValue("BHBN", status, handshake.status, handshake.fault, found) : NULL;
+}
+
+static uint8_t write_offer(const void *given, uint8_t *room, size_t room_length, size_t *written) {
+    const struct text *nonce = given;
+    return typed_headers_websocket_request(BYTES(*nonce), room, room_length, written);
+}
+
+static PyObject *websocket_request(PyObject *module, PyObject *arguments) {
+    struct text nonce;
+    (void)module;
+    return PyArg_ParseTuple(arguments, TEXT, INTO(nonce)) ? with_text(write_offer, &nonce) : NULL;
+}
+
+static PyObject *websocket_check(PyObject *module, PyObject *arguments) {
+    struct text sent, response;
+    unsigned short code;
+    uint8_t flaw = 0;
+    (void)module;
+    if (!PyArg_ParseTuple(arguments, TEXT "H" TEXT, INTO(sent), &code, INTO(response))) {
+        return NULL;
+    }
+    uint8_t status = typed_headers_websocket_check(BYTES(sent), code, BYTES(response), &keys, &flaw);
+    return with_number(status, flaw);
+}
+
 #define METHOD(name) {#name, name, METH_VARARGS, NULL}
 static PyMethodDef methods[] = {
     METHOD(age),         METHOD(cache_control), METHOD(canonical),  METHOD(content_length), METHOD(content_range),
@@ -889,8 +1082,10 @@ static PyMethodDef methods[] = {
     METHOD(cors_answer), METHOD(current_age),   METHOD(date),       METHOD(decide),
     METHOD(essence),     METHOD(evaluate),      METHOD(expires),    METHOD(field),
     METHOD(format_content_range), METHOD(format_date), METHOD(format_etag), METHOD(last_modified),
-    METHOD(lifetime),    METHOD(may_store),     METHOD(media_type), METHOD(ranges),
+    METHOD(heuristic_lifetime), METHOD(lifetime), METHOD(may_store),     METHOD(media_type), METHOD(ranges),
     METHOD(strong_eq),   METHOD(use_keys),      METHOD(validators), METHOD(version),
+    METHOD(choose),      METHOD(rate),          METHOD(respond),
+    METHOD(websocket_check), METHOD(websocket_request), METHOD(websocket_respond),
     METHOD(weak_eq),     METHOD(websocket_accept), {"select", select_part, METH_VARARGS, NULL}, {NULL, NULL, 0, NULL},
 };
 

@@ -945,6 +945,28 @@ static void check_lifetime(const struct row *row) {
     }
 }
 
+static uint8_t call_heuristic(const void *arguments, uint64_t *number, uint8_t *room, size_t room_length,
+                              size_t *written) {
+    const struct cache_call *call = arguments;
+    (void)room, (void)room_length, (void)written;
+    return typed_headers_heuristic_lifetime(call->status, call->response.bytes, call->response.length, &KEYS,
+                                            call->moments.response, call->is_shared, number);
+}
+
+/* `heuristic_lifetime KIND STATUS RECEIVED RESPONSE` */
+static void check_heuristic(const struct row *row) {
+    struct cache_call call = {.is_shared = read_kind(row), .status = (uint16_t)read_number(row, 1)};
+    call.moments.response = read_number(row, 2);
+    read_section(row, 3, first_area, &call.response);
+    if (is_answer(row, "(none)")) {
+        check(row, call_heuristic, &call, TYPED_HEADERS_ABSENT, NO_NUMBER, NO_TEXT);
+    } else {
+        check(row, call_heuristic, &call, TYPED_HEADERS_DONE, strtoull(row->answer, NULL, 10), NO_TEXT);
+    }
+    call.status = 1000;
+    check(row, call_heuristic, &call, TYPED_HEADERS_REFUSED, NO_NUMBER, NO_TEXT);
+}
+
 static uint8_t call_current_age(const void *arguments, uint64_t *number, uint8_t *room, size_t room_length,
                                 size_t *written) {
     const struct cache_call *call = arguments;
@@ -1018,6 +1040,334 @@ static void check_validators(const struct row *row) {
     check(row, call_validators, &call, TYPED_HEADERS_DONE, NO_NUMBER, (struct word){wanted, length});
 }
 
+/* Whether a value of the row has a blank at an end, which it loses in a header section. */
+static bool has_outer_blanks(const struct row *row) {
+    for (size_t i = 0; i < row->count; i++) {
+        const struct word *word = &row->words[i];
+        if (word->length && (strchr(" \t", word->bytes[0]) || strchr(" \t", word->bytes[word->length - 1]))) {
+            return true;
+        }
+    }
+    return false;
+}
+
+/* The lines of one field of the words from the first on, up to `(/)`, in an area. */
+static struct text read_lines(const struct row *row, const char *name, struct area area) {
+    static char text[AREA];
+    return put(area, text, field_lines(row, 0, name, "%.*s\n", text));
+}
+
+/* The place after the first `(/)`. */
+static size_t after_fields(const struct row *row) {
+    size_t i = 0;
+    while (i < row->count && !is_word(&row->words[i], "(/)")) {
+        i++;
+    }
+    return i + 1;
+}
+
+/* A server's offers, to the lines of a field. */
+struct offers_call {
+    uint8_t (*choose)(const uint8_t *lines, size_t lines_length, const uint8_t *offers, size_t offers_length,
+                      size_t *place);
+    uint8_t (*rate)(const uint8_t *lines, size_t lines_length, const uint8_t *offer, size_t offer_length,
+                    struct typed_headers_quality *quality);
+    struct text lines, offers;
+};
+
+static uint8_t call_choose(const void *arguments, uint64_t *number, uint8_t *room, size_t room_length,
+                           size_t *written) {
+    const struct offers_call *call = arguments;
+    size_t place = FILL;
+    (void)room, (void)room_length, (void)written;
+    uint8_t status = call->choose(call->lines.bytes, call->lines.length, call->offers.bytes, call->offers.length,
+                                  &place);
+    if (place != FILL) {
+        *number = place;
+    }
+    return status;
+}
+
+static uint8_t call_rate(const void *arguments, uint64_t *number, uint8_t *room, size_t room_length,
+                         size_t *written) {
+    const struct offers_call *call = arguments;
+    struct typed_headers_quality quality = {FILL, FILL};
+    (void)room, (void)room_length, (void)written;
+    uint8_t status = call->rate(call->lines.bytes, call->lines.length, call->offers.bytes, call->offers.length,
+                                &quality);
+    if (quality.weight != FILL || quality.is_acceptable != FILL) {
+        *number = quality.weight * 2 + quality.is_acceptable;
+    }
+    return status;
+}
+
+/* `(NAME) LINE.. (/) OFFER..`: the place of an offer, or the quality of each. */
+static void check_offers(const struct row *row, const char *dimension, const char *call_name) {
+    static const char *names[] = {"accept", "accept-encoding", "accept-language"};
+    static const struct offers_call calls[] = {
+        {typed_headers_choose_type, typed_headers_type_quality, {NULL, 0}, {NULL, 0}},
+        {typed_headers_choose_coding, typed_headers_coding_quality, {NULL, 0}, {NULL, 0}},
+        {typed_headers_choose_language, typed_headers_language_quality, {NULL, 0}, {NULL, 0}}};
+    const int which = *dimension == 'a' ? 0 : *dimension == 'e' ? 1 : 2;
+    struct offers_call call = calls[which];
+    call.lines = read_lines(row, names[which], first_area);
+    const size_t first = after_fields(row);
+    if (strcmp(call_name, "quality") == 0) {
+        for (size_t i = first; i < row->count; i++) {
+            struct word wanted = answer_word(row, i - first);
+            const bool is_unlisted = is_word(&wanted, "unlisted");
+            const uint64_t weight = is_unlisted ? 0 : strtoull(wanted.bytes, NULL, 10);
+            call.offers = put(second_area, row->words[i].bytes, row->words[i].length);
+            check(row, call_rate, &call, TYPED_HEADERS_DONE, weight * 2 + (is_unlisted || weight), NO_TEXT);
+        }
+        return;
+    }
+    if (strcmp(call_name, "look_up") == 0) {
+        call.choose = typed_headers_look_up_language;
+    } else if (strcmp(call_name, "choose") != 0) {
+        return;
+    }
+    static char offers[AREA];
+    size_t length = 0;
+    uint64_t place = row->count;
+    const struct word chosen = answer_word(row, 0);
+    for (size_t i = first; i < row->count; i++) {
+        const struct word *offer = &row->words[i];
+        if (place == row->count && offer->length == chosen.length &&
+            memcmp(offer->bytes, chosen.bytes, chosen.length) == 0) {
+            place = i - first;
+        }
+        length += sprintf(offers + length, "%.*s\n", (int)offer->length, offer->bytes);
+    }
+    call.offers = put(second_area, offers, length);
+    if (is_answer(row, "(none)")) {
+        check(row, call_choose, &call, TYPED_HEADERS_ABSENT, NO_NUMBER, NO_TEXT);
+    } else {
+        check(row, call_choose, &call, TYPED_HEADERS_DONE, place, NO_TEXT);
+    }
+    call.offers = put(second_area, "a\rb", 3);
+    check(row, call_choose, &call, TYPED_HEADERS_REFUSED, NO_NUMBER, NO_TEXT);
+}
+
+/* The whole response, with the parts that the last call sent. */
+struct response_call {
+    struct request_call request;
+    struct typed_headers_content content;
+    struct text boundary;
+    size_t most_parts;
+};
+
+enum { MOST_PARTS = 128 };
+static struct typed_headers_bytes_range sent_parts[MOST_PARTS], selected_parts[MOST_PARTS];
+static size_t sent_count;
+
+static uint8_t call_respond(const void *arguments, uint64_t *number, uint8_t *room, size_t room_length,
+                            size_t *written) {
+    const struct response_call *call = arguments;
+    const struct request_call *request = &call->request;
+    struct typed_headers_response response = {FILL, FILL};
+    sent_count = NOT_WRITTEN;
+    uint8_t status = typed_headers_respond(
+        request->method.bytes, request->method.length, request->section.bytes, request->section.length, &KEYS,
+        request->etag.bytes, request->etag.length, &request->target, &call->content, call->boundary.bytes,
+        call->boundary.length, &response, call->most_parts ? sent_parts : NULL, call->most_parts, &sent_count, room,
+        room_length, written);
+    if (response.status != FILL || response.keeps_encoding != FILL) {
+        *number = response.status * 2 + response.keeps_encoding;
+    } else if (sent_count != NOT_WRITTEN) {
+        *number = FILL;
+    }
+    return status;
+}
+
+/* `respond METHOD (NAME) LINE.. (/) RESOURCE LENGTH TYPE (NAME) LINE..` */
+static void check_respond(const struct row *row, bool sends_ranges) {
+    static const char *names[] = {"etag",          "last-modified",  "accept-ranges",
+                                  "content-range", "content-length", "content-type"};
+    static char wanted[AREA], lines[AREA];
+    struct response_call call = {.most_parts = MOST_PARTS, .boundary = put(rule_areas[0], "THIS_STRING_SEPARATES", 21)};
+    size_t i = read_request(row, &call.request), length = 0;
+    if (is_word(&row->words[i], "missing")) {
+        i++;
+    } else {
+        read_target(&row->words[i], &call.request);
+        i += 3;
+    }
+    call.content.sends_ranges = sends_ranges;
+    call.content.has_length = !is_word(&row->words[i], "(none)");
+    if (call.content.has_length) {
+        call.content.length = read_number(row, i);
+    }
+    if (!is_word(&row->words[i + 1], "(none)")) {
+        struct text type = put(rule_areas[1], row->words[i + 1].bytes, row->words[i + 1].length);
+        call.content.media_type = (struct typed_headers_text){type.bytes, type.length};
+    }
+    if (is_answer(row, "(none)")) {
+        check(row, call_respond, &call, TYPED_HEADERS_DONE, 1, (struct word){wanted, 0});
+        return;
+    }
+    const struct row *answer = answer_words(row);
+    const uint64_t status = strtoull(row->answer, NULL, 10);
+    for (int name = 0; name < 6; name++) {
+        char form[64];
+        snprintf(form, sizeof form, "%s: %%.*s\n", names[name]);
+        length += field_lines(answer, 1, names[name], form, wanted + length);
+    }
+    const bool keeps = status == 200 || (status == 206 && !field_lines(row, 1, "if-range", "%.*s\n", lines));
+    const struct word text = {wanted, length};
+    check(row, call_respond, &call, TYPED_HEADERS_DONE, status * 2 + keeps, text);
+    make(call_respond, &call, length, 0);
+    size_t count = 0;
+    uint16_t code = 0;
+    if (status == 206 && call.request.section.length) {
+        const struct request_call *request = &call.request;
+        typed_headers_select(request->method.bytes, request->method.length, request->section.bytes,
+                             request->section.length, &KEYS, request->etag.bytes, request->etag.length,
+                             &request->target, call.content.length, &code, selected_parts, MOST_PARTS, &count);
+    }
+    if (sent_count != count || memcmp(sent_parts, selected_parts, count * sizeof *sent_parts) != 0) {
+        complain(row, "other parts");
+    }
+    if (count) {
+        call.most_parts = 0;
+        struct gift gift = make(call_respond, &call, length, 0);
+        if (gift.status != TYPED_HEADERS_NO_ROOM || sent_count != count || gift.written != length ||
+            memcmp(room_area.end - length, wanted, length) != 0) {
+            complain(row, "another answer without room for parts");
+        }
+    }
+    call.boundary = put(rule_areas[0], "", 0);
+    call.most_parts = MOST_PARTS;
+    check(row, call_respond, &call, TYPED_HEADERS_REFUSED, NO_NUMBER, NO_TEXT);
+    call.boundary = put(rule_areas[0], "\xC3\xA4", 2);
+    check(row, call_respond, &call, TYPED_HEADERS_REFUSED, NO_NUMBER, NO_TEXT);
+}
+
+/* A server's end of an opening handshake. */
+struct handshake_call {
+    struct text method, request, protocols, origins;
+    uint8_t version;
+};
+
+static uint8_t call_handshake(const void *arguments, uint64_t *number, uint8_t *room, size_t room_length,
+                              size_t *written) {
+    const struct handshake_call *call = arguments;
+    struct typed_headers_handshake handshake = {FILL, FILL};
+    uint8_t status = typed_headers_websocket_respond(
+        call->method.bytes, call->method.length, call->version, call->request.bytes, call->request.length, &KEYS,
+        call->protocols.bytes, call->protocols.length, call->origins.bytes, call->origins.length, &handshake, room,
+        room_length, written);
+    if (handshake.status != FILL || handshake.fault != FILL) {
+        *number = handshake.status * 16 + handshake.fault;
+    }
+    return status;
+}
+
+/* The values of a word, with commas between, one a line. */
+static struct text comma_lines(const struct word *word, struct area area) {
+    static char text[AREA];
+    for (size_t i = 0; i < word->length; i++) {
+        text[i] = word->bytes[i] == ',' ? '\n' : word->bytes[i];
+    }
+    text[word->length] = '\n';
+    return put(area, text, word->length + 1);
+}
+
+static size_t place_of(const struct word *word, const char *const *names, size_t count) {
+    for (size_t i = 0; i < count; i++) {
+        if (is_word(word, names[i])) {
+            return i + 1;
+        }
+    }
+    return 0;
+}
+
+/* `accept METHOD VERSION (NAME) LINE..`, after protocols or origins. */
+static void check_handshake(const struct row *row) {
+    static const char *const versions[] = {"HTTP/0.9", "HTTP/1.0", "HTTP/1.1", "HTTP/2", "HTTP/3"};
+    static const uint8_t numbers[] = {0, 9, 10, 11, 20, 30};
+    static const char *const faults[] = {"NotGet",    "OldHttp",      "NotHttp11", "NoHost",
+                                         "NoUpgrade", "NoConnection", "NoKey",     "MalformedProtocols",
+                                         "MalformedExtensions"};
+    static const char *const names[] = {"upgrade", "connection", "sec-websocket-accept", "sec-websocket-protocol",
+                                        "sec-websocket-version"};
+    static char wanted[AREA];
+    struct handshake_call call = {.protocols = put(rule_areas[0], "", 0), .origins = put(rule_areas[1], "*", 1)};
+    size_t i = 0, length = 0;
+    if (strcmp(row->call, "accept_with") == 0) {
+        call.protocols = comma_lines(&row->words[i++], rule_areas[0]);
+    } else if (strcmp(row->call, "accept_from") == 0) {
+        call.origins = comma_lines(&row->words[i++], rule_areas[1]);
+    } else if (strcmp(row->call, "accept") != 0) {
+        return;
+    }
+    call.method = put(third_area, row->words[i].bytes, row->words[i].length);
+    call.version = numbers[place_of(&row->words[i + 1], versions, 5)];
+    read_section(row, i + 2, first_area, &call.request);
+    const struct row *answer = answer_words(row);
+    const uint64_t status = strtoull(row->answer, NULL, 10);
+    const size_t fault = status == 400 ? place_of(&answer->words[1], faults, 9) : 0;
+    for (int name = 0; name < 5; name++) {
+        char form[64];
+        snprintf(form, sizeof form, "%s: %%.*s\n", names[name]);
+        length += field_lines(answer, 1, names[name], form, wanted + length);
+    }
+    check(row, call_handshake, &call, TYPED_HEADERS_DONE, status * 16 + fault, (struct word){wanted, length});
+    call.version = 12;
+    check(row, call_handshake, &call, TYPED_HEADERS_REFUSED, NO_NUMBER, NO_TEXT);
+}
+
+/* `request NONCE (NAME) LINE..`: of the answer the fields of the handshake count. */
+static void check_offer(const struct row *row) {
+    static const char *const names[] = {"upgrade", "connection", "sec-websocket-version", "sec-websocket-key"};
+    static char wanted[AREA];
+    struct bytes_call call = {typed_headers_websocket_request,
+                              put(first_area, row->words[0].bytes, row->words[0].length)};
+    const struct row *answer = answer_words(row);
+    size_t length = 0;
+    for (int name = 0; name < 4; name++) {
+        char form[64];
+        snprintf(form, sizeof form, "%s: %%.*s\n", names[name]);
+        length += field_lines(answer, 0, names[name], form, wanted + length);
+    }
+    check(row, call_bytes, &call, TYPED_HEADERS_DONE, NO_NUMBER, (struct word){wanted, length});
+    call.lines = put(first_area, row->words[0].bytes, row->words[0].length - 1);
+    check(row, call_bytes, &call, TYPED_HEADERS_REFUSED, NO_NUMBER, NO_TEXT);
+}
+
+/* A client's end. */
+struct check_call {
+    struct text sent, response;
+    uint16_t status;
+};
+
+static uint8_t call_check(const void *arguments, uint64_t *number, uint8_t *room, size_t room_length,
+                          size_t *written) {
+    const struct check_call *call = arguments;
+    uint8_t flaw = FILL;
+    (void)room, (void)room_length, (void)written;
+    uint8_t status = typed_headers_websocket_check(call->sent.bytes, call->sent.length, call->status,
+                                                   call->response.bytes, call->response.length, &KEYS, &flaw);
+    if (flaw != FILL) {
+        *number = flaw;
+    }
+    return status;
+}
+
+/* `check SENT (/) STATUS RESPONSE` */
+static void check_opened(const struct row *row) {
+    static const char *const flaws[] = {"NotSwitched",         "NoUpgrade",        "NoConnection",   "WrongAccept",
+                                        "MalformedExtensions", "UnaskedExtension", "UnaskedProtocol"};
+    struct check_call call;
+    const size_t i = read_section(row, 0, first_area, &call.sent);
+    call.status = (uint16_t)read_number(row, i);
+    read_section(row, i + 1, second_area, &call.response);
+    const struct word answer = answer_word(row, 0);
+    check(row, call_check, &call, TYPED_HEADERS_DONE, place_of(&answer, flaws, 7), NO_TEXT);
+    call.status = 1000;
+    check(row, call_check, &call, TYPED_HEADERS_REFUSED, NO_NUMBER, NO_TEXT);
+}
+
 static void make_row(struct row *row) {
     const char *decode = strstr(row->call, ".decode");
     if (decode && strcmp(decode, ".decode") == 0) {
@@ -1067,12 +1417,26 @@ static void make_row(struct row *row) {
         check_may_store(row);
     } else if (strcmp(row->call, "lifetime") == 0) {
         check_lifetime(row);
+    } else if (strcmp(row->call, "heuristic_lifetime") == 0) {
+        check_heuristic(row);
     } else if (strcmp(row->call, "current_age") == 0) {
         check_current_age(row);
     } else if (strcmp(row->call, "decide") == 0) {
         check_decide(row);
     } else if (strcmp(row->call, "validation_steps") == 0) {
         check_validators(row);
+    } else if (strncmp(row->call, "accept.", 7) == 0) {
+        check_offers(row, row->call, row->call + 7);
+    } else if (strncmp(row->call, "encoding.", 9) == 0 || strncmp(row->call, "language.", 9) == 0) {
+        check_offers(row, row->call, row->call + 9);
+    } else if (strcmp(row->call, "respond") == 0 || strcmp(row->call, "respond_whole") == 0) {
+        check_respond(row, strcmp(row->call, "respond") == 0);
+    } else if (strcmp(row->call, "request") == 0) {
+        check_offer(row);
+    } else if (strncmp(row->call, "accept", 6) == 0 && !has_outer_blanks(row)) {
+        check_handshake(row);
+    } else if (strcmp(row->call, "check") == 0 && !has_outer_blanks(row)) {
+        check_opened(row);
     }
 }
 

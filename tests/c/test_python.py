@@ -208,6 +208,12 @@ def lifetime(words, wanted):
     return given == (None if wanted[0] == "(none)" else int(wanted[0]))
 
 
+def heuristic_lifetime(words, wanted):
+    response = section(words[3:])[0]
+    given = headers.heuristic_lifetime(int(words[1]), response, int(words[2]), shared=words[0] == "shared")
+    return given == (None if wanted[0] == "(none)" else int(wanted[0]))
+
+
 def current_age(words, wanted):
     times = headers.Times(*map(int, words[:3]))
     return headers.current_age(section(words[3:])[0], times) == int(wanted[0])
@@ -232,6 +238,75 @@ def validators(words, wanted):
     return list(given) == [it for name in ("if-none-match", "if-modified-since") for it in found if it[0] == name]
 
 
+def offers(dimension, action):
+    names = {"accept": "type", "encoding": "coding", "language": "language"}
+
+    def check(words, wanted):
+        sent, left = fields(words)
+        given = [decode(it).decode("latin-1") for it in left]
+        if action == "quality":
+            rate = getattr(headers, f"{names[dimension]}_quality")
+            shown = [rate(sent, it) for it in given]
+            hoped = [(0, True) if it == "unlisted" else (int(it), it != "0") for it in wanted]
+            return [(it.weight, it.is_acceptable) for it in shown] == hoped
+        choose = headers.look_up_language if action == "look_up" else getattr(headers, f"choose_{names[dimension]}")
+        return choose(sent, given) == (None if wanted == ["(none)"] else decode(wanted[0]).decode("latin-1"))
+
+    return check
+
+
+def shown_fields(words):
+    return [(name.decode(), value.decode("latin-1")) for name, value in fields(words)[0]]
+
+
+def respond(words, wanted, sends_ranges=True):
+    method, sent, left = request(words)
+    if left[0] == "missing":
+        target, left = headers.Target(exists=False), left[1:]
+    else:
+        target, left = known(left, is_date_strong=left[2] == "strong"), left[3:]
+    length, kind = (None if it == "(none)" else decode(it).decode("latin-1") for it in left[:2])
+    content = headers.Content(None if length is None else int(length), kind, sends_ranges)
+    given = headers.respond(method, sent, target, content)
+    if given is None or wanted == ["(none)"]:
+        return given is None and wanted == ["(none)"]
+    before = shown_fields(left[2:])
+    hoped = [] if wanted[1:] == ["(none)"] else shown_fields(wanted[1:])
+    return given.status == int(wanted[0]) and sorted(given.apply(before)) == sorted(hoped)
+
+
+def handshake(words, wanted, own=(), origins="*"):
+    if any(decode(it) != decode(it).strip(b" \t") for it in words):
+        return True  # (a section's values have no blanks at their ends)
+    method, version, *left = words
+    number = {"HTTP/0.9": 9, "HTTP/1.0": 10, "HTTP/1.1": 11, "HTTP/2": 20, "HTTP/3": 30}[version]
+    given = headers.websocket_respond(decode(method), section(left)[0], own, origins, number)
+    fault = re.sub(r"(?<!^)(?=[A-Z]|11)", "_", wanted[1]).upper() if wanted[0] == "400" else None
+    hoped = [] if wanted[-1] == "(none)" else shown_fields(wanted[1:])
+    shown = (given.status, None if given.fault is None else given.fault.name)
+    return shown == (int(wanted[0]), fault) and sorted(given.fields) == sorted(hoped)
+
+
+def opened(words, wanted):
+    if any(decode(it) != decode(it).strip(b" \t") for it in words):
+        return True
+    sent, left = section(words)
+    given = headers.websocket_check(sent, int(left[0]), section(left[1:])[0])
+    name = {"MalformedExtensions": "MALFORMED_EXTENSIONS"}.get(wanted[0])
+    name = name or re.sub(r"(?<!^)(?=[A-Z])", "_", wanted[0]).upper()
+    return given is None if wanted[0] == "open" else given is not None and given.name == name
+
+
+def offer(words, wanted):
+    names = ("upgrade", "connection", "sec-websocket-version", "sec-websocket-key")
+    hoped = [it for it in shown_fields([it for it in wanted if it != "(sensitive)"]) if it[0] in names]
+    return sorted(headers.websocket_request(decode(words[0]))) == sorted(hoped)
+
+
+def commas(word):
+    return decode(word).decode("latin-1").split(",")
+
+
 CALLS = {
     "Age.decode": lambda *row: number(headers.age, *row),
     "ContentLength.decode": lambda *row: number(headers.content_length, *row),
@@ -252,9 +327,19 @@ CALLS = {
     "CorsPolicy.answer": cors_answer,
     "may_store": may_store,
     "lifetime": lifetime,
+    "heuristic_lifetime": heuristic_lifetime,
     "current_age": current_age,
     "decide": decide,
     "validation_steps": validators,
+    **{f"{dimension}.{action}": offers(dimension, action)
+       for dimension in ("accept", "encoding", "language") for action in ("choose", "quality", "look_up")},
+    "respond": respond,
+    "respond_whole": lambda words, wanted: respond(words, wanted, sends_ranges=False),
+    "accept": handshake,
+    "accept_with": lambda words, wanted: handshake(words[1:], wanted, own=commas(words[0])),
+    "accept_from": lambda words, wanted: handshake(words[1:], wanted, origins=commas(words[0])),
+    "check": opened,
+    "request": offer,
 }
 
 

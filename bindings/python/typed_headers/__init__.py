@@ -18,11 +18,21 @@ What the library rejects raises `HeaderError`, a `ValueError` that says which fi
 
 from ._library import version
 from ._version import VERSION as __version__
-from .caching import Decision, Times, current_age, decide, lifetime, may_store, validators
-from .conditions import Precondition, Selection, Target, evaluate, select
+from .caching import Decision, Times, current_age, decide, heuristic_lifetime, lifetime, may_store, validators
+from .conditions import Content, Precondition, Response, Selection, Target, evaluate, respond, select
 from .cors import CORS_FIELDS, CorsAnswer, CorsKind, CorsPolicy
 from .errors import HeaderError, InvalidField, InvalidSection, TooLarge
 from .headers import Headers, HeadersLike, canonical_field, canonical_section
+from .negotiation import (
+    Quality,
+    choose_coding,
+    choose_language,
+    choose_type,
+    coding_quality,
+    language_quality,
+    look_up_language,
+    type_quality,
+)
 from .values import (
     ByteRange,
     CacheControl,
@@ -41,17 +51,22 @@ from .values import (
     last_modified,
     websocket_accept,
 )
+from .websocket import Fault, Flaw, Handshake, websocket_check, websocket_request, websocket_respond
 
 __all__ = [
     "CORS_FIELDS",
     "ByteRange",
     "CacheControl",
+    "Content",
     "ContentRange",
     "CorsAnswer",
     "CorsKind",
     "CorsPolicy",
     "Decision",
     "ETag",
+    "Fault",
+    "Flaw",
+    "Handshake",
     "HeaderError",
     "Headers",
     "HeadersLike",
@@ -59,8 +74,10 @@ __all__ = [
     "InvalidSection",
     "MediaType",
     "Precondition",
+    "Quality",
     "Range",
     "ReferrerPolicy",
+    "Response",
     "RetryAfter",
     "Selection",
     "StrictTransportSecurity",
@@ -71,6 +88,10 @@ __all__ = [
     "age",
     "canonical_field",
     "canonical_section",
+    "choose_coding",
+    "choose_language",
+    "choose_type",
+    "coding_quality",
     "content_length",
     "current_age",
     "date",
@@ -78,11 +99,19 @@ __all__ = [
     "evaluate",
     "expires",
     "format_date",
+    "heuristic_lifetime",
+    "language_quality",
     "last_modified",
     "lifetime",
+    "look_up_language",
     "may_store",
+    "respond",
     "select",
+    "type_quality",
     "validators",
     "version",
     "websocket_accept",
+    "websocket_check",
+    "websocket_request",
+    "websocket_respond",
 ]

@@ -84,6 +84,27 @@ class _Facts(ctypes.Structure):
     _fields_ = [("kind", ctypes.c_uint8), ("is_allowed", ctypes.c_uint8)]
 
 
+class _Content(ctypes.Structure):
+    _fields_ = [
+        ("media_type", _Text),
+        ("length", ctypes.c_uint64),
+        ("has_length", ctypes.c_bool),
+        ("sends_ranges", ctypes.c_bool),
+    ]
+
+
+class _Response(ctypes.Structure):
+    _fields_ = [("status", ctypes.c_uint16), ("keeps_encoding", ctypes.c_uint8)]
+
+
+class _Quality(ctypes.Structure):
+    _fields_ = [("weight", ctypes.c_uint16), ("is_acceptable", ctypes.c_uint8)]
+
+
+class _Handshake(ctypes.Structure):
+    _fields_ = [("status", ctypes.c_uint16), ("fault", ctypes.c_uint8)]
+
+
 class _Moments(ctypes.Structure):
     _fields_ = [("request", ctypes.c_uint64), ("response", ctypes.c_uint64), ("now", ctypes.c_uint64)]
 
@@ -140,11 +161,30 @@ _canonical = _call("canonical", *_SECTION, *_ROOM)
 _cors_answer = _call("cors_answer", ctypes.POINTER(_Rules), *_TEXT, *_TEXT, *_SECTION, ctypes.POINTER(_Facts), *_ROOM)
 _may_store = _call("may_store", *_TEXT, *_TEXT, ctypes.c_uint16, *_SECTION, ctypes.c_bool, _FLAG)
 _lifetime = _call("lifetime", *_SECTION, ctypes.c_uint64, ctypes.c_bool, _NUMBER)
+_heuristic_lifetime = _call("heuristic_lifetime", ctypes.c_uint16, *_SECTION, ctypes.c_uint64, ctypes.c_bool, _NUMBER)
 _current_age = _call("current_age", *_SECTION, ctypes.POINTER(_Moments), _NUMBER)
 _decide = _call(
     "decide", *_TEXT, *_TEXT, *_TEXT, *_TEXT, *_SECTION, ctypes.POINTER(_Moments), ctypes.c_bool, _FLAG
 )
 _validators = _call("validators", *_TEXT, ctypes.c_uint64, ctypes.POINTER(_Keys), *_ROOM)
+
+_SIZE = ctypes.POINTER(ctypes.c_size_t)
+_respond = _call(
+    "respond", *_REQUEST, ctypes.POINTER(_Content), *_TEXT, ctypes.POINTER(_Response), *_ROOM, *_ROOM
+)
+_CHOICES = [
+    _call(name, *_TEXT, *_TEXT, _SIZE)
+    for name in ("choose_type", "choose_coding", "choose_language", "look_up_language")
+]
+_QUALITIES = [
+    _call(name, *_TEXT, *_TEXT, ctypes.POINTER(_Quality))
+    for name in ("type_quality", "coding_quality", "language_quality")
+]
+_websocket_respond = _call(
+    "websocket_respond", *_TEXT, ctypes.c_uint8, *_SECTION, *_TEXT, *_TEXT, ctypes.POINTER(_Handshake), *_ROOM
+)
+_websocket_request = _call("websocket_request", *_TEXT, *_ROOM)
+_websocket_check = _call("websocket_check", *_TEXT, ctypes.c_uint16, *_SECTION, _FLAG)
 
 
 def version() -> str:
@@ -449,6 +489,12 @@ def lifetime(response: bytes, received: int, is_shared: bool) -> Tuple[int, int]
     return _lifetime(*section, received, is_shared, ctypes.byref(seconds)), seconds.value
 
 
+def heuristic_lifetime(status: int, response: bytes, received: int, is_shared: bool) -> Tuple[int, int]:
+    seconds = ctypes.c_uint64()
+    section = (response, len(response), ctypes.byref(_keys))
+    return _heuristic_lifetime(status, *section, received, is_shared, ctypes.byref(seconds)), seconds.value
+
+
 def current_age(response: bytes, asked: int, received: int, now: int) -> Tuple[int, int]:
     seconds, moments = ctypes.c_uint64(), _Moments(asked, received, now)
     section = (response, len(response), ctypes.byref(_keys))
@@ -474,3 +520,80 @@ def decide(
 
 def validators(response: bytes, received: int) -> Tuple[int, bytes]:
     return _text(_validators, response, len(response), received, ctypes.byref(_keys))
+
+
+def respond(
+    method: bytes,
+    section: bytes,
+    etag: bytes,
+    last_modified: Optional[int],
+    present: int,
+    exists: bool,
+    is_date_strong: bool,
+    media_type: bytes,
+    length: Optional[int],
+    sends_ranges: bool,
+    boundary: bytes,
+) -> Tuple[int, int, int, List[Tuple[int, int]], bytes]:
+    """The status, that of the response, whether Content-Encoding stays, the ranges that are sent, and the fields."""
+    request = _request(method, section, etag, last_modified, present, exists, is_date_strong)
+    content = _Content(_Text(media_type, len(media_type)), length or 0, length is not None, sends_ranges)
+    response, parts, room = _Response(), 16, 1024
+    while True:
+        ranges_room, count = (_Range * parts)(), ctypes.c_size_t()
+        buffer, written = ctypes.create_string_buffer(room), ctypes.c_size_t()
+        status = _respond(
+            *request,
+            ctypes.byref(content),
+            boundary,
+            len(boundary),
+            ctypes.byref(response),
+            ranges_room,
+            parts,
+            ctypes.byref(count),
+            buffer,
+            room,
+            ctypes.byref(written),
+        )
+        if status != _NO_ROOM:
+            found = [(it.first, it.last) for it in ranges_room[: count.value]]
+            return status, response.status, response.keeps_encoding, found, buffer.raw[: written.value]
+        parts, room = max(parts, count.value), max(room, written.value)
+
+
+def choose(dimension: int, lines: Lines, offers: bytes) -> Tuple[int, int]:
+    """The place of the offer that is chosen, by media types, codings, languages (0 to 2), or lookup (3)."""
+    text, place = _joined(lines), ctypes.c_size_t()
+    if text is None:
+        return _REFUSED, 0
+    return _CHOICES[dimension](text, len(text), offers, len(offers), ctypes.byref(place)), place.value
+
+
+def rate(dimension: int, lines: Lines, offer: bytes) -> Tuple[int, int, int]:
+    """The weight of an offer, and whether it is acceptable."""
+    text, quality = _joined(lines), _Quality()
+    if text is None:
+        return _REFUSED, 0, 0
+    status = _QUALITIES[dimension](text, len(text), offer, len(offer), ctypes.byref(quality))
+    return status, quality.weight, quality.is_acceptable
+
+
+def websocket_respond(
+    method: bytes, version: int, request: bytes, protocols: bytes, origins: bytes
+) -> Tuple[int, int, int, bytes]:
+    """The status, that of the answer, the fault, and the fields."""
+    handshake = _Handshake()
+    texts = (method, len(method), version, request, len(request), ctypes.byref(_keys))
+    lists = (protocols, len(protocols), origins, len(origins))
+    status, found = _text(_websocket_respond, *texts, *lists, ctypes.byref(handshake))
+    return status, handshake.status, handshake.fault, found
+
+
+def websocket_request(nonce: bytes) -> Tuple[int, bytes]:
+    return _text(_websocket_request, nonce, len(nonce))
+
+
+def websocket_check(sent: bytes, status: int, response: bytes) -> Tuple[int, int]:
+    flaw = ctypes.c_uint8()
+    section = (response, len(response), ctypes.byref(_keys))
+    return _websocket_check(sent, len(sent), status, *section, ctypes.byref(flaw)), flaw.value

@@ -13,7 +13,7 @@ from ._library import Text, Time
 from .errors import HeaderError
 from .headers import Headers, HeadersLike
 
-__all__ = ["Decision", "Times", "current_age", "decide", "lifetime", "may_store", "validators"]
+__all__ = ["Decision", "Times", "current_age", "decide", "heuristic_lifetime", "lifetime", "may_store", "validators"]
 
 
 class Decision(IntEnum):
@@ -86,6 +86,24 @@ def lifetime(response: HeadersLike, received: Optional[Time] = None, *, shared: 
     status, seconds = _library.calls.lifetime(given, _received(received), shared)
     _library.check(status, lambda: _refused(given))
     return None if status == _library.ABSENT else seconds
+
+
+def heuristic_lifetime(
+    status: int, response: HeadersLike, received: Optional[Time] = None, *, shared: bool
+) -> Optional[int]:
+    """For how many seconds a response may be taken as fresh if its origin doesn't say so (RFC 9111, section 4.2.2).
+
+    They are a tenth of the time from its last modification to its Date. `None` if the origin says so, if the status
+    and Cache-Control let no cache guess, or if no last modification is known.
+
+    >>> dates = {"Date": "Sun, 06 Nov 1994 08:49:37 GMT", "Last-Modified": "Sun, 06 Nov 1994 07:49:37 GMT"}
+    >>> heuristic_lifetime(200, dates, shared=False)
+    360
+    """
+    given, code = Headers(response).section, _library.to_number(status, "status", 16)
+    ended, seconds = _library.calls.heuristic_lifetime(code, given, _received(received), shared)
+    _library.check(ended, lambda: _refused(given))
+    return None if ended == _library.ABSENT else seconds
 
 
 def _received(received: Optional[Time]) -> int:

@@ -1,17 +1,18 @@
 """Conditional requests and requests for ranges (RFC 9110, sections 13 and 14)."""
 
+import re
 import time
 from dataclasses import dataclass
 from enum import IntEnum
-from typing import Optional, Tuple, Union
+from typing import Iterable, List, Optional, Tuple, Union
 
 from . import _library
 from ._library import Text, Time
 from .errors import HeaderError
 from .headers import Headers, HeadersLike, section_of
-from .values import ByteRange, ETag
+from .values import ByteRange, ETag, MediaType
 
-__all__ = ["Precondition", "Selection", "Target", "evaluate", "select"]
+__all__ = ["Content", "Precondition", "Response", "Selection", "Target", "evaluate", "respond", "select"]
 
 
 class Precondition(IntEnum):
@@ -50,6 +51,45 @@ class Selection:
     status: int
     ranges: Tuple[ByteRange, ...] = ()
 
+
+@dataclass(frozen=True)
+class Content:
+    """What a response carries of a representation."""
+
+    #: How many bytes it has, if that is known. If not, no ranges are sent.
+    length: Optional[int] = None
+    #: Its media type, as the value of Content-Type.
+    media_type: Union[MediaType, str, None] = None
+    #: Whether ranges of it are sent.
+    sends_ranges: bool = True
+
+
+@dataclass(frozen=True)
+class Response:
+    """The response to a request for a representation."""
+
+    #: 200, 206, 304, 412 or 416.
+    status: int
+    #: The ranges that a 206 sends, in order.
+    ranges: Tuple[ByteRange, ...]
+    #: The fields: `apply` sets them in those of a response.
+    fields: Tuple[Tuple[str, str], ...]
+    #: Whether a Content-Encoding that the server has set stays.
+    keeps_encoding: bool
+
+    def apply(self, response: Iterable[Tuple[str, str]]) -> List[Tuple[str, str]]:
+        """The fields that the server has set, with those of this response.
+
+        >>> response = respond("GET", {"If-None-Match": '"a"'}, Target(etag=ETag("a")), Content(4, "text/plain"))
+        >>> response.status, response.apply([("Content-Length", "4"), ("Vary", "Accept")])
+        (304, [('Vary', 'Accept'), ('etag', '"a"')])
+        """
+        removed = {*RESPONSE_FIELDS, *(() if self.keeps_encoding else ("content-encoding",))}
+        return [(name, value) for name, value in response if name.lower() not in removed] + list(self.fields)
+
+
+#: The fields of a response that are `respond`'s alone.
+RESPONSE_FIELDS = ("etag", "last-modified", "accept-ranges", "content-range", "content-length", "content-type")
 
 _Request = Tuple[bytes, bytes, bytes, Optional[int], int, bool, bool]
 
@@ -115,3 +155,46 @@ def select(
     if status == _library.ABSENT:
         raise HeaderError("target: it doesn't exist, so nothing of it can be selected")
     return Selection(answer, tuple(ByteRange(first, last) for first, last in found))
+
+
+def respond(
+    method: Text,
+    request: HeadersLike,
+    target: Target,
+    content: Content,
+    boundary: str = "THIS_STRING_SEPARATES",
+    now: Optional[Time] = None,
+) -> Optional[Response]:
+    """The response to a GET or a HEAD of the target, by its preconditions and its ranges (RFC 9110, section 13.2.2).
+
+    `None` if the preconditions let a request go on that isn't a GET or a HEAD of what exists: the server performs its
+    method, and answers by itself. Several ranges are sent as `multipart/byteranges` with the boundary, which no range
+    that is sent may hold.
+
+    >>> response = respond("GET", {"Range": "bytes=0-3"}, Target(), Content(10, "text/plain"))
+    >>> response.status, response.ranges
+    (206, (ByteRange(first=0, last=3),))
+    >>> dict(response.fields)["content-range"]
+    'bytes 0-3/10'
+    >>> respond("PUT", {}, Target(), Content(10)) is None
+    True
+    """
+    length = None if content.length is None else _library.to_number(content.length, "length")
+    kind = b"" if content.media_type is None else _library.to_bytes(str(content.media_type), "media_type")
+    separator = _library.to_bytes(boundary, "boundary")
+    status, code, keeps, found, text = _library.calls.respond(
+        *_request(method, request, target, now), kind, length, content.sends_ranges, separator
+    )
+    if status:
+        _library.check(status, lambda: _no_response(method, request, target, kind, separator))
+    if not code:
+        return None
+    return Response(code, tuple(ByteRange(*it) for it in found), tuple(Headers(text)), keeps == 1)
+
+
+def _no_response(method: Text, request: HeadersLike, target: Target, kind: bytes, boundary: bytes) -> HeaderError:
+    if not re.fullmatch(rb"[A-Za-z0-9'+._-]{1,70}", boundary):
+        return HeaderError("boundary: expected 1 to 70 letters, digits, or ', +, -, ., _ (RFC 2046, section 5.1.1)")
+    if _library.NO_VALUE.search(kind):
+        return HeaderError("media_type: it has a byte that no field value has (RFC 9110, section 5.5)")
+    return _refused(method, request, target)

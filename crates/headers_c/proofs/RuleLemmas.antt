@@ -15,8 +15,9 @@ use Rattle.headers_cors_policy.specs.Browser.{star}
 use Rattle.headers_cors_policy.specs.declared.rules.Allowed.{Allowed}
 use Rattle.headers_cors_policy.specs.declared.rules.Allowed.TheVariants.{Any, Listed}
 use Rattle.headers_c_parts.specs.FieldText.{field_lines}
-use Rattle.headers_c.specs.Preconditions.{IsMethodOf}
-use Rattle.headers_c.specs.Rules.{Allows, Finds, ReadEach, is_any, reads_method}
+use Rattle.headers_c_decisions.specs.Methods.{IsMethodOf}
+use Rattle.headers_c.specs.Rules.{Allows, Finds, ReadEach, reads_method}
+use Rattle.headers_c_decisions.specs.Star.{is_any}
 use Rattle.headers_c_parts.specs.declared.status.Failure.{Failure}
 use Rattle.headers_c_parts.specs.declared.status.Failure.TheVariants.{Refused, Memory, Absent, TooLarge}
 

@@ -11,7 +11,7 @@ use Rattle.headers_section.specs.Section.{Holds}
 use Rattle.headers_cache_policy.specs.Age.{age_at}
 use Rattle.headers_cache_policy.specs.Decisions as Decided_by
 use Rattle.headers_cache_policy.specs.Fields.{capped}
-use Rattle.headers_cache_policy.specs.Freshness.{HasLifetime}
+use Rattle.headers_cache_policy.specs.Freshness.{HasHeuristic, HasLifetime}
 use Rattle.headers_cache_policy.specs.Requests.{Request}
 use Rattle.headers_cache_policy.specs.Storing.{MayStore}
 use Rattle.headers_cache_policy.specs.Validating.{validation_fields}
@@ -20,8 +20,9 @@ use Rattle.headers_cache_policy.specs.declared.decision.Decision.{Decision}
 use Rattle.headers_cache_policy.specs.declared.decision.Decision.TheVariants as Decided
 use Rattle.headers_cache_policy.specs.declared.kind.Kind.{Kind}
 use Rattle.headers_cache_policy.specs.declared.kind.Kind.TheVariants.{Shared, Private}
-use Rattle.headers_c.specs.FieldLines.{fields_text}
-use Rattle.headers_c.specs.Preconditions.{IsMethodOf}
+use Rattle.headers_c_decisions.specs.FieldLines.{fields_text}
+use Rattle.headers_c_decisions.specs.Methods.{IsMethodOf}
+use Rattle.headers_c_decisions.specs.StatusCodes.{IsStatusOf}
 use Rattle.headers_c_parts.specs.SectionMap.{IsMapOf}
 use Rattle.headers_c.specs.Tags.{Tells}
 use Rattle.headers_c.specs.declared.cache.Moments.{Moments}
@@ -34,11 +35,6 @@ times_of moments = record { request = moments.request; response = moments.respon
 abbrev pub kind_of : Bool → Kind
 kind_of true = Shared
 kind_of false = Private
-
--- the status, if the number is one
-abbrev pub IsStatusOf : ℕ → Result ℕ Failure → Type 0
-IsStatusOf number (Ok status) = IsStatusCode number × (status ≡ number)
-IsStatusOf number (Err failure) = (failure ≡ Refused) × ¬ (IsStatusCode number)
 
 -- the request with the method and the fields
 abbrev pub request_with : List ℕ → Entries FieldValue → Request
@@ -75,6 +71,22 @@ abbrev pub Lives : List ℕ → ℕ → Bool → Result ℕ Failure → Type 0
 Lives response received is_shared (Ok seconds) = HasLife response received is_shared (Some seconds)
 Lives response received is_shared (Err failure) =
     IsMapOf response (Err failure) ⊎ ((failure ≡ Absent) × HasLife response received is_shared None)
+
+-- the fields of the section and the status let a cache guess this lifetime
+pub record HasGuess (status : ℕ) (response : List ℕ) (received : ℕ) (is_shared : Bool) (seconds : Option ℕ)
+    : Type 0 where
+  pub is_status : IsStatusCode status
+  pub told : Entries FieldValue
+  pub is_told : Holds response told
+  pub guessed : HasHeuristic (kind_of is_shared) status received (lines_at told) seconds
+
+-- the answer is the guess, or the failure of reading what was handed in; `Absent` only if a cache may guess none
+abbrev pub Guesses : ℕ → List ℕ → ℕ → Bool → Result ℕ Failure → Type 0
+Guesses status response received is_shared (Ok seconds) = HasGuess status response received is_shared (Some seconds)
+Guesses status response received is_shared (Err failure) =
+    IsStatusOf status (Err failure)
+    ⊎ (IsMapOf response (Err failure)
+    ⊎ ((failure ≡ Absent) × HasGuess status response received is_shared None))
 
 -- the answer is the current age, or the failure of reading the section
 abbrev pub Ages : List ℕ → Moments → Result ℕ Failure → Type 0

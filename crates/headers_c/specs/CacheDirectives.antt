@@ -1,12 +1,10 @@
 -- The directives of `cache-control`, as C sees them.
-use Rattle.std.specs.Prelude.{◌≡◌, ℕ, Bool, List, Option, Some, None, if◌then◌else◌}
+use Rattle.std.specs.Prelude.{◌≡◌, ℕ, List, Option, Some, None}
 use Rattle.headers.specs.CacheControl.{Directives, directives_of}
 use Rattle.headers.specs.Lines.{Line}
+use Rattle.headers_c_decisions.specs.Flags.{flag_of}
 use Rattle.headers_c.specs.declared.cache_control.CacheDirectives.{CacheDirectives}
 use Rattle.headers_c.specs.declared.cache_control.DirectiveSeconds.{DirectiveSeconds}
-
-abbrev pub flag_of : Bool → ℕ
-flag_of is_set = if is_set then 1 else 0
 
 abbrev pub seconds_of : Option ℕ → DirectiveSeconds
 seconds_of None = record { seconds = 0; is_set = 0 }

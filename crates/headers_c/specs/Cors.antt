@@ -10,10 +10,10 @@ use Rattle.headers_cors_policy.specs.Policy.{Policy}
 use Rattle.headers_cors_policy.specs.declared.kind.CorsKind.{CorsKind}
 use Rattle.headers_cors_policy.specs.declared.kind.CorsKind.TheVariants.{Preflight, Plain, NoOrigin}
 use Rattle.headers_cors_policy.specs.declared.policy.CorsAnswer.{CorsAnswer}
-use Rattle.headers_c.specs.CacheDirectives.{flag_of}
-use Rattle.headers_c.specs.FieldLines.{fields_text}
+use Rattle.headers_c_decisions.specs.Flags.{flag_of}
+use Rattle.headers_c_decisions.specs.FieldLines.{fields_text}
 use Rattle.headers_c_parts.specs.Endings.{TellsAndWrites}
-use Rattle.headers_c.specs.Preconditions.{IsMethodOf}
+use Rattle.headers_c_decisions.specs.Methods.{IsMethodOf}
 use Rattle.headers_c.specs.Rules.{IsPolicyAnswer, IsPolicyFor}
 use Rattle.headers_c_parts.specs.SectionMap.{IsMapOf}
 use Rattle.headers_c.specs.declared.cors.CorsFacts.{CorsFacts}

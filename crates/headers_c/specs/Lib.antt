@@ -2,11 +2,9 @@ pub mod Cache
 pub mod CacheDirectives
 pub mod Canonical
 pub mod Cors
-pub mod FieldLines
 pub mod Fields
 pub mod Handshake
-pub mod Preconditions
 pub mod Ranges
+pub mod Responses
 pub mod Rules
-pub mod Selection
 pub mod Tags

@@ -7,7 +7,7 @@ use Rattle.headers.specs.HeaderLaws.{ReadsBy}
 use Rattle.headers.specs.Lines.{Line, first_line}
 use Rattle.headers.specs.ByteRanges.{range_line}
 use Rattle.headers.specs.Shapes.{one_line}
-use Rattle.headers_c.specs.declared.ranges.BytesRange.{BytesRange}
+use Rattle.headers_c_decisions.specs.declared.selection.BytesRange.{BytesRange}
 
 -- the range between two bounds, if both are included, as those of a satisfiable range are
 abbrev pub bytes_range : ByteRange → Option BytesRange

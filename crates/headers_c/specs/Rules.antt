@@ -1,6 +1,6 @@
 -- A server's rules for requests from other origins, as a caller hands them in.
 use Rattle.std.specs.Prelude.{◌≡◌, ◌⊎◌, ℕ, ⊤, Bool, false, List, [], ◌∷◌, Option, Some, None, All, Result, Ok, Err}
-use Rattle.std.specs.Prelude.{if◌then◌else◌, bytes_eq, true}
+use Rattle.std.specs.Prelude.{if◌then◌else◌, true}
 use Rattle.std.specs.Global.{Vec}
 use Rattle.std.specs.List.{AllZip}
 use Rattle.http_header.specs.FieldName.{IsFieldName}
@@ -10,7 +10,6 @@ use Rattle.headers.specs.Lines.{Line}
 use Rattle.headers.specs.Origin.{origin_reads}
 use Rattle.headers.specs.declared.Origin.{Origin}
 use Rattle.headers_cors_policy.specs.Allowed.{names_of}
-use Rattle.headers_cors_policy.specs.Browser.{star}
 use Rattle.headers_cors_policy.specs.Policy.{Policy}
 use Rattle.headers_cors_policy.specs.Rules.{IsLawful, IsPolicyOf, Refuses}
 use Rattle.headers_cors_policy.specs.declared.error.RulesError.{RulesError}
@@ -18,6 +17,7 @@ use Rattle.headers_cors_policy.specs.declared.rules.Allowed.{Allowed}
 use Rattle.headers_cors_policy.specs.declared.rules.Allowed.TheVariants.{Any, Listed}
 use Rattle.headers_cors_policy.specs.declared.rules.CorsRules.{CorsRules}
 use Rattle.headers_c_parts.specs.FieldText.{field_lines}
+use Rattle.headers_c_decisions.specs.Star.{is_any}
 use Rattle.headers_c.specs.declared.rules.Rules.{Rules}
 use Rattle.headers_c_parts.specs.declared.status.Failure.{Failure}
 use Rattle.headers_c_parts.specs.declared.status.Failure.TheVariants.{Refused, Memory, Absent, TooLarge}
@@ -45,12 +45,6 @@ Finds P (Err TooLarge) = ⊥
 -- the lines read the values, one each
 abbrev pub ReadEach : {V : Type 0} → (Line → V → Type 0) → List Line → Vec V → Type 0
 ReadEach reads lines values = AllZip reads lines values.items
-
--- the only line is a star
-abbrev pub is_any : List Line → Bool
-is_any [] = false
-is_any (line ∷ []) = bytes_eq line star
-is_any (line ∷ other ∷ lines) = false
 
 -- what the lines of a text allow: any value if the only line is a star, else those that they read, one each
 abbrev pub Allows : {V : Type 0} → (Line → V → Type 0) → List ℕ → Allowed V → Type 0

@@ -12,10 +12,6 @@ use Rattle.headers_c_parts.specs.FieldText.{FieldDecodes, FieldReads}
 abbrev pub reads_tag : List Line → Line → Type 0
 reads_tag = ReadsBy (only_tag {V = Line} (λ line. line))
 
--- the same of a value whose bytes it is
-abbrev pub reads_etag : List Line → FieldValue → Type 0
-reads_etag = ReadsBy (only_tag (λ (value : FieldValue). value.bytes))
-
 -- what follows `W/`, if the bytes begin so
 abbrev pub quoted_part : List ℕ → List ℕ
 quoted_part tag = if slice_index tag 0 == 87 && slice_index tag 1 == 47 then drop 2 tag else tag

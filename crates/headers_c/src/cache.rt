@@ -1,16 +1,16 @@
 //! What a cache may do with a response.
 ghost use Rattle.std.specs.Prelude.{◌≡◌};
-ghost use Rattle.headers_c.specs.Cache.{Ages, Decides, IsStatusOf, Lives, Stores, Validates, decision_number, kind_of};
+ghost use Rattle.headers_c.specs.Cache.{Ages, Decides, Guesses, Lives, Stores, Validates, decision_number, kind_of};
 ghost use Rattle.headers_c.specs.Cache.{times_of};
 ghost use Rattle.headers_c_parts.specs.Endings.{Gives, Writes, done};
 
-use crate::field_lines::fields_text;
-use crate::preconditions::read_method;
+use crate::giving::give;
+use headers_c_decisions::{fields_text, read_method, read_status};
 use headers_c_parts::{DONE, Failure, HashKeys, copy_into, read_map};
 use headers_cache_policy::{
-    Decision, Kind, RequestHead, Times, current_age, decide, lifetime, may_store, validation_fields,
+    Decision, Kind, RequestHead, Times, current_age, decide, heuristic_lifetime, lifetime,
+    may_store, validation_fields,
 };
-use http::StatusCode;
 use std::alloc::Global;
 
 /// Moments that a cache knows of a stored response, in seconds since the start of 1970, all of its
@@ -67,15 +67,6 @@ pub extern "C" fn typed_headers_may_store(
             DONE
         }
         Err(failure) => failure.status(),
-    }
-}
-
-fn read_status(status: u16) -> Result<StatusCode, Failure>
-    ensures { IsStatusOf status result }
-{
-    match StatusCode::from_u16(status) {
-        Ok(code) => Ok(code),
-        Err(_) => Err(Failure::Refused),
     }
 }
 
@@ -142,6 +133,44 @@ fn lives(
     }
 }
 
+/// For how many seconds a response may be taken as fresh if its origin doesn't say so (RFC 9111,
+/// section 4.2.2).
+#[unsafe(no_mangle)]
+pub extern "C" fn typed_headers_heuristic_lifetime(
+    alloc: Global,
+    status: u16,
+    response: &[u8],
+    keys: &HashKeys,
+    received: u64,
+    is_shared: bool,
+    seconds: &mut u64,
+) -> u8
+    ensures { Gives (Guesses status response.now received is_shared) seconds.old seconds.new result }
+{
+    give(
+        guesses(alloc, status, response, keys, received, is_shared),
+        seconds,
+    )
+}
+
+fn guesses(
+    alloc: Global,
+    status: u16,
+    response: &[u8],
+    keys: &HashKeys,
+    received: u64,
+    is_shared: bool,
+) -> Result<u64, Failure>
+    ensures { Guesses status response.now received is_shared result }
+{
+    let status = read_status(status)?;
+    let response = read_map(alloc, response, keys)?;
+    match heuristic_lifetime(status, &response, received, kind_of(is_shared)) {
+        Some(seconds) => Ok(seconds),
+        None => Err(Failure::Absent),
+    }
+}
+
 /// How many seconds old a response is (RFC 9111, section 4.2.3).
 #[unsafe(no_mangle)]
 pub extern "C" fn typed_headers_current_age(
@@ -185,7 +214,8 @@ pub extern "C" fn typed_headers_decide(
     is_shared: bool,
     decision: &mut u8,
 ) -> u8
-    ensures { Gives (Decides stored_method.now stored.now method.now request.now response.now moments.entry.now is_shared)
+    ensures { Gives
+        (Decides stored_method.now stored.now method.now request.now response.now moments.entry.now is_shared)
         decision.old decision.new result }
 {
     match decides(

@@ -1,11 +1,12 @@
 //! The directives of `cache-control`.
 ghost use Rattle.std.specs.Prelude.{◌≡◌, ℕ, Option};
 ghost use Rattle.headers.specs.CacheControl.{GivesSeconds};
-ghost use Rattle.headers_c.specs.CacheDirectives.{flag_of, reads_directives, seconds_of, shown};
+ghost use Rattle.headers_c.specs.CacheDirectives.{reads_directives, seconds_of, shown};
 ghost use Rattle.headers_c_parts.specs.Endings.{Gives};
 ghost use Rattle.headers_c_parts.specs.FieldText.{FieldDecodes};
 
 use headers::{CacheControl, Refused, decode_values};
+use headers_c_decisions::flag_of;
 use headers_c_fields::has_flag;
 use headers_c_parts::{DONE, Failure, read_values};
 use std::alloc::Global;
@@ -74,13 +75,6 @@ fn read_directives(alloc: Global, lines: &[u8]) -> Result<CacheDirectives, Failu
         Err(Refused::Invalid(_)) => Err(Failure::Refused),
         Err(Refused::Memory(_)) => Err(Failure::Memory),
     }
-}
-
-/// 1 if it is set, else 0.
-pub fn flag_of(is_set: bool) -> u8
-    ensures { result ≡ flag_of is_set }
-{
-    if is_set { 1 } else { 0 }
 }
 
 fn seconds_of(duration: Option<Duration>) -> DirectiveSeconds

@@ -2,10 +2,8 @@
 ghost use Rattle.std.specs.Prelude.{◌≡◌, IfOk};
 ghost use Rattle.headers_c.specs.Cors.{IsShownAnswer, Shares, SharesBy, WritesShared, kind_number};
 
-use crate::cache_control::flag_of;
-use crate::field_lines::fields_text;
-use crate::preconditions::read_method;
 use crate::rules::{Rules, read_policy};
+use headers_c_decisions::{fields_text, flag_of, read_method};
 use headers_c_parts::{DONE, Failure, HashKeys, copy_into, read_map};
 use headers_cors_policy::{CorsAnswer, CorsKind, CorsPolicy};
 use std::alloc::{AllocError, Global};

@@ -6,17 +6,10 @@ ghost use Rattle.headers_c_parts.specs.FieldText.{FieldDecodes};
 ghost use Rattle.headers_c.specs.Ranges.{bytes_range, reads_ranges};
 
 use headers::{Range, Satisfiable};
+use headers_c_decisions::BytesRange;
 use headers_c_parts::{DONE, Failure, copy_into, read_field};
 use std::alloc::{AllocError, Global};
 use std::ops::Bound;
-
-/// A range of bytes: its first and its last position, both included.
-#[repr(C)]
-#[derive(Clone, Copy)]
-pub struct BytesRange {
-    pub first: u64,
-    pub last: u64,
-}
 
 /// The ranges that a representation of `length` bytes can satisfy of those that the lines of `range`
 /// ask for, in their order (RFC 9110, section 14.1.2).

@@ -1,10 +1,10 @@
 //! A server's rules for requests from other origins, as C hands them in.
 ghost use Rattle.std.specs.Prelude.{◌≡◌, ℕ, List};
 ghost use Rattle.headers.specs.Lines.{lines_of};
-ghost use Rattle.headers_c.specs.Rules.{Allows, Finds, IsPolicyAnswer, IsRulesAnswer, ReadEach, age_of, is_any};
+ghost use Rattle.headers_c.specs.Rules.{Allows, Finds, IsPolicyAnswer, IsRulesAnswer, ReadEach, age_of};
 
-use crate::preconditions::read_method;
 use headers::{HeaderName, HeaderValue, Origin, Refused, decode_values};
+use headers_c_decisions::{is_any, read_method};
 use headers_c_parts::{Failure, read_name, read_values};
 use headers_cors_policy::{Allowed, AllowedNames, CorsPolicy, CorsRules, RulesError};
 use http::Method;
@@ -71,16 +71,6 @@ impl Listed for HeaderName {
 
     fn read(alloc: Global, line: &HeaderValue) -> Result<HeaderName, Failure> {
         read_name(alloc, line.as_bytes())
-    }
-}
-
-// Whether the only line is a star.
-fn is_any(lines: &[HeaderValue]) -> bool
-    ensures { result ≡ is_any (lines_of lines.now) }
-{
-    match lines {
-        [line] => line.as_bytes() == b"*".as_slice(),
-        _ => false,
     }
 }
 

@@ -1,19 +1,9 @@
 //! Which part of a representation a request selects.
-ghost use Rattle.std.specs.Prelude.{◌≡◌, IfOk, map};
-ghost use Rattle.headers_c.specs.Selection.{IsShown, Selects, WritesSelection, range_of};
+ghost use Rattle.headers_c_decisions.specs.Selection.{Selects, WritesSelection};
 
-use crate::preconditions::{Target, read_method, read_resource};
-use crate::ranges::BytesRange;
-use headers_c_parts::{DONE, Failure, HashKeys, copy_into, read_map};
-use headers_preconditions::{Part, RangeLimits, Resource, Selection, select};
-use std::alloc::{AllocError, Global};
-
-/// The status of the answer, and the ranges that it sends of several or one.
-#[derive(Drop)]
-pub struct Selected {
-    pub code: u16,
-    pub ranges: Vec<BytesRange>,
-}
+use headers_c_decisions::{BytesRange, Target, select_ranges};
+use headers_c_parts::{DONE, HashKeys, copy_into};
+use std::alloc::Global;
 
 /// Which part of a representation of `length` bytes a request selects (RFC 9110, sections 13.2.2 and
 /// 14.2): all of it (200), ranges of it (206) or none (416).
@@ -39,69 +29,5 @@ pub extern "C" fn typed_headers_select(
             copy_into(selected.ranges.as_slice(), DONE, room, written)
         }
         Err(failure) => failure.status(),
-    }
-}
-
-fn select_ranges(
-    alloc: Global,
-    method: &[u8],
-    section: &[u8],
-    keys: &HashKeys,
-    etag: &[u8],
-    target: &Target,
-    length: u64,
-) -> Result<Selected, Failure>
-    ensures { Selects method.now section.now etag.now target.now length result }
-{
-    let method = read_method(alloc, method)?;
-    let Resource::Current(current) = read_resource(alloc, etag, target)? else {
-        return Err(Failure::Absent);
-    };
-    let request = read_map(alloc, section, keys)?;
-    let limits = RangeLimits::usual();
-    let selection = select(
-        alloc,
-        &method,
-        &request,
-        &current,
-        target.present,
-        length,
-        &limits,
-    )?;
-    let selected = show(alloc, &selection)?;
-    Ok(selected)
-}
-
-fn show(alloc: Global, selection: &Selection) -> Result<Selected, AllocError>
-    ensures { IfOk result (λ selected. IsShown selection.now selected.code selected.ranges.items) }
-{
-    match selection {
-        Selection::Whole => Ok(Selected {
-            code: 200,
-            ranges: Vec::new(alloc),
-        }),
-        Selection::Unsatisfiable => Ok(Selected {
-            code: 416,
-            ranges: Vec::new(alloc),
-        }),
-        Selection::Parts(parts) => Ok(Selected {
-            code: 206,
-            ranges: ranges_of(alloc, parts.as_slice())?,
-        }),
-    }
-}
-
-fn ranges_of(alloc: Global, parts: &[Part]) -> Result<Vec<BytesRange>, AllocError>
-    ensures { IfOk result (λ ranges. ranges.items ≡ map range_of parts.now) }
-{
-    parts.iter().map(range_of).collect(alloc)
-}
-
-fn range_of(part: &Part) -> BytesRange
-    ensures { result ≡ range_of part.now }
-{
-    BytesRange {
-        first: part.first,
-        last: part.last,
     }
 }

@@ -3,7 +3,8 @@ ghost use Rattle.std.specs.Prelude.{◌≡◌};
 ghost use Rattle.headers.specs.EntityTag.{StronglyEqual, WeaklyEqual};
 ghost use Rattle.headers_c_parts.specs.Endings.{Gives};
 ghost use Rattle.headers_c_parts.specs.FieldText.{FieldDecodes};
-ghost use Rattle.headers_c.specs.Tags.{Compares, quoted_part, reads_etag};
+ghost use Rattle.headers_c.specs.Tags.{Compares, quoted_part};
+ghost use Rattle.headers_c_decisions.specs.Targets.{reads_etag};
 
 use headers::{ETag, HeaderValue, IfRange, encoding};
 use headers_c_parts::{DONE, Failure, read_field};

@@ -44,7 +44,8 @@ module _ (name : List ℕ) where
 
 -- the block of Bearer credentials, where there are none of Basic
 credentials-bearer : (lines : List Line) → ((v : Authorization UserPass) → ¬ (reads_basic lines v.0)) → (block : Block)
-    → IsTypedBlock (λ lines (v : Authorization FieldValue). reads_bearer lines v.0) (λ v. bearer_writes v.0 ∷ []) lines block
+    → IsTypedBlock (λ lines (v : Authorization FieldValue). reads_bearer lines v.0)
+    (λ v. bearer_writes v.0 ∷ []) lines block
     → IsCredentialsBlock lines block
 credentials-bearer lines none None bearer = (λ v. none (record { 0 = v }), λ v. bearer (record { 0 = v }))
 credentials-bearer lines none (Some written) bearer = inr (bearer.0.0, bearer.1, bearer.2)

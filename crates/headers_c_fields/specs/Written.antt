@@ -31,7 +31,8 @@ reads_bearer = FirstReads bearer_scheme ReadsBearer
 
 -- what is written of the credentials of a scheme that the library knows, or nothing if the first line has none
 abbrev pub IsCredentialsBlock : List Line → Block → Type 0
-IsCredentialsBlock lines None = ((v : UserPass) → ¬ (reads_basic lines v)) × ((v : FieldValue) → ¬ (reads_bearer lines v))
+IsCredentialsBlock lines None =
+    ((v : UserPass) → ¬ (reads_basic lines v)) × ((v : FieldValue) → ¬ (reads_bearer lines v))
 IsCredentialsBlock lines (Some written) =
     ((v : UserPass) × reads_basic lines v × (written ≡ basic_writes v ∷ []))
     ⊎ ((v : FieldValue) × reads_bearer lines v × (written ≡ bearer_writes v ∷ []))

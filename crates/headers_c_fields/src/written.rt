@@ -1,5 +1,5 @@
 //! The lines that a header writes of the value that its lines read.
-ghost use Rattle.std.specs.Prelude.{◌≡◌, ◌<◌, length, option_map, IfOk};
+ghost use Rattle.std.specs.Prelude.{◌≡◌, ◌<◌, length, option_map, IfOk, IsErr};
 ghost use Rattle.headers.specs.Lines.{lines_of};
 ghost use Rattle.http_header.specs.HeaderMap.{get_all};
 ghost use Rattle.headers_section.specs.CanonicalText.{IsTypedBlock};
@@ -27,13 +27,15 @@ pub fn lines_text(alloc: Global, lines: &[HeaderValue]) -> Result<Vec<u8>, Alloc
     Ok(text)
 }
 
-// The values under the name, and nothing else.
-fn map_of(
+/// The map that has the values under the name, and nothing else. Out of memory only if there is a
+/// value.
+pub fn map_of(
     alloc: Global,
     name: &HeaderName,
     values: Vec<HeaderValue>,
 ) -> Result<HeaderMap, AllocError>
-    ensures { IfOk result (λ map. get_all map name.now ≡ values.items) }
+    ensures map { IfOk result (λ map. get_all map name.now ≡ values.items) }
+    ensures memory { IsErr result → 0 < length values.items }
 {
     let _count = values.len();
     let mut map = HeaderMap::new(alloc);

@@ -72,6 +72,36 @@ pub struct Text {
 
 #[repr(C)]
 #[derive(Clone, Copy, Debug)]
+pub struct Content {
+    pub media_type: Text,
+    pub length: u64,
+    pub has_length: bool,
+    pub sends_ranges: bool,
+}
+
+#[repr(C)]
+#[derive(Clone, Copy, Debug, Default, PartialEq, Eq, Hash)]
+pub struct Response {
+    pub status: u16,
+    pub keeps_encoding: u8,
+}
+
+#[repr(C)]
+#[derive(Clone, Copy, Debug, Default, PartialEq, Eq, Hash)]
+pub struct Quality {
+    pub weight: u16,
+    pub is_acceptable: u8,
+}
+
+#[repr(C)]
+#[derive(Clone, Copy, Debug, Default, PartialEq, Eq, Hash)]
+pub struct Handshake {
+    pub status: u16,
+    pub fault: u8,
+}
+
+#[repr(C)]
+#[derive(Clone, Copy, Debug)]
 pub struct CorsRules {
     pub origins: Text,
     pub methods: Text,
@@ -221,12 +251,113 @@ extern "C" {
         room_length: usize,
         written: *mut usize,
     ) -> u8;
+    pub fn typed_headers_respond(
+        method: *const u8,
+        method_length: usize,
+        section: *const u8,
+        section_length: usize,
+        keys: *const Keys,
+        etag: *const u8,
+        etag_length: usize,
+        target: *const Target,
+        content: *const Content,
+        boundary: *const u8,
+        boundary_length: usize,
+        response: *mut Response,
+        parts: *mut BytesRange,
+        parts_length: usize,
+        parts_written: *mut usize,
+        room: *mut u8,
+        room_length: usize,
+        written: *mut usize,
+    ) -> u8;
+    pub fn typed_headers_choose_type(
+        lines: *const u8,
+        lines_length: usize,
+        offers: *const u8,
+        offers_length: usize,
+        place: *mut usize,
+    ) -> u8;
+    pub fn typed_headers_choose_coding(
+        lines: *const u8,
+        lines_length: usize,
+        offers: *const u8,
+        offers_length: usize,
+        place: *mut usize,
+    ) -> u8;
+    pub fn typed_headers_choose_language(
+        lines: *const u8,
+        lines_length: usize,
+        offers: *const u8,
+        offers_length: usize,
+        place: *mut usize,
+    ) -> u8;
+    pub fn typed_headers_look_up_language(
+        lines: *const u8,
+        lines_length: usize,
+        offers: *const u8,
+        offers_length: usize,
+        place: *mut usize,
+    ) -> u8;
+    pub fn typed_headers_type_quality(
+        lines: *const u8,
+        lines_length: usize,
+        offer: *const u8,
+        offer_length: usize,
+        quality: *mut Quality,
+    ) -> u8;
+    pub fn typed_headers_coding_quality(
+        lines: *const u8,
+        lines_length: usize,
+        offer: *const u8,
+        offer_length: usize,
+        quality: *mut Quality,
+    ) -> u8;
+    pub fn typed_headers_language_quality(
+        lines: *const u8,
+        lines_length: usize,
+        offer: *const u8,
+        offer_length: usize,
+        quality: *mut Quality,
+    ) -> u8;
     pub fn typed_headers_websocket_accept(
         lines: *const u8,
         lines_length: usize,
         room: *mut u8,
         room_length: usize,
         written: *mut usize,
+    ) -> u8;
+    pub fn typed_headers_websocket_respond(
+        method: *const u8,
+        method_length: usize,
+        version: u8,
+        section: *const u8,
+        section_length: usize,
+        keys: *const Keys,
+        protocols: *const u8,
+        protocols_length: usize,
+        origins: *const u8,
+        origins_length: usize,
+        handshake: *mut Handshake,
+        room: *mut u8,
+        room_length: usize,
+        written: *mut usize,
+    ) -> u8;
+    pub fn typed_headers_websocket_request(
+        nonce: *const u8,
+        nonce_length: usize,
+        room: *mut u8,
+        room_length: usize,
+        written: *mut usize,
+    ) -> u8;
+    pub fn typed_headers_websocket_check(
+        sent: *const u8,
+        sent_length: usize,
+        status: u16,
+        response: *const u8,
+        response_length: usize,
+        keys: *const Keys,
+        flaw: *mut u8,
     ) -> u8;
     pub fn typed_headers_cors_answer(
         rules: *const CorsRules,
@@ -255,6 +386,15 @@ extern "C" {
         answer: *mut u8,
     ) -> u8;
     pub fn typed_headers_lifetime(
+        response: *const u8,
+        response_length: usize,
+        keys: *const Keys,
+        received: u64,
+        is_shared: bool,
+        seconds: *mut u64,
+    ) -> u8;
+    pub fn typed_headers_heuristic_lifetime(
+        status: u16,
         response: *const u8,
         response_length: usize,
         keys: *const Keys,

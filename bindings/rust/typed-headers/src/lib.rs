@@ -26,6 +26,7 @@ mod conditions;
 mod cors;
 mod error;
 mod fields;
+mod negotiation;
 mod text;
 
 pub use caching::{current_age, decide, lifetime, may_store, validators, Decision, Times};
@@ -35,6 +36,10 @@ pub use error::Error;
 pub use fields::{
     age, cache_control, canonical_field, content_length, date, essence, expires, format_content_range, format_date,
     format_etag, last_modified, media_type, ranges, strong_eq, weak_eq, websocket_accept, CacheControl, Canonical,
+};
+pub use negotiation::{
+    choose_coding, choose_language, choose_type, coding_quality, language_quality, look_up_language, type_quality,
+    Quality,
 };
 pub use text::Section;
 
@@ -165,6 +170,21 @@ mod tests {
         let dated = "Range: bytes=5-\nIf-Range: Sun, 06 Nov 1994 08:49:37 GMT\n";
         assert_eq!(ask(dated, target), Ok(Some(Selection::Full)));
         assert_eq!(ask(dated, target.strong_date()), Ok(Some(Selection::Parts(parts[1..].to_vec()))));
+    }
+
+    #[test]
+    fn negotiation() {
+        let accept = ["audio/*; q=0.2, audio/basic"];
+        assert_eq!(choose_type(accept, ["audio/ogg", "audio/basic"]), Ok(Some(1)));
+        assert_eq!(choose_type(accept, ["text/plain"]), Ok(None));
+        assert_eq!(choose_type(accept, ["a\u{1}"]), Err(Error::Rejected));
+        assert_eq!(type_quality(accept, "audio/ogg"), Ok(Quality::Weight(200)));
+        assert_eq!(choose_coding(["gzip"], ["br", "gzip"]), Ok(Some(1)));
+        assert_eq!(coding_quality(["gzip"], "identity"), Ok(Quality::Unlisted));
+        assert_eq!(choose_language(["en-GB"], ["en"]), Ok(None));
+        assert_eq!(look_up_language(["en-GB"], ["de", "en"]), Ok(Some(1)));
+        assert_eq!(language_quality(["en"], "eng"), Ok(Quality::NotAcceptable));
+        assert_eq!(choose_language([""; 0], ["de", "en"]), Ok(Some(0)));
     }
 
     #[test]

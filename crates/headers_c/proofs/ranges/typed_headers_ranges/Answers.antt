@@ -5,7 +5,7 @@ use Rattle.headers.specs.HeaderLaws.{ReadsBy}
 use Rattle.headers.specs.Range.{range_grammar}
 use Rattle.headers_c_parts.specs.Endings.{IsWritten, done}
 use Rattle.headers_c.specs.Ranges.{bytes_range, reads_ranges}
-use Rattle.headers_c.specs.declared.ranges.BytesRange.{BytesRange}
+use Rattle.headers_c_decisions.specs.declared.selection.BytesRange.{BytesRange}
 use Rattle.headers_c_parts.specs.declared.status.Failure.TheVariants.{Memory}
 use Rattle.headers_c_parts.proofs.DecodeLemmas.{FieldDecodes-fails}
 use Rattle.headers_c.proofs.ranges.typed_headers_ranges.Goals as goal

@@ -2,7 +2,8 @@ use Rattle.std.proofs.Common.{◌≡◌, ◌∙◌, false, List, Err, ap, sym, s
 use Rattle.std.proofs.lemmas.Result.{err_from_is_err_and}
 use Rattle.http_header.specs.FieldValue.{FieldValue}
 use Rattle.headers.specs.Lines.{lines_of}
-use Rattle.headers_c.specs.Rules.{Allows, Finds, ReadEach, is_any}
+use Rattle.headers_c.specs.Rules.{Allows, Finds, ReadEach}
+use Rattle.headers_c_decisions.specs.Star.{is_any}
 use Rattle.headers_c.proofs.RuleLemmas.{Allows-fails}
 use Rattle.headers_c.proofs.rules.read_allowed.Goals as goal
 

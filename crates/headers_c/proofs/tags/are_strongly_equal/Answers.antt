@@ -2,7 +2,8 @@ use Rattle.std.proofs.Common.{◌≡◌, Err, inl, inr, subst, sym}
 use Rattle.std.proofs.lemmas.Result.{err_from_is_err_and}
 use Rattle.http_header.specs.FieldValue.{plain_value}
 use Rattle.headers.specs.EntityTag.{StronglyEqual}
-use Rattle.headers_c.specs.Tags.{Compares, reads_etag, reads_tag}
+use Rattle.headers_c.specs.Tags.{Compares, reads_tag}
+use Rattle.headers_c_decisions.specs.Targets.{reads_etag}
 use Rattle.headers_c_parts.proofs.DecodeLemmas.{FieldDecodes-fails}
 use Rattle.headers_c.proofs.tags.are_strongly_equal.Goals as goal
 

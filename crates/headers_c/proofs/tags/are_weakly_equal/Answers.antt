@@ -3,7 +3,8 @@ use Rattle.std.proofs.lemmas.Result.{err_from_is_err_and}
 use Rattle.http_header.specs.FieldValue.{plain_value}
 use Rattle.headers.specs.EntityTag.{WeaklyEqual}
 use Rattle.headers_c_parts.specs.FieldText.{field_lines}
-use Rattle.headers_c.specs.Tags.{Compares, quoted_part, reads_etag, reads_tag}
+use Rattle.headers_c.specs.Tags.{Compares, quoted_part, reads_tag}
+use Rattle.headers_c_decisions.specs.Targets.{reads_etag}
 use Rattle.headers_c_parts.proofs.DecodeLemmas.{FieldDecodes-fails}
 use Rattle.headers_c.proofs.TagLemmas.{Tells-equal}
 use Rattle.headers_c.proofs.tags.are_weakly_equal.Goals as goal

@@ -12,6 +12,7 @@ returns-then-has_credentials c long =
     let has : has_credentials c.args.name.now ≡ true = sym c.has_credentials.ensures ∙ c.if-has_credentials.true in
     let found = c.credentials_lines.result in
     subst
-    (λ (values : List FieldValue). IfOk found (λ block. IsWrittenBlock c.args.name.now (lines_of values) (block_of block)))
+    (λ (values : List FieldValue). IfOk found (λ block.
+    IsWrittenBlock c.args.name.now (lines_of values) (block_of block)))
     c.as_slice.ensures.value
     (IfOk-written block_of found c.args.name.now (lines_of c.as_slice.result.now) has c.credentials_lines.ensures)

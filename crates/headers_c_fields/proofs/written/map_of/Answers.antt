@@ -32,8 +32,8 @@ unreachable-requires c =
     has_room c.args.name.now taken few
     (subst (λ (m : Entries FieldValue). RefusesAppend m c.args.name.now) c.loop-value.invariant.1 refuses)
 
-pub returns : goal.returns
-returns c =
+pub returns-clause-map : goal.returns-clause-map
+returns-clause-map c =
     let taken = c.loop-value.invariant.0 in
     let zero : length c.loop-value.left.rest.items ≡ 0 =
     omega (arith, c.in_default.ensures.cases, c.loop-value.left.rest.ok.0) in

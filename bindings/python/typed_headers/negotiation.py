@@ -1,0 +1,128 @@
+"""Content negotiation: which of a server's offers a client prefers (RFC 9110, section 12.5)."""
+
+from dataclasses import dataclass
+from typing import List, NoReturn, Optional, Sequence, Tuple
+
+from . import _library
+from ._library import Text
+from .errors import HeaderError
+from .headers import Headers, HeadersLike
+
+__all__ = [
+    "Quality",
+    "choose_coding",
+    "choose_language",
+    "choose_type",
+    "coding_quality",
+    "language_quality",
+    "look_up_language",
+    "type_quality",
+]
+
+_ACCEPT, _ACCEPT_ENCODING, _ACCEPT_LANGUAGE, _LOOK_UP = range(4)
+_FIELDS = ("accept", "accept-encoding", "accept-language", "accept-language")
+
+
+@dataclass(frozen=True)
+class Quality:
+    """How acceptable an offer is to a client."""
+
+    #: The weight in thousandths, 1 to 1000. 0 if the offer isn't acceptable, or no element of the field names it.
+    weight: int
+    is_acceptable: bool
+
+
+def _lines(dimension: int, request: HeadersLike) -> Tuple[Text, ...]:
+    return tuple(Headers(request).lines(_FIELDS[dimension]))
+
+
+def _reject(dimension: int, lines: Sequence[Text], offers: List[bytes]) -> NoReturn:
+    for line in offers:
+        if _library.NO_VALUE.search(line):
+            raise HeaderError(f"offers: {_library.to_str(line)!r} has a byte that no field value has")
+    name = _FIELDS[dimension]
+    raise _library.rejected(name, _library.to_lines(name, lines), "a field line has a byte that no field value has")
+
+
+def _choose(dimension: int, request: HeadersLike, offers: Sequence[str]) -> Optional[str]:
+    lines, texts = _lines(dimension, request), _library.to_lines("offers", offers)
+    status, place = _library.calls.choose(dimension, lines, _library.joined(texts))
+    _library.check(status, lambda: _reject(dimension, lines, texts))
+    return None if status == _library.ABSENT else offers[place]
+
+
+def _rate(dimension: int, request: HeadersLike, offer: Text) -> Quality:
+    lines, text = _lines(dimension, request), _library.to_bytes(offer, "offer")
+    status, weight, is_acceptable = _library.calls.rate(dimension, lines, text)
+    _library.check(status, lambda: _reject(dimension, lines, []))
+    return Quality(weight, is_acceptable == 1)
+
+
+def choose_type(request: HeadersLike, offers: Sequence[str]) -> Optional[str]:
+    """The media type that a request is served, by its `Accept` (RFC 9110, section 12.5.1).
+
+    The offers are a server's media types with their parameters, the most wanted first. Of those of the greatest quality
+    the first is chosen, and without the field the first of all. `None` if none is acceptable.
+
+    >>> choose_type({"Accept": "text/*;q=0.5, text/html"}, ["text/plain", "text/html"])
+    'text/html'
+    >>> choose_type({"Accept": "image/png"}, ["text/plain"]) is None
+    True
+    """
+    return _choose(_ACCEPT, request, offers)
+
+
+def choose_coding(request: HeadersLike, offers: Sequence[str]) -> Optional[str]:
+    """The content coding that a request is served, by its `Accept-Encoding` (RFC 9110, section 12.5.3).
+
+    An offer is a value of Content-Encoding, or `identity` for content without a coding.
+
+    >>> choose_coding({"Accept-Encoding": "gzip, br;q=0.9"}, ["br", "gzip", "identity"])
+    'gzip'
+    """
+    return _choose(_ACCEPT_ENCODING, request, offers)
+
+
+def choose_language(request: HeadersLike, offers: Sequence[str]) -> Optional[str]:
+    """The language that a request is served, by its `Accept-Language` and basic filtering (RFC 4647, section 3.3.1).
+
+    >>> choose_language({"Accept-Language": "da, en-gb;q=0.8, en;q=0.7"}, ["en-US", "en-GB"])
+    'en-GB'
+    """
+    return _choose(_ACCEPT_LANGUAGE, request, offers)
+
+
+def look_up_language(request: HeadersLike, offers: Sequence[str]) -> Optional[str]:
+    """The language that lookup finds by `Accept-Language` (RFC 4647, section 3.4).
+
+    >>> look_up_language({"Accept-Language": "en-GB"}, ["de", "en"])
+    'en'
+    """
+    return _choose(_LOOK_UP, request, offers)
+
+
+def type_quality(request: HeadersLike, offer: Text) -> Quality:
+    """How acceptable a media type is, by `Accept`.
+
+    >>> type_quality({"Accept": "audio/*;q=0.2"}, "audio/ogg")
+    Quality(weight=200, is_acceptable=True)
+    """
+    return _rate(_ACCEPT, request, offer)
+
+
+def coding_quality(request: HeadersLike, offer: Text) -> Quality:
+    """How acceptable a value of Content-Encoding is, by `Accept-Encoding`.
+
+    >>> coding_quality({"Accept-Encoding": "gzip"}, "identity")
+    Quality(weight=0, is_acceptable=True)
+    """
+    return _rate(_ACCEPT_ENCODING, request, offer)
+
+
+def language_quality(request: HeadersLike, offer: Text) -> Quality:
+    """How acceptable a language tag is, by `Accept-Language`.
+
+    >>> language_quality({"Accept-Language": "en"}, "eng")
+    Quality(weight=0, is_acceptable=False)
+    """
+    return _rate(_ACCEPT_LANGUAGE, request, offer)

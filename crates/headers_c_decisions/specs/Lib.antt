@@ -1,0 +1,14 @@
+pub mod Choices
+pub mod Contents
+pub mod Evaluations
+pub mod FieldLines
+pub mod Flags
+pub mod Handshakes
+pub mod Methods
+pub mod Ratings
+pub mod Responses
+pub mod Selection
+pub mod Star
+pub mod StatusCodes
+pub mod Targets
+pub mod Texts

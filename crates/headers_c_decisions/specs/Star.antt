@@ -1,0 +1,9 @@
+-- Lists of values of which a star stands for any.
+use Rattle.std.specs.Prelude.{Bool, false, List, [], ◌∷◌, bytes_eq, codes}
+use Rattle.headers.specs.Lines.{Line}
+
+-- the only line is a star
+abbrev pub is_any : List Line → Bool
+is_any [] = false
+is_any (line ∷ []) = bytes_eq line (codes "*")
+is_any (line ∷ other ∷ lines) = false

@@ -1,0 +1,70 @@
+//! What a response carries of a representation, as C hands it in.
+ghost use Rattle.headers_c_decisions.specs.Contents.{IsBoundaryOf, IsContentOf};
+ghost use Rattle.std.specs.Prelude.{◌≡◌, if◌then◌else◌, Some, None};
+ghost use Rattle.headers_preconditions.specs.Limits.{usual_limits};
+
+use crate::texts::optional_value;
+use headers::Refused;
+use headers_c_parts::Failure;
+use headers_preconditions::{Boundary, Content, RangeLimits};
+use std::alloc::Global;
+
+/// What a response carries of a representation.
+#[repr(C)]
+#[derive(Clone, Copy)]
+pub struct ContentParts<'a> {
+    /// Its media type, as the line of `Content-Type`, or empty if it isn't known.
+    pub media_type: &'a [u8],
+    /// How many bytes it has, if `has_length`.
+    pub length: u64,
+    /// Whether that is known. If not, no ranges are sent.
+    pub has_length: bool,
+    /// Whether ranges of it are sent.
+    pub sends_ranges: bool,
+}
+
+fn length_of(parts: &ContentParts<'_>) -> Option<u64>
+    ensures { result ≡ (if parts.entry.now.has_length then Some parts.entry.now.length else None) }
+{
+    if parts.has_length {
+        Some(parts.length)
+    } else {
+        None
+    }
+}
+
+fn limits_of(parts: &ContentParts<'_>) -> Option<RangeLimits>
+    ensures { result ≡ (if parts.entry.now.sends_ranges then Some usual_limits else None) }
+{
+    if parts.sends_ranges {
+        Some(RangeLimits::usual())
+    } else {
+        None
+    }
+}
+
+/// What the parts say. Rejected if the media type can't be a field line.
+pub(crate) fn content_of(alloc: Global, parts: &ContentParts<'_>) -> Result<Content, Failure>
+    ensures { IsContentOf parts.entry.now result }
+{
+    let media_type = optional_value(alloc, parts.media_type)?;
+    Ok(Content {
+        len: length_of(parts),
+        media_type,
+        ranges: limits_of(parts),
+    })
+}
+
+/// The boundary of these bytes (RFC 2046, section 5.1.1).
+pub(crate) fn boundary_of(alloc: Global, text: &[u8]) -> Result<Boundary, Failure>
+    ensures { IsBoundaryOf text.now result }
+{
+    let Ok(text) = str::from_utf8(text) else {
+        return Err(Failure::Refused);
+    };
+    match Boundary::new(alloc, text) {
+        Ok(boundary) => Ok(boundary),
+        Err(Refused::Invalid(_)) => Err(Failure::Refused),
+        Err(Refused::Memory(_)) => Err(Failure::Memory),
+    }
+}

@@ -1,0 +1,34 @@
+//! Decisions for C: preconditions, selections, responses, negotiation and handshakes, by what a
+//! caller hands in.
+#![tactic(auto)]
+
+mod choice;
+mod content;
+mod evaluation;
+mod field_lines;
+mod flag;
+mod handshake;
+mod method;
+mod quality;
+mod response;
+mod selection;
+mod star;
+mod status_code;
+mod target;
+mod texts;
+
+pub use crate::choice::{choose, look_up_language};
+pub use crate::content::ContentParts;
+pub use crate::evaluation::evaluate_request;
+pub use crate::field_lines::fields_text;
+pub use crate::flag::flag_of;
+pub use crate::handshake::{
+    Answered, HandshakeFacts, answer_handshake, check_response, offer_handshake,
+};
+pub use crate::method::read_method;
+pub use crate::quality::{OfferQuality, rate};
+pub use crate::response::{Responded, ResponseFacts, respond_to};
+pub use crate::selection::{BytesRange, Selected, select_ranges};
+pub use crate::star::is_any;
+pub use crate::status_code::read_status;
+pub use crate::target::{Target, read_resource};

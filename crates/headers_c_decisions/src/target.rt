@@ -1,0 +1,66 @@
+//! What a server knows of the target of a request.
+ghost use Rattle.headers_c_decisions.specs.Targets.{IsDateOf, IsResourceOf, IsTagOf};
+
+use headers::{ETag, LastModified};
+use headers_c_parts::{Failure, read_field};
+use headers_preconditions::{Resource, Validators};
+use std::alloc::Global;
+
+/// The first second past the dates of HTTP.
+const END_OF_DATES: u64 = 253_402_300_800;
+
+/// What a server knows of the target of a request, beside its entity tag.
+#[repr(C)]
+#[derive(Clone, Copy)]
+pub struct Target {
+    /// When its current representation was last modified, in seconds since the start of 1970, if
+    /// `has_last_modified`.
+    pub last_modified: u64,
+    /// When the request is answered, in seconds since the start of 1970: a date with a year of two
+    /// digits depends on it (RFC 9110, section 5.6.7).
+    pub present: u64,
+    /// Whether it has a current representation.
+    pub exists: bool,
+    /// Whether it is known when that was last modified.
+    pub has_last_modified: bool,
+    /// Whether that date is a strong validator (RFC 9110, section 8.8.2.2).
+    pub is_date_strong: bool,
+}
+
+fn read_tag(alloc: Global, text: &[u8]) -> Result<Option<ETag>, Failure>
+    ensures { IsTagOf text.now result }
+{
+    match read_field::<ETag>(alloc, text) {
+        Ok(etag) => Ok(Some(etag)),
+        Err(Failure::Absent) => Ok(None),
+        Err(failure) => Err(failure),
+    }
+}
+
+fn read_date(target: &Target) -> Result<Option<LastModified>, Failure>
+    ensures { IsDateOf target.now result }
+{
+    if !target.has_last_modified {
+        return Ok(None);
+    }
+    if target.last_modified >= END_OF_DATES {
+        return Err(Failure::Refused);
+    }
+    Ok(Some(LastModified::from_unix_secs(target.last_modified)))
+}
+
+/// What is known of a target.
+pub fn read_resource(alloc: Global, etag: &[u8], target: &Target) -> Result<Resource, Failure>
+    ensures { IsResourceOf etag.now target.now result }
+{
+    if !target.exists {
+        return Ok(Resource::Missing);
+    }
+    let etag = read_tag(alloc, etag)?;
+    let last_modified = read_date(target)?;
+    Ok(Resource::Current(Validators {
+        etag,
+        last_modified,
+        is_date_strong: target.is_date_strong,
+    }))
+}
