@@ -1,0 +1,221 @@
+/*
+ * Calls of the library for C, timed or counted.
+ *
+ *     over_library times     nanoseconds of each decision that tests/bench/decisions.js has too, the least of many rounds
+ *     over_library growth    under callgrind: the instructions of each call, on texts that grow by four
+ */
+#define _POSIX_C_SOURCE 200809L
+#include <stdio.h>
+#include <stdlib.h>
+#include <string.h>
+#include <time.h>
+#include <typed_headers.h>
+
+#define ROUNDS 41
+#define MOST (1 << 20)
+#define MOST_ROOM (4 << 20)
+
+static const struct typed_headers_keys KEYS = {0x0123456789abcdef, 0xfedcba9876543210};
+static const struct typed_headers_target TARGET = {784111777, 784200000, true, true, true};
+static const struct typed_headers_moments TIMES = {784111777, 784111778, 784111800};
+static char *text, *other;
+static uint8_t *room;
+static struct typed_headers_bytes_range *ranges;
+static size_t written;
+
+/* A request to callgrind, as its header file makes one. It does nothing where the program runs by itself. */
+static void ask_callgrind(unsigned long request, const char *argument) {
+    volatile unsigned long words[6] = {request, (unsigned long)argument, 0, 0, 0, 0};
+    volatile unsigned long answer = 0;
+    __asm__ volatile("rolq $3, %%rdi; rolq $13, %%rdi; rolq $61, %%rdi; rolq $51, %%rdi; xchgq %%rbx, %%rbx"
+                     : "=d"(answer)
+                     : "a"(words), "0"(answer)
+                     : "cc", "memory");
+}
+
+#define ZERO_STATS 0x43540001
+#define DUMP_STATS_AT 0x43540003
+
+#define BYTES(it) (const uint8_t *)(it), strlen(it)
+#define COUNT(name, call)                                                                                              \
+    do {                                                                                                               \
+        char label[160];                                                                                               \
+        snprintf(label, sizeof label, "C: %s %zu", name, bytes);                                                       \
+        call;                                                                                                          \
+        ask_callgrind(ZERO_STATS, NULL);                                                                               \
+        call;                                                                                                          \
+        ask_callgrind(DUMP_STATS_AT, label);                                                                           \
+    } while (0)
+
+/* A head, and items up to so many bytes: each is made of a format, which may have the item's number. */
+static void list(char *out, size_t bytes, const char *head, const char *separator, const char *format) {
+    char item[128];
+    size_t length = strlen(head);
+    memcpy(out, head, length);
+    for (unsigned at = 0; at == 0 || length < bytes; at++) {
+        if (at > 0) {
+            memcpy(out + length, separator, strlen(separator));
+            length += strlen(separator);
+        }
+        int size = snprintf(item, sizeof item, format, at, at + 9);
+        memcpy(out + length, item, (size_t)size);
+        length += (size_t)size;
+    }
+    out[length] = 0;
+}
+
+static const char *const NAMES[] = {
+    "accept-ranges", "access-control-allow-credentials", "access-control-allow-headers", "access-control-allow-methods",
+    "access-control-allow-origin", "access-control-expose-headers", "access-control-max-age",
+    "access-control-request-headers", "access-control-request-method", "age", "allow", "authorization", "cache-control",
+    "connection", "content-disposition", "content-encoding", "content-length", "content-location", "content-range",
+    "content-type", "cookie", "date", "etag", "expect", "expires", "host", "if-match", "if-modified-since",
+    "if-none-match", "if-range", "if-unmodified-since", "last-modified", "location", "origin", "pragma",
+    "proxy-authorization", "range", "referer", "referrer-policy", "retry-after", "sec-websocket-accept",
+    "sec-websocket-key", "sec-websocket-version", "server", "set-cookie", "strict-transport-security", "te",
+    "transfer-encoding", "upgrade", "user-agent", "vary"};
+
+static void decide(const char *request, const char *response) {
+    uint8_t answer;
+    typed_headers_decide(BYTES("GET"), BYTES(request), BYTES("GET"), BYTES(request), BYTES(response), &KEYS, &TIMES, true,
+                         &answer);
+}
+
+static void answer_cors(const char *origins, const char *headers, const char *request) {
+    struct typed_headers_cors_rules rules = {{BYTES(origins)}, {BYTES("PUT")}, {BYTES(headers)}, {NULL, 0}, 60, true, false};
+    struct typed_headers_cors_facts facts;
+    typed_headers_cors_answer(&rules, BYTES("OPTIONS"), BYTES(request), NULL, 0, &KEYS, &facts, room, MOST_ROOM, &written);
+}
+
+static void grow(size_t bytes) {
+    uint16_t status;
+    uint8_t answer;
+    uint64_t seconds;
+    list(text, bytes, "", "\n", "x-name: value %u");
+    COUNT("canonical, one name", typed_headers_canonical(BYTES(text), &KEYS, room, MOST_ROOM, &written));
+    COUNT("evaluate, one name", typed_headers_evaluate(BYTES("GET"), BYTES(text), &KEYS, BYTES("\"a\""), &TARGET, &status));
+    COUNT("may_store, one name", typed_headers_may_store(BYTES("GET"), BYTES(text), 200, BYTES(text), &KEYS, true, &answer));
+    COUNT("decide, one name", decide(text, text));
+    if (bytes <= 1 << 18) {
+        list(text, bytes, "", "\n", "x-name-%u: value");
+        COUNT("canonical, many names", typed_headers_canonical(BYTES(text), &KEYS, room, MOST_ROOM, &written));
+        COUNT("may_store, many names",
+              typed_headers_may_store(BYTES("GET"), BYTES(text), 200, BYTES(text), &KEYS, true, &answer));
+        list(other, bytes, "Cache-Control: max-age=1\nVary: ", ", ", "x-name-%u");
+        COUNT("decide, many names, and Vary of each", decide(text, other));
+    }
+    list(text, bytes, "If-None-Match: ", ", ", "\"%010x\"");
+    COUNT("evaluate, many tags", typed_headers_evaluate(BYTES("GET"), BYTES(text), &KEYS, BYTES("\"a\""), &TARGET, &status));
+    list(text, bytes, "", "\n", "If-None-Match: \"%010x\"");
+    COUNT("evaluate, many field lines of tags",
+          typed_headers_evaluate(BYTES("GET"), BYTES(text), &KEYS, BYTES("\"a\""), &TARGET, &status));
+    list(text, bytes, "Range: bytes=", ",", "%u-%u");
+    COUNT("select, ranges that overlap", typed_headers_select(BYTES("GET"), BYTES(text), &KEYS, BYTES("\"a\""), &TARGET,
+                                                              1 << 30, &status, ranges, MOST / 4, &written));
+    list(text, bytes, "Range: bytes=", ",", "%u00-%u00");
+    COUNT("select, ranges far apart", typed_headers_select(BYTES("GET"), BYTES(text), &KEYS, BYTES("\"a\""), &TARGET,
+                                                           1 << 30, &status, ranges, MOST / 4, &written));
+    list(text, bytes, "bytes=", ",", "%u-%u");
+    COUNT("ranges", typed_headers_ranges(BYTES(text), 1 << 30, ranges, MOST / 4, &written));
+    list(text, bytes, "Cache-Control: ", ", ", "x-%u=\"a, b\"");
+    COUNT("lifetime, many directives", typed_headers_lifetime(BYTES(text), &KEYS, 784111777, true, &seconds));
+    COUNT("may_store, many directives",
+          typed_headers_may_store(BYTES("GET"), BYTES(text), 200, BYTES(text), &KEYS, true, &answer));
+    COUNT("decide, many directives", decide(text, text));
+    COUNT("current_age", typed_headers_current_age(BYTES(text), &KEYS, &TIMES, &seconds));
+    list(text, bytes, "", "\n", "ETag: \"%010x\"");
+    COUNT("validators, many field lines",
+          typed_headers_validators(BYTES(text), 784111777, &KEYS, room, MOST_ROOM, &written));
+    list(text, bytes, "Origin: https://a.example\nAccess-Control-Request-Method: PUT\nAccess-Control-Request-Headers: ",
+         ",", "x-name-%u");
+    COUNT("cors_answer, many names are asked for", answer_cors("https://a.example", "x-name-0", text));
+    list(other, bytes, "", "\n", "x-other-%u");
+    COUNT("cors_answer, many names are allowed", answer_cors("https://a.example", other, "Origin: https://a.example\n"
+        "Access-Control-Request-Method: PUT\nAccess-Control-Request-Headers: x-other-7\n"));
+    list(other, bytes, "", "\n", "https://a%u.example");
+    COUNT("cors_answer, many origins are allowed", answer_cors(other, "x-name", "Origin: https://a.example\n"));
+    if (bytes > 1 << 16) return;
+    static const char *const SHAPES[][3] = {
+        {"", ", ", "x-name-%u"},   {"", "\n", "x-name-%u"},   {"", ", ", "\"a%u, b\""},    {"", "\n", "\"a%u\""},
+        {"", ",", ""},             {"", "", "\""},            {"", "; ", "a%u=b"},         {"", "", "0"},
+        {"bytes=", ",", "%u-%u"},  {"text/plain", "", ";p%u=\"v;%u\""},                    {"https://", "", "a"},
+        {"Basic ", "", "QWxh"},    {"", "\n", "Sun, 06 Nov 1994 08:49:37 GMT"},
+    };
+    for (size_t at = 0; at < sizeof NAMES / sizeof *NAMES; at++) {
+        for (size_t shape = 0; shape < sizeof SHAPES / sizeof *SHAPES; shape++) {
+            char name[100];
+            list(text, bytes, SHAPES[shape][0], SHAPES[shape][1], SHAPES[shape][2]);
+            snprintf(name, sizeof name, "field %s, shape %zu", NAMES[at], shape);
+            COUNT(name, typed_headers_field(BYTES(NAMES[at]), BYTES(text), room, MOST_ROOM, &written));
+        }
+    }
+}
+
+static double now(void) {
+    struct timespec at;
+    clock_gettime(CLOCK_MONOTONIC, &at);
+    return (double)at.tv_sec * 1e9 + (double)at.tv_nsec;
+}
+
+static uint64_t sum;
+
+#define TIME(name, call)                                                                                               \
+    do {                                                                                                               \
+        double least = 1e18;                                                                                           \
+        long count = 100;                                                                                              \
+        for (int round = 0; round < ROUNDS; round++) {                                                                 \
+            double start = now();                                                                                      \
+            for (long at = 0; at < count; at++) {                                                                      \
+                call;                                                                                                  \
+            }                                                                                                          \
+            double time = (now() - start) / (double)count;                                                             \
+            if (time * (double)count < 5e6) count *= 2;                                                                \
+            if (time < least) least = time;                                                                            \
+        }                                                                                                              \
+        printf("%s\t%.1f\n", name, least);                                                                             \
+    } while (0)
+
+static uint64_t evaluated(const char *section) {
+    uint16_t status = 0;
+    typed_headers_evaluate(BYTES("GET"), BYTES(section), &KEYS, BYTES("\"xyzzy\""), &TARGET, &status);
+    return status + 1;
+}
+
+static uint64_t satisfied(const char *line) {
+    typed_headers_ranges(BYTES(line), 10000, ranges, 1000, &written);
+    return written;
+}
+
+static void time_all(void) {
+    static const char *const ONE_TAG[] = {"If-None-Match: \"xyzzy\"\n", "If-None-Match: \"xyzz\"\n"};
+    static const char *const DATES[] = {"If-Modified-Since: Sun, 06 Nov 1994 08:49:37 GMT\n",
+                                        "If-Modified-Since: Mon, 07 Nov 1994 08:49:37 GMT\n"};
+    static const char *const ONE[] = {"bytes=0-499", "bytes=9500-"};
+    static const char *const THREE[] = {"bytes=0-499,1000-1499, 9500-9999", "bytes=1-2, 30-40, 500-600"};
+    char tags[2][2000], hundred[2][2000];
+    for (int at = 0; at < 2; at++) {
+        list(tags[at], 870, "If-None-Match: ", ", ", "\"%040x\"");
+        strcat(tags[at], at ? ", \"a\"\n" : "\n");
+        size_t length = (size_t)sprintf(hundred[at], "bytes=");
+        for (int part = 0; part < 100; part++)
+            length += (size_t)sprintf(hundred[at] + length, "%s%d-%d", part ? "," : "", part * 90 + at, part * 90 + 49);
+    }
+    TIME("a condition: one tag", sum += evaluated(ONE_TAG[at & 1]));
+    TIME("a condition: twenty tags", sum += evaluated(tags[at & 1]));
+    TIME("a condition: a date", sum += evaluated(DATES[at & 1]));
+    TIME("ranges: one", sum += satisfied(ONE[at & 1]));
+    TIME("ranges: three", sum += satisfied(THREE[at & 1]));
+    TIME("ranges: a hundred", sum += satisfied(hundred[at & 1]));
+}
+
+int main(int count, char **words) {
+    text = malloc(MOST + 200), other = malloc(MOST + 200), room = malloc(MOST_ROOM);
+    ranges = malloc(MOST / 4 * sizeof *ranges);
+    if (count != 2 || !text || !other || !room || !ranges) return 64;
+    if (strcmp(words[1], "growth") == 0) {
+        for (size_t bytes = 1 << 10; bytes <= MOST; bytes *= 4) grow(bytes);
+    } else {
+        time_all();
+    }
+    return sum == 1;
+}
