@@ -48,6 +48,13 @@ MethodWants method = 15 < length method
 abbrev pub ItemWants : Reading → (List ℕ → Type 0) → List ℕ → Type 0
 ItemWants value_of Wants item = (value : List ℕ) × (value_of item ≡ Some value) × Wants value
 
+-- an item was read as its value, or as nothing if it is none; or there was no memory for its value
+abbrev pub ReadsItem : {T : Type 0} → (T → List ℕ) → Reading → (List ℕ → Type 0) → List ℕ
+    → Option (Result T AllocError) → Type 0
+ReadsItem bytes_of value_of Wants item None = value_of item ≡ None
+ReadsItem bytes_of value_of Wants item (Some (Ok value)) = value_of item ≡ Some (bytes_of value)
+ReadsItem bytes_of value_of Wants item (Some (Err e)) = ItemWants value_of Wants item
+
 -- bytes that are a token and read as themselves
 abbrev pub ReadsAsItself : Reading → List ℕ → Type 0
 ReadsAsItself value_of bytes = IsToken bytes × (value_of bytes ≡ Some bytes)
@@ -55,11 +62,6 @@ ReadsAsItself value_of bytes = IsToken bytes × (value_of bytes ≡ Some bytes)
 -- the first value that is left may want for memory
 abbrev pub NextWants : (List ℕ → Type 0) → List (List ℕ) → Type 0
 NextWants Wants left = (value : List ℕ) × (rest : List (List ℕ)) × (left ≡ value ∷ rest) × Wants value
-
--- a search handed out the first value that was left, or none was left
-abbrev pub GivesValue : {T : Type 0} → (T → List ℕ) → List (List ℕ) → Option T → List (List ℕ) → Type 0
-GivesValue bytes_of before None after = (before ≡ []) × (after ≡ [])
-GivesValue bytes_of before (Some value) after = before ≡ bytes_of value ∷ after
 
 module _ {T : Type 0} (bytes_of : T → List ℕ) (Wants : List ℕ → Type 0) where
   -- a call of a walk handed out the first value that was left; or it found no memory for that value, and the walk

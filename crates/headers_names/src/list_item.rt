@@ -1,7 +1,7 @@
 //! What an item of a list by comma can be read as.
-ghost use Rattle.std.specs.Prelude.{◌≡◌, ℕ, List, [], Option, None, IfOk, IfErr, option_map};
+ghost use Rattle.std.specs.Prelude.{◌≡◌, ℕ, List, [], Option, None, IfOk};
 ghost use Rattle.std.specs.Iterator.{IsFinite};
-ghost use Rattle.headers_names.specs.ListItem.{Reading, ItemWants, ReadsAsItself, ListsValues};
+ghost use Rattle.headers_names.specs.ListItem.{Reading, ReadsItem, ReadsAsItself, ListsValues};
 
 use headers_core::{Comma, FlatCsv};
 use http::Method;
@@ -20,10 +20,9 @@ pub trait ListItem: Drop {
     // The values that may want for memory.
     ghost wants: { List ℕ → Type 0 };
 
-    /// Reads an item. `Ok(None)` if it is no such value.
-    fn from_item(alloc: Global, item: &str) -> Result<Option<Self>, AllocError>
-        ensures ok { IfOk result (λ value. option_map bytes_of value ≡ value_of item.now) }
-        ensures err { IfErr result (λ _. ItemWants value_of wants item.now) };
+    /// Reads an item: `None` if it is no such value.
+    fn from_item(alloc: Global, item: &str) -> Option<Result<Self, AllocError>>
+        ensures { ReadsItem bytes_of value_of wants item.now result };
 
     /// The value as a line. The line is a token, and reads as that value.
     fn into_line(self, alloc: Global) -> Result<HeaderValue, AllocError>
@@ -46,11 +45,11 @@ impl ListItem for HeaderName {
 
     ghost empty_is_none = { name_of-empty };
 
-    fn from_item(alloc: Global, item: &str) -> Result<Option<HeaderName>, AllocError> {
+    fn from_item(alloc: Global, item: &str) -> Option<Result<HeaderName, AllocError>> {
         match HeaderName::from_bytes(alloc, item.as_bytes()) {
-            Ok(name) => Ok(Some(name)),
-            Err(HeaderNameError::Invalid) => Ok(None),
-            Err(HeaderNameError::OutOfMemory) => Err(AllocError),
+            Ok(name) => Some(Ok(name)),
+            Err(HeaderNameError::Invalid) => None,
+            Err(HeaderNameError::OutOfMemory) => Some(Err(AllocError)),
         }
     }
 
@@ -72,11 +71,11 @@ impl ListItem for Method {
 
     ghost empty_is_none = { method_of-empty };
 
-    fn from_item(alloc: Global, item: &str) -> Result<Option<Method>, AllocError> {
+    fn from_item(alloc: Global, item: &str) -> Option<Result<Method, AllocError>> {
         match Method::from_bytes(alloc, item.as_bytes()) {
-            Ok(method) => Ok(Some(method)),
-            Err(MethodError::Invalid) => Ok(None),
-            Err(MethodError::OutOfMemory) => Err(AllocError),
+            Ok(method) => Some(Ok(method)),
+            Err(MethodError::Invalid) => None,
+            Err(MethodError::OutOfMemory) => Some(Err(AllocError)),
         }
     }
 

@@ -52,18 +52,11 @@ impl<'a> Names<'a> {
         if self.has_ended {
             return None;
         }
-        let Some(item) = self.items.next() else {
-            return None;
-        };
-        match HeaderName::from_item(self.alloc, item) {
-            Ok(Some(name)) => Some(Ok(name)),
-            Ok(None) => {
+        match HeaderName::from_item(self.alloc, self.items.next()?) {
+            Some(Ok(name)) => Some(Ok(name)),
+            last => {
                 self.has_ended = true;
-                None
-            }
-            Err(e) => {
-                self.has_ended = true;
-                Some(Err(e))
+                last
             }
         }
     }

@@ -1,9 +1,8 @@
 //! A walk over the items of a list that are names or methods.
-ghost use Rattle.std.specs.Prelude.{◌≡◌, [], MatchResult};
+ghost use Rattle.std.specs.Prelude.{◌≡◌};
 ghost use Rattle.std.specs.Iterator.{item_count};
 ghost use Rattle.headers_items.specs.Places.{comma, items};
-ghost use Rattle.headers_items.specs.ItemsState.{items_left};
-ghost use Rattle.headers_names.specs.ListItem.{values, NextWants, GivesNext, GivesValue};
+ghost use Rattle.headers_names.specs.ListItem.{values, GivesNext};
 
 use crate::list_item::ListItem;
 use headers_core::{Comma, FlatCsv, Items};
@@ -36,24 +35,6 @@ impl<'a, T: ListItem> Model for ItemsRead<'a, T> {
     ghost view = { λ w. if w.has_failed then [] else values T.value_of (items_left w.items) };
 }
 
-// The next value of the items.
-fn next_value<T: ListItem>(
-    items: &mut Items<'_, Comma>,
-    alloc: Global,
-) -> Result<Option<T>, AllocError>
-    ensures { MatchResult result
-        (λ value. GivesValue T.bytes_of (values T.value_of (items_left items.old)) value
-        (values T.value_of (items_left items.new)))
-        (λ _. NextWants T.wants (values T.value_of (items_left items.old))) }
-{
-    while let Some(item) = items.next() {
-        if let Some(value) = T::from_item(alloc, item)? {
-            return Ok(Some(value));
-        }
-    }
-    Ok(None)
-}
-
 impl<'a, T: ListItem> ItemsRead<'a, T> {
     /// The values of a list. A list that isn't text has none.
     pub fn new(alloc: Global, list: &'a FlatCsv<Comma>) -> ItemsRead<'a, T>
@@ -74,14 +55,14 @@ impl<'a, T: ListItem> ItemsRead<'a, T> {
         if self.has_failed {
             return None;
         }
-        match next_value(&mut self.items, self.alloc) {
-            Ok(Some(value)) => Some(Ok(value)),
-            Ok(None) => None,
-            Err(e) => {
-                self.has_failed = true;
-                Some(Err(e))
+        while let Some(item) = self.items.next() {
+            let read = T::from_item(self.alloc, item);
+            if let Some(value) = &read {
+                self.has_failed = value.is_err();
+                return read;
             }
         }
+        None
     }
 }
 

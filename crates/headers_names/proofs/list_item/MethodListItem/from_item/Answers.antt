@@ -3,17 +3,17 @@ use Rattle.http_header.specs.Token.{IsToken}
 use Rattle.headers_names.proofs.ReadingLemmas.{method_of-kept, method_of-refused, IsToken-kept, above}
 use Rattle.headers_names.proofs.list_item.MethodListItem.from_item.Goals as goal
 
-pub returns-in-Ok-clause-ok : goal.returns-in-Ok-clause-ok
-returns-in-Ok-clause-ok c =
-    method_of-kept _ _ _ c.as_bytes.ensures.value c.in-Ok.ensures.ok
-    (λ m. let e = c.in-Ok.ensures.invalid.1 m in absurd (cc e))
+pub returns-in-Ok : goal.returns-in-Ok
+returns-in-Ok c =
+    sym (method_of-kept _ _ _ c.as_bytes.ensures.value c.in-Ok.ensures.ok
+    (λ m. let e = c.in-Ok.ensures.invalid.1 m in absurd (cc e)))
 
-pub returns-in-Err-Invalid-clause-ok : goal.returns-in-Err-Invalid-clause-ok
-returns-in-Err-Invalid-clause-ok c = method_of-refused _ _ c.as_bytes.ensures.value
-    (c.in-Err-Invalid.ensures.invalid.0 (cc))
+pub returns-in-Err-Invalid : goal.returns-in-Err-Invalid
+returns-in-Err-Invalid c = sym (method_of-refused _ _ c.as_bytes.ensures.value
+    (c.in-Err-Invalid.ensures.invalid.0 (cc)))
 
-pub returns-in-Err-OutOfMemory-clause-err : goal.returns-in-Err-OutOfMemory-clause-err
-returns-in-Err-OutOfMemory-clause-err c =
+pub returns-in-Err-OutOfMemory : goal.returns-in-Err-OutOfMemory
+returns-in-Err-OutOfMemory c =
     let bytes = c.as_bytes.result.now in
     let kept : ¬ (¬ (IsToken bytes)) = λ m. let e = c.in-Err-OutOfMemory.ensures.invalid.1 m in
     absurd (cc (e, c.in-Err-OutOfMemory.field-0-is)) in (

@@ -1,7 +1,8 @@
+use Rattle.std.proofs.Common.{sym}
 use Rattle.headers_names.proofs.ReadingLemmas.{names-next}
 use Rattle.headers_names.proofs.names.Names.next.Goals as goal
 
-pub returns-in-Ok-Some : goal.returns-in-Ok-Some
-returns-in-Ok-Some c =
-    names-next _ _ _ _ _ _ c.self.view_is c.if-self.false c.in-Some.ensures.steps
-    (rw c.in-Ok-Some.field-0-is at c.in-Ok-Some.ensures.ok)
+pub returns-in-Some-Ok : goal.returns-in-Some-Ok
+returns-in-Some-Ok c =
+    names-next _ _ _ _ _ _ c.self.view_is c.if-self.false c.in_ok-next.ensures.steps
+    (sym (rw c.in-Some-Ok.field-0-is at c.in-Some-Ok.ensures))
