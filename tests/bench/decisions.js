@@ -67,4 +67,6 @@ if (Negotiator) {
   row('a media type of three', (at) => new Negotiator(accept[at & 1]).mediaType(types).length)
   const codings = ['gzip, deflate, br', 'gzip;q=0.5, identity'].map((it) => ({ headers: { 'accept-encoding': it } }))
   row('a coding of three', (at) => new Negotiator(codings[at & 1]).encoding(['gzip', 'br', 'identity']).length)
+  const languages = ['de-CH, en;q=0.7', 'fr, en-GB;q=0.8, *;q=0.1'].map((it) => ({ headers: { 'accept-language': it } }))
+  row('a language of three', (at) => new Negotiator(languages[at & 1]).language(['en-GB', 'de', 'fr']).length)
 }

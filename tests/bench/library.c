@@ -1,7 +1,7 @@
 /*
  * Calls of the library for C, timed or counted.
  *
- *     over_library times     nanoseconds of each decision that tests/bench/decisions.js has too, the least of many rounds
+ *     over_library times     nanoseconds of each decision that decisions.js or go/main.go has too, the least of many rounds
  *     over_library growth    under callgrind: the instructions of each call, on texts that grow by four
  */
 #define _POSIX_C_SOURCE 200809L
@@ -186,6 +186,23 @@ static uint64_t satisfied(const char *line) {
     return written;
 }
 
+typedef uint8_t chooser(const uint8_t *, size_t, const uint8_t *, size_t, size_t *);
+
+static uint64_t chosen(chooser *choose, const char *lines, const char *offers) {
+    size_t place = 0;
+    choose(BYTES(lines), BYTES(offers), &place);
+    return place + 1;
+}
+
+static uint64_t responded(const char *section) {
+    static const struct typed_headers_content CONTENT = {{(const uint8_t *)"text/html", 9}, 10000, true, true};
+    struct typed_headers_response response = {0, 0};
+    size_t parts;
+    typed_headers_respond(BYTES("HEAD"), BYTES(section), &KEYS, BYTES("\"xyzzy\""), &TARGET, &CONTENT, BYTES("a"),
+                          &response, ranges, 10, &parts, room, 1000, &written);
+    return response.status;
+}
+
 static void time_all(void) {
     static const char *const ONE_TAG[] = {"If-None-Match: \"xyzzy\"\n", "If-None-Match: \"xyzz\"\n"};
     static const char *const DATES[] = {"If-Modified-Since: Sun, 06 Nov 1994 08:49:37 GMT\n",
@@ -206,6 +223,21 @@ static void time_all(void) {
     TIME("ranges: one", sum += satisfied(ONE[at & 1]));
     TIME("ranges: three", sum += satisfied(THREE[at & 1]));
     TIME("ranges: a hundred", sum += satisfied(hundred[at & 1]));
+    static const char *const ACCEPT[] = {"text/html,application/xhtml+xml,application/xml;q=0.9,*/*;q=0.8",
+                                         "application/json, text/plain;q=0.5"};
+    static const char *const CODINGS[] = {"gzip, deflate, br", "gzip;q=0.5, identity"};
+    static const char *const LANGUAGES[] = {"de-CH, en;q=0.7", "fr, en-GB;q=0.8, *;q=0.1"};
+    TIME("a media type of three", sum += chosen(typed_headers_choose_type, ACCEPT[at & 1],
+                                                "application/json\ntext/html\ntext/plain"));
+    TIME("a coding of three", sum += chosen(typed_headers_choose_coding, CODINGS[at & 1], "gzip\nbr\nidentity"));
+    TIME("a language of three", sum += chosen(typed_headers_choose_language, LANGUAGES[at & 1], "en-GB\nde\nfr"));
+    static const char *const DAYS[] = {"Sun, 06 Nov 1994 08:49:37 GMT", "Mon, 07 Nov 1994 08:49:37 GMT"};
+    static const char *const TYPES[] = {"text/html; charset=UTF-8", "application/json; charset=\"utf-8\""};
+    uint64_t second;
+    TIME("a date", sum += typed_headers_date(BYTES(DAYS[at & 1]), &second) + second);
+    TIME("a media type", sum += typed_headers_media_type(BYTES(TYPES[at & 1]), room, 100, &written) + written);
+    TIME("a response to HEAD", sum += responded(""));
+    TIME("a response to HEAD with one tag", sum += responded(ONE_TAG[at & 1]));
 }
 
 int main(int count, char **words) {
