@@ -328,7 +328,8 @@ static PyObject *etag(PyObject *module, PyObject *arguments) {
     PyObject *type, *given, *found = NULL;
     uint8_t status = TYPED_HEADERS_REFUSED;
     (void)module;
-    if (PyArg_ParseTuple(arguments, "OO", &type, &given) && read_lines(given, &lines)) {
+    type = PyTuple_GetItem(arguments, 0), given = PyTuple_GetItem(arguments, 1);
+    if (type && given && read_lines(given, &lines)) {
         if (!lines.is_rejected && PyTuple_Size(given) == 1 && split_tag(lines.text, &parts)) {
             status = tag_status(lines.text, &parts);
         }

@@ -13,6 +13,9 @@ from . import _library
 from ._library import Text, Time
 from .errors import HeaderError
 
+# (a name of this module is found in half the time)
+_read_etag = _library.calls.etag
+
 __all__ = [
     "ByteRange",
     "CacheControl",
@@ -147,9 +150,10 @@ class ETag:
     @classmethod
     def parse(cls, line: Text, *more: Text) -> "ETag":
         """The entity tag that the only field line of `ETag` is."""
-        found = _library.calls.etag(cls, (line, *more))
-        if isinstance(found, int):
-            raise _library.failed(found, "etag", (line, *more))
+        lines = (line, *more) if more else (line,)
+        found = _read_etag(cls, lines)
+        if type(found) is int:
+            raise _library.failed(found, "etag", lines)
         return found
 
     def __str__(self) -> str:
