@@ -16,7 +16,9 @@ import sys
 HERE = os.path.dirname(os.path.abspath(__file__))
 # The one reason that the table leaves out.
 PAGE = "nginx writes a page for people."
-# What is compared, in the order of the table.
+# How many requests of a reason the table shows.
+MOST_SHOWN = 8
+# What is compared, in this order.
 PARTS = ["status", "etag", "last-modified", "content-range", "content-type", "content-length", "location", "body"]
 
 
@@ -125,6 +127,37 @@ def plain(value):
     return value
 
 
+def short(line):
+    """A request as the table shows it."""
+    line = re.sub(r"^GET /hello\.txt \| ", "", line)
+    return "`" + re.sub(r"^GET (?=[/*h])", "", line).replace("|", "\\|") + "`"
+
+
+def statuses_of(ours, theirs, parts):
+    """The statuses of ours and of nginx, or the one of both with what differs beside it."""
+    return f"{ours}, {theirs}" if ours != theirs else f"{ours}: {', '.join(parts)}"
+
+
+def requests_of(lines):
+    """The requests of a reason: the first four of more than eight."""
+    shown = [short(line) for line in (lines if len(lines) <= MOST_SHOWN else lines[: MOST_SHOWN // 2])]
+    return ", ".join(shown) + (f", and {len(lines) - len(shown)} more" if len(shown) < len(lines) else "")
+
+
+def order(why):
+    """The place of a reason: by the first section of RFC 9110 that it names."""
+    section = re.search(r"\(sections? ([\d.]+\d)", why)
+    return (0, [int(word) for word in section[1].split(".")]) if section else (1, [])
+
+
+def write_table(path, table):
+    with open(path, "w", encoding="utf-8") as file:
+        file.write("| Why | Ours, nginx's | Requests |\n|---|---|---|\n")
+        for why, cases in sorted(table.items(), key=lambda item: order(item[0])):
+            statuses = "; ".join(dict.fromkeys(status for status, _ in cases))
+            file.write(f"| {why} | {statuses} | {requests_of([line for _, line in cases])} |\n")
+
+
 def pattern(request):
     return request.replace("[", "[[]")
 
@@ -167,20 +200,14 @@ def main():
         if differing:
             otherwise += 1
             why = " ".join(reason for reason in reasons if reason != PAGE)
-            cells = ", ".join(f"{ours[part]} and {theirs[part]}" if part == "status" else part for part in differing)
-            table.setdefault(why, {}).setdefault(cells, []).append(line)
+            table.setdefault(why, []).append((statuses_of(ours["status"], theirs["status"], differing), line))
     for index, (parts, status, request, why) in enumerate(known):
         if not used[index]:
             unknown += 1
             print(f"no such difference: {' '.join(parts)} ; {status} ; {request} ; {why}")
-    pages = sum(len(lines) for lines in table.pop("", {}).values())
+    pages = len(table.pop("", []))
     if len(sys.argv) > 3:
-        with open(sys.argv[3], "w", encoding="utf-8") as file:
-            file.write("| Why | Ours and nginx's differ in | Requests |\n|---|---|---|\n")
-            for why, groups in table.items():
-                for cells, lines in groups.items():
-                    requests = ", ".join("`" + line.replace("|", "\\|") + "`" for line in lines)
-                    file.write(f"| {why} | {cells} | {requests} |\n")
+        write_table(sys.argv[3], table)
     print(f"{count} requests, {count - otherwise} answered alike, {pages} but for a page, {otherwise - pages} otherwise, "
           f"{unknown} of these unexplained")
     sys.exit(1 if unknown else 0)
