@@ -4,8 +4,8 @@
 
 PORT serves FOLDER by PROGRAM. A hundred clients send a request at a byte a second, and then another one at once. A
 hundred read a file of 12 MiB at 300 KiB a second. Each has to get its answers, byte for byte. Meanwhile the quick
-client asks ten times a second over a new connection each time: no answer may take it longer than MOST seconds. Prints
-what is wrong; the status is 0 if nothing is.
+client asks ten times a second over a new connection each time: half of its answers have to come within HALF seconds,
+and all within ALL. Prints what is wrong; the status is 0 if nothing is.
 """
 import asyncio
 import os
@@ -16,7 +16,7 @@ import time
 
 CLIENTS = 100
 LENGTH, RATE = 12 << 20, 300 << 10
-MOST = 2.0
+HALF, ALL = 0.5, 5
 FIRST = b"GET /hello.txt HTTP/1.1\r\nHost: a\r\n\r\n"
 LAST = b"GET /hello.txt HTTP/1.1\r\nHost: a\r\nConnection: close\r\n\r\n"
 wrong = 0
@@ -109,7 +109,7 @@ async def main():
         hello = file.read()
     slow = [asyncio.create_task(sends_slowly(port, hello)) for _ in range(CLIENTS)]
     slow += [asyncio.create_task(reads_slowly(port, content)) for _ in range(CLIENTS)]
-    await asyncio.sleep(10)
+    await asyncio.sleep(15)
     seconds = []
     quick = asyncio.create_task(asks_quickly(port, hello, seconds))
     sizes = memory_of(program)
@@ -118,10 +118,11 @@ async def main():
     quick.cancel()
     await asyncio.gather(quick, return_exceptions=True)
     os.remove(f"{folder}/slow.bin")
-    print(f"{2 * CLIENTS} slow clients; a quick one asked {len(seconds)} times: {statistics.median(seconds) * 1000:.0f} "
-          f"ms in the median, {max(seconds) * 1000:.0f} at most; {sum(sizes) / max(len(sizes), 1):.0f} KiB a connection")
+    median, most = statistics.median(seconds), max(seconds)
+    print(f"{2 * CLIENTS} slow clients; a quick one asked {len(seconds)} times: {median * 1000:.0f} ms in the median, "
+          f"{most * 1000:.0f} at most; {sum(sizes) / max(len(sizes), 1):.0f} KiB a connection")
     expect(len(sizes) >= 2 * CLIENTS, f"only {len(sizes)} connections at once")
-    expect(max(seconds) <= MOST, f"an answer took {max(seconds):.1f} seconds")
+    expect(median <= HALF and most <= ALL, "a quick client waits")
     sys.exit(1 if wrong else 0)
 
 
