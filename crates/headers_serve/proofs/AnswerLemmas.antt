@@ -35,12 +35,12 @@ Fits-from_plan present method request resource len limits Unsatisfiable h = tt
 pub Fits-from_answer : (present : ℕ) (boundary method : List ℕ) (request : LineMap) (file : File) (answer : Answer)
     → IsAnswerOf present boundary method request file answer → Fits (len_of file.source) answer.plan
 Fits-from_answer present boundary method request file answer h =
-    Fits-from_plan present method request (resource_of file) (len_of file.source) usual_limits answer.plan h.2.plan
+    Fits-from_plan present method request (resource_of present file) (len_of file.source) usual_limits answer.plan h.2.plan
 
 -- what is answered for a file's resource and content is the answer for the file
 pub IsAnswerOf-from_response : (present : ℕ) (boundary method : List ℕ) (request : LineMap) (file : File)
     (resource : Resource) (content : Content) (kind : FieldValue) (answer : Answer)
-    → resource ≡ resource_of file → content ≡ content_of file → kind.bytes ≡ multipart_type boundary
+    → resource ≡ resource_of present file → content ≡ content_of file → kind.bytes ≡ multipart_type boundary
     → IsResponse present method request resource content kind answer
     → IsAnswerOf present boundary method request file answer
 IsAnswerOf-from_response present boundary method request file resource content kind answer same_resource same_content

@@ -97,13 +97,13 @@ module _ (present : ℕ) (boundary method : List ℕ) (request : LineMap) (file 
   where
     same_plan : IsSamePlan (Some a.plan) (Some b.plan)
     same_plan =
-        one_plan present method request (resource_of file) (len_of file.source) usual_limits (Some a.plan) (Some b.plan)
+        one_plan present method request (resource_of present file) (len_of file.source) usual_limits (Some a.plan) (Some b.plan)
         h.2.plan k.2.plan
 
     by_plan : {X : Type 0} (of_plan : Plan → X) (several : List Part → X)
         → ((parts : _) → of_plan (Multiple parts) ≡ several parts.items) → of_plan a.plan ≡ of_plan b.plan
     by_plan of_plan several same_parts =
-        same_by_plan present method request (resource_of file) (len_of file.source) usual_limits of_plan several
+        same_by_plan present method request (resource_of present file) (len_of file.source) usual_limits of_plan several
         same_parts a.plan b.plan h.2.plan k.2.plan same_plan
 
     several_same : is_several a.plan ≡ is_several b.plan
@@ -111,7 +111,7 @@ module _ (present : ℕ) (boundary method : List ℕ) (request : LineMap) (file 
 
     fields_sent_same : headers_of a.fields.items ≡ headers_of b.fields.items
     fields_sent_same =
-        let resource = resource_of file in
+        let resource = resource_of present file in
         let content = content_of file in
         let is_known = is_known_by request in
         ap (flat_map lines_under)

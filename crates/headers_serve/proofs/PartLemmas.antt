@@ -72,7 +72,7 @@ no_part_holds_boundary present boundary method request file answer kept h severa
           (subst (λ (source : Source). ¬ (IsKnownToHold source boundary)) memory (sent.0 several).apart)
       | inr whole ↦
           let none =
-          head_has_none present request (resource_of file) (len_of file.source) usual_limits answer.plan
+          head_has_none present request (resource_of present file) (len_of file.source) usual_limits answer.plan
           whole.3.2.plan in
           absurd (cc (none, several))
     ]

@@ -50,15 +50,15 @@ abbrev pub HasAll : Source → Response → Type 0
 HasAll source response = (response.status ≡ 200) × (response.pieces.items ≡ all_of source)
 
 module _ (negotiates : _) (present : ℕ) (request : LineMap) (file : File) (all : AsksForAll negotiates request) where
-  selects_whole : Selects present get request (validators_of file) (len_of file.source) usual_limits Whole
+  selects_whole : Selects present get request (validators_of present file) (len_of file.source) usual_limits Whole
   selects_whole = inl (λ set applies. let asked = rw all.range at applies.asked in absurd (cc asked))
 
-  full : IsPlan present get request (resource_of file) (len_of file.source) usual_limits Full
+  full : IsPlan present get request (resource_of present file) (len_of file.source) usual_limits Full
   full = (
-    validators_of file,
+    validators_of present file,
     record {
       performs =
-          unconditional present request (resource_of file) get all.if_match all.if_none_match all.if_modified_since
+          unconditional present request (resource_of present file) get all.if_match all.if_none_match all.if_modified_since
           all.if_unmodified_since;
       is_read = inl refl;
       is_current = refl;
@@ -69,13 +69,13 @@ module _ (negotiates : _) (present : ℕ) (request : LineMap) (file : File) (all
   module _ (boundary : List ℕ) (answer : Answer) (h : IsAnswerOf present boundary get request file answer) where
     same : IsSamePlan (Some answer.plan) (Some Full)
     same =
-        one_plan present get request (resource_of file) (len_of file.source) usual_limits (Some answer.plan)
+        one_plan present get request (resource_of present file) (len_of file.source) usual_limits (Some answer.plan)
         (Some Full) h.2.plan full
 
     by_plan : {X : Type 0} (of_plan : Plan → X) (several : List Part → X)
         → ((parts : _) → of_plan (Multiple parts) ≡ several parts.items) → of_plan answer.plan ≡ of_plan Full
     by_plan of_plan several same_parts =
-        same_by_plan present get request (resource_of file) (len_of file.source) usual_limits of_plan several
+        same_by_plan present get request (resource_of present file) (len_of file.source) usual_limits of_plan several
         same_parts answer.plan Full h.2.plan full same
 
     one_part : is_several answer.plan ≡ false

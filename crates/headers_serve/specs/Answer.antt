@@ -49,7 +49,7 @@ boundary_of settings = string_bytes settings.divider.text
 abbrev pub IsAnswerOf : ℕ → List ℕ → List ℕ → LineMap → File → Answer → Type 0
 IsAnswerOf present boundary method request file answer =
     (kind : FieldValue) × (kind.bytes ≡ multipart_type boundary)
-    × IsResponse present method request (resource_of file) (content_of file) kind answer
+    × IsResponse present method request (resource_of present file) (content_of file) kind answer
 
 -- the plan sends several parts
 abbrev pub is_several : Plan → Bool

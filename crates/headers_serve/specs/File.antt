@@ -1,5 +1,5 @@
 -- What a file gives: its bytes, and its validators.
-use Rattle.std.specs.Prelude.{◌≡◌, ℕ, List, length, take, drop, Option, Some, ⊤, false}
+use Rattle.std.specs.Prelude.{◌≡◌, ℕ, ◌+◌, Bool, false, nat_le, List, length, take, drop, Option, Some, None, ⊤}
 use Rattle.http_header.specs.FieldValue.{FieldValue, plain_value}
 use Rattle.sha2.specs.Sha256.{sha256}
 use Rattle.hex.specs.Hex.{encode_lower}
@@ -38,16 +38,23 @@ abbrev pub tag_of : Source → Option FieldValue
 tag_of (Kept kept) = Some (plain_value (strong_tag (content_digest kept.content)))
 tag_of (Opened opened) = opened.tag
 
--- what is known of a file's representation: its date is no strong validator, since a file may change twice in a second
-abbrev pub validators_of : File → Validators
-validators_of file = record {
+-- The date is a strong validator (section 8.8.2.2): it is a minute before the time of the answer at least, which is that
+-- of Date, so clocks that differ a little count for nothing. A client names a date in If-Range only if it was answered
+-- after the second of that date (section 13.1.5), so it has the representation that the file had when the second ended.
+abbrev pub is_settled : ℕ → Option ℕ → Bool
+is_settled present None = false
+is_settled present (Some modified) = nat_le (modified + 60) present
+
+-- what is known of a file's representation at a time
+abbrev pub validators_of : ℕ → File → Validators
+validators_of present file = record {
   etag = tag_of file.source;
   last_modified = file.modified;
-  is_date_strong = false;
+  is_date_strong = is_settled present file.modified;
 }
 
-abbrev pub resource_of : File → Resource
-resource_of file = Current (validators_of file)
+abbrev pub resource_of : ℕ → File → Resource
+resource_of present file = Current (validators_of present file)
 
 -- its length, its media type, and which ranges of it are sent
 abbrev pub content_of : File → Content

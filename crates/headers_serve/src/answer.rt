@@ -6,14 +6,15 @@ ghost use Rattle.headers.specs.LineMap.{lines_at};
 ghost use Rattle.headers_preconditions.specs.Boundaries.{is_boundary};
 ghost use Rattle.headers_preconditions.specs.Preconditions.{IsGetOrHead};
 ghost use Rattle.headers_serve.specs.Answer.{AnswersRead, IsAnswerOf, IsDivisible, IsSendable, is_encoded_in};
-ghost use Rattle.headers_serve.specs.File.{content_digest, content_of, len_of, resource_of, strong_tag, tag_of};
+ghost use Rattle.headers_serve.specs.File.{content_digest, content_of, is_settled, len_of, resource_of};
+ghost use Rattle.headers_serve.specs.File.{strong_tag, tag_of};
 ghost use Rattle.headers_serve.specs.Parts.{Fits, IsKnownToHold, Occurs};
 
 use crate::file::File;
 use crate::kept::Kept;
 use crate::settings::Divider;
 use crate::source::Source;
-use headers::{ETag, HeaderMap, Refused};
+use headers::{ETag, HeaderMap, LastModified, Refused};
 use headers_preconditions::{Content, Plan, RangeLimits, Resource, Response, Validators, respond};
 use http::Method;
 use memchr::memmem;
@@ -78,14 +79,24 @@ fn tag_of(alloc: Global, source: &Source) -> Result<Option<ETag>, AllocError>
     }
 }
 
-fn resource_of(alloc: Global, file: &File) -> Result<Resource, AllocError>
-    ensures { IfOk result (λ resource. resource ≡ resource_of file.now) }
+// Whether a date is a strong validator.
+fn is_settled(present: u64, modified: Option<LastModified>) -> bool
+    ensures { result ≡ is_settled present modified }
+{
+    match modified {
+        Some(modified) => modified.unix_secs() + 60 <= present,
+        None => false,
+    }
+}
+
+fn resource_of(alloc: Global, present: u64, file: &File) -> Result<Resource, AllocError>
+    ensures { IfOk result (λ resource. resource ≡ resource_of present file.now) }
 {
     let etag = tag_of(alloc, &file.source)?;
     Ok(Resource::Current(Validators {
         etag,
         last_modified: file.modified,
-        is_date_strong: false,
+        is_date_strong: is_settled(present, file.modified),
     }))
 }
 
@@ -113,7 +124,7 @@ fn answer_by(
     ensures { IfOk result (IsAnswerOf present (string_bytes divider.now.text) method.now (lines_at request.now)
         file.now) }
 {
-    let resource = resource_of(alloc, file)?;
+    let resource = resource_of(alloc, present, file)?;
     let content = content_of(file)?;
     let boundary = divider.boundary();
     match respond(
