@@ -1,6 +1,7 @@
 -- Responses that were read.
 use Rattle.std.proofs.Common.{◌≡◌, ◌∙◌, ℕ, ◌/◌, Bool, true, false, not, ◌&&◌, ◌||◌, ◌==◌, List, Option, ap, refl, subst}
-use Rattle.std.proofs.Common.{if◌then◌else◌, nat_lt, nat_le, sym}
+use Rattle.std.proofs.Common.{if◌then◌else◌, nat_lt, nat_le, sym, ◌≢◌, Some}
+use Rattle.std.specs.Bool.{MatchBool}
 use Rattle.httparse.specs.Grammar.{ResponseHead, status_code}
 use Rattle.http1.specs.Client.{after_head, reading_body, switches, upgraded_client}
 use Rattle.http1.specs.Conn.{is_connect}
@@ -9,6 +10,9 @@ use Rattle.http1.specs.Message.{known_of}
 use Rattle.http1.specs.declared.client.Client.{Client}
 use Rattle.http1.specs.declared.conn.Reading.TheVariants as Reads
 use Rattle.http1.specs.declared.framing.Framing.{Framing}
+use Rattle.http1.specs.Server.{informational_refusal, response_refusal}
+use Rattle.http1.specs.declared.server.Server.{Server}
+use Rattle.headers_gateway.specs.FieldLines.{fields_of}
 use Rattle.headers.specs.LineMap.{lines_at}
 use Rattle.headers_gateway.specs.Responses as Answers
 use Rattle.headers_gateway.specs.Responses.{IsForwardedResponse, IsResponseOutcome, is_known_to}
@@ -17,12 +21,21 @@ use Rattle.headers_gateway.specs.declared.protocol.Protocol.TheVariants.{Http10,
 use Rattle.headers_gateway.specs.declared.gateway.Gateway.{Gateway}
 use Rattle.headers_gateway.specs.declared.response.ForwardedResponse.{ForwardedResponse}
 use Rattle.headers_gateway.specs.declared.response.ResponseOutcome.{ResponseOutcome}
-use Rattle.headers_gateway.specs.declared.response.ResponseOutcome.TheVariants.{Forward}
+use Rattle.headers_relay.specs.Failures.{FailsToWrite}
 use Rattle.headers_relay.specs.Heads.{ReadsResponseHead}
+use Rattle.headers_relay.specs.declared.failure.Failure.{Failure}
+use Rattle.headers_relay.specs.declared.failure.Failure.TheVariants as Failed
 use Rattle.headers_relay.specs.declared.request.Request.{Request}
 use Rattle.headers_relay.specs.declared.response.Response.{Response}
 use Rattle.headers_proxy.specs.Decisions.{protocol_of}
-use Rattle.headers_proxy.specs.Exchanges.{received}
+use Rattle.headers_proxy.specs.Exchanges.{IsFinalUnsent, IsHeadUnsent, ReadsFinal}
+use Rattle.headers_proxy.specs.Faults.{IsUnsent, IsUnusable}
+use Rattle.headers_proxy.specs.Passing.{response_size}
+use Rattle.headers_proxy.specs.Responses.{received, written_fields}
+use Rattle.headers_proxy.specs.declared.answer.Final.{Final}
+use Rattle.headers_proxy.specs.declared.fault.Fault.{Fault}
+use Rattle.headers_proxy.specs.declared.fault.Fault.TheVariants as Faults
+use Rattle.headers_proxy.specs.declared.proxy.Proxy.{Proxy}
 
 -- no other protocol begins
 no_switch : (c : Client) (status : ℕ) → (status == 101) ≡ false → is_connect c.method ≡ false
@@ -86,9 +99,8 @@ seen request response protocol client =
       client = client;
     }
 
-pub forwards_as : (gateway : Gateway) (date : ℕ) (request : Request) (response : Response) (p q : Protocol)
-    (outcome : ResponseOutcome) (sent : ForwardedResponse) → p ≡ protocol_of response.minor
-    → q ≡ protocol_of request.minor → outcome ≡ Forward sent
+pub outcome_as : (gateway : Gateway) (date : ℕ) (request : Request) (response : Response) (p q : Protocol)
+    (outcome : ResponseOutcome) → p ≡ protocol_of response.minor → q ≡ protocol_of request.minor
     → IsResponseOutcome gateway date (record {
       protocol = p;
       status = response.status;
@@ -97,9 +109,109 @@ pub forwards_as : (gateway : Gateway) (date : ℕ) (request : Request) (response
       method = request.method;
       client = q;
     }) outcome
-    → IsForwardedResponse gateway date (received request response) sent
-forwards_as gateway date request response p q outcome sent first second is found =
-    subst (λ (x : Protocol). IsForwardedResponse gateway date (seen request response (protocol_of response.minor) x)
-    sent) second
-    (subst (λ (x : Protocol). IsForwardedResponse gateway date (seen request response x q) sent) first
-    (subst (IsResponseOutcome gateway date (seen request response p q)) is found))
+    → IsResponseOutcome gateway date (received request response) outcome
+outcome_as gateway date request response p q outcome first second found =
+    subst (λ (x : Protocol). IsResponseOutcome gateway date (seen request response (protocol_of response.minor) x)
+    outcome) second
+    (subst (λ (x : Protocol). IsResponseOutcome gateway date (seen request response x q) outcome) first found)
+
+-- ---- responses of which no byte is sent
+
+-- an interim response
+pub interim_unsent : (proxy : Proxy) (request : Request) (server : Server) (response : Response) (date : ℕ)
+    (sent : ForwardedResponse) (text : List ℕ) (held held_after : Option (List ℕ)) (failure : Failure)
+    → IsForwardedResponse proxy.gateway date (received request response) sent → nat_lt response.status 200 ≡ true
+    → FailsToWrite (informational_refusal server response.status response.reason (fields_of sent.fields.items)) text
+    held held_after failure
+    → failure ≢ Failed.Writer
+    → IsUnsent proxy request server response failure × (held_after ≡ held)
+interim_unsent proxy request server response date sent text held held_after Failed.Reader forwards interim fails other =
+    absurd fails
+interim_unsent proxy request server response date sent text held held_after Failed.CutShort forwards interim fails
+    other = absurd fails
+interim_unsent proxy request server response date sent text held held_after Failed.InvalidFields forwards interim fails
+    other = absurd fails
+interim_unsent proxy request server response date sent text held held_after (Failed.Malformed e) forwards interim fails
+    other = absurd fails
+interim_unsent proxy request server response date sent text held held_after Failed.TooLong forwards interim fails
+    other = absurd fails
+interim_unsent proxy request server response date sent text held held_after (Failed.Unsendable e) forwards interim fails
+    other = (
+      (
+        date,
+        sent,
+        forwards,
+        subst (λ (b : Bool). MatchBool b (informational_refusal server response.status response.reason
+            (fields_of sent.fields.items) ≡ Some e)
+            (response_refusal server response.status response.reason (response_size sent.content)
+            (written_fields response sent) ≡ Some e)) (sym interim) fails.0,
+      ),
+      fails.1,
+    )
+interim_unsent proxy request server response date sent text held held_after Failed.Writer forwards interim fails other =
+    absurd (other refl)
+interim_unsent proxy request server response date sent text held held_after Failed.OutOfMemory forwards interim fails
+    other = (
+      record { stated = forwards.stated; accepted = forwards.accepted; known = forwards.known },
+      fails,
+    )
+
+-- a final response
+pub final_unusable : (proxy : Proxy) (request : Request) (client client_after : Client) (server : Server)
+    (before after : List ℕ) (left left_after : Option (List ℕ)) (final : Final) (fault : Fault)
+    → ReadsFinal proxy request client client_after before after left left_after final
+    → IsFinalUnsent server final fault
+    → IsUnusable proxy request client server before after left left_after fault
+final_unusable proxy request client client_after server before after left left_after final (Faults.Request failure) reads
+    unsent = absurd unsent
+final_unusable proxy request client client_after server before after left left_after final (Faults.Unread failure) reads
+    unsent = absurd unsent
+final_unusable proxy request client client_after server before after left left_after final (Faults.Rejected rejection)
+    reads unsent = absurd unsent
+final_unusable proxy request client client_after server before after left left_after final (Faults.Unsent failure) reads
+    unsent = (
+      final.response,
+      client_after,
+      reads.reads,
+      head_unsent proxy request server final failure reads.date
+          reads.forwards reads.is_final unsent,
+    )
+  where
+    head_unsent : (proxy : Proxy) (request : Request) (server : Server) (final : Final) (failure : Failure) (date : ℕ)
+        → IsForwardedResponse proxy.gateway date (received request final.response) final.sent
+        → nat_lt final.response.status 200 ≡ false → IsHeadUnsent server final failure
+        → IsUnsent proxy request server final.response failure
+    head_unsent proxy request server final Failed.Reader date forwards is_final unsent = absurd unsent
+    head_unsent proxy request server final Failed.CutShort date forwards is_final unsent = absurd unsent
+    head_unsent proxy request server final Failed.InvalidFields date forwards is_final unsent = absurd unsent
+    head_unsent proxy request server final (Failed.Malformed e) date forwards is_final unsent = absurd unsent
+    head_unsent proxy request server final Failed.TooLong date forwards is_final unsent = absurd unsent
+    head_unsent proxy request server final (Failed.Unsendable e) date forwards is_final unsent = (
+      date,
+      final.sent,
+      forwards,
+      subst (λ (b : Bool). MatchBool b (informational_refusal server final.response.status final.response.reason
+          (fields_of final.sent.fields.items) ≡ Some e)
+          (response_refusal server final.response.status final.response.reason (response_size final.sent.content)
+          (written_fields final.response final.sent) ≡ Some e)) (sym is_final) unsent,
+    )
+    head_unsent proxy request server final Failed.Writer date forwards is_final unsent = absurd unsent
+    head_unsent proxy request server final Failed.OutOfMemory date forwards is_final unsent =
+        record { stated = forwards.stated; accepted = forwards.accepted; known = forwards.known }
+final_unusable proxy request client client_after server before after left left_after final Faults.Endless reads unsent =
+    absurd unsent
+
+-- the head of a final response isn't sent
+pub head_fails : (server : Server) (final : Final) (text : List ℕ) (held held_after : Option (List ℕ))
+    (failure : Failure)
+    → FailsToWrite (response_refusal server final.response.status final.response.reason
+    (response_size final.sent.content) (written_fields final.response final.sent)) text held held_after failure
+    → failure ≢ Failed.Writer → IsHeadUnsent server final failure × (held_after ≡ held)
+head_fails server final text held held_after Failed.Reader fails other = absurd fails
+head_fails server final text held held_after Failed.CutShort fails other = absurd fails
+head_fails server final text held held_after Failed.InvalidFields fails other = absurd fails
+head_fails server final text held held_after (Failed.Malformed e) fails other = absurd fails
+head_fails server final text held held_after Failed.TooLong fails other = absurd fails
+head_fails server final text held held_after (Failed.Unsendable e) fails other = fails
+head_fails server final text held held_after Failed.Writer fails other = absurd (other refl)
+head_fails server final text held held_after Failed.OutOfMemory fails other = (tt, fails)

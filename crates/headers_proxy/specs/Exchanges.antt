@@ -1,53 +1,47 @@
 -- One request and its response, and a whole connection (RFC 9110, sections 7 and 15.2; RFC 9112, section 9).
-use Rattle.std.specs.Prelude.{◌≡◌, ◌⊎◌, ⊤, ℕ, Bool, true, false, ◌&&◌, not, nat_lt, ◌==◌, List, []}
-use Rattle.std.specs.Prelude.{Option, codes, length}
+use Rattle.std.specs.Prelude.{◌≡◌, ◌⊎◌, ⊤, ℕ, ◌+◌, ◌-◌, ◌^◌, Bool, true, false, ◌&&◌, nat_lt, ◌==◌, List, []}
+use Rattle.std.specs.Prelude.{Option, Some, codes, length}
 use Rattle.std.specs.Io.KnownBytes.{Appends}
-use Rattle.std.specs.List.{list_any}
 use Rattle.http1.specs.Client.{new_client}
+use Rattle.http1.specs.Conn.{Plan}
 use Rattle.http1.specs.Decoder.{decoder_for}
 use Rattle.http1.specs.Head.{response_text}
-use Rattle.http1.specs.Server.{after_informational, peer_method, peer_minor}
+use Rattle.http1.specs.Server as Serving
+use Rattle.http1.specs.Server.{after_informational}
 use Rattle.http1.specs.declared.client.Client.{Client}
 use Rattle.http1.specs.declared.decode.Decoder.{Decoder}
 use Rattle.http1.specs.declared.server.Server.{Server}
-use Rattle.headers.specs.LineMap.{lines_at}
-use Rattle.headers_fields.specs.Directives.{is_same_token}
-use Rattle.headers_fields.specs.Members.{field_members}
 use Rattle.headers_gateway.specs.FieldLines.{fields_of}
-use Rattle.headers_gateway.specs.Responses as Answers
 use Rattle.headers_gateway.specs.Responses.{IsDiscarded, IsForwardedResponse}
-use Rattle.headers_gateway.specs.declared.response.Content.{Content}
-use Rattle.headers_gateway.specs.declared.response.Content.TheVariants as Ends
 use Rattle.headers_gateway.specs.declared.response.ForwardedResponse.{ForwardedResponse}
-use Rattle.headers_relay.specs.Heads.{IsClosedBefore, ReadsRequestHead, ReadsResponseHead}
+use Rattle.headers_relay.specs.Heads.{FailsToReadRequest, IsClosedBefore, ReadsRequestHead, ReadsResponseHead}
+use Rattle.headers_relay.specs.declared.failure.Failure.{Failure}
+use Rattle.headers_relay.specs.declared.failure.Failure.TheVariants as Failed
 use Rattle.headers_relay.specs.declared.request.Request.{Request}
 use Rattle.headers_relay.specs.declared.response.Response.{Response}
-use Rattle.headers_proxy.specs.Decisions.{IsDecision, protocol_of}
+use Rattle.headers_proxy.specs.Decisions.{IsDecision}
+use Rattle.headers_proxy.specs.Faults.{IsUnusable, fault_status, request_status}
 use Rattle.headers_proxy.specs.Own.{own_text}
-use Rattle.headers_proxy.specs.Passing.{PassesRequest, PassesResponse}
+use Rattle.headers_proxy.specs.Passing.{FailsToPassRequest, IsSameRequest, PassesRequest, PassesResponse}
+use Rattle.headers_proxy.specs.Passing.{response_size}
+use Rattle.headers_proxy.specs.Responses.{received, written_fields}
 use Rattle.headers_proxy.specs.declared.answer.Final.{Final}
 use Rattle.headers_proxy.specs.declared.answer.Found.{Found}
 use Rattle.headers_proxy.specs.declared.answer.Found.TheVariants as Finds
+use Rattle.headers_proxy.specs.declared.answer.Reply.{Reply}
+use Rattle.headers_proxy.specs.declared.answer.Reply.TheVariants as Replies
 use Rattle.headers_proxy.specs.declared.decision.Decision.TheVariants.{Answer, Send}
 use Rattle.headers_proxy.specs.declared.decision.Outgoing.{Outgoing}
 use Rattle.headers_proxy.specs.declared.exchange.Received.{Received}
 use Rattle.headers_proxy.specs.declared.exchange.Received.TheVariants as Receives
 use Rattle.headers_proxy.specs.declared.exchange.Turn.{Turn}
 use Rattle.headers_proxy.specs.declared.exchange.Turn.TheVariants as Turns
+use Rattle.headers_proxy.specs.declared.fault.Fault.{Fault}
+use Rattle.headers_proxy.specs.declared.fault.Fault.TheVariants as Faults
+use Rattle.headers_proxy.specs.declared.fault.Fault.TheVariants.{Endless}
 use Rattle.headers_proxy.specs.declared.proxy.Proxy.{Proxy}
 
 -- ---- the response
-
--- the response as `headers_gateway` sees it
-abbrev pub received : Request → Response → Answers.Response
-received request response =
-    record {
-      protocol = protocol_of response.minor;
-      status = response.status;
-      fields = lines_at response.fields;
-      method = request.method;
-      client = protocol_of request.minor;
-    }
 
 -- An interim response of the origin server is read, and dropped or forwarded as `headers_gateway` has it.
 pub record PassesInterim (proxy : Proxy) (request : Request) (client : Client) (before after : List ℕ)
@@ -60,15 +54,15 @@ pub record PassesInterim (proxy : Proxy) (request : Request) (client : Client) (
       × Appends held held_after (response_text 1 response.status response.reason (fields_of sent.fields.items))
       × (server_after ≡ after_informational server response.status))
 
--- interim responses, one after another
+-- so many interim responses, one after another
 pub data Interims (proxy : Proxy) (request : Request) (client : Client) (before : List ℕ)
     (left held : Option (List ℕ)) (server : Server)
-    : List ℕ → Option (List ℕ) → Option (List ℕ) → Server → Type 0 where
-  none : Interims proxy request client before left held server before left held server
-  next : (unread after : List ℕ) (rest left_after told held_after : Option (List ℕ)) (now server_after : Server)
-      → Interims proxy request client before left held server unread rest told now
+    : ℕ → List ℕ → Option (List ℕ) → Option (List ℕ) → Server → Type 0 where
+  none : Interims proxy request client before left held server 0 before left held server
+  next : (count : ℕ) (unread after : List ℕ) (rest left_after told held_after : Option (List ℕ))
+      (now server_after : Server) → Interims proxy request client before left held server count unread rest told now
       → PassesInterim proxy request client unread after rest left_after told held_after now server_after
-      → Interims proxy request client before left held server after left_after held_after server_after
+      → Interims proxy request client before left held server (count + 1) after left_after held_after server_after
 
 -- the head of a final response is read, and this is forwarded of it
 pub record ReadsFinal (proxy : Proxy) (request : Request) (client client_after : Client) (before after : List ℕ)
@@ -90,15 +84,44 @@ IsFound proxy request client client_after before after left left_after held held
     ReadsFinal proxy request client client_after before after left left_after final
     × (held_after ≡ held) × (server_after ≡ server)
 IsFound proxy request client client_after before after left left_after held held_after server server_after
-    Finds.Rejected = ⊤
+    (Finds.Unusable fault) =
+    IsUnusable proxy request client server before after left left_after fault × (held_after ≡ held)
 
 -- interim responses, and then the head of the final one
 pub record FindsFinal (proxy : Proxy) (request : Request) (client client_after : Client) (before after : List ℕ)
     (left left_after held held_after : Option (List ℕ)) (server server_after : Server) (final : Final) : Type 0 where
+  pub count : ℕ
   pub unread : List ℕ
   pub rest : Option (List ℕ)
-  pub interims : Interims proxy request client before left held server unread rest held_after server_after
+  pub interims : Interims proxy request client before left held server count unread rest held_after server_after
   pub finds : ReadsFinal proxy request client client_after unread after rest left_after final
+
+-- why interim responses, so many of them, end with none that is passed on
+abbrev pub EndsInterims : Proxy → Request → Client → Server → ℕ → List ℕ → List ℕ → Option (List ℕ)
+    → Option (List ℕ) → Fault → Type 0
+EndsInterims proxy request client server count before after left left_after fault =
+    IsUnusable proxy request client server before after left left_after fault
+    ⊎ ((fault ≡ Endless) × (count ≡ 2 ^ 64 - 1))
+
+-- interim responses, and then none that is passed on
+pub record FindsNone (proxy : Proxy) (request : Request) (client : Client) (before after : List ℕ)
+    (left left_after held held_after : Option (List ℕ)) (server : Server) (fault : Fault) : Type 0 where
+  pub count : ℕ
+  pub unread : List ℕ
+  pub rest : Option (List ℕ)
+  pub now : Server
+  pub interims : Interims proxy request client before left held server count unread rest held_after now
+  pub ends : EndsInterims proxy request client now count unread after rest left_after fault
+
+-- what the origin server answers
+abbrev pub FindsReply : Proxy → Request → Client → Client → List ℕ → List ℕ → Option (List ℕ) → Option (List ℕ)
+    → Option (List ℕ) → Option (List ℕ) → Server → Server → Reply → Type 0
+FindsReply proxy request client client_after before after left left_after held held_after server server_after
+    (Replies.Whole final) =
+    FindsFinal proxy request client client_after before after left left_after held held_after server server_after final
+FindsReply proxy request client client_after before after left left_after held held_after server server_after
+    (Replies.Unusable fault) =
+    FindsNone proxy request client before after left left_after held held_after server fault
 
 -- The response of the origin server passes to the client: interim ones, the final head, and its content.
 pub record PassesAnswer (proxy : Proxy) (request : Request) (client : Client) (server : Server)
@@ -118,7 +141,9 @@ pub record PassesAnswer (proxy : Proxy) (request : Request) (client : Client) (s
 -- what is received of a client before anything is sent
 abbrev pub IsReceived : Proxy → List ℕ → List ℕ → Option (List ℕ) → Option (List ℕ) → Server → Received → Type 0
 IsReceived proxy before after left left_after server Receives.Closed = IsClosedBefore before left left_after
-IsReceived proxy before after left left_after server (Receives.Unread status) = ⊤
+IsReceived proxy before after left left_after server (Receives.Unread status) =
+    (failure : Failure) × FailsToReadRequest proxy.limits before after left left_after failure
+    × (status ≡ request_status failure)
 IsReceived proxy before after left left_after server (Receives.Refused status) =
     (request : Request) × ReadsRequestHead proxy.limits before after left left_after server request
     × IsDecision proxy request (Answer status)
@@ -134,43 +159,71 @@ IsContinued false server server_after held held_after = (held_after ≡ held) ×
 
 -- ---- one turn
 
--- Both sides know the end of the response, and the origin server keeps the connection (RFC 9112, section 9.3).
-abbrev pub has_end : Content → Bool
-has_end Ends.Tunnel = true
-has_end Ends.Absent = true
-has_end (Ends.Length len) = true
-has_end Ends.Chunked = true
-has_end Ends.UntilClose = false
+-- the gateway answers the client itself
+abbrev pub BreaksOff : Fault → Option (List ℕ) → Option (List ℕ) → Turn → Type 0
+BreaksOff fault held held_after turn =
+    (turn ≡ Turns.Broken fault) × Appends held held_after (own_text (fault_status fault))
 
-abbrev pub keeps_origin : Response → Content → Bool
-keeps_origin response content =
-    not (response.minor == 0) && (has_end content
-    && not (list_any (is_same_token (codes "close")) (field_members true (lines_at response.fields
-    (codes "connection")))))
+-- why the head of a final response isn't sent
+abbrev pub IsHeadUnsent : Server → Final → Failure → Type 0
+IsHeadUnsent server final Failed.Reader = ⊥
+IsHeadUnsent server final Failed.CutShort = ⊥
+IsHeadUnsent server final Failed.InvalidFields = ⊥
+IsHeadUnsent server final (Failed.Malformed e) = ⊥
+IsHeadUnsent server final Failed.TooLong = ⊥
+IsHeadUnsent server final (Failed.Unsendable e) =
+    Serving.response_refusal server final.response.status final.response.reason (response_size final.sent.content)
+    (written_fields final.response final.sent) ≡ Some e
+IsHeadUnsent server final Failed.Writer = ⊥
+IsHeadUnsent server final Failed.OutOfMemory = ⊤
 
--- what became of a final response, and where all of it passed, whether the connection is used again
+-- no byte of a final response is sent: `http1` doesn't write its head, or memory ran out
+abbrev pub IsFinalUnsent : Server → Final → Fault → Type 0
+IsFinalUnsent server final (Faults.Request failure) = ⊥
+IsFinalUnsent server final (Faults.Unread failure) = ⊥
+IsFinalUnsent server final (Faults.Rejected rejection) = ⊥
+IsFinalUnsent server final (Faults.Unsent failure) = IsHeadUnsent server final failure
+IsFinalUnsent server final Faults.Endless = ⊥
+
+-- both connections are kept after a response with this plan, and no byte is behind it
+abbrev pub goes_on : Plan → List ℕ → Bool
+goes_on plan after = plan.keep_alive && (length after == 0)
+
+-- what became of a final response, and where all of it passed, whether the connections are used again
 abbrev pub IsDelivered : Proxy → Server → Final → Decoder → List ℕ → List ℕ → Option (List ℕ) → Option (List ℕ)
     → Option (List ℕ) → Option (List ℕ) → Turn → Type 0
 IsDelivered proxy server final d before after left left_after held held_after Turns.Next =
-    PassesResponse proxy.gateway server final.response final.sent d before after left left_after held held_after
-    × (keeps_origin final.response final.sent.content ≡ true) × ((length after == 0) ≡ true)
+    (passes : PassesResponse proxy.gateway server final.response final.sent d before after left left_after held held_after)
+    × (goes_on passes.begins.plan after ≡ true)
 IsDelivered proxy server final d before after left left_after held held_after Turns.Last =
-    PassesResponse proxy.gateway server final.response final.sent d before after left left_after held held_after
+    (passes : PassesResponse proxy.gateway server final.response final.sent d before after left left_after held held_after)
+    × (goes_on passes.begins.plan after ≡ false)
 IsDelivered proxy server final d before after left left_after held held_after Turns.Closed = ⊥
 IsDelivered proxy server final d before after left left_after held held_after Turns.Refused = ⊥
-IsDelivered proxy server final d before after left left_after held held_after Turns.Broken = ⊤
+IsDelivered proxy server final d before after left left_after held held_after (Turns.Broken fault) =
+    IsFinalUnsent server final fault × Appends held held_after (own_text (fault_status fault))
+    × (after ≡ before) × (left_after ≡ left)
 
--- what became of the response, and where all of it passed, whether the connection is used again
+-- the gateway answers in the place of the origin server
+pub record AnswersInPlace (proxy : Proxy) (request : Request) (client : Client) (server : Server)
+    (before after : List ℕ) (left left_after held held_after : Option (List ℕ)) (fault : Fault) : Type 0 where
+  pub told : Option (List ℕ)
+  pub finds : FindsNone proxy request client before after left left_after held told server fault
+  pub answers : Appends told held_after (own_text (fault_status fault))
+
+-- what became of the response, and where all of it passed, whether the connections are used again
 abbrev pub IsResponded : Proxy → Request → Client → Server → List ℕ → List ℕ → Option (List ℕ) → Option (List ℕ)
     → Option (List ℕ) → Option (List ℕ) → Turn → Type 0
 IsResponded proxy request client server before after left left_after held held_after Turns.Next =
     (answer : PassesAnswer proxy request client server before after left left_after held held_after)
-    × (keeps_origin answer.final.response answer.final.sent.content ≡ true) × ((length after == 0) ≡ true)
+    × (goes_on answer.passes.begins.plan after ≡ true)
 IsResponded proxy request client server before after left left_after held held_after Turns.Last =
-    PassesAnswer proxy request client server before after left left_after held held_after
+    (answer : PassesAnswer proxy request client server before after left left_after held held_after)
+    × (goes_on answer.passes.begins.plan after ≡ false)
 IsResponded proxy request client server before after left left_after held held_after Turns.Closed = ⊥
 IsResponded proxy request client server before after left left_after held held_after Turns.Refused = ⊥
-IsResponded proxy request client server before after left left_after held held_after Turns.Broken = ⊤
+IsResponded proxy request client server before after left left_after held held_after (Turns.Broken fault) =
+    AnswersInPlace proxy request client server before after left left_after held held_after fault
 
 -- The two connections: what was read of each and not used yet, what each reader has left, and what each writer holds.
 pub record Wires : Type 0 where
@@ -209,13 +262,35 @@ pub record PassesExchange (proxy : Proxy) (before after : Wires) (turn : Turn) :
   pub passes : PassesRequest proxy.gateway (new_client proxy.limits) client request outgoing
       (decoder_for proxy.limits reads.framing) unread after.asked rest after.asked_left before.sent after.sent
   pub server : Server
-  pub same_request : (peer_minor server ≡ peer_minor server_read) × (peer_method server ≡ peer_method server_read)
+  pub same_request : IsSameRequest server_read server
   pub responded : IsResponded proxy request client server before.answered after.answered before.answered_left
       after.answered_left told after.told turn
 
--- the gateway answered itself, and sent nothing to the origin server
-pub record IsRefused (before after : Wires) : Type 0 where
+-- A request passes in part: its content can't be read, or it can't be written. The gateway answers it itself.
+pub record BreaksRequest (proxy : Proxy) (before after : Wires) (failure : Failure) : Type 0 where
+  pub request : Request
+  pub outgoing : Outgoing
+  pub server_read : Server
+  pub unread : List ℕ
+  pub rest : Option (List ℕ)
+  pub reads : ReadsRequestHead proxy.limits before.asked unread before.asked_left rest server_read request
+  pub decides : IsDecision proxy request (Send outgoing)
+  pub server_continued : Server
+  pub told : Option (List ℕ)
+  pub continued : IsContinued outgoing.is_awaited server_read server_continued before.told told
+  pub rest_then : Option (List ℕ)
+  pub fails : FailsToPassRequest proxy.gateway (new_client proxy.limits) request outgoing
+      (decoder_for proxy.limits reads.framing) unread rest rest_then before.sent after.sent failure
+  pub answers : Appends told after.told (own_text (request_status failure))
+  pub answered : (after.answered ≡ before.answered) × (after.answered_left ≡ before.answered_left)
+
+-- The gateway answered itself, and sent nothing to the origin server: the request can't be read, or it is decided so.
+pub record IsRefused (proxy : Proxy) (before after : Wires) : Type 0 where
+  pub server : Server
   pub status : ℕ
+  pub because :
+      IsReceived proxy before.asked after.asked before.asked_left after.asked_left server (Receives.Unread status)
+      ⊎ IsReceived proxy before.asked after.asked before.asked_left after.asked_left server (Receives.Refused status)
   pub told : Appends before.told after.told (own_text status)
   pub sent : after.sent ≡ before.sent
   pub answered : (after.answered ≡ before.answered) × (after.answered_left ≡ before.answered_left)
@@ -225,14 +300,26 @@ pub record IsClosed (before after : Wires) : Type 0 where
   pub closed : IsClosedBefore before.asked before.asked_left after.asked_left
   pub told : after.told ≡ before.told
   pub sent : after.sent ≡ before.sent
+  pub answered : (after.answered ≡ before.answered) × (after.answered_left ≡ before.answered_left)
+
+-- why a request is answered by the gateway, after it sent it, or a part of it
+abbrev pub IsBroken : Proxy → Wires → Wires → Fault → Type 0
+IsBroken proxy before after (Faults.Request failure) = BreaksRequest proxy before after failure
+IsBroken proxy before after (Faults.Unread failure) =
+    PassesExchange proxy before after (Turns.Broken (Faults.Unread failure))
+IsBroken proxy before after (Faults.Rejected rejection) =
+    PassesExchange proxy before after (Turns.Broken (Faults.Rejected rejection))
+IsBroken proxy before after (Faults.Unsent failure) =
+    PassesExchange proxy before after (Turns.Broken (Faults.Unsent failure))
+IsBroken proxy before after Faults.Endless = PassesExchange proxy before after (Turns.Broken Faults.Endless)
 
 -- what became of a request
 abbrev pub IsTurn : Proxy → Wires → Wires → Turn → Type 0
 IsTurn proxy before after Turns.Next = PassesExchange proxy before after Turns.Next
 IsTurn proxy before after Turns.Last = PassesExchange proxy before after Turns.Last
 IsTurn proxy before after Turns.Closed = IsClosed before after
-IsTurn proxy before after Turns.Refused = IsRefused before after
-IsTurn proxy before after Turns.Broken = ⊤
+IsTurn proxy before after Turns.Refused = IsRefused proxy before after
+IsTurn proxy before after (Turns.Broken fault) = IsBroken proxy before after fault
 
 -- ---- a connection
 

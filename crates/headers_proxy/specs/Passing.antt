@@ -1,5 +1,5 @@
 -- Messages on their way from one connection to the other.
-use Rattle.std.specs.Prelude.{◌≡◌, ℕ, List, ◌++◌, Option, Ok, None}
+use Rattle.std.specs.Prelude.{◌≡◌, ℕ, Bool, false, true, List, ◌++◌, Option, Ok, Err, None}
 use Rattle.std.specs.Io.KnownBytes.{Appends}
 use Rattle.http_header.specs.FieldValue.{FieldValue}
 use Rattle.http_header.specs.HeaderMap.{Entries}
@@ -9,6 +9,7 @@ use Rattle.http1.specs.Encoder.{encoder_for, end_refusal, end_text}
 use Rattle.http1.specs.Framing.{method_kind}
 use Rattle.http1.specs.Head.{head_refusal, is_request_line, is_status_line, request_text, response_text}
 use Rattle.http1.specs.Server as Serving
+use Rattle.http1.specs.Server.{expects_continue, peer_method, peer_minor}
 use Rattle.http1.specs.declared.client.Client.{Client}
 use Rattle.http1.specs.declared.conn.BodySize.{BodySize}
 use Rattle.http1.specs.declared.conn.BodySize.TheVariants as Size
@@ -27,9 +28,13 @@ use Rattle.headers_gateway.specs.declared.response.Content.{Content}
 use Rattle.headers_gateway.specs.declared.response.Content.TheVariants as Ends
 use Rattle.headers_gateway.specs.declared.response.ForwardedResponse.{ForwardedResponse}
 use Rattle.headers_relay.specs.Content.{after_pieces}
+use Rattle.headers_relay.specs.Failures.{FailsToWrite}
 use Rattle.headers_relay.specs.Relay.{Relays}
+use Rattle.headers_relay.specs.declared.failure.Failure.{Failure}
+use Rattle.headers_relay.specs.declared.failure.Failure.TheVariants as Failed
 use Rattle.headers_relay.specs.declared.request.Request.{Request}
 use Rattle.headers_relay.specs.declared.response.Response.{Response}
+use Rattle.headers_proxy.specs.Responses.{written_fields}
 use Rattle.headers_proxy.specs.declared.decision.Outgoing.{Outgoing}
 
 -- what is known of the size of a request's content, once the fields state it
@@ -47,26 +52,44 @@ response_size Ends.Chunked = Size.Unknown
 response_size Ends.UntilClose = Size.Unknown
 
 -- The content of a message with these fields passes, as `headers_relay` has it, and these are the trailer fields that
--- are forwarded.
-pub record PassesContent (gateway : Gateway) (fields : LineMap) (framing : Framing) (d : Decoder) (e : Encoder)
-    (before after : List ℕ) (left left_after held held_after : Option (List ℕ)) (written : Writing)
+-- are forwarded. Of a response the content may end with the connection.
+pub record PassesContent (source : Bool) (gateway : Gateway) (fields : LineMap) (framing : Framing) (d : Decoder)
+    (e : Encoder) (before after : List ℕ) (left left_after held held_after : Option (List ℕ)) (written : Writing)
     (sent : List Field) : Type 0 where
   pub trailers : Entries FieldValue
-  pub relays : Relays d e before after left left_after held held_after written (Ok trailers)
+  pub relays : Relays source d e before after left left_after held held_after written (Ok trailers)
   pub forwards : ForwardsTrailers gateway framing fields (lines_at trailers) (lines_under sent)
+
+-- The content doesn't pass: it isn't relayed whole, or there is no memory for its trailer fields.
+pub data FailsToPassContent (source : Bool) (d : Decoder) (e : Encoder) (before : List ℕ) (left left_after held held_after :
+    Option (List ℕ)) (failure : Failure) : Type 0 where
+  relaying : (after : List ℕ) (written : Writing)
+      → Relays source d e before after left left_after held held_after written (Err failure)
+      → FailsToPassContent source d e before left left_after held held_after failure
+  forwarding : (after : List ℕ) (written : Writing) (trailers : Entries FieldValue)
+      → Relays source d e before after left left_after held held_after written (Ok trailers)
+      → failure ≡ Failed.OutOfMemory
+      → FailsToPassContent source d e before left left_after held held_after failure
 
 -- The content of a message passes to its end: what is written of it is its pieces in their frames, and the end with the
 -- trailer fields that are forwarded.
-pub record Passes (gateway : Gateway) (fields : LineMap) (framing : Framing) (d : Decoder) (e : Encoder)
+pub record Passes (source : Bool) (gateway : Gateway) (fields : LineMap) (framing : Framing) (d : Decoder) (e : Encoder)
     (before after : List ℕ) (left left_after held held_after : Option (List ℕ)) : Type 0 where
   pub written : Writing
   pub held_content : Option (List ℕ)
   pub sent : List Field
-  pub content : PassesContent gateway fields framing d e before after left left_after held held_content written sent
+  pub content : PassesContent source gateway fields framing d e before after left left_after held held_content written sent
   pub accepted : end_refusal (after_pieces content.relays.pieces e) sent ≡ None
   pub ended : Appends held_content held_after (end_text (after_pieces content.relays.pieces e) sent)
 
 -- ---- requests
+
+-- the same request, whose client doesn't wait for a 100 (Continue)
+pub record IsSameRequest (server_read server : Server) : Type 0 where
+  pub minor : peer_minor server ≡ peer_minor server_read
+  pub method : peer_method server ≡ peer_method server_read
+  pub keep_alive : server.request.keep_alive ≡ server_read.request.keep_alive
+  pub waits : expects_continue server ≡ false
 
 -- the head of a request is sent to the origin server: the one that `http1` plans for its fields
 pub record BeginsRequest (client client_after : Client) (request : Request) (outgoing : Outgoing)
@@ -86,11 +109,37 @@ pub record PassesRequest (gateway : Gateway) (client client_after : Client) (req
   pub client_begun : Client
   pub held_head : Option (List ℕ)
   pub begins : BeginsRequest client client_begun request outgoing held held_head
-  pub content : Passes gateway (lines_at request.fields) outgoing.framing d (encoder_for begins.plan.framing)
+  pub content : Passes false gateway (lines_at request.fields) outgoing.framing d (encoder_for begins.plan.framing)
       before after left left_after held_head held_after
   pub reads_head : client_after.reading ≡ client.reading
   pub is_written : client_after.writing ≡ Writes.Done
   pub same_method : client_after.method ≡ method_kind request.method
+
+-- Why a request doesn't pass, and what is written of it nevertheless: its head isn't written, its content isn't passed
+-- on, or its end isn't written.
+pub data FailsToPassRequest (gateway : Gateway) (client : Client) (request : Request) (outgoing : Outgoing)
+    (d : Decoder) (before : List ℕ) (left left_after held held_after : Option (List ℕ)) (failure : Failure) : Type 0
+  where
+    at_head :
+        FailsToWrite (Asking.request_refusal client request.method outgoing.target (request_size outgoing.framing)
+        (fields_of outgoing.fields.items))
+        (Asking.planned_request client request.method outgoing.target (request_size outgoing.framing)
+        (fields_of outgoing.fields.items)) held held_after failure
+        → left_after ≡ left
+        → FailsToPassRequest gateway client request outgoing d before left left_after held held_after failure
+    at_content : (client_begun : Client) (held_head : Option (List ℕ))
+        (begins : BeginsRequest client client_begun request outgoing held held_head)
+        → FailsToPassContent false d (encoder_for begins.plan.framing) before left left_after held_head held_after
+        failure
+        → FailsToPassRequest gateway client request outgoing d before left left_after held held_after failure
+    at_end : (client_begun : Client) (after : List ℕ) (held_head held_content : Option (List ℕ)) (written : Writing)
+        (sent : List Field) (begins : BeginsRequest client client_begun request outgoing held held_head)
+        (content : PassesContent false gateway (lines_at request.fields) outgoing.framing d
+        (encoder_for begins.plan.framing) before after left left_after held_head held_content written sent)
+        → FailsToWrite (end_refusal (after_pieces content.relays.pieces (encoder_for begins.plan.framing)) sent)
+        (end_text (after_pieces content.relays.pieces (encoder_for begins.plan.framing)) sent) held_content held_after
+        failure
+        → FailsToPassRequest gateway client request outgoing d before left left_after held held_after failure
 
 -- ---- responses
 
@@ -99,11 +148,12 @@ pub record BeginsResponse (server server_after : Server) (response : Response) (
     (held held_after : Option (List ℕ)) : Type 0 where
   pub plan : Plan
   pub planned : Serving.response_plan server response.status (response_size sent.content)
-      (fields_of sent.fields.items) ≡ Ok plan
+      (written_fields response sent) ≡ Ok plan
   pub valid : head_refusal (is_status_line server.request.minor response.status response.reason)
-      (fields_of sent.fields.items ++ plan.extra) ≡ None
+      (written_fields response sent ++ plan.extra) ≡ None
   pub head : Appends held held_after
-      (response_text server.request.minor response.status response.reason (fields_of sent.fields.items ++ plan.extra))
+      (response_text server.request.minor response.status response.reason
+      (written_fields response sent ++ plan.extra))
   pub next : server_after ≡ Serving.responding server (Ok plan)
 
 -- A final response passes to the client: its head, and then the content in the framing that this states.
@@ -112,5 +162,5 @@ pub record PassesResponse (gateway : Gateway) (server : Server) (response : Resp
   pub server_begun : Server
   pub held_head : Option (List ℕ)
   pub begins : BeginsResponse server server_begun response sent held held_head
-  pub content : Passes gateway (lines_at response.fields) sent.framing d (encoder_for begins.plan.framing)
+  pub content : Passes true gateway (lines_at response.fields) sent.framing d (encoder_for begins.plan.framing)
       before after left left_after held_head held_after

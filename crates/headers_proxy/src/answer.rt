@@ -3,12 +3,13 @@ ghost use Rattle.std.specs.Prelude.{◌≡◌, IfOk, false, nat_lt, OnOk};
 ghost use Rattle.headers_gateway.specs.FieldLines.{fields_of};
 ghost use Rattle.http1.specs.Conn.{awaits_head, is_connect};
 ghost use Rattle.http1.specs.Head.{response_text};
-ghost use Rattle.http1.specs.Server.{after_informational};
+ghost use Rattle.http1.specs.Server.{after_informational, informational_refusal};
 ghost use Rattle.http1.specs.declared.conn.Reading.TheVariants as Reads;
-ghost use Rattle.headers_relay.specs.Relay.{Sends};
-ghost use Rattle.headers_proxy.specs.Exchanges.{FindsFinal, IsFound};
+ghost use Rattle.headers_relay.specs.Failures.{Writes};
+ghost use Rattle.headers_proxy.specs.Exchanges.{FindsReply, IsFound};
 
 use crate::decision::protocol_of;
+use crate::fault::Fault;
 use crate::pass::header_list;
 use crate::proxy::{Clock, Proxy};
 use bytes::BytesMut;
@@ -36,8 +37,17 @@ pub(crate) enum Found {
     Interim,
     /// A final one.
     Whole(Final),
-    /// One that isn't forwarded.
-    Rejected,
+    /// None that is passed on.
+    Unusable(Fault),
+}
+
+/// What the origin server answers to a request.
+#[derive(Debug, Drop)]
+pub(crate) enum Reply {
+    /// A final response.
+    Whole(Final),
+    /// None that is passed on.
+    Unusable(Fault),
 }
 
 fn is_interim(status: StatusCode) -> bool
@@ -54,8 +64,10 @@ fn forward_interim<W: Write>(
     server: &mut Server,
     writer: &mut W,
 ) -> Result<(), Failure>
-    ensures sends { Sends result (W.contents writer.old) (W.contents writer.new)
-        (response_text 1 response.now.status response.now.reason (fields_of sent.now.fields.items)) }
+    ensures writes { Writes (informational_refusal server.old response.now.status response.now.reason
+        (fields_of sent.now.fields.items))
+        (response_text 1 response.now.status response.now.reason (fields_of sent.now.fields.items))
+        (W.contents writer.old) (W.contents writer.new) result }
     ensures next { OnOk result (server.new ≡ after_informational server.old response.now.status) }
 {
     let headers = header_list(alloc, &sent.fields)?;
@@ -88,7 +100,10 @@ fn next_response<C: Clock, R: Read, W: Write>(
         (R.remaining reader.old) (R.remaining reader.new) (W.contents writer.old) (W.contents writer.new)
         server.old server.new) }
 {
-    let response = read_response(alloc, keys, client, input, reader)?;
+    let response = match read_response(alloc, keys, client, input, reader) {
+        Ok(response) => response,
+        Err(failure) => return Ok(Found::Unusable(Fault::Unread(failure))),
+    };
     let head = ResponseHead {
         protocol: protocol_of(response.minor),
         status: response.status,
@@ -96,20 +111,25 @@ fn next_response<C: Clock, R: Read, W: Write>(
         method: &request.method,
         client: protocol_of(request.minor),
     };
-    match forward_response(alloc, &proxy.gateway, &head, clock.now())? {
-        ResponseOutcome::Forward(sent) => {
-            if !is_interim(response.status) {
-                return Ok(Found::Whole(Final { response, sent }));
-            }
-            forward_interim(alloc, &response, &sent, server, writer)?;
-            Ok(Found::Interim)
+    let sent = match forward_response(alloc, &proxy.gateway, &head, clock.now()) {
+        Ok(ResponseOutcome::Forward(sent)) => sent,
+        Ok(ResponseOutcome::Discard) => return Ok(Found::Interim),
+        Ok(ResponseOutcome::Reject(rejection)) => {
+            return Ok(Found::Unusable(Fault::Rejected(rejection)));
         }
-        ResponseOutcome::Discard => Ok(Found::Interim),
-        ResponseOutcome::Reject(_) => Ok(Found::Rejected),
+        Err(error) => return Ok(Found::Unusable(Fault::Unsent(Failure::from(error)))),
+    };
+    if !is_interim(response.status) {
+        return Ok(Found::Whole(Final { response, sent }));
+    }
+    match forward_interim(alloc, &response, &sent, server, writer) {
+        Ok(()) => Ok(Found::Interim),
+        Err(failure) => Ok(Found::Unusable(Fault::unsent(failure)?)),
     }
 }
 
-/// Reads responses until a final one, and forwards those before it. One that is rejected is a failure.
+/// Reads responses until a final one, and forwards those before it. It fails only if writing to the
+/// client does.
 pub(crate) fn final_response<C: Clock, R: Read, W: Write>(
     alloc: Global,
     keys: RandomState,
@@ -121,22 +141,22 @@ pub(crate) fn final_response<C: Clock, R: Read, W: Write>(
     reader: &mut R,
     server: &mut Server,
     writer: &mut W,
-) -> Result<Final, Failure>
+) -> Result<Reply, Failure>
     ensures { client.old.reading ≡ Reads.Head → awaits_head client.old.writing ≡ false
         → is_connect client.old.method ≡ false
-        → IfOk result (FindsFinal proxy.now request.now client.old client.new
+        → IfOk result (FindsReply proxy.now request.now client.old client.new
         input.old.items input.new.items (R.remaining reader.old) (R.remaining reader.new)
         (W.contents writer.old) (W.contents writer.new) server.old server.new) }
 {
-    for _ in 0..u64::MAX {
+    for _count in 0..u64::MAX {
         let found = next_response(
             alloc, keys, clock, proxy, request, client, input, reader, server, writer,
         )?;
         match found {
             Found::Interim => {}
-            Found::Whole(answer) => return Ok(answer),
-            Found::Rejected => return Err(Failure::InvalidFields),
+            Found::Whole(answer) => return Ok(Reply::Whole(answer)),
+            Found::Unusable(fault) => return Ok(Reply::Unusable(fault)),
         }
     }
-    Err(Failure::CutShort)
+    Ok(Reply::Unusable(Fault::Endless))
 }

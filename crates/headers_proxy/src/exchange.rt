@@ -1,24 +1,22 @@
 //! One request and its response.
-ghost use Rattle.std.specs.Prelude.{◌≡◌, false, IfOk, OnOk};
+ghost use Rattle.std.specs.Prelude.{◌≡◌, ◌&&◌, ◌==◌, false, length, IfOk, OnOk};
 ghost use Rattle.http1.specs.Conn.{awaits_head, is_connect};
 ghost use Rattle.http1.specs.Server.{new_server};
 ghost use Rattle.http1.specs.declared.conn.Reading.TheVariants as Reads;
 ghost use Rattle.http1.specs.declared.decode.Decoder.{Decoder};
-ghost use Rattle.headers_proxy.specs.declared.exchange.Turn.TheVariants.{Broken};
-ghost use Rattle.headers_proxy.specs.Exchanges.{IsContinued, IsDelivered, IsReceived, IsResponded, IsTurn};
-ghost use Rattle.headers_proxy.specs.Exchanges.{keeps_origin, wires};
+ghost use Rattle.headers_proxy.specs.Exchanges.{BreaksOff, IsContinued, IsDelivered, IsReceived, IsResponded, IsTurn};
+ghost use Rattle.headers_proxy.specs.Exchanges.{wires};
+ghost use Rattle.headers_proxy.specs.Responses.{is_open};
 
-use crate::answer::{Final, final_response};
+use crate::answer::{Final, Reply, final_response};
 use crate::decision::{Decision, Outgoing, decide};
+use crate::fault::{Fault, status_of_request};
 use crate::own::send_own;
 use crate::pass::{begin_response, finish_response, pass_request};
 use crate::proxy::{Clock, Proxy};
 use bytes::BytesMut;
-use headers_fields::contains_token;
-use headers_gateway::Content;
-use headers_relay::{Failure, Request, Response, read_request, receive, send_interim};
+use headers_relay::{Failure, Request, read_request, receive, send_interim};
 use http::StatusCode;
-use http_header::CONNECTION;
 use http1::{Client, Server};
 use std::alloc::Global;
 use std::hash::RandomState;
@@ -52,37 +50,7 @@ pub(crate) enum Turn {
     /// The gateway answered it itself, and sent nothing to the origin server.
     Refused,
     /// It was sent, maybe in part, and the gateway answered it itself. The connections end.
-    Broken,
-}
-
-// The status for a request that can't be read or sent.
-fn status_of_request(failure: Failure) -> StatusCode {
-    match failure {
-        Failure::Malformed(error) => StatusCode::from_u16(error.status()).unwrap_or(
-            StatusCode::BAD_REQUEST,
-        ),
-        Failure::OutOfMemory => StatusCode::INTERNAL_SERVER_ERROR,
-        Failure::Writer | Failure::Unsendable(_) => StatusCode::BAD_GATEWAY,
-        Failure::Reader | Failure::CutShort | Failure::InvalidFields => StatusCode::BAD_REQUEST,
-    }
-}
-
-// The status for a response that can't be read (RFC 9110, sections 15.6.3 and 15.6.5).
-fn status_of_response(failure: Failure) -> StatusCode {
-    match failure {
-        Failure::OutOfMemory => StatusCode::INTERNAL_SERVER_ERROR,
-        Failure::Reader => StatusCode::GATEWAY_TIMEOUT,
-        _ => StatusCode::BAD_GATEWAY,
-    }
-}
-
-// Whether the origin server keeps the connection after this response, and both sides know its end.
-fn keeps_origin(response: &Response, content: Content) -> bool
-    ensures { result ≡ keeps_origin response.now content }
-{
-    response.minor != 0
-        && content != Content::UntilClose
-        && !contains_token(&response.fields.get_all(CONNECTION), b"close")
+    Broken(Fault),
 }
 
 // Reads what the client still sends, so that it gets to read the answer.
@@ -96,12 +64,12 @@ fn drain<R: Read>(input: &mut BytesMut, reader: &mut R) {
     }
 }
 
-// Answers the client in the gateway's own name, after part of its request was sent.
-fn break_off<W: Write>(alloc: Global, status: StatusCode, writer: &mut W) -> Result<Turn, Failure>
-    ensures { IfOk result (λ turn. turn ≡ Broken) }
+// Answers the client in the place of the origin server.
+fn break_off<W: Write>(alloc: Global, fault: Fault, writer: &mut W) -> Result<Turn, Failure>
+    ensures { IfOk result (BreaksOff fault (W.contents writer.old) (W.contents writer.new)) }
 {
-    send_own(alloc, status, writer)?;
-    Ok(Turn::Broken)
+    send_own(alloc, fault.status(), writer)?;
+    Ok(Turn::Broken(fault))
 }
 
 // Reads the head of a request, and decides what is done with it.
@@ -127,6 +95,13 @@ fn receive_request<R: Read>(
     }
 }
 
+// Whether both connections are kept, and no byte is behind the response.
+fn goes_on(server: &Server, input: &BytesMut) -> bool
+    ensures { result ≡ (is_open server.now && (length input.now.items == 0)) }
+{
+    !server.is_closed() && input.is_empty()
+}
+
 // Passes a final response on.
 fn deliver<R: Read, W: Write>(
     alloc: Global,
@@ -145,8 +120,8 @@ fn deliver<R: Read, W: Write>(
 {
     match begin_response(alloc, &answer.response, &answer.sent, server, writer) {
         Ok(()) => {}
-        Err(Failure::Unsendable(_)) => return break_off(alloc, StatusCode::BAD_GATEWAY, writer),
-        Err(failure) => return Err(failure),
+        Err(Failure::Writer) => return Err(Failure::Writer),
+        Err(failure) => return break_off(alloc, Fault::Unsent(failure), writer),
     }
     finish_response(
         alloc,
@@ -160,10 +135,7 @@ fn deliver<R: Read, W: Write>(
         server,
         writer,
     )?;
-    if keeps_origin(&answer.response, answer.sent.content)
-        && input.is_empty()
-        && !server.is_closed()
-    {
+    if goes_on(server, input) {
         Ok(Turn::Next)
     } else {
         Ok(Turn::Last)
@@ -188,14 +160,14 @@ fn respond<C: Clock, R: Read, W: Write>(
         → IfOk result (IsResponded proxy.now request.now client.old server.old input.old.items input.new.items
         (R.remaining reader.old) (R.remaining reader.new) (W.contents writer.old) (W.contents writer.new)) }
 {
-    let found = final_response(
+    let reply = final_response(
         alloc, keys, clock, proxy, request, client, input, reader, server, writer,
-    );
-    match found {
-        Ok(answer) => deliver(
+    )?;
+    match reply {
+        Reply::Whole(answer) => deliver(
             alloc, keys, proxy, &answer, client, input, reader, server, writer,
         ),
-        Err(failure) => break_off(alloc, status_of_response(failure), writer),
+        Reply::Unusable(fault) => break_off(alloc, fault, writer),
     }
 }
 
@@ -265,7 +237,7 @@ pub(crate) fn exchange<C: Clock, R: Read, W: Write, S: Read, T: Write>(
         to_origin,
     );
     if let Err(failure) = passed {
-        let turn = break_off(alloc, status_of_request(failure), writer);
+        let turn = break_off(alloc, Fault::Request(failure), writer);
         drain(requests, reader);
         return turn;
     }

@@ -5,6 +5,7 @@
 mod answer;
 mod decision;
 mod exchange;
+mod fault;
 pub mod laws;
 mod own;
 mod pass;

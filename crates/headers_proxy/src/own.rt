@@ -1,8 +1,9 @@
 //! The gateway's own responses.
-ghost use Rattle.std.specs.Prelude.{◌≡◌, IfErr, OnErr, OnOk};
+ghost use Rattle.std.specs.Prelude.{◌≡◌};
+ghost use Rattle.http1.specs.Head.{header_parts};
 ghost use Rattle.http1_typed.specs.Parts.{reason_of};
-ghost use Rattle.headers_relay.specs.Relay.{Sends};
-ghost use Rattle.headers_proxy.specs.Own.{own_text};
+ghost use Rattle.headers_relay.specs.Failures.{Writes};
+ghost use Rattle.headers_proxy.specs.Own.{close_field, own_refusal, own_text};
 
 use bytes::BytesMut;
 use headers_relay::{Failure, send};
@@ -17,31 +18,37 @@ fn reason(status: StatusCode) -> &'static [u8]
     status.canonical_reason().unwrap_or("").as_bytes()
 }
 
+/// The field that says that the connection ends after the message (RFC 9112, section 9.6).
+pub(crate) fn close_field() -> Header<'static>
+    ensures { header_parts result ≡ close_field }
+{
+    Header {
+        name: b"connection",
+        value: b"close",
+    }
+}
+
 /// Sends a response of the gateway's own: of that status, without content, and the last one on the
 /// connection.
 pub fn send_own<W: Write>(alloc: Global, status: StatusCode, writer: &mut W) -> Result<(), Failure>
-    ensures { Sends result (W.contents writer.old) (W.contents writer.new) (own_text status) }
+    ensures { Writes (own_refusal status) (own_text status) (W.contents writer.old) (W.contents writer.new)
+        result }
 {
     let headers = [
-        Header {
-            name: b"connection",
-            value: b"close",
-        },
+        close_field(),
         Header {
             name: b"content-length",
             value: b"0",
         },
     ];
     let mut output = BytesMut::new(alloc);
-    match head::write_response(
+    head::write_response(
         &mut output,
         1,
         status.as_u16(),
         reason(status),
         &headers,
         &[],
-    ) {
-        Ok(()) => send(writer, output.as_slice()),
-        Err(error) => Err(Failure::Unsendable(error)),
-    }
+    )?;
+    send(writer, output.as_slice())
 }

@@ -1,10 +1,9 @@
 //! Messages on their way from one connection to the other: a head, the content in its frames, and its
 //! end.
-ghost use Rattle.std.specs.Prelude.{◌≡◌, IfOk, None, OnOk};
+ghost use Rattle.std.specs.Prelude.{◌≡◌, IfErr, IfOk, OnOk, false, true};
 ghost use Rattle.headers.specs.LineMap.{lines_at};
 ghost use Rattle.headers_gateway.specs.FieldLines.{fields_of};
 ghost use Rattle.http1.specs.Client as Asking;
-ghost use Rattle.http1.specs.Encoder.{end_refusal, end_text};
 ghost use Rattle.http1.specs.Head.{pairs};
 ghost use Rattle.http1.specs.Server as Serving;
 ghost use Rattle.http1.specs.declared.conn.Reading.TheVariants as Reads;
@@ -12,19 +11,24 @@ ghost use Rattle.http1.specs.declared.conn.Writing.TheVariants as Writes;
 ghost use Rattle.http1.specs.declared.decode.Decoder.{Decoder};
 ghost use Rattle.http1.specs.declared.encode.Encoder.{Encoder};
 ghost use Rattle.headers_relay.specs.Content.{content_read};
-ghost use Rattle.headers_relay.specs.Relay.{Sends};
-ghost use Rattle.headers_proxy.specs.Passing.{BeginsRequest, BeginsResponse, Passes, PassesContent, PassesRequest};
-ghost use Rattle.headers_proxy.specs.Passing.{request_size, response_size};
+ghost use Rattle.headers_relay.specs.Failures.{FailsToWrite};
+ghost use Rattle.headers_proxy.specs.Passing.{BeginsRequest, BeginsResponse, FailsToPassRequest, Passes, PassesContent};
+ghost use Rattle.headers_proxy.specs.Passing.{FailsToPassContent, PassesRequest, request_size, response_size};
+ghost use Rattle.headers_proxy.specs.Passing.{IsSameRequest};
+ghost use Rattle.headers_proxy.specs.Responses.{is_open, keeps_origin, written_fields};
 
 use crate::decision::Outgoing;
+use crate::own::close_field;
 use crate::proxy::Proxy;
 use bytes::BytesMut;
 use headers::HeaderMap;
+use headers_fields::contains_token;
 use headers_gateway::{Content, FieldLine, ForwardedResponse, Framing, Gateway, forward_trailers};
 use headers_relay::{
-    ContentSink, ContentSource, Failure, Request, Response, end_content, relay_content, send,
+    ContentSink, ContentSource, Failure, Request, Response, end_content, relay_content,
     send_request_head, send_response_head,
 };
+use http_header::CONNECTION;
 use http1::{BodySize, Client, Header, Server};
 use std::alloc::{AllocError, Global};
 use std::hash::RandomState;
@@ -81,35 +85,22 @@ fn pass_content<S: ContentSource, R: Read, T: ContentSink, W: Write>(
     writer: &mut W,
 ) -> Result<Vec<FieldLine>, Failure>
     ensures passes { (d : Decoder) (e : Encoder) → S.reading source.old ≡ Reads.Body d
-        → T.writing sink.old ≡ Writes.Body e → IfOk result (λ sent. PassesContent gateway.now (lines_at fields.now)
-        framing d e input.old.items input.new.items (R.remaining reader.old) (R.remaining reader.new)
-        (W.contents writer.old) (W.contents writer.new) (T.writing sink.new) (fields_of sent.items)) }
+        → T.writing sink.old ≡ Writes.Body e → IfOk result (λ sent. PassesContent S.ends_with_connection gateway.now
+        (lines_at fields.now) framing d e input.old.items input.new.items (R.remaining reader.old)
+        (R.remaining reader.new) (W.contents writer.old) (W.contents writer.new) (T.writing sink.new)
+        (fields_of sent.items)) }
+    ensures fails { (d : Decoder) (e : Encoder) → S.reading source.old ≡ Reads.Body d
+        → T.writing sink.old ≡ Writes.Body e → IfErr result (FailsToPassContent S.ends_with_connection d e
+        input.old.items (R.remaining reader.old) (R.remaining reader.new)
+        (W.contents writer.old) (W.contents writer.new)) }
+    ensures waiting { (d : Decoder) (e : Encoder) → S.reading source.old ≡ Reads.Body d
+        → T.writing sink.old ≡ Writes.Body e → OnOk result (S.is_waiting source.new ≡ false) }
     ensures asked { (d : Decoder) (e : Encoder) → S.reading source.old ≡ Reads.Body d
-        → T.writing sink.old ≡ Writes.Body e → S.asked source.new ≡ S.asked source.old }
+        → T.writing sink.old ≡ Writes.Body e → OnOk result (S.asked source.new ≡ S.asked source.old) }
     ensures kept { T.kept sink.new ≡ T.kept sink.old }
 {
     let trailers = relay_content(alloc, keys, source, input, reader, sink, writer)?;
     Ok(forward_trailers(alloc, gateway, fields, framing, &trailers)?)
-}
-
-// Sends the end of a request's content.
-fn end_request<W: Write>(
-    alloc: Global,
-    client: &mut Client,
-    trailers: &[Header<'_>],
-    writer: &mut W,
-) -> Result<(), Failure>
-    ensures sends { (e : Encoder) → Asking.writing client.old ≡ Writes.Body e
-        → Sends result (W.contents writer.old) (W.contents writer.new) (end_text e (pairs trailers.now)) }
-    ensures accepted { (e : Encoder) → Asking.writing client.old ≡ Writes.Body e
-        → OnOk result (end_refusal e (pairs trailers.now) ≡ None) }
-    ensures next { OnOk result (client.new ≡ Asking.after_end client.old) }
-{
-    let mut output = BytesMut::new(alloc);
-    match client.write_end(&mut output, trailers) {
-        Ok(()) => send(writer, output.as_slice()),
-        Err(error) => Err(Failure::Unsendable(error)),
-    }
 }
 
 // Sends the head of a request to the origin server.
@@ -120,7 +111,12 @@ fn begin_request<W: Write>(
     client: &mut Client,
     writer: &mut W,
 ) -> Result<(), Failure>
-    ensures { OnOk result (BeginsRequest client.old client.new request.now outgoing.now
+    ensures begins { OnOk result (BeginsRequest client.old client.new request.now outgoing.now
+        (W.contents writer.old) (W.contents writer.new)) }
+    ensures fails { IfErr result (FailsToWrite (Asking.request_refusal client.old request.now.method
+        outgoing.now.target (request_size outgoing.now.framing) (fields_of outgoing.now.fields.items))
+        (Asking.planned_request client.old request.now.method outgoing.now.target
+        (request_size outgoing.now.framing) (fields_of outgoing.now.fields.items))
         (W.contents writer.old) (W.contents writer.new)) }
 {
     let headers = header_list(alloc, &outgoing.fields)?;
@@ -149,11 +145,14 @@ pub(crate) fn pass_request<R: Read, W: Write>(
     writer: &mut W,
 ) -> Result<(), Failure>
     ensures same { (d : Decoder) → content_read (Serving.writing server.old) (Serving.reading server.old)
-        ≡ Reads.Body d → OnOk result ((Serving.peer_minor server.new ≡ Serving.peer_minor server.old)
-        × (Serving.peer_method server.new ≡ Serving.peer_method server.old)) }
+        ≡ Reads.Body d → OnOk result (IsSameRequest server.old server.new) }
     ensures passes { (d : Decoder) → content_read (Serving.writing server.old) (Serving.reading server.old)
         ≡ Reads.Body d → OnOk result (PassesRequest proxy.now.gateway client.old client.new request.now outgoing.now d
         input.old.items input.new.items (R.remaining reader.old) (R.remaining reader.new)
+        (W.contents writer.old) (W.contents writer.new)) }
+    ensures fails { (d : Decoder) → content_read (Serving.writing server.old) (Serving.reading server.old)
+        ≡ Reads.Body d → IfErr result (FailsToPassRequest proxy.now.gateway client.old request.now outgoing.now d
+        input.old.items (R.remaining reader.old) (R.remaining reader.new)
         (W.contents writer.old) (W.contents writer.new)) }
 {
     begin_request(alloc, request, outgoing, client, writer)?;
@@ -170,11 +169,36 @@ pub(crate) fn pass_request<R: Read, W: Write>(
         writer,
     )?;
     let fields = header_list(alloc, &trailers)?;
-    end_request(alloc, client, &fields, writer)?;
+    end_content(alloc, client, &fields, writer)?;
     Ok(())
 }
 
-/// Sends the head of a final response to the client.
+// Whether the origin server keeps the connection after this response, and both sides know its end.
+fn keeps_origin(response: &Response, content: Content) -> bool
+    ensures { result ≡ keeps_origin response.now content }
+{
+    response.minor != 0
+        && content != Content::UntilClose
+        && !contains_token(&response.fields.get_all(CONNECTION), b"close")
+}
+
+// The fields of a final response, with `close` if the origin server ends its connection.
+fn written_list<'a>(
+    alloc: Global,
+    response: &Response,
+    sent: &'a ForwardedResponse,
+) -> Result<Vec<Header<'a>>, AllocError>
+    ensures { IfOk result (λ list. pairs list.items ≡ written_fields response.now sent.now) }
+{
+    let mut list = header_list(alloc, &sent.fields)?;
+    if !keeps_origin(response, sent.content) {
+        list.push(close_field())?;
+    }
+    Ok(list)
+}
+
+/// Sends the head of a final response to the client. It says `close` if the origin server ends its
+/// connection, since the client's then ends too.
 pub(crate) fn begin_response<W: Write>(
     alloc: Global,
     response: &Response,
@@ -182,10 +206,15 @@ pub(crate) fn begin_response<W: Write>(
     server: &mut Server,
     writer: &mut W,
 ) -> Result<(), Failure>
-    ensures { OnOk result (BeginsResponse server.old server.new response.now sent.now
+    ensures begins { OnOk result (BeginsResponse server.old server.new response.now sent.now
+        (W.contents writer.old) (W.contents writer.new)) }
+    ensures fails { IfErr result (FailsToWrite (Serving.response_refusal server.old response.now.status
+        response.now.reason (response_size sent.now.content) (written_fields response.now sent.now))
+        (Serving.planned_response server.old response.now.status response.now.reason
+        (response_size sent.now.content) (written_fields response.now sent.now))
         (W.contents writer.old) (W.contents writer.new)) }
 {
-    let headers = header_list(alloc, &sent.fields)?;
+    let headers = written_list(alloc, response, sent)?;
     send_response_head(
         alloc,
         server,
@@ -210,11 +239,13 @@ pub(crate) fn finish_response<R: Read, W: Write>(
     server: &mut Server,
     writer: &mut W,
 ) -> Result<(), Failure>
-    ensures { (d : Decoder) (e : Encoder) → Asking.reading client.old ≡ Reads.Body d
+    ensures passes { (d : Decoder) (e : Encoder) → Asking.reading client.old ≡ Reads.Body d
         → Serving.writing server.old ≡ Writes.Body e
-        → OnOk result (Passes proxy.now.gateway (lines_at response.now.fields) sent.now.framing d e
+        → OnOk result (Passes true proxy.now.gateway (lines_at response.now.fields) sent.now.framing d e
         input.old.items input.new.items (R.remaining reader.old) (R.remaining reader.new)
         (W.contents writer.old) (W.contents writer.new)) }
+    ensures kept { (e : Encoder) → Serving.writing server.old ≡ Writes.Body e
+        → OnOk result (is_open server.new ≡ server.old.request.keep_alive) }
 {
     let trailers = pass_content(
         alloc,

@@ -1,12 +1,18 @@
 -- Heads that were read.
 use Rattle.std.proofs.Common.{◌≡◌, ℕ, List, ◌++◌, ◌∙◌, ap, sym, subst, drop, false, Err, IfErr, IfOk, IsErr, Ok}
-use Rattle.std.proofs.Common.{Option, Result, ◌⊎◌, inl, inr}
-use Rattle.std.specs.Io.KnownBytes.{Consumes}
+use Rattle.std.proofs.Common.{Option, Result, ◌⊎◌, inl, inr, map}
+use Rattle.std.proofs.KnownBytes.{Consumes-kept}
+use Rattle.std.specs.Io.KnownBytes.{Consumes, Keeps}
+use Rattle.httparse.specs.Grammar.{RequestHead, ResponseHead}
+use Rattle.httparse.specs.Spans.{name_and_value}
 use Rattle.httparse.specs.declared.spans.HeaderSpan.{HeaderSpan}
+use Rattle.httparse.specs.declared.spans.RequestSpans.{RequestSpans}
 use Rattle.httparse.specs.declared.spans.ResponseSpans.{ResponseSpans}
 use Rattle.http1.specs.Client.{ClientReads, ReadsAt, ReadsFirst, ReadsHead, TakesHead}
 use Rattle.http1.specs.Conn.{awaits_head}
-use Rattle.http1.specs.Message.{AcceptsResponse}
+use Rattle.http1.specs.Message.{AcceptsRequest, AcceptsResponse}
+use Rattle.http1.specs.Server as Serving
+use Rattle.http1.specs.Server.{ServerReads, new_server}
 use Rattle.http1.specs.declared.client.Client.{Client}
 use Rattle.http1.specs.declared.conn.Event.{Event}
 use Rattle.http1.specs.declared.conn.Event.TheVariants.{Head, Informational}
@@ -14,49 +20,136 @@ use Rattle.http1.specs.declared.conn.Limits.{Limits}
 use Rattle.http1.specs.declared.conn.Progress.{Progress}
 use Rattle.http1.specs.declared.conn.Reading.{Reading}
 use Rattle.http1.specs.declared.conn.Reading.TheVariants as Reads
+use Rattle.http1.specs.declared.framing.Framing.{Framing}
+use Rattle.http1.specs.declared.server.Server.{Server}
 use Rattle.headers_relay.specs.Content.{map_of}
-use Rattle.headers_relay.specs.Failures.{IsOther}
-use Rattle.headers_relay.specs.Heads.{IsRequestFailure, IsResponseAt, IsResponseFailure, ReadsResponseHead}
+use Rattle.headers_relay.specs.Failures.{IsMapFailure, IsReceiveFailure}
+use Rattle.headers_relay.specs.Heads.{FailsToReadRequest, FailsToReadResponse, IsRequestFailure, IsResponseAt}
+use Rattle.headers_relay.specs.Heads.{IsResponseFailure, ReadsResponseHead}
 use Rattle.headers_relay.specs.declared.failure.Failure.{Failure}
 use Rattle.headers_relay.specs.declared.failure.Failure.TheVariants as Failed
 use Rattle.headers_relay.specs.declared.response.Response.{Response}
 
 -- ---- failures
 
-other_request : (limits : Limits) (input : List ℕ) (f : Failure) → IsOther f → IsRequestFailure limits input f
-other_request limits input Failed.Reader other = tt
-other_request limits input Failed.CutShort other = tt
-other_request limits input Failed.InvalidFields other = tt
-other_request limits input (Failed.Malformed e) other = absurd other
-other_request limits input (Failed.Unsendable e) other = tt
-other_request limits input Failed.Writer other = tt
-other_request limits input Failed.OutOfMemory other = tt
+-- no read gave more
+request_unread : (limits : Limits) (input : List ℕ) (left : Option (List ℕ)) (f : Failure) → IsReceiveFailure f
+    → IsRequestFailure limits input left f
+request_unread limits input left Failed.Reader is = tt
+request_unread limits input left Failed.CutShort is = absurd is
+request_unread limits input left Failed.InvalidFields is = absurd is
+request_unread limits input left (Failed.Malformed e) is = absurd is
+request_unread limits input left Failed.TooLong is = absurd is
+request_unread limits input left (Failed.Unsendable e) is = absurd is
+request_unread limits input left Failed.Writer is = absurd is
+request_unread limits input left Failed.OutOfMemory is = tt
 
-other_response : (client : Client) (input : List ℕ) (f : Failure) → IsOther f → IsResponseFailure client input f
-other_response client input Failed.Reader other = tt
-other_response client input Failed.CutShort other = tt
-other_response client input Failed.InvalidFields other = tt
-other_response client input (Failed.Malformed e) other = absurd other
-other_response client input (Failed.Unsendable e) other = tt
-other_response client input Failed.Writer other = tt
-other_response client input Failed.OutOfMemory other = tt
+response_unread : (client : Client) (input : List ℕ) (left : Option (List ℕ)) (f : Failure) → IsReceiveFailure f
+    → IsResponseFailure client input left f
+response_unread client input left Failed.Reader is = tt
+response_unread client input left Failed.CutShort is = absurd is
+response_unread client input left Failed.InvalidFields is = absurd is
+response_unread client input left (Failed.Malformed e) is = absurd is
+response_unread client input left Failed.TooLong is = absurd is
+response_unread client input left (Failed.Unsendable e) is = absurd is
+response_unread client input left Failed.Writer is = absurd is
+response_unread client input left Failed.OutOfMemory is = tt
 
-pub request_fails : {T : Type 0} (limits : Limits) (input : List ℕ) (r : Result T Failure) (f y : Failure) → r ≡ Err y
-    → y ≡ f → IsOther f → IfErr r (IsRequestFailure limits input)
-request_fails limits input r f y is same other =
-    subst (λ (x : Result _ Failure). IfErr x (IsRequestFailure limits input)) (sym is)
-    (subst (IsRequestFailure limits input) (sym same) (other_request limits input f other))
+-- the fields of a head have no map
+request_unmapped : (limits : Limits) (input : List ℕ) (left : Option (List ℕ)) (head : RequestHead) (framing : Framing)
+    (rest : List ℕ) (f : Failure) → AcceptsRequest limits input head framing rest
+    → IsMapFailure (map name_and_value head.fields) f → IsRequestFailure limits input left f
+request_unmapped limits input left head framing rest Failed.Reader accepts is = absurd is
+request_unmapped limits input left head framing rest Failed.CutShort accepts is = absurd is
+request_unmapped limits input left head framing rest Failed.InvalidFields accepts is =
+    (head, framing, rest, accepts, is)
+request_unmapped limits input left head framing rest (Failed.Malformed e) accepts is = absurd is
+request_unmapped limits input left head framing rest Failed.TooLong accepts is = absurd is
+request_unmapped limits input left head framing rest (Failed.Unsendable e) accepts is = absurd is
+request_unmapped limits input left head framing rest Failed.Writer accepts is = absurd is
+request_unmapped limits input left head framing rest Failed.OutOfMemory accepts is = tt
 
-pub response_fails : {T : Type 0} (client : Client) (input : List ℕ) (r : Result T Failure) (f y : Failure) → r ≡ Err y
-    → y ≡ f → IsOther f → IfErr r (IsResponseFailure client input)
-response_fails client input r f y is same other =
-    subst (λ (x : Result _ Failure). IfErr x (IsResponseFailure client input)) (sym is)
-    (subst (IsResponseFailure client input) (sym same) (other_response client input f other))
+response_unmapped : (client : Client) (input : List ℕ) (left : Option (List ℕ)) (head : ResponseHead)
+    (framing : Framing) (rest : List ℕ) (f : Failure)
+    → AcceptsResponse client.limits client.method input head framing rest
+    → IsMapFailure (map name_and_value head.fields) f → IsResponseFailure client input left f
+response_unmapped client input left head framing rest Failed.Reader accepts is = absurd is
+response_unmapped client input left head framing rest Failed.CutShort accepts is = absurd is
+response_unmapped client input left head framing rest Failed.InvalidFields accepts is =
+    (head, framing, rest, accepts, is)
+response_unmapped client input left head framing rest (Failed.Malformed e) accepts is = absurd is
+response_unmapped client input left head framing rest Failed.TooLong accepts is = absurd is
+response_unmapped client input left head framing rest (Failed.Unsendable e) accepts is = absurd is
+response_unmapped client input left head framing rest Failed.Writer accepts is = absurd is
+response_unmapped client input left head framing rest Failed.OutOfMemory accepts is = tt
+
+-- a call that fails so
+module _ {T : Type 0} (r : Result T Failure) {f y : Failure} (is : r ≡ Err y) (same : y ≡ f) where
+  pub fails_as : (P : Failure → Type 0) → P f → IfErr r P
+  fails_as P because = subst (λ (x : Result T Failure). IfErr x P) (sym is) (subst P (sym same) because)
+
+  pub request_fails : (limits : Limits) (before input : List ℕ) (left left_then left_now : Option (List ℕ))
+      (taken : List ℕ) → Consumes left left_then taken → input ≡ before ++ taken → Keeps left_then left_now
+      → IsReceiveFailure f → IfErr r (FailsToReadRequest limits before input left left_now)
+  request_fails limits before input left left_then left_now taken received text keeps unread =
+      fails_as (FailsToReadRequest limits before input left left_now) (record {
+        receives = record {
+          taken = taken;
+          received = Consumes-kept left left_then left_now taken received keeps;
+          input = text;
+        };
+        because = request_unread limits input left_now f unread;
+      })
+
+  pub response_fails : (client : Client) (before input : List ℕ) (left left_then left_now : Option (List ℕ))
+      (taken : List ℕ) → Consumes left left_then taken → input ≡ before ++ taken → Keeps left_then left_now
+      → IsReceiveFailure f → IfErr r (FailsToReadResponse client before input left left_now)
+  response_fails client before input left left_then left_now taken received text keeps unread =
+      fails_as (FailsToReadResponse client before input left left_now) (record {
+        receives = record {
+          taken = taken;
+          received = Consumes-kept left left_then left_now taken received keeps;
+          input = text;
+        };
+        because = response_unread client input left_now f unread;
+      })
+
+  pub request_has_no_map : (limits : Limits) (before input : List ℕ) (left left_now : Option (List ℕ))
+      (taken : List ℕ) (head : RequestHead) (framing : Framing) (rest : List ℕ) → Consumes left left_now taken
+      → input ≡ before ++ taken → AcceptsRequest limits input head framing rest
+      → IsMapFailure (map name_and_value head.fields) f
+      → IfErr r (FailsToReadRequest limits before input left left_now)
+  request_has_no_map limits before input left left_now taken head framing rest received text accepts unmapped =
+      fails_as (FailsToReadRequest limits before input left left_now) (record {
+        receives = record { taken = taken; received = received; input = text };
+        because = request_unmapped limits input left_now head framing rest f accepts unmapped;
+      })
+
+  pub response_has_no_map : (client : Client) (before input : List ℕ) (left left_now : Option (List ℕ))
+      (taken : List ℕ) (head : ResponseHead) (framing : Framing) (rest : List ℕ) → Consumes left left_now taken
+      → input ≡ before ++ taken → AcceptsResponse client.limits client.method input head framing rest
+      → IsMapFailure (map name_and_value head.fields) f
+      → IfErr r (FailsToReadResponse client before input left left_now)
+  response_has_no_map client before input left left_now taken head framing rest received text accepts unmapped =
+      fails_as (FailsToReadResponse client before input left left_now) (record {
+        receives = record { taken = taken; received = received; input = text };
+        because = response_unmapped client input left_now head framing rest f accepts unmapped;
+      })
 
 -- nothing is said of the value of an error
 pub no_value : {T E : Type 0} (P : T → Type 0) (r : Result T E) → IsErr r → IfOk r P
 no_value P (Ok value) error = cc
 no_value P (Err e) error = tt
+
+-- ---- requests
+
+-- a server that has read nothing, and found a head
+pub takes_request : (old new : Server) (limits : Limits) (input : List ℕ) (spans : List HeaderSpan)
+    (read : Progress RequestSpans) (r : RequestSpans) → old ≡ new_server limits → ServerReads old input spans new read
+    → read.event ≡ Head r → Serving.TakesHead (new_server limits) input spans new read.consumed r
+takes_request old new limits input spans read r same reads is =
+    subst (λ (x : Event RequestSpans). Serving.ReadsHead (new_server limits) input spans new read.consumed x) is
+    (subst (λ (x : Server). ServerReads x input spans new read) same reads)
 
 -- ---- responses
 

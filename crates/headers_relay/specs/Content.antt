@@ -1,5 +1,5 @@
 -- Content as one side reads it and the other writes it, piece by piece.
-use Rattle.std.specs.Prelude.{◌≡◌, ℕ, ◌<◌, ◌≤◌, ◌^◌, ⊤, List, [], ◌∷◌, ◌++◌, length, drop, fold, None}
+use Rattle.std.specs.Prelude.{◌≡◌, ℕ, ◌<◌, ◌≤◌, ◌^◌, ⊤, Bool, false, List, [], ◌∷◌, ◌++◌, length, drop, fold, None}
 use Rattle.httparse.specs.Spans.{IsSectionWithin, IsWithin, span_bytes}
 use Rattle.httparse.specs.declared.spans.HeaderSpan.{HeaderSpan}
 use Rattle.http_header.specs.FieldValue.{FieldValue, plain_value}
@@ -36,6 +36,12 @@ Finds Reads.Done input spans next found = ⊤
 Finds Reads.Upgraded input spans next found = ⊤
 Finds Reads.Closed input spans next found = ⊤
 Finds (Reads.Failed e) input spans next found = ⊤
+
+-- once the content has ended, its sender waits for no 100 (Continue)
+abbrev pub WaitsNoMore : Decoded → Bool → Type 0
+WaitsNoMore (NeedMore len) is_waiting = ⊤
+WaitsNoMore (Data s) is_waiting = ⊤
+WaitsNoMore (End len count) is_waiting = is_waiting ≡ false
 
 -- what was found lies in the input
 abbrev pub IsPartWithin : List ℕ → List HeaderSpan → Decoded → Type 0
@@ -93,9 +99,11 @@ ArePassed (piece ∷ pieces) e =
 pub record Asked : Type 0 where
   pub method : MethodKind
   pub minor : ℕ
+  pub keep_alive : Bool
 
 -- what a side has beside its writing, which writing content leaves as it was
 pub record Kept : Type 0 where
   pub limits : Limits
   pub reading : Reading
   pub method : MethodKind
+  pub keep_alive : Bool

@@ -1,7 +1,8 @@
 -- The heads of messages, as they are read.
-use Rattle.std.specs.Prelude.{◌≡◌, ⊤, ℕ, false, List, [], ◌++◌, map, Option}
+use Rattle.std.specs.Prelude.{◌≡◌, ◌≢◌, ⊤, ℕ, false, List, [], ◌++◌, map, Option}
 use Rattle.std.specs.Io.KnownBytes.{Consumes, IsAtEnd}
-use Rattle.httparse.specs.Grammar.{RequestHead, ResponseHead, reason_phrase, status_code}
+use Rattle.httparse.specs.Grammar.{HasNoRequest, HasNoResponse, RequestHead, ResponseHead, reason_phrase}
+use Rattle.httparse.specs.Grammar.{status_code}
 use Rattle.httparse.specs.Spans.{name_and_value, span_bytes}
 use Rattle.httparse.specs.declared.spans.HeaderSpan.{HeaderSpan}
 use Rattle.httparse.specs.declared.spans.RequestSpans.{RequestSpans}
@@ -17,8 +18,9 @@ use Rattle.http1.specs.declared.conn.Reading.TheVariants as Reads
 use Rattle.http1.specs.declared.framing.Framing.{Framing}
 use Rattle.http1.specs.declared.server.Server.{Server}
 use Rattle.headers_relay.specs.Content.{map_of}
+use Rattle.headers_relay.specs.Failures.{HasNoMap, Receives}
 use Rattle.headers_relay.specs.declared.failure.Failure.{Failure}
-use Rattle.headers_relay.specs.declared.failure.Failure.TheVariants.{Malformed}
+use Rattle.headers_relay.specs.declared.failure.Failure.TheVariants as Failed
 use Rattle.headers_relay.specs.declared.request.Request.{Request}
 use Rattle.headers_relay.specs.declared.request.TheConstants.{MAX_FIELDS}
 use Rattle.headers_relay.specs.declared.response.Response.{Response}
@@ -60,10 +62,25 @@ pub record ReadsRequestHead (limits : Limits) (before after : List ℕ) (left le
 abbrev pub IsClosedBefore : List ℕ → Option (List ℕ) → Option (List ℕ) → Type 0
 IsClosedBefore before left left_after = (before ≡ []) × Consumes left left_after [] × IsAtEnd left_after
 
--- the input is malformed only if no bytes that follow make a request of it
-abbrev pub IsRequestFailure : Limits → List ℕ → Failure → Type 0
-IsRequestFailure limits input (Malformed e) = RefusesAt Reads.Head limits input MAX_FIELDS e
-IsRequestFailure limits input failure = ⊤
+-- why no request is read, when this is in the input and this is left of the reader
+abbrev pub IsRequestFailure : Limits → List ℕ → Option (List ℕ) → Failure → Type 0
+IsRequestFailure limits input left Failed.Reader = ⊤
+IsRequestFailure limits input left Failed.CutShort = (input ≢ []) × HasNoRequest input × IsAtEnd left
+IsRequestFailure limits input left Failed.InvalidFields =
+    (head : RequestHead) × (framing : Framing) × (rest : List ℕ)
+    × AcceptsRequest limits input head framing rest × HasNoMap (map name_and_value head.fields)
+IsRequestFailure limits input left (Failed.Malformed e) = RefusesAt Reads.Head limits input MAX_FIELDS e
+IsRequestFailure limits input left Failed.TooLong = ⊥
+IsRequestFailure limits input left (Failed.Unsendable e) = ⊥
+IsRequestFailure limits input left Failed.Writer = ⊥
+IsRequestFailure limits input left Failed.OutOfMemory = ⊤
+
+-- No request is read: it is malformed, and no bytes that follow would mend it; or cut short, or its fields have no map;
+-- or else a read failed, or memory ran out.
+pub record FailsToReadRequest (limits : Limits) (before after : List ℕ) (left left_after : Option (List ℕ))
+    (failure : Failure) : Type 0 where
+  pub receives : Receives before after left left_after
+  pub because : IsRequestFailure limits after left_after failure
 
 -- ---- responses
 
@@ -93,7 +110,21 @@ pub record ReadsResponseHead (client client_after : Client) (before after : List
   pub parts : IsResponseOf head response
   pub next : client_after ≡ after_head client head framing
 
--- the input is malformed only if no bytes that follow make a response of it
-abbrev pub IsResponseFailure : Client → List ℕ → Failure → Type 0
-IsResponseFailure client input (Malformed e) = RefusesFirst false client input MAX_FIELDS e
-IsResponseFailure client input failure = ⊤
+-- why no response is read, when this is in the input and this is left of the reader
+abbrev pub IsResponseFailure : Client → List ℕ → Option (List ℕ) → Failure → Type 0
+IsResponseFailure client input left Failed.Reader = ⊤
+IsResponseFailure client input left Failed.CutShort = HasNoResponse input × IsAtEnd left
+IsResponseFailure client input left Failed.InvalidFields =
+    (head : ResponseHead) × (framing : Framing) × (rest : List ℕ)
+    × AcceptsResponse client.limits client.method input head framing rest × HasNoMap (map name_and_value head.fields)
+IsResponseFailure client input left (Failed.Malformed e) = RefusesFirst false client input MAX_FIELDS e
+IsResponseFailure client input left Failed.TooLong = ⊥
+IsResponseFailure client input left (Failed.Unsendable e) = ⊥
+IsResponseFailure client input left Failed.Writer = ⊥
+IsResponseFailure client input left Failed.OutOfMemory = ⊤
+
+-- no response is read, for the same reasons
+pub record FailsToReadResponse (client : Client) (before after : List ℕ) (left left_after : Option (List ℕ))
+    (failure : Failure) : Type 0 where
+  pub receives : Receives before after left left_after
+  pub because : IsResponseFailure client after left_after failure

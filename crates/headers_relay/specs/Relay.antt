@@ -1,5 +1,5 @@
 -- What a relay of content does.
-use Rattle.std.specs.Prelude.{◌≡◌, ℕ, List, [], ◌++◌, map, Option, Result, IfOk, OnOk}
+use Rattle.std.specs.Prelude.{◌≡◌, ℕ, List, [], ◌++◌, map, Option, Result, Bool, IfErr, IfOk, OnOk}
 use Rattle.std.specs.List.{concat}
 use Rattle.std.specs.Io.KnownBytes.{Appends, Consumes}
 use Rattle.httparse.specs.Grammar.{Field}
@@ -13,6 +13,7 @@ use Rattle.http1.specs.declared.conn.Writing.TheVariants as Writes
 use Rattle.http1.specs.declared.decode.Decoder.{Decoder}
 use Rattle.http1.specs.declared.encode.Encoder.{Encoder}
 use Rattle.headers_relay.specs.Content.{ArePassed, Gives, after_pieces, map_of, pieces_text}
+use Rattle.headers_relay.specs.Failures.{IsRelayFailure}
 use Rattle.headers_relay.specs.declared.failure.Failure.{Failure}
 
 -- the text is written, or after a failure a first part of it
@@ -29,9 +30,9 @@ HasEnd last unread trailers after =
 -- Content passes from a reader to a writer. The input was `before`, and is `after`. Of the reader these bytes were
 -- taken meanwhile, and of both together these pieces are content. They are written in their frames, all of them where
 -- the content ended, and else a first part.
-pub record Relays (d : Decoder) (e : Encoder) (before after : List ℕ) (left left_after held held_after : Option
-    (List ℕ))
-    (written : Writing) (result : Result (Entries FieldValue) Failure) : Type 0 where
+pub record Relays (ends_with_connection : Bool) (d : Decoder) (e : Encoder) (before after : List ℕ)
+    (left left_after held held_after : Option (List ℕ)) (written : Writing)
+    (result : Result (Entries FieldValue) Failure) : Type 0 where
   pub taken : List ℕ
   pub received : Consumes left left_after taken
   pub pieces : List (List ℕ)
@@ -42,6 +43,7 @@ pub record Relays (d : Decoder) (e : Encoder) (before after : List ℕ) (left le
   pub sends : Sends result held held_after (pieces_text pieces e)
   pub ends : IfOk result (λ trailers. HasEnd last unread trailers after × (written ≡ Writes.Body
       (after_pieces pieces e)))
+  pub fails : IfErr result (IsRelayFailure ends_with_connection d e (before ++ taken) left_after pieces)
 
 -- What was relayed is the content of a message: the input and what was taken of the reader begin with a body of the
 -- grammar, and what is left is what follows it. Its bytes are written in pieces, each in its frame.

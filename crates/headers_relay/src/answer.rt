@@ -1,10 +1,10 @@
 //! The heads of messages that are sent, and the gateway's own answers.
-ghost use Rattle.std.specs.Prelude.{◌≡◌, ◌++◌, OnErr, OnOk, None};
+ghost use Rattle.std.specs.Prelude.{◌≡◌, OnOk};
 ghost use Rattle.http1.specs.Client.{after_request, planned_request, request_refusal};
 ghost use Rattle.http1.specs.Head.{pairs, response_text};
 ghost use Rattle.http1.specs.Server.{after_informational, after_response, informational_refusal, planned_response};
 ghost use Rattle.http1.specs.Server.{response_refusal};
-ghost use Rattle.headers_relay.specs.Relay.{Sends};
+ghost use Rattle.headers_relay.specs.Failures.{Writes};
 
 use crate::failure::Failure;
 use crate::transfer::send;
@@ -23,17 +23,14 @@ pub fn send_request_head<W: Write>(
     size: BodySize,
     writer: &mut W,
 ) -> Result<(), Failure>
-    ensures sends { Sends result (W.contents writer.old) (W.contents writer.new)
-        (planned_request client.old method.now target.now size (pairs headers.now)) }
+    ensures writes { Writes (request_refusal client.old method.now target.now size (pairs headers.now))
+        (planned_request client.old method.now target.now size (pairs headers.now))
+        (W.contents writer.old) (W.contents writer.new) result }
     ensures next { OnOk result (client.new ≡ after_request client.old method.now size (pairs headers.now)) }
-    ensures accepted { OnOk result
-        (request_refusal client.old method.now target.now size (pairs headers.now) ≡ None) }
 {
     let mut output = BytesMut::new(alloc);
-    match client.write_request(&mut output, method, target, headers, size) {
-        Ok(()) => send(writer, output.as_slice()),
-        Err(error) => Err(Failure::Unsendable(error)),
-    }
+    client.write_request(&mut output, method, target, headers, size)?;
+    send(writer, output.as_slice())
 }
 
 /// Sends an interim response.
@@ -45,17 +42,14 @@ pub fn send_interim<W: Write>(
     headers: &[Header<'_>],
     writer: &mut W,
 ) -> Result<(), Failure>
-    ensures sends { Sends result (W.contents writer.old) (W.contents writer.new)
-        (response_text 1 status reason.now (pairs headers.now)) }
+    ensures writes { Writes (informational_refusal server.old status reason.now (pairs headers.now))
+        (response_text 1 status reason.now (pairs headers.now))
+        (W.contents writer.old) (W.contents writer.new) result }
     ensures next { OnOk result (server.new ≡ after_informational server.old status) }
-    ensures accepted { OnOk result
-        (informational_refusal server.old status reason.now (pairs headers.now) ≡ None) }
 {
     let mut output = BytesMut::new(alloc);
-    match server.write_informational(&mut output, status, reason, headers) {
-        Ok(()) => send(writer, output.as_slice()),
-        Err(error) => Err(Failure::Unsendable(error)),
-    }
+    server.write_informational(&mut output, status, reason, headers)?;
+    send(writer, output.as_slice())
 }
 
 /// Sends the head of a final response.
@@ -68,15 +62,12 @@ pub fn send_response_head<W: Write>(
     size: BodySize,
     writer: &mut W,
 ) -> Result<(), Failure>
-    ensures sends { Sends result (W.contents writer.old) (W.contents writer.new)
-        (planned_response server.old status reason.now size (pairs headers.now)) }
+    ensures writes { Writes (response_refusal server.old status reason.now size (pairs headers.now))
+        (planned_response server.old status reason.now size (pairs headers.now))
+        (W.contents writer.old) (W.contents writer.new) result }
     ensures next { OnOk result (server.new ≡ after_response server.old status size (pairs headers.now)) }
-    ensures accepted { OnOk result
-        (response_refusal server.old status reason.now size (pairs headers.now) ≡ None) }
 {
     let mut output = BytesMut::new(alloc);
-    match server.write_response(&mut output, status, reason, headers, size) {
-        Ok(()) => send(writer, output.as_slice()),
-        Err(error) => Err(Failure::Unsendable(error)),
-    }
+    server.write_response(&mut output, status, reason, headers, size)?;
+    send(writer, output.as_slice())
 }

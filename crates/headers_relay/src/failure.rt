@@ -16,6 +16,8 @@ pub enum Failure {
     InvalidFields,
     /// What the sender sent is no message.
     Malformed(ReadError),
+    /// The content has 2^63 bytes or more.
+    TooLong,
     /// The message can't be written in the plain form.
     Unsendable(WriteError),
     /// Writing to the recipient failed.
@@ -31,6 +33,7 @@ impl fmt::Display for Failure {
             Failure::CutShort => f.write_str("the connection closed within a message"),
             Failure::InvalidFields => f.write_str("invalid fields"),
             Failure::Malformed(error) => write!(f, "{error}"),
+            Failure::TooLong => f.write_str("the content is too long"),
             Failure::Unsendable(error) => write!(f, "{error}"),
             Failure::Writer => f.write_str("writing failed"),
             Failure::OutOfMemory => f.write_str("out of memory"),
@@ -48,5 +51,33 @@ impl From<AllocError> for Failure {
 
     fn from(_: AllocError) -> Failure {
         Failure::OutOfMemory
+    }
+}
+
+impl From<WriteError> for Failure {
+    ghost use Rattle.std.specs.Prelude.{◌≡◌};
+    ghost use Rattle.headers_relay.specs.Failures.{write_failure};
+
+    ghost from_gives = { λ error failure. failure ≡ write_failure error };
+
+    fn from(error: WriteError) -> Failure {
+        match error {
+            WriteError::OutOfMemory => Failure::OutOfMemory,
+            error => Failure::Unsendable(error),
+        }
+    }
+}
+
+impl From<http::Error> for Failure {
+    ghost use Rattle.std.specs.Prelude.{◌≡◌};
+    ghost use Rattle.headers_relay.specs.Failures.{map_failure};
+
+    ghost from_gives = { λ error failure. failure ≡ map_failure error };
+
+    fn from(error: http::Error) -> Failure {
+        match error {
+            http::Error::OutOfMemory => Failure::OutOfMemory,
+            _ => Failure::InvalidFields,
+        }
     }
 }

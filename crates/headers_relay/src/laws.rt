@@ -1,5 +1,5 @@
 //! What follows from the definitions alone. A proof cites a law by calling it.
-ghost use Rattle.std.specs.Prelude.{◌≡◌, ◌++◌, ℕ, List, Option, None, Ok};
+ghost use Rattle.std.specs.Prelude.{◌≡◌, ◌++◌, ℕ, Bool, List, Option, None, Ok};
 ghost use Rattle.http_header.specs.FieldValue.{FieldValue};
 ghost use Rattle.http_header.specs.HeaderMap.{Entries};
 ghost use Rattle.http1.specs.Client.{request_plan};
@@ -21,9 +21,9 @@ ghost use Rattle.headers_relay.specs.Relay.{IsRelayed, Relays};
 /// What a relay passes on is the content of one message, and no byte of another: what was read begins
 /// with it by the grammar of RFC 9112, and what is left unread is what follows it.
 pub fn relayed_content_is_the_message()
-    ensures { (d : Decoder) (e : Encoder) (before after : List ℕ)
+    ensures { (ends_with_connection : Bool) (d : Decoder) (e : Encoder) (before after : List ℕ)
         (left left_after held held_after : Option (List ℕ)) (written : Writing) (trailers : Entries FieldValue)
-        → Relays d e before after left left_after held held_after written (Ok trailers)
+        → Relays ends_with_connection d e before after left left_after held held_after written (Ok trailers)
         → IsRelayed d e before after left left_after held held_after trailers }
 {}
 

@@ -1,18 +1,20 @@
 //! A relay of the content of a message.
-ghost use Rattle.std.specs.Prelude.{◌≡◌, ◌<◌, ◌^◌, ◌++◌, [], None, length, drop, IfErr, IfOk, OnErr, OnOk};
+ghost use Rattle.std.specs.Prelude.{◌≡◌, ◌≢◌, ◌<◌, ◌^◌, ◌++◌, [], None, length, drop, false, IfErr, IfOk, IsTrue};
+ghost use Rattle.std.specs.Prelude.{OnErr, OnOk};
 ghost use Rattle.httparse.specs.Spans.{IsSectionWithin, IsWithin, span_bytes};
 ghost use Rattle.http1.specs.Conn.{after_data, data_refusal, data_text};
 ghost use Rattle.http1.specs.Encoder.{end_refusal, end_text};
 ghost use Rattle.http1.specs.Head.{pairs};
 ghost use Rattle.http1.specs.ServerTrace.{headers_at};
 ghost use Rattle.http1.specs.declared.conn.Reading.TheVariants as Reads;
-ghost use Rattle.http1.specs.declared.conn.Writing.TheVariants as Writes;
+ghost use Rattle.http1.specs.declared.conn.Writing.TheVariants as Written;
 ghost use Rattle.http1.specs.declared.decode.Decoder.{Decoder};
 ghost use Rattle.http1.specs.declared.decode.Decoder.TheVariants.{UntilClose};
 ghost use Rattle.http1.specs.declared.encode.Encoder.{Encoder};
 ghost use Rattle.headers_relay.specs.Content.{map_of};
-ghost use Rattle.headers_relay.specs.Failures.{IsOther};
-ghost use Rattle.headers_relay.specs.Relay.{Relays, Sends};
+ghost use Rattle.headers_relay.specs.Failures.{IsMapFailure, IsPieceFailure, Writes};
+ghost use Rattle.headers_relay.specs.declared.failure.Failure.TheVariants.{CutShort};
+ghost use Rattle.headers_relay.specs.Relay.{Relays};
 
 use crate::failure::Failure;
 use crate::sink::ContentSink;
@@ -46,17 +48,15 @@ fn pass_piece<T: ContentSink>(
         (T.writing sink.new ≡ after_data (T.writing sink.old) (length (span_bytes input.old.items piece))) }
     ensures passed { OnOk result
         (data_refusal (T.writing sink.old) (length (span_bytes input.old.items piece)) ≡ None) }
+    ensures refused { IfErr result (IsPieceFailure
+        (data_refusal (T.writing sink.old) (length (span_bytes input.old.items piece)))) }
     ensures short { length (span_bytes input.old.items piece) < 2 ^ 64 }
     ensures kept { T.kept sink.new ≡ T.kept sink.old }
     ensures err { OnErr result (output.new.items ≡ output.old.items) }
 {
-    match sink.write_piece(output, piece.of(input.as_slice())) {
-        Ok(()) => {
-            input.advance(piece.end);
-            Ok(())
-        }
-        Err(error) => Err(Failure::Unsendable(error)),
-    }
+    sink.write_piece(output, piece.of(input.as_slice()))?;
+    input.advance(piece.end);
+    Ok(())
 }
 
 /// The header map of the fields under the spans.
@@ -70,14 +70,10 @@ pub fn fields_at(
 ) -> Result<HeaderMap, Failure>
     requires { IsSectionWithin input.now spans.now len count }
     ensures fields { IfOk result (λ fields. fields ≡ map_of (headers_at input.now spans.now count)) }
-    ensures other { IfErr result IsOther }
+    ensures reason { IfErr result (IsMapFailure (headers_at input.now spans.now count)) }
 {
     let section = Bytes::copy_from_slice(alloc, &input[..len])?;
-    match header_map(alloc, keys, &section, &spans[..count]) {
-        Ok(fields) => Ok(fields),
-        Err(http::Error::OutOfMemory) => Err(Failure::OutOfMemory),
-        Err(_) => Err(Failure::InvalidFields),
-    }
+    Ok(header_map(alloc, keys, &section, &spans[..count])?)
 }
 
 /// Passes the content of a message from a reader to a writer, piece by piece, in the frames of the
@@ -92,16 +88,19 @@ pub fn relay_content<S: ContentSource, R: Read, T: ContentSink, W: Write>(
     writer: &mut W,
 ) -> Result<HeaderMap, Failure>
     ensures relays { (d : Decoder) (e : Encoder) → S.reading source.old ≡ Reads.Body d
-        → T.writing sink.old ≡ Writes.Body e
-        → Relays d e input.old.items input.new.items (R.remaining reader.old) (R.remaining reader.new)
+        → T.writing sink.old ≡ Written.Body e
+        → Relays S.ends_with_connection d e input.old.items input.new.items
+        (R.remaining reader.old) (R.remaining reader.new)
         (W.contents writer.old) (W.contents writer.new) (T.writing sink.new) result }
+    ensures waiting { (d : Decoder) (e : Encoder) → S.reading source.old ≡ Reads.Body d
+        → T.writing sink.old ≡ Written.Body e → OnOk result (S.is_waiting source.new ≡ false) }
     ensures asked { (d : Decoder) (e : Encoder) → S.reading source.old ≡ Reads.Body d
-        → T.writing sink.old ≡ Writes.Body e → S.asked source.new ≡ S.asked source.old }
+        → T.writing sink.old ≡ Written.Body e → OnOk result (S.asked source.new ≡ S.asked source.old) }
     ensures kept { T.kept sink.new ≡ T.kept sink.old }
 {
     let mut spans = [EMPTY_HEADER_SPAN; MAX_TRAILERS];
     let mut output = BytesMut::new(alloc);
-    for _ in 0..u64::MAX {
+    for _turn in 0..u64::MAX {
         let found = match source.read_content(input.as_slice(), &mut spans) {
             Ok(found) => found,
             Err(error) => return Err(Failure::Malformed(error)),
@@ -124,7 +123,7 @@ pub fn relay_content<S: ContentSource, R: Read, T: ContentSink, W: Write>(
             }
         }
     }
-    Err(Failure::CutShort)
+    Err(Failure::TooLong)
 }
 
 // The content at the end of the input: it is whole only if nothing else ends it.
@@ -137,7 +136,12 @@ fn end_of_input<S: ContentSource>(
     ensures fields { IfOk result (λ fields. fields ≡ []) }
     ensures read { OnOk result (input.now.items ≡ []) }
     ensures until_close { (d : Decoder) → S.reading source.old ≡ Reads.Body d → OnOk result (d ≡ UntilClose) }
-    ensures asked { (d : Decoder) → S.reading source.old ≡ Reads.Body d → S.asked source.new ≡ S.asked source.old }
+    ensures cut { (d : Decoder) → S.reading source.old ≡ Reads.Body d → IfErr result (λ failure.
+        (failure ≡ CutShort) × (IsTrue S.ends_with_connection → input.now.items ≡ [] → d ≢ UntilClose)) }
+    ensures asked { (d : Decoder) → S.reading source.old ≡ Reads.Body d
+        → OnOk result (S.asked source.new ≡ S.asked source.old) }
+    ensures waiting { (d : Decoder) → S.reading source.old ≡ Reads.Body d
+        → OnOk result (S.is_waiting source.new ≡ false) }
 {
     if !input.is_empty() {
         return Err(Failure::CutShort);
@@ -156,14 +160,12 @@ pub fn end_content<T: ContentSink, W: Write>(
     trailers: &[Header<'_>],
     writer: &mut W,
 ) -> Result<(), Failure>
-    ensures sends { (e : Encoder) → T.writing sink.old ≡ Writes.Body e
-        → Sends result (W.contents writer.old) (W.contents writer.new) (end_text e (pairs trailers.now)) }
-    ensures accepted { (e : Encoder) → T.writing sink.old ≡ Writes.Body e
-        → OnOk result (end_refusal e (pairs trailers.now) ≡ None) }
+    ensures writes { (e : Encoder) → T.writing sink.old ≡ Written.Body e
+        → Writes (end_refusal e (pairs trailers.now)) (end_text e (pairs trailers.now))
+        (W.contents writer.old) (W.contents writer.new) result }
+    ensures next { OnOk result (sink.new ≡ T.after_end sink.old) }
 {
     let mut output = BytesMut::new(alloc);
-    match sink.write_end(&mut output, trailers) {
-        Ok(()) => send(writer, output.as_slice()),
-        Err(error) => Err(Failure::Unsendable(error)),
-    }
+    sink.write_end(&mut output, trailers)?;
+    send(writer, output.as_slice())
 }

@@ -2,8 +2,9 @@
 ghost use Rattle.std.specs.Prelude.{◌≡◌, IfErr, IfOk, MatchOption, length};
 ghost use Rattle.httparse.specs.Spans.{IsRequestWithin};
 ghost use Rattle.http1.specs.Server.{new_server};
-ghost use Rattle.headers_relay.specs.Failures.{IsOther};
-ghost use Rattle.headers_relay.specs.Heads.{IsClosedBefore, IsRequestAt, IsRequestFailure, ReadsRequestHead};
+ghost use Rattle.http1.specs.ServerTrace.{headers_at};
+ghost use Rattle.headers_relay.specs.Failures.{IsMapFailure};
+ghost use Rattle.headers_relay.specs.Heads.{FailsToReadRequest, IsClosedBefore, IsRequestAt, ReadsRequestHead};
 
 use crate::failure::Failure;
 use crate::relay::fields_at;
@@ -42,7 +43,7 @@ fn request_at(
 ) -> Result<Request, Failure>
     requires { IsRequestWithin input.now spans.now head.now }
     ensures parts { IfOk result (IsRequestAt input.now spans.now head.now) }
-    ensures other { IfErr result IsOther }
+    ensures reason { IfErr result (IsMapFailure (headers_at input.now spans.now head.now.headers)) }
 {
     let Ok(method) = Method::from_bytes(alloc, head.method.of(input)) else {
         return Err(Failure::OutOfMemory);
@@ -71,10 +72,13 @@ pub fn read_request<R: Read>(
         (ReadsRequestHead server.old.limits input.old.items input.new.items (R.remaining reader.old)
         (R.remaining reader.new) server.new)) }
     ensures err { server.old ≡ new_server server.old.limits
-        → IfErr result (IsRequestFailure server.old.limits input.new.items) }
+        → IfErr result (FailsToReadRequest server.old.limits input.old.items input.new.items
+        (R.remaining reader.old) (R.remaining reader.new)) }
 {
     let mut spans = [EMPTY_HEADER_SPAN; MAX_FIELDS];
-    for _ in 0..u64::MAX {
+    loop {
+        // It ends: each turn reads more, and the input has a greatest length.
+        let _len = input.len();
         let read = match server.read(input.as_slice(), &mut spans) {
             Ok(read) => read,
             Err(error) => return Err(Failure::Malformed(error)),
@@ -96,5 +100,4 @@ pub fn read_request<R: Read>(
             }
         }
     }
-    Err(Failure::CutShort)
 }

@@ -1,10 +1,11 @@
 //! The head of a response, as the origin server sends it.
-ghost use Rattle.std.specs.Prelude.{◌≡◌, IfErr, IfOk, false};
+ghost use Rattle.std.specs.Prelude.{◌≡◌, ◌≤◌, IfErr, IfOk, false};
 ghost use Rattle.httparse.specs.Spans.{IsResponseWithin};
 ghost use Rattle.http1.specs.Conn.{awaits_head};
 ghost use Rattle.http1.specs.declared.conn.Reading.TheVariants as Reads;
-ghost use Rattle.headers_relay.specs.Failures.{IsOther};
-ghost use Rattle.headers_relay.specs.Heads.{IsResponseAt, IsResponseFailure, ReadsResponseHead};
+ghost use Rattle.http1.specs.ServerTrace.{headers_at};
+ghost use Rattle.headers_relay.specs.Failures.{IsMapFailure};
+ghost use Rattle.headers_relay.specs.Heads.{FailsToReadResponse, IsResponseAt, ReadsResponseHead};
 
 use crate::failure::Failure;
 use crate::relay::fields_at;
@@ -41,7 +42,8 @@ fn response_at(
 ) -> Result<Response, Failure>
     requires { IsResponseWithin input.now spans.now head.now }
     ensures parts { IfOk result (IsResponseAt input.now spans.now head.now) }
-    ensures other { IfErr result IsOther }
+    ensures reason { 100 ≤ head.now.code
+        → IfErr result (IsMapFailure (headers_at input.now spans.now head.now.headers)) }
 {
     let Ok(status) = StatusCode::from_u16(head.code) else {
         return Err(Failure::InvalidFields);
@@ -69,10 +71,13 @@ pub fn read_response<R: Read>(
         → IfOk result (ReadsResponseHead client.old client.new input.old.items input.new.items
         (R.remaining reader.old) (R.remaining reader.new)) }
     ensures err { client.old.reading ≡ Reads.Head → awaits_head client.old.writing ≡ false
-        → IfErr result (IsResponseFailure client.old input.new.items) }
+        → IfErr result (FailsToReadResponse client.old input.old.items input.new.items
+        (R.remaining reader.old) (R.remaining reader.new)) }
 {
     let mut spans = [EMPTY_HEADER_SPAN; MAX_FIELDS];
-    for _ in 0..u64::MAX {
+    loop {
+        // It ends: each turn reads more, and the input has a greatest length.
+        let _len = input.len();
         let read = match client.read(input.as_slice(), &mut spans) {
             Ok(read) => read,
             Err(error) => return Err(Failure::Malformed(error)),
@@ -90,5 +95,4 @@ pub fn read_response<R: Read>(
             }
         }
     }
-    Err(Failure::CutShort)
 }

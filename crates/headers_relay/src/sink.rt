@@ -1,9 +1,10 @@
 //! The side of a gateway that writes the content of a message.
-ghost use Rattle.std.specs.Prelude.{◌≡◌, ◌++◌, [], None, length, OnOk, OnErr};
+ghost use Rattle.std.specs.Prelude.{◌≡◌, ◌++◌, [], length, OnOk, OnErr};
 ghost use Rattle.http1.specs.Conn.{after_data, data_refusal, data_text, finish_refusal, finish_text};
 ghost use Rattle.http1.specs.Head.{pairs};
 ghost use Rattle.http1.specs.declared.conn.Writing.{Writing};
 ghost use Rattle.headers_relay.specs.Content.{Kept};
+ghost use Rattle.headers_relay.specs.Failures.{Refuses};
 
 use bytes::BytesMut;
 use http1::{Client, Header, Server, WriteError};
@@ -17,11 +18,14 @@ pub trait ContentSink {
     // What it has beside that.
     ghost kept: { Self → Kept };
 
+    // What it is after the end of the content.
+    ghost after_end: { Self → Self };
+
     /// Appends a piece of the content, in its frame.
     fn write_piece(&mut self, output: &mut BytesMut, piece: &[u8]) -> Result<(), WriteError>
         ensures ok { OnOk result (output.new.items ≡ output.old.items ++ data_text (writing self.old) piece.now) }
         ensures counted { OnOk result (writing self.new ≡ after_data (writing self.old) (length piece.now)) }
-        ensures passed { OnOk result (data_refusal (writing self.old) (length piece.now) ≡ None) }
+        ensures refused { Refuses (data_refusal (writing self.old) (length piece.now)) result }
         ensures kept { kept self.new ≡ kept self.old }
         ensures err { OnErr result (output.new.items ≡ output.old.items) };
 
@@ -33,16 +37,25 @@ pub trait ContentSink {
     ) -> Result<(), WriteError>
         ensures ok { OnOk result
             (output.new.items ≡ output.old.items ++ finish_text (writing self.old) (pairs trailers.now)) }
-        ensures passed { OnOk result (finish_refusal (writing self.old) (pairs trailers.now) ≡ None) }
+        ensures refused { Refuses (finish_refusal (writing self.old) (pairs trailers.now)) result }
+        ensures done { OnOk result (self.new ≡ after_end self.old) }
         ensures err { OnErr result (output.new.items ≡ output.old.items) };
 }
 
 impl ContentSink for Client {
-    ghost use Rattle.http1.specs.Client.{writing as written_by};
+    ghost use Rattle.http1.specs.Client.{after_end as ended, writing as written_by};
 
     ghost writing = { written_by };
 
-    ghost kept = { λ client. record { limits = client.limits; reading = client.reading; method = client.method } };
+    ghost kept = { λ client.
+        record {
+          limits = client.limits;
+          reading = client.reading;
+          method = client.method;
+          keep_alive = client.keep_alive;
+        } };
+
+    ghost after_end = { ended };
 
     fn write_piece(&mut self, output: &mut BytesMut, piece: &[u8]) -> Result<(), WriteError> {
         self.write_data(output, piece)
@@ -58,12 +71,19 @@ impl ContentSink for Client {
 }
 
 impl ContentSink for Server {
-    ghost use Rattle.http1.specs.Server.{writing as written_by};
+    ghost use Rattle.http1.specs.Server.{after_end as ended, writing as written_by};
 
     ghost writing = { written_by };
 
     ghost kept = { λ server.
-        record { limits = server.limits; reading = server.reading; method = server.request.method } };
+        record {
+          limits = server.limits;
+          reading = server.reading;
+          method = server.request.method;
+          keep_alive = server.request.keep_alive;
+        } };
+
+    ghost after_end = { ended };
 
     fn write_piece(&mut self, output: &mut BytesMut, piece: &[u8]) -> Result<(), WriteError> {
         self.write_data(output, piece)

@@ -1,7 +1,7 @@
 //! Bytes from a reader and to a writer.
 ghost use Rattle.std.specs.Prelude.{◌≡◌, ◌++◌, ℕ, List, [], length, IfErr, IfOk, OnErr, OnOk};
 ghost use Rattle.std.specs.Io.KnownBytes.{Consumes, IsAtEnd, Keeps};
-ghost use Rattle.headers_relay.specs.Failures.{IsOther};
+ghost use Rattle.headers_relay.specs.Failures.{IsReceiveFailure};
 ghost use Rattle.headers_relay.specs.Relay.{Sends};
 
 use crate::failure::Failure;
@@ -15,7 +15,7 @@ const READ_SIZE: usize = 64 * 1024;
 /// written.
 pub fn send<W: Write>(writer: &mut W, text: &[u8]) -> Result<(), Failure>
     ensures sends { Sends result (W.contents writer.old) (W.contents writer.new) text.now }
-    ensures err { OnErr result (result ≡ Err Failure.Writer) }
+    ensures err { IfErr result (λ failure. failure ≡ Failure.Writer) }
 {
     let mut at = 0;
     while at < text.len() {
@@ -39,7 +39,7 @@ pub fn receive<R: Read>(reader: &mut R, input: &mut BytesMut) -> Result<usize, F
     ensures end { result ≡ Ok 0 → IsAtEnd (R.remaining reader.new) }
     ensures err { OnErr result ((input.new.items ≡ input.old.items)
         × Keeps (R.remaining reader.old) (R.remaining reader.new)) }
-    ensures other { IfErr result IsOther }
+    ensures reason { IfErr result IsReceiveFailure }
 {
     if input.reserve(READ_SIZE).is_err() {
         return Err(Failure::OutOfMemory);

@@ -1,21 +1,27 @@
 use Rattle.std.proofs.Common.{◌≡◌, ◌∙◌, inr, nat_lt, subst, sym, true}
+use Rattle.http1.specs.Head.{response_text}
 use Rattle.http1.specs.declared.client.Client.{Client}
+use Rattle.headers_gateway.specs.FieldLines.{fields_of}
+use Rattle.headers_gateway.specs.Responses.{IsResponseOutcome}
 use Rattle.headers_relay.specs.Heads.{ReadsResponseHead}
-use Rattle.headers_proxy.proofs.AnswerLemmas.{forwards_as, interim_keeps}
-use Rattle.headers_proxy.proofs.PassLemmas.{sent_whole}
+use Rattle.headers_proxy.specs.Faults.{IsUnusable}
+use Rattle.headers_proxy.specs.Responses.{received}
+use Rattle.headers_proxy.specs.declared.fault.Fault.{Fault}
+use Rattle.headers_proxy.proofs.AnswerLemmas.{interim_keeps, interim_unsent, outcome_as}
 use Rattle.headers_proxy.proofs.answer.next_response.Goals as goal
 
-pub returns-in-Forward : goal.returns-in-Forward
-returns-in-Forward g c reading writing connect =
-    let response = c.in_ok-response.response in
-    let reads = c.in_ok-response.ensures.ok reading writing in
-    let forwards =
-    forwards_as c.args.proxy.now.gateway c.now.result c.args.request.now response c.protocol_of.result
-    c.protocol_of-2.result c.in_ok-sent.field-0 c.in-Forward.sent c.protocol_of.ensures c.protocol_of-2.ensures
-    c.in-Forward.is c.in_ok-sent.ensures.ok in
+pub returns-in-Ok-forward_interim : goal.returns-in-Ok-forward_interim
+returns-in-Ok-forward_interim g c reading writing connect =
+    let proxy = c.args.proxy.now in
+    let request = c.args.request.now in
+    let response = c.in-Ok.response in
+    let reads = c.in-Ok.ensures.ok reading writing in
+    let forwards = subst (IsResponseOutcome proxy.gateway c.now.result (received request response))
+    c.in-Ok-Forward.field-0-is (outcome_as proxy.gateway c.now.result request response c.protocol_of.result
+    c.protocol_of-2.result c.in-Ok-Forward.field-0 c.protocol_of.ensures c.protocol_of-2.ensures
+    c.in-Ok-Forward.ensures.ok) in
     let interim : nat_lt response.status 200 ≡ true = sym c.is_interim.ensures ∙ c.if-not-is_interim.false in
-    let keeps = interim_keeps reads connect forwards.accepted.same_protocol interim in
-    let s = c.in_ok-forward_interim-in-Forward.ensures.sends in (
+    let keeps = interim_keeps reads connect forwards.accepted.same_protocol interim in (
       keeps,
       record {
         response = response;
@@ -24,10 +30,35 @@ returns-in-Forward g c reading writing connect =
             (g.R.Read.remaining c.read_response.new.reader) response) keeps reads;
         passes = inr (
           c.now.result,
-          c.in-Forward.sent,
+          c.in-Ok-Forward.sent,
           forwards,
-          sent_whole _ _ _ s.0 s.1 s.2 s.3 s.4,
-          c.in_ok-forward_interim-in-Forward.ensures.next,
+          c.in-Ok-forward_interim.ensures.writes.1,
+          c.in-Ok-forward_interim.ensures.next,
         );
       },
+    )
+
+pub returns : goal.returns
+returns g c reading writing connect =
+    let proxy = c.args.proxy.now in
+    let request = c.args.request.now in
+    let response = c.in-Ok.response in
+    let reads = c.in-Ok.ensures.ok reading writing in
+    let forwards = subst (IsResponseOutcome proxy.gateway c.now.result (received request response))
+    c.in-Ok-Forward.field-0-is (outcome_as proxy.gateway c.now.result request response c.protocol_of.result
+    c.protocol_of-2.result c.in-Ok-Forward.field-0 c.protocol_of.ensures c.protocol_of-2.ensures
+    c.in-Ok-Forward.ensures.ok) in
+    let interim : nat_lt response.status 200 ≡ true = sym c.is_interim.ensures ∙ c.if-not-is_interim.false in
+    let sent = c.in-Ok-Forward.sent in
+    let unsent = interim_unsent proxy request c.args.server.now response c.now.result sent
+    (response_text 1 response.status response.reason (fields_of sent.fields.items))
+    (g.W.Write.contents c.args.writer.now) (g.W.Write.contents c.forward_interim.new.writer)
+    c.in-Err-forward_interim.failure forwards interim c.in-Err-forward_interim.ensures.writes
+    c.in_ok-unsent-in-Err-forward_interim.ensures.ok.1 in (
+      subst (λ (f : Fault). IsUnusable proxy request c.args.client.now c.args.server.now c.args.input.now.items
+          c.read_response.new.input.items (g.R.Read.remaining c.args.reader.now)
+          (g.R.Read.remaining c.read_response.new.reader) f)
+          (sym c.in_ok-unsent-in-Err-forward_interim.ensures.ok.0)
+          (response, c.read_response.new.client, reads, unsent.0),
+      unsent.1,
     )

@@ -1,7 +1,7 @@
 use Rattle.std.proofs.KnownBytes.{Appends-trans}
-use Rattle.headers_gateway.specs.FieldLines.{fields_of}
 use Rattle.headers_relay.proofs.RelayLemmas.{relayed_response}
 use Rattle.headers_proxy.specs.Passing.{response_size}
+use Rattle.headers_proxy.specs.Responses.{written_fields}
 use Rattle.headers_proxy.proofs.PassLemmas.{sent_whole}
 use Rattle.headers_proxy.proofs.laws.passed_response_is_plain.Goals as goal
 
@@ -12,7 +12,7 @@ returns c gateway server response sent d before after left left_after held held_
       _,
       Appends-trans _ _ _ _ _ p.begins.head (Appends-trans _ _ _ _ _ (sent_whole _ _ _ s.0 s.1 s.2 s.3 s.4)
           p.content.ended),
-      relayed_response (response_size sent.content) (fields_of sent.fields.items) p.begins.plan r.pieces
+      relayed_response (response_size sent.content) (written_fields response sent) p.begins.plan r.pieces
           p.content.sent r.passed p.content.accepted server response.status response.reason p.begins.planned
           p.begins.valid,
     )

@@ -1,15 +1,22 @@
-use Rattle.std.proofs.Common.{◌∙◌, ◌++◌, List, ℕ, ap, subst}
-use Rattle.http1.specs.Head.{response_text}
-use Rattle.headers_relay.specs.Relay.{Sends}
-use Rattle.headers_proxy.specs.Own.{own_fields}
+use Rattle.std.proofs.Common.{◌∙◌, ◌++◌, ◌∷◌, [], List, ℕ, ap, codes}
+use Rattle.std.proofs.lemmas.Result.{err_from_is_err_and}
+use Rattle.http1.specs.Head.{header_parts, response_text}
+use Rattle.headers_proxy.proofs.PassLemmas.{own_refused, own_sent}
 use Rattle.headers_proxy.proofs.own.send_own.Goals as goal
 
-pub returns-in-Ok : goal.returns-in-Ok
-returns-in-Ok g c =
-    subst (Sends c.send.result (g.W.Write.contents c.args.writer.now) (g.W.Write.contents c.send.new.writer))
-    (c.as_slice.ensures ∙ c.in-Ok.ensures.ok
-    ∙ ap (λ (o : List ℕ). o ++ response_text 1 c.as_u16.result c.reason.result.now own_fields)
-    c.new-output.ensures.items
-    ∙ ap (λ (status : ℕ). response_text 1 status c.reason.result.now own_fields) c.as_u16.ensures.value
-    ∙ ap (λ (reason : List ℕ). response_text 1 c.args.status reason own_fields) c.reason.ensures)
-    c.send.ensures.sends
+pub returns-in_err-write_response : goal.returns-in_err-write_response
+returns-in_err-write_response g c =
+    let y = err_from_is_err_and c.from_residual.result c.from_residual.ensures.1 in
+    own_refused c.args.status c.as_u16.result c.reason.result.now (header_parts c.close_field.result) _ _ _ _
+    c.from_residual.result _ c.as_u16.ensures.value c.reason.ensures c.close_field.ensures
+    c.in_err-write_response.ensures.outcome y.1 y.2
+
+pub returns : goal.returns
+returns g c =
+    own_sent c.args.status c.as_u16.result c.reason.result.now (header_parts c.close_field.result) _ _
+    c.as_slice.result.now _ _ _ c.send.result c.as_u16.ensures.value c.reason.ensures c.close_field.ensures
+    c.in_ok-write_response.ensures.outcome
+    (c.as_slice.ensures ∙ c.in_ok-write_response.ensures.ok
+    ∙ ap (λ (o : List ℕ). o ++ response_text 1 c.as_u16.result c.reason.result.now
+    (header_parts c.close_field.result ∷ (codes "content-length", codes "0") ∷ [])) c.new-output.ensures.items)
+    c.send.ensures.sends c.send.ensures.err
