@@ -6,12 +6,11 @@ use Rattle.std.proofs.Common.{inl, inr}
 use Rattle.std.proofs.lemmas.Slice.Eq.{bytes_eq-Decides}
 use Rattle.headers.specs.LineMap.{Field, LineMap, field_of}
 use Rattle.headers_cache_policy.specs.Decisions.{IsGoodEnough}
-use Rattle.headers_cache_policy.specs.Directives.{directed}
 use Rattle.headers_cache_policy.specs.declared.decision.Decision.{Decision}
 use Rattle.headers_cache_policy.specs.declared.decision.Decision.TheVariants as decisions
 use Rattle.headers_cache_rules.specs.Stored.{fields_of_stored, request_of_stored}
 use Rattle.headers_cache_policy.specs.Requests.{Request}
-use Rattle.headers_cache_policy.specs.declared.kind.Kind.{Kind}
+use Rattle.headers_cache_policy.specs.Policies.{Policy, asks, tells}
 use Rattle.headers_cache_rules.specs.Freshening.{IsReusable}
 use Rattle.headers_cache_rules.specs.declared.freshening.Exchange.{Exchange}
 use Rattle.headers_cache_rules.specs.declared.storing.Reception.{Reception}
@@ -160,11 +159,11 @@ Has-rest new all rest (inr (place, found, inl removed)) stored h =
     Has-remove all place stored (subst (λ l. Has l stored) removed.1 h)
 Has-rest new all rest (inr (place, found, inr other)) stored h = subst (λ l. Has l stored) other.1 h
 
-module _ (kind : Kind) (limits : Limits) where
+module _ (policy : Policy) (limits : Limits) where
   -- what is stored under a target is justified
   abbrev pub AreJustified : History → Contents → Type 0
   AreJustified calls contents =
-      (target : List ℕ) (stored : StoredResponse) → HasUnder contents target stored → IsJustified kind target calls
+      (target : List ℕ) (stored : StoredResponse) → HasUnder contents target stored → IsJustified policy target calls
       stored
 
   module _ (calls : History) (old new : Contents) (before : AreJustified calls old) where
@@ -181,7 +180,7 @@ module _ (kind : Kind) (limits : Limits) where
     fewer-without target left entry h = (Has-without target old entry (subst (λ l. Has l entry) left h)).0
 
     -- those that stay under the target
-    stays : (target : List ℕ) (stored : StoredResponse) → Has (responses_at target old) stored → IsJustified kind
+    stays : (target : List ℕ) (stored : StoredResponse) → Has (responses_at target old) stored → IsJustified policy
         target calls stored
     stays target stored h = before target stored (HasUnder-responses_at target old stored h)
 
@@ -196,12 +195,12 @@ module _ (kind : Kind) (limits : Limits) where
 
     -- those of other targets
     apart : (target other : List ℕ) (stored : StoredResponse) → HasUnder (without target old) other stored
-        → IsJustified kind other calls stored
+        → IsJustified policy other calls stored
     apart target other stored h =
         before other stored (HasUnder-weaker old (without target old) (λ entry k. (Has-without target old entry k).0)
         other stored h)
 
-    arrived : (target : List ℕ) (came : StoredResponse) (reception : Reception) → Step kind limits (Arrived target
+    arrived : (target : List ℕ) (came : StoredResponse) (reception : Reception) → Step policy limits (Arrived target
         came reception) old new
         → AreJustified (Arrived target came reception ∷ calls) new
     arrived target came reception (inl same) other stored h =
@@ -212,7 +211,7 @@ module _ (kind : Kind) (limits : Limits) where
               (λ entry k. (Has-without target old entry (Has-take inserted.room.count (without target old) entry
               (subst (λ l. Has l entry) inserted.room.front k))).0) other stored under))
           | inr is ↦ elim (Has-append inserted.kept (one ∷ []) stored is.1) [
-            | inl a ↦ inl (subst (λ t. IsJustified kind t calls stored) is.0 (stays target stored
+            | inl a ↦ inl (subst (λ t. IsJustified policy t calls stored) is.0 (stays target stored
                 (Has-rest (request_of_stored one) (responses_at target old) inserted.others inserted.beside stored
                 (Has-drop inserted.trimmed.count inserted.others stored
                 (subst (λ l. Has l stored) inserted.trimmed.left a)))))
@@ -227,26 +226,26 @@ module _ (kind : Kind) (limits : Limits) where
 
     module _ (target : List ℕ) (request : Request) (update : LineMap) (exchange : Exchange) where
       -- one of the responses that a 304 left beside its answer
-      beside : (those left : List StoredResponse) → AreLeft (BecomesBeside kind request update exchange) those left
+      beside : (those left : List StoredResponse) → AreLeft (BecomesBeside policy request update exchange) those left
           → ((stored : StoredResponse) → Has those stored → Has (responses_at target old) stored)
           → (stored : StoredResponse) → Has left stored
-          → IsJustified kind target (Validated target request update exchange ∷ calls) stored
+          → IsJustified policy target (Validated target request update exchange ∷ calls) stored
       beside those left are within stored h =
-          let was = Has-left (BecomesBeside kind request update exchange) those left are stored h in
+          let was = Has-left (BecomesBeside policy request update exchange) those left are stored h in
           let justified = stays target was.0 (within was.0 was.1) in
           elim was.2 [
             | inl is ↦ inr (
               refl,
               (was.0, justified, is.0.sought.0, is.0.sought.1, is.1.0, is.1.1),
             )
-            | inr same ↦ inl (subst (IsJustified kind target calls) (sym (some-same stored was.0 same.1)) justified)
+            | inr same ↦ inl (subst (IsJustified policy target calls) (sym (some-same stored was.0 same.1)) justified)
           ]
 
       -- the answer itself
       answered : (fresh : StoredResponse) (left : List StoredResponse)
-          → (r : IsRefreshedTo kind target request update exchange old new fresh left)
-          → IsReusable kind request update fresh
-          → IsJustified kind target (Validated target request update exchange ∷ calls) fresh
+          → (r : IsRefreshedTo policy target request update exchange old new fresh left)
+          → IsReusable policy request update fresh
+          → IsJustified policy target (Validated target request update exchange ∷ calls) fresh
       answered fresh left r reusable =
           let was = r.selected.response in
           inr (
@@ -265,7 +264,7 @@ module _ (kind : Kind) (limits : Limits) where
           → Has (responses_at target old) stored
       others place stored k = Has-remove (responses_at target old) place stored k
 
-      validated : Step kind limits (Validated target request update exchange) old new
+      validated : Step policy limits (Validated target request update exchange) old new
           → AreJustified (Validated target request update exchange ∷ calls) new
       validated (inl (Absent, r)) other stored h = inl (weaker (λ entry k. subst (λ l. Has l entry) r.1 k) other
           stored h)
@@ -275,12 +274,13 @@ module _ (kind : Kind) (limits : Limits) where
           elim (under-put target (r.left ++ r.fresh ∷ []) (without target old) new r.put other stored h) [
             | inl under ↦ inl (apart target other stored under)
             | inr is ↦
-                subst (λ t. IsJustified kind t (Validated target request update exchange ∷ calls) stored) is.0
+                subst (λ t. IsJustified policy t (Validated target request update exchange ∷ calls) stored) is.0
                 (elim (Has-append r.left (r.fresh ∷ []) stored is.1) [
                   | inl a ↦ beside (remove (responses_at target old) r.refreshed.place) r.left r.refreshed.beside
                       (others r.refreshed.place) stored a
                   | inr b ↦ elim b [
-                    | inl same ↦ subst (IsJustified kind target (Validated target request update exchange ∷ calls)) same
+                    | inl same ↦ subst (IsJustified policy target
+                        (Validated target request update exchange ∷ calls)) same
                         (answered r.fresh r.left r.refreshed r.reusable)
                     | inr none ↦ absurd none
                   ]
@@ -290,7 +290,7 @@ module _ (kind : Kind) (limits : Limits) where
           elim (under-with_target target r.left (without target old) new r.put other stored h) [
             | inl under ↦ inl (apart target other stored under)
             | inr is ↦
-                subst (λ t. IsJustified kind t (Validated target request update exchange ∷ calls) stored) is.0
+                subst (λ t. IsJustified policy t (Validated target request update exchange ∷ calls) stored) is.0
                 (beside (remove (responses_at target old) r.refreshed.place) r.left r.refreshed.beside
                 (others r.refreshed.place) stored is.1)
           ]
@@ -298,38 +298,40 @@ module _ (kind : Kind) (limits : Limits) where
 
       -- one of the responses that a HEAD left
       by_head : (left : List StoredResponse)
-          → AreLeft (BecomesByHead kind request update exchange) (responses_at target old) left
+          → AreLeft (BecomesByHead policy request update exchange) (responses_at target old) left
           → (stored : StoredResponse) → Has left stored
-          → IsJustified kind target (Described target request update exchange ∷ calls) stored
+          → IsJustified policy target (Described target request update exchange ∷ calls) stored
       by_head left are stored h =
-          let was = Has-left (BecomesByHead kind request update exchange) (responses_at target old) left are stored h in
+          let was = Has-left (BecomesByHead policy request update exchange)
+          (responses_at target old) left are stored h in
           let justified = stays target was.0 was.1 in
           elim was.2 [
             | inl is ↦ inr (refl, (was.0, justified, is.0, is.1, is.2.0, is.2.1))
             | inr rest ↦ elim rest [
               | inl gone ↦ absurd (grind (arith, gone.2))
-              | inr same ↦ inl (subst (IsJustified kind target calls) (sym (some-same stored was.0 same.1)) justified)
+              | inr same ↦ inl (subst (IsJustified policy target calls) (sym (some-same stored was.0 same.1)) justified)
             ]
           ]
 
-      described : Step kind limits (Described target request update exchange) old new
+      described : Step policy limits (Described target request update exchange) old new
           → AreJustified (Described target request update exchange ∷ calls) new
       described (inl r) other stored h =
           elim (under-with_target target r.left (without target old) new r.put other stored h) [
             | inl under ↦ inl (apart target other stored under)
-            | inr is ↦ subst (λ t. IsJustified kind t (Described target request update exchange ∷ calls) stored) is.0
+            | inr is ↦ subst (λ t. IsJustified policy t (Described target request update exchange ∷ calls) stored) is.0
                 (by_head r.left r.each stored is.1)
           ]
       described (inr left) other stored h = inl (weaker (fewer-without target left) other stored h)
 
-    answered_request : (target method : List ℕ) (status : ℕ) → Step kind limits (Answered target method status) old new
+    answered_request : (target method : List ℕ) (status : ℕ) → Step policy limits
+        (Answered target method status) old new
         → AreJustified (Answered target method status ∷ calls) new
     answered_request target method status (inl (is, left)) other stored h =
         let kept = removed target left other stored h in ((λ _. kept.0), kept.1)
     answered_request target method status (inr (isnt, same)) other stored h =
         ((λ is. absurd (isnt is)), weaker (λ entry k. subst (λ l. Has l entry) same k) other stored h)
 
-  step : (call : Call) (calls : History) (old new : Contents) → AreJustified calls old → Step kind limits call old new
+  step : (call : Call) (calls : History) (old new : Contents) → AreJustified calls old → Step policy limits call old new
       → AreJustified (call ∷ calls) new
   step (Looked target) calls old new before change = looked calls old new before target change
   step (Arrived target came reception) calls old new before change = arrived calls old new before target came
@@ -343,7 +345,7 @@ module _ (kind : Kind) (limits : Limits) where
   step (Removed target) calls old new before change = removed calls old new before target change
 
   -- whatever the calls are, what they leave is justified by them
-  pub run-justified : (calls : History) (contents : Contents) → Run kind limits calls contents → AreJustified calls
+  pub run-justified : (calls : History) (contents : Contents) → Run policy limits calls contents → AreJustified calls
       contents
   run-justified [] contents none target stored h = absurd (subst (λ l. Has l (target, h.responses)) none h.at)
   run-justified (call ∷ calls) contents (old, ran, change) target stored h =
@@ -351,20 +353,24 @@ module _ (kind : Kind) (limits : Limits) where
 
 -- ---- what is served
 
-module _ (kind : Kind) (limits : Limits) (calls : History) (contents : Contents) (ran : Run kind limits calls contents)
+module _ (policy : Policy) (limits : Limits) (calls : History) (contents : Contents)
+    (ran : Run policy limits calls contents)
     (target : List ℕ) (most : ℕ) (request : Request) (now : ℕ) where
   -- a stored response that is found for a request, and is good enough
   served : (decision : Decision) (place : ℕ)
-      (found : IsFound kind most request now (responses_at target contents) decision place)
+      (found : IsFound policy most request now (responses_at target contents) decision place)
       → (age : Field) → age ≡ age_of_stored found.selected.response now
-      → IsGoodEnough kind (directed request.fields) (directed (fields_of_stored found.selected.response))
+      → IsGoodEnough policy.kind
+      (asks policy request.fields (fields_of_stored found.selected.response)
+      (freshness_of found.lifetime found.selected.response now))
+      (tells policy (fields_of_stored found.selected.response))
       (freshness_of found.lifetime found.selected.response now)
-      → IsRightlyServed kind most target calls request now (responses_at target contents) place age
+      → IsRightlyServed policy most target calls request now (responses_at target contents) place age
   served decision place found age same good =
       record {
         response = found.selected.response;
         at = found.selected.at;
-        justified = run-justified kind limits calls contents ran target found.selected.response
+        justified = run-justified policy limits calls contents ran target found.selected.response
             (HasUnder-responses_at target contents found.selected.response (Has-slice_get (responses_at target
             contents) place found.selected.response found.selected.at));
         matches = found.selected.is;
@@ -374,28 +380,28 @@ module _ (kind : Kind) (limits : Limits) (calls : History) (contents : Contents)
         age = same;
       }
 
-  pub lookup-served : (lookup : Lookup) → IsAnswer kind most request now (responses_at target contents) lookup
+  pub lookup-served : (lookup : Lookup) → IsAnswer policy most request now (responses_at target contents) lookup
       → (place : ℕ) (age : Field) → Serves lookup place age
-      → IsRightlyServed kind most target calls request now (responses_at target contents) place age
+      → IsRightlyServed policy most target calls request now (responses_at target contents) place age
   lookup-served (Serve at line) (inl is) place age same =
-      subst (λ p. IsRightlyServed kind most target calls request now (responses_at target contents) p age) same.0
-      (subst (IsRightlyServed kind most target calls request now (responses_at target contents) at) same.1
+      subst (λ p. IsRightlyServed policy most target calls request now (responses_at target contents) p age) same.0
+      (subst (IsRightlyServed policy most target calls request now (responses_at target contents) at) same.1
       (served decisions.Serve at is.found (field_of line) is.age (
         is.found.decided.0,
         inl
             is.found.decided.1,
       )))
   lookup-served (Serve at line) (inr is) place age same =
-      subst (λ p. IsRightlyServed kind most target calls request now (responses_at target contents) p age) same.0
-      (subst (IsRightlyServed kind most target calls request now (responses_at target contents) at) same.1
+      subst (λ p. IsRightlyServed policy most target calls request now (responses_at target contents) p age) same.0
+      (subst (IsRightlyServed policy most target calls request now (responses_at target contents) at) same.1
       (served decisions.ServeStale at is.found (field_of line) is.age (
         is.found.decided.0,
         inr (inr
             is.found.decided.3),
       )))
   lookup-served (ServeAndRevalidate at line) is place age same =
-      subst (λ p. IsRightlyServed kind most target calls request now (responses_at target contents) p age) same.0
-      (subst (IsRightlyServed kind most target calls request now (responses_at target contents) at) same.1
+      subst (λ p. IsRightlyServed policy most target calls request now (responses_at target contents) p age) same.0
+      (subst (IsRightlyServed policy most target calls request now (responses_at target contents) at) same.1
       (served decisions.ServeAndRevalidate at is.found (field_of line) is.age (
         is.found.decided.0,
         inr (inl

@@ -1,13 +1,15 @@
 -- What follows of each stored response that calls justify.
-use Rattle.std.proofs.Common.{◌≡◌, ℕ, List, [], ◌∷◌, ◌++◌, sym, ap, subst, codes, inl, inr, ◌∙◌}
+use Rattle.std.proofs.Common.{◌≡◌, ℕ, Bool, true, false, List, [], ◌∷◌, ◌++◌, sym, ap, subst, codes, inl, inr, ◌∙◌}
 use Rattle.headers.specs.LineMap.{LineMap}
 use Rattle.headers.specs.Typed.{HasLine}
 use Rattle.headers_cache_policy.specs.Directives.{directed}
 use Rattle.headers_cache_policy.specs.Requests.{Request}
-use Rattle.headers_cache_policy.specs.Storing.{IsShareable, IsStatusStored, IsStorable, IsSuited, MayStore}
-use Rattle.headers_cache_policy.specs.declared.directives.Directives.{Directives}
-use Rattle.headers_cache_policy.specs.declared.kind.Kind.{Kind}
-use Rattle.headers_cache_rules.proofs.StoringLemmas.{cache_control_stays, expires_stays}
+use Rattle.headers_cache_policy.specs.Freshness.{HasExpires}
+use Rattle.headers_cache_policy.specs.Policies.{MayStoreUnder, Policy}
+use Rattle.headers_cache_policy.specs.Storing.{IsSuited, StoresBy}
+use Rattle.headers_cache_policy.specs.Targets.{governing}
+use Rattle.headers_cache_policy.specs.declared.governing.Governing.{Governing}
+use Rattle.headers_cache_rules.proofs.StoringLemmas.{expires_stays, governing_stays}
 use Rattle.headers_cache_rules.specs.Stored.{fields_of_stored, request_of_stored}
 use Rattle.headers_cache_rules.specs.declared.storing.Reception.{Reception}
 use Rattle.headers_cache_rules.specs.declared.stored.StoredResponse.{StoredResponse}
@@ -20,56 +22,64 @@ use Rattle.headers_cache.proofs.HistoryLemmas.{run-justified}
 
 -- ---- what may be stored
 
--- what may be stored depends on Cache-Control and Expires alone
-module _ (kind : Kind) (request : Request) (status : ℕ) (given stored : LineMap)
-    (cache_control_same : stored (codes "cache-control") ≡ given (codes "cache-control"))
+-- what may be stored depends on what governs it, and on Expires
+module _ (policy : Policy) (request : Request) (status : ℕ) (given stored : LineMap)
+    (governed : governing policy.targets stored ≡ governing policy.targets given)
     (expires_same : stored (codes "expires") ≡ given (codes "expires")) where
-  same_directed : directed given ≡ directed stored
-  same_directed = ap (λ lines. directed (λ name. lines)) (sym cache_control_same)
+  has_expires : (counts : Bool) → HasExpires counts given → HasExpires counts stored
+  has_expires true is = subst HasLine (sym expires_same) is
+  has_expires false is = is
 
-  suited : (tells : Directives) → IsSuited kind status given tells → IsSuited kind status stored tells
-  suited tells (inl is) = inl is
-  suited tells (inr (inl is)) = inr (inl is)
-  suited tells (inr (inr (inl is))) = inr (inr (inl (subst HasLine (sym expires_same) is)))
-  suited tells (inr (inr (inr is))) = inr (inr (inr is))
+  suited : (by : Governing) → IsSuited policy.kind status by given → IsSuited policy.kind status by stored
+  suited by (inl is) = inl is
+  suited by (inr (inl is)) = inr (inl is)
+  suited by (inr (inr (inl is))) = inr (inr (inl (has_expires by.by_expires is)))
+  suited by (inr (inr (inr is))) = inr (inr (inr is))
 
-  same-stores : MayStore kind request status given → MayStore kind request status stored
-  same-stores may =
+  stores : (by : Governing) → StoresBy policy.kind request status given (directed request.fields) by
+      → StoresBy policy.kind request status stored (directed request.fields) by
+  stores by may =
       record {
         understood = may.understood;
-        stored = subst (IsStatusStored status) same_directed may.stored;
+        stored = may.stored;
         request_lets = may.request_lets;
-        response_lets = subst IsStorable same_directed may.response_lets;
-        shareable = subst (IsShareable kind request.fields) same_directed may.shareable;
-        suited = suited (directed stored) (subst (IsSuited kind status given) same_directed may.suited);
+        response_lets = may.response_lets;
+        shareable = may.shareable;
+        suited = suited by may.suited;
       }
 
+  same-stores : MayStoreUnder policy request status given → MayStoreUnder policy request status stored
+  same-stores may =
+      stores (governing policy.targets stored)
+      (subst (λ (by : Governing). StoresBy policy.kind request status given (directed request.fields) by)
+      (sym governed) may)
+
 -- a response that may be stored may be stored as it is stored
-module _ (kind : Kind) (came stored : StoredResponse) (became : IsStoredAs came stored) where
+module _ (policy : Policy) (came stored : StoredResponse) (became : IsStoredAs came stored) where
   same_request : request_of_stored came ≡ request_of_stored stored
   same_request = ap (λ method. request_of_stored (record came { method = method })) (sym became.method)
       ∙ ap (λ request. request_of_stored (record came { method = stored.method; request = request }))
       (sym became.request)
 
-  came-stores : (reception : Reception) → IsToStore kind came reception
-      → MayStore kind (request_of_stored stored) stored.status (fields_of_stored stored)
+  came-stores : (reception : Reception) → IsToStore policy came reception
+      → MayStoreUnder policy (request_of_stored stored) stored.status (fields_of_stored stored)
   came-stores reception is =
       let given = fields_of_stored came in
       let kept = fields_of_stored stored in
-      subst (λ status. MayStore kind (request_of_stored stored) status kept) (sym became.status)
-      (subst (λ request. MayStore kind request came.status kept) same_request
-      (same-stores kind (request_of_stored came) came.status given kept
-      (cache_control_stays came.received given kept is.fair became.fields)
-      (expires_stays came.received given kept is.fair became.fields)
+      subst (λ status. MayStoreUnder policy (request_of_stored stored) status kept) (sym became.status)
+      (subst (λ request. MayStoreUnder policy request came.status kept) same_request
+      (same-stores policy (request_of_stored came) came.status given kept
+      (governing_stays policy.targets came.received given kept is.fair became.fields)
+      (expires_stays policy.targets came.received given kept is.fair became.fields)
       is.allowed))
 
-module _ (kind : Kind) (target : List ℕ) where
-  may-be : (calls : History) (stored : StoredResponse) → IsJustified kind target calls stored
-      → MayStore kind (request_of_stored stored) stored.status (fields_of_stored stored)
+module _ (policy : Policy) (target : List ℕ) where
+  may-be : (calls : History) (stored : StoredResponse) → IsJustified policy target calls stored
+      → MayStoreUnder policy (request_of_stored stored) stored.status (fields_of_stored stored)
   may-be [] stored none = absurd none
   may-be (Looked other ∷ calls) stored is = may-be calls stored is
   may-be (Arrived other came reception ∷ calls) stored (inl is) = may-be calls stored is
-  may-be (Arrived other came reception ∷ calls) stored (inr is) = came-stores kind came stored is.2 reception is.1
+  may-be (Arrived other came reception ∷ calls) stored (inr is) = came-stores policy came stored is.2 reception is.1
   may-be (Validated other request update exchange ∷ calls) stored (inl is) = may-be calls stored is
   may-be (Validated other request update exchange ∷ calls) stored
       (inr (same, (old, was, fits, about, fresh, reusable))) =
@@ -95,7 +105,7 @@ module _ (kind : Kind) (target : List ℕ) where
         content = h.content;
       }
 
-  came-from : (calls : History) (stored : StoredResponse) → IsJustified kind target calls stored
+  came-from : (calls : History) (stored : StoredResponse) → IsJustified policy target calls stored
       → HasCome target calls stored
   came-from [] stored none = absurd none
   came-from (Looked other ∷ calls) stored is = further (Looked other) calls stored (came-from calls stored is)
@@ -146,7 +156,7 @@ module _ (kind : Kind) (target : List ℕ) where
   -- ---- after a removal
 
   none-after : (call : Call) (earlier : History) (stored : StoredResponse) → Removes target call
-      → IsJustified kind target (call ∷ earlier) stored → ⊥
+      → IsJustified policy target (call ∷ earlier) stored → ⊥
   none-after (Looked other) earlier stored none is = none
   none-after (Arrived other came reception) earlier stored none is = none
   none-after (Validated other request update exchange) earlier stored none is = none
@@ -156,8 +166,8 @@ module _ (kind : Kind) (target : List ℕ) where
 
   -- nothing from before a removal is justified after it
   module _ (call : Call) (earlier : History) (removes : Removes target call) where
-    since : (later : History) (stored : StoredResponse) → IsJustified kind target (later ++ call ∷ earlier) stored
-        → IsJustified kind target later stored
+    since : (later : History) (stored : StoredResponse) → IsJustified policy target (later ++ call ∷ earlier) stored
+        → IsJustified policy target later stored
     since [] stored is = absurd (none-after call earlier stored removes is)
     since (Looked other ∷ later) stored is = since later stored is
     since (Arrived other came reception ∷ later) stored (inl is) = inl (since later stored is)
@@ -174,22 +184,23 @@ module _ (kind : Kind) (target : List ℕ) where
 
 -- ---- the laws
 
-pub stored-may-be : (kind : Kind) (limits : Limits) (calls : History) (contents : Contents) → Run kind limits calls
+pub stored-may-be : (policy : Policy) (limits : Limits) (calls : History) (contents : Contents)
+    → Run policy limits calls
     contents → (target : List ℕ) (stored : StoredResponse) → HasUnder contents target stored
-    → MayStore kind (request_of_stored stored) stored.status (fields_of_stored stored)
-stored-may-be kind limits calls contents ran target stored h =
-    may-be kind target calls stored (run-justified kind limits calls contents ran target stored h)
+    → MayStoreUnder policy (request_of_stored stored) stored.status (fields_of_stored stored)
+stored-may-be policy limits calls contents ran target stored h =
+    may-be policy target calls stored (run-justified policy limits calls contents ran target stored h)
 
-pub stored-came : (kind : Kind) (limits : Limits) (calls : History) (contents : Contents) → Run kind limits calls
+pub stored-came : (policy : Policy) (limits : Limits) (calls : History) (contents : Contents) → Run policy limits calls
     contents → (target : List ℕ) (stored : StoredResponse) → HasUnder contents target stored
     → HasCome target calls stored
-stored-came kind limits calls contents ran target stored h =
-    came-from kind target calls stored (run-justified kind limits calls contents ran target stored h)
+stored-came policy limits calls contents ran target stored h =
+    came-from policy target calls stored (run-justified policy limits calls contents ran target stored h)
 
-pub stored-since : (kind : Kind) (limits : Limits) (later : History) (call : Call) (earlier : History)
-    (contents : Contents) → Run kind limits (later ++ call ∷ earlier) contents → (target : List ℕ)
+pub stored-since : (policy : Policy) (limits : Limits) (later : History) (call : Call) (earlier : History)
+    (contents : Contents) → Run policy limits (later ++ call ∷ earlier) contents → (target : List ℕ)
     → Removes target call → (stored : StoredResponse) → HasUnder contents target stored
-    → IsJustified kind target later stored
-stored-since kind limits later call earlier contents ran target removes stored h =
-    since kind target call earlier removes later stored
-    (run-justified kind limits (later ++ call ∷ earlier) contents ran target stored h)
+    → IsJustified policy target later stored
+stored-since policy limits later call earlier contents ran target removes stored h =
+    since policy target call earlier removes later stored
+    (run-justified policy limits (later ++ call ∷ earlier) contents ran target stored h)

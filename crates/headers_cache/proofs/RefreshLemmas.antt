@@ -5,7 +5,7 @@ use Rattle.std.proofs.lemmas.Option.{get_or_from_slice_get, slice_get_within}
 use Rattle.headers.specs.LineMap.{LineMap}
 use Rattle.headers_cache_policy.specs.Requests.{Request}
 use Rattle.headers_cache_policy.specs.Updating.{IsUpdated}
-use Rattle.headers_cache_policy.specs.declared.kind.Kind.{Kind}
+use Rattle.headers_cache_policy.specs.Policies.{Policy}
 use Rattle.headers_cache_rules.specs.Freshening.{IsFreshened, IsFreshenedAs, IsReusable}
 use Rattle.headers_cache_rules.specs.Identifying.{IsUpdatedAnswer}
 use Rattle.headers_cache_rules.specs.Stored.{fields_of_stored}
@@ -26,11 +26,11 @@ pub within : (request : Request) (update : LineMap) (all : List StoredResponse) 
 within request update all place answers = slice_get_within all place answers.1.response answers.1.at
 
 -- the names are those of the code
-module _ (kind own : Kind) (target : List ℕ) (request : Request) (update : LineMap) (exchange : Exchange) (old new
+module _ (policy own : Policy) (target : List ℕ) (request : Request) (update : LineMap) (exchange : Exchange) (old new
     other : Contents)
     (taken rest left : List StoredResponse) (place : ℕ)
     (answers : IsUpdatedAnswer request update (responses_at target old) (Some place))
-    (d fresh : StoredResponse) (is_own : own ≡ kind) (is_other : other ≡ without target old)
+    (d fresh : StoredResponse) (is_own : own ≡ policy) (is_other : other ≡ without target old)
     (is_taken : taken ≡ responses_at target old) (at : d ≡ get_or taken place d) (is_rest : rest ≡ remove taken place)
     (are_left : AreLeft (λ one. Becomes own request update exchange one NotModified) rest left)
   where
@@ -39,21 +39,21 @@ module _ (kind own : Kind) (target : List ℕ) (request : Request) (update : Lin
         ∙ get_or_from_slice_get (responses_at target old) place answers.1.response d answers.1.at
 
     refreshed : IsFreshened d update exchange fresh
-        → IsRefreshedTo kind target request update exchange old new fresh left
+        → IsRefreshedTo policy target request update exchange old new fresh left
     refreshed freshened =
         record {
           place = place;
           identified = answers.0;
           selected = answers.1;
           freshened = subst (λ s. IsFreshened s update exchange fresh) is_d freshened;
-          beside = subst (λ l. AreLeft (λ one. Becomes kind request update exchange one NotModified) l left)
+          beside = subst (λ l. AreLeft (λ one. Becomes policy request update exchange one NotModified) l left)
               (is_rest ∙ ap (λ l. remove l place) is_taken)
               (subst (λ k. AreLeft (λ one. Becomes k request update exchange one NotModified) rest left) is_own
               are_left);
         }
 
     pub restored : IsFreshenedAs own d request update exchange (outcomes.Stored fresh) → (n : ℕ) → n ≡ length left
-        → new ≡ (target, left ++ fresh ∷ []) ∷ other → IsRestored kind target request update exchange old new n
+        → new ≡ (target, left ++ fresh ∷ []) ∷ other → IsRestored policy target request update exchange old new n
     restored freshened n is_n put =
         record {
           fresh = fresh;
@@ -65,7 +65,7 @@ module _ (kind own : Kind) (target : List ℕ) (request : Request) (update : Lin
         }
 
     pub let_go : IsFreshenedAs own d request update exchange (outcomes.Once fresh) → new ≡ with_target target left other
-        → IsLetGo kind target request update exchange old new fresh
+        → IsLetGo policy target request update exchange old new fresh
     let_go freshened put =
         record {
           left = left;
@@ -81,24 +81,25 @@ module _ (kind own : Kind) (target : List ℕ) (request : Request) (update : Lin
         freshened.0 (subst (λ s. IsUpdated (fields_of_stored s) update) (sym is_d) answers.1.is.1)
 
 -- what a 304 that updates none leaves
-pub none_refreshed : (kind : Kind) (target : List ℕ) (request : Request) (update : LineMap) (exchange : Exchange)
+pub none_refreshed : (policy : Policy) (target : List ℕ) (request : Request) (update : LineMap) (exchange : Exchange)
     (contents : Contents) → IsUpdatedAnswer request update (responses_at target contents) None → (answer : Refreshed)
     → IsUnrefreshed request (responses_at target contents) answer
-    → IsRefreshed kind target request update exchange contents contents answer
-none_refreshed kind target request update exchange contents none Absent is = (is, refl)
-none_refreshed kind target request update exchange contents none Unchanged is = (none, is, refl)
-none_refreshed kind target request update exchange contents none (Stored at) is = absurd is
-none_refreshed kind target request update exchange contents none (Once fresh) is = absurd is
+    → IsRefreshed policy target request update exchange contents contents answer
+none_refreshed policy target request update exchange contents none Absent is = (is, refl)
+none_refreshed policy target request update exchange contents none Unchanged is = (none, is, refl)
+none_refreshed policy target request update exchange contents none (Stored at) is = absurd is
+none_refreshed policy target request update exchange contents none (Once fresh) is = absurd is
 
 -- what a HEAD leaves
-pub head_refreshed : (kind own : Kind) (target : List ℕ) (request : Request) (update : LineMap) (exchange : Exchange)
-    (old new other : Contents) (taken left : List StoredResponse) → own ≡ kind → other ≡ without target old
+pub head_refreshed : (policy own : Policy) (target : List ℕ) (request : Request) (update : LineMap)
+    (exchange : Exchange)
+    (old new other : Contents) (taken left : List StoredResponse) → own ≡ policy → other ≡ without target old
     → taken ≡ responses_at target old → AreLeft (λ one. Becomes own request update exchange one Head) taken left
-    → new ≡ with_target target left other → IsRefreshedByHead kind target request update exchange old new
-head_refreshed kind own target request update exchange old new other taken left is_own is_other is_taken are_left put =
+    → new ≡ with_target target left other → IsRefreshedByHead policy target request update exchange old new
+head_refreshed policy own target request update exchange old new other taken left is_own is_other is_taken are_left put =
     record {
       left = left;
-      each = subst (λ l. AreLeft (λ one. Becomes kind request update exchange one Head) l left) is_taken
+      each = subst (λ l. AreLeft (λ one. Becomes policy request update exchange one Head) l left) is_taken
           (subst (λ k. AreLeft (λ one. Becomes k request update exchange one Head) taken left) is_own are_left);
       put = put ∙ ap (λ c. with_target target left c) is_other;
     }

@@ -6,7 +6,7 @@ use Rattle.std.proofs.lemmas.List.Edits.{length-remove}
 use Rattle.std.proofs.lemmas.List.Sums.{sum_by-append, sum_by-cons}
 use Rattle.headers.specs.LineMap.{LineMap}
 use Rattle.headers_cache_policy.specs.Requests.{Request}
-use Rattle.headers_cache_policy.specs.declared.kind.Kind.{Kind}
+use Rattle.headers_cache_policy.specs.Policies.{Policy}
 use Rattle.headers_cache_rules.specs.Freshening.{IsFreshened, IsFreshenedAs}
 use Rattle.headers_cache_rules.specs.declared.freshening.Exchange.{Exchange}
 use Rattle.headers_cache_rules.specs.declared.freshening.Freshened.TheVariants as outcomes
@@ -39,18 +39,18 @@ module _ (B : StoredResponse → Option StoredResponse → Type 0) (all : List S
 
 -- ---- sizes
 
-module _ (kind : Kind) (request : Request) (update : LineMap) (exchange : Exchange) (old : StoredResponse) where
+module _ (policy : Policy) (request : Request) (update : LineMap) (exchange : Exchange) (old : StoredResponse) where
   pub size-freshened : (new : StoredResponse) → IsFreshened old update exchange new → size_of new ≡ size_of old
   size-freshened new freshened = ap (λ content. length content.items) freshened.content
 
-  updated-size : (new : StoredResponse) → BecomesUpdated kind request update exchange old (Some new)
+  updated-size : (new : StoredResponse) → BecomesUpdated policy request update exchange old (Some new)
       → size_of new ≡ size_of old
   updated-size new becomes = size-freshened new becomes.0
 
   same-size : (new : StoredResponse) → Some new ≡ Some old → size_of new ≡ size_of old
   same-size new same = grind (arith, same)
 
-  pub becomes-size : (by : By) (new : StoredResponse) → Becomes kind request update exchange old by (Some new)
+  pub becomes-size : (by : By) (new : StoredResponse) → Becomes policy request update exchange old by (Some new)
       → size_of new ≡ size_of old
   becomes-size NotModified new (inl is) = updated-size new is.1
   becomes-size NotModified new (inr is) = same-size new is.1
@@ -58,18 +58,18 @@ module _ (kind : Kind) (request : Request) (update : LineMap) (exchange : Exchan
   becomes-size Head new (inr (inl is)) = absurd (grind (arith, is.2))
   becomes-size Head new (inr (inr is)) = same-size new is.1
 
-  pub becomes-light : (by : By) (fate : Option StoredResponse) → Becomes kind request update exchange old by fate
+  pub becomes-light : (by : By) (fate : Option StoredResponse) → Becomes policy request update exchange old by fate
       → bytes_of (option_to_list fate) ≤ size_of old
   becomes-light by None is = omega arith
   becomes-light by (Some new) is = omega (arith, becomes-size by new is, sum_by-cons size_of new [])
 
   -- what is left of the response after `freshen`
-  pub becomes-stored : (new : StoredResponse) → IsFreshenedAs kind old request update exchange (outcomes.Stored new)
-      → BecomesUpdated kind request update exchange old (Some new)
+  pub becomes-stored : (new : StoredResponse) → IsFreshenedAs policy old request update exchange (outcomes.Stored new)
+      → BecomesUpdated policy request update exchange old (Some new)
   becomes-stored new is = (is.1, is.2)
 
-  pub becomes-none : (new : StoredResponse) → IsFreshenedAs kind old request update exchange (outcomes.Once new)
-      → BecomesUpdated kind request update exchange old None
+  pub becomes-none : (new : StoredResponse) → IsFreshenedAs policy old request update exchange (outcomes.Once new)
+      → BecomesUpdated policy request update exchange old None
   becomes-none new is = (new, is.1, is.2)
 
 -- ---- numbers

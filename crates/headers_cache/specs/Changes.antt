@@ -3,7 +3,7 @@ use Rattle.std.specs.Prelude.{◌≡◌, ◌≢◌, ◌⊎◌, ℕ, ◌+◌, ◌
 use Rattle.std.specs.Prelude.{remove}
 use Rattle.headers.specs.LineMap.{LineMap}
 use Rattle.headers_cache_policy.specs.Requests.{Request}
-use Rattle.headers_cache_policy.specs.declared.kind.Kind.{Kind}
+use Rattle.headers_cache_policy.specs.Policies.{Policy}
 use Rattle.headers_cache_rules.specs.Freshening.{IsFreshened, IsReusable}
 use Rattle.headers_cache_rules.specs.Identifying.{IsIdentified}
 use Rattle.headers_cache_rules.specs.Selection.{IsCandidate, IsMostRecent, IsSelected, IsSought}
@@ -36,10 +36,10 @@ pub record IsStoredAs (came stored : StoredResponse) : Type 0 where
   pub received : stored.received ≡ came.received
   pub fields : IsAsStored came.received (fields_of_stored came) (fields_of_stored stored)
 
--- a cache of this kind stores the response
-abbrev pub IsToStore : Kind → StoredResponse → Reception → Type 0
-IsToStore kind came reception =
-    IsStored kind (request_of_stored came) came.status (fields_of_stored came) reception
+-- a cache of this policy stores the response
+abbrev pub IsToStore : Policy → StoredResponse → Reception → Type 0
+IsToStore policy came reception =
+    IsStored policy (request_of_stored came) came.status (fields_of_stored came) reception
 
 -- so many responses, with so many bytes, may be under one target
 pub record FitsAlone (limits : Limits) (responses bytes : ℕ) : Type 0 where
@@ -85,7 +85,7 @@ IsUnrefreshed request all Unchanged = (place : ℕ) × IsMostRecent (IsCandidate
 IsUnrefreshed request all (Stored at) = ⊥
 IsUnrefreshed request all (Once fresh) = ⊥
 
-module _ (kind : Kind) (target : List ℕ) (request : Request) (update : LineMap) (exchange : Exchange) (old new :
+module _ (policy : Policy) (target : List ℕ) (request : Request) (update : LineMap) (exchange : Exchange) (old new :
     Contents)
   where
     -- The most recent of the responses that the 304 updates is updated, and so are the others; those of the others that
@@ -95,14 +95,14 @@ module _ (kind : Kind) (target : List ℕ) (request : Request) (update : LineMap
       pub identified : IsIdentified request update (responses_at target old) place
       pub selected : IsMostRecent (IsSought request (Some update)) (responses_at target old) place
       pub freshened : IsFreshened selected.response update exchange fresh
-      pub beside : AreLeft (BecomesBeside kind request update exchange) (remove (responses_at target old) place) left
+      pub beside : AreLeft (BecomesBeside policy request update exchange) (remove (responses_at target old) place) left
 
     -- it stays stored, as the one that was stored last
     pub record IsRestored (stored_at : ℕ) : Type 0 where
       pub fresh : StoredResponse
       pub left : List StoredResponse
       pub refreshed : IsRefreshedTo fresh left
-      pub reusable : IsReusable kind request update fresh
+      pub reusable : IsReusable policy request update fresh
       pub at : stored_at ≡ length left
       pub put : new ≡ (target, left ++ fresh ∷ []) ∷ without target old
 
@@ -110,7 +110,7 @@ module _ (kind : Kind) (target : List ℕ) (request : Request) (update : LineMap
     pub record IsLetGo (fresh : StoredResponse) : Type 0 where
       pub left : List StoredResponse
       pub refreshed : IsRefreshedTo fresh left
-      pub unusable : ¬ (IsReusable kind request update fresh)
+      pub unusable : ¬ (IsReusable policy request update fresh)
       pub put : new ≡ with_target target left (without target old)
 
     -- a 304 to the request updates none of the responses
@@ -128,5 +128,5 @@ module _ (kind : Kind) (target : List ℕ) (request : Request) (update : LineMap
     -- what becomes of the responses to GET that could have been chosen for a HEAD
     pub record IsRefreshedByHead : Type 0 where
       pub left : List StoredResponse
-      pub each : AreLeft (BecomesByHead kind request update exchange) (responses_at target old) left
+      pub each : AreLeft (BecomesByHead policy request update exchange) (responses_at target old) left
       pub put : new ≡ with_target target left (without target old)

@@ -3,7 +3,7 @@ use Rattle.std.specs.Prelude.{◌≡◌, ◌≢◌, ◌⊎◌, ℕ, List, [], �
 use Rattle.headers.specs.LineMap.{LineMap}
 use Rattle.headers_cache_policy.specs.Requests.{Request}
 use Rattle.headers_cache_policy.specs.Updating.{IsUpdated}
-use Rattle.headers_cache_policy.specs.declared.kind.Kind.{Kind}
+use Rattle.headers_cache_policy.specs.Policies.{Policy}
 use Rattle.headers_cache_rules.specs.Freshening.{IsFreshened, IsHeadOf, IsReusable}
 use Rattle.headers_cache_rules.specs.Invalidation.{Invalidates}
 use Rattle.headers_cache_rules.specs.Selection.{IsCandidate}
@@ -48,20 +48,20 @@ pub record HasUnder (contents : Contents) (target : List ℕ) (stored : StoredRe
   pub at : Has contents (target, responses)
   pub among : Has responses stored
 
-module _ (kind : Kind) (limits : Limits) where
+module _ (policy : Policy) (limits : Limits) where
   -- What each call makes of what a store has, whether or not it runs out of memory: the contracts of the calls.
   abbrev pub Step : Call → Contents → Contents → Type 0
   Step (Looked target) old new = new ≡ used target old
   Step (Arrived target came reception) old new =
       (new ≡ old)
-      ⊎ ((stored : StoredResponse) × IsToStore kind came reception × IsStoredAs came stored
+      ⊎ ((stored : StoredResponse) × IsToStore policy came reception × IsStoredAs came stored
       × IsInserted limits target stored old new)
       ⊎ IsFront (without target old) new
   Step (Validated target request update exchange) old new =
-      ((answer : Refreshed) × IsRefreshed kind target request update exchange old new answer)
+      ((answer : Refreshed) × IsRefreshed policy target request update exchange old new answer)
       ⊎ (new ≡ without target old)
   Step (Described target request head exchange) old new =
-      IsRefreshedByHead kind target request head exchange old new ⊎ (new ≡ without target old)
+      IsRefreshedByHead policy target request head exchange old new ⊎ (new ≡ without target old)
   Step (Answered target method status) old new =
       (Invalidates method status × (new ≡ without target old)) ⊎ ((¬ (Invalidates method status)) × (new ≡ old))
   Step (Removed target) old new = new ≡ without target old
@@ -71,7 +71,7 @@ module _ (kind : Kind) (limits : Limits) where
   Run [] contents = contents ≡ []
   Run (call ∷ calls) contents = (before : Contents) × Run calls before × Step call before contents
 
-module _ (kind : Kind) (target : List ℕ) where
+module _ (policy : Policy) (target : List ℕ) where
   -- The calls justify that the response is stored under the target: it came from the origin for a request to this
   -- target, and may be stored (section 3); or it is one that the calls justified before, with the fields of a 304
   -- (section 4.3.4) or of a 200 to HEAD (section 4.3.5) that is about it, and may still be stored. Since it came,
@@ -80,17 +80,17 @@ module _ (kind : Kind) (target : List ℕ) where
   IsJustified [] stored = ⊥
   IsJustified (Looked other ∷ calls) stored = IsJustified calls stored
   IsJustified (Arrived other came reception ∷ calls) stored =
-      IsJustified calls stored ⊎ ((other ≡ target) × IsToStore kind came reception × IsStoredAs came stored)
+      IsJustified calls stored ⊎ ((other ≡ target) × IsToStore policy came reception × IsStoredAs came stored)
   IsJustified (Validated other request update exchange ∷ calls) stored =
       IsJustified calls stored
       ⊎ ((other ≡ target) × ((old : StoredResponse) × IsJustified calls old × IsCandidate request old
       × IsUpdated (fields_of_stored old) update × IsFreshened old update exchange stored
-      × IsReusable kind request update stored))
+      × IsReusable policy request update stored))
   IsJustified (Described other request head exchange ∷ calls) stored =
       IsJustified calls stored
       ⊎ ((other ≡ target) × ((old : StoredResponse) × IsJustified calls old × IsGetFor request old
       × IsHeadOf (fields_of_stored old) head × IsFreshened old head exchange stored
-      × IsReusable kind request head stored))
+      × IsReusable policy request head stored))
   IsJustified (Answered other method status ∷ calls) stored =
       (Invalidates method status → other ≢ target) × IsJustified calls stored
   IsJustified (Removed other ∷ calls) stored = (other ≢ target) × IsJustified calls stored

@@ -2,16 +2,15 @@
 use Rattle.std.specs.Prelude.{◌≡◌, ◌≢◌, ◌⊎◌, ℕ, List, [], ◌∷◌, Option, Some, None, codes, decimal, min, unwrap_or}
 use Rattle.headers.specs.LineMap.{Field, field_of, fields_of}
 use Rattle.headers_cache_policy.specs.Age.{age_at}
-use Rattle.headers_cache_policy.specs.Decisions.{Answers, AnswersUnstored, DecidesBy}
-use Rattle.headers_cache_policy.specs.Directives.{directed}
+use Rattle.headers_cache_policy.specs.Decisions.{AnswersUnstored}
 use Rattle.headers_cache_policy.specs.Fields.{capped}
-use Rattle.headers_cache_policy.specs.Freshness.{HasHeuristic, HasLifetime}
+use Rattle.headers_cache_policy.specs.Policies.{AnswersUnder, DecidesByUnder, HasHeuristicUnder, HasLifetimeUnder}
+use Rattle.headers_cache_policy.specs.Policies.{Policy}
 use Rattle.headers_cache_policy.specs.Requests.{Request}
 use Rattle.headers_cache_policy.specs.Validating.{validation_fields}
 use Rattle.headers_cache_policy.specs.declared.decision.Decision.{Decision}
 use Rattle.headers_cache_policy.specs.declared.decision.Decision.TheVariants as decisions
 use Rattle.headers_cache_policy.specs.declared.decision.Freshness.{Freshness}
-use Rattle.headers_cache_policy.specs.declared.kind.Kind.{Kind}
 use Rattle.headers_cache_rules.specs.Selection.{IsCandidate, IsMostRecent, IsSelected}
 use Rattle.headers_cache_rules.specs.Stored.{fields_of_stored, request_of_stored, times_of}
 use Rattle.headers_cache_rules.specs.declared.stored.StoredResponse.{StoredResponse}
@@ -43,11 +42,11 @@ IsLookupOf stored now decision place Forward = decision ≡ decisions.Fetch
 
 -- How many seconds a stored response is fresh in a cache that guesses up to `most` seconds: as many as its origin
 -- states, or else as many as a cache may guess (section 4.2.2), or none.
-abbrev pub IsFreshFor : Kind → ℕ → StoredResponse → ℕ → Type 0
-IsFreshFor kind most stored seconds =
-    HasLifetime kind stored.received (fields_of_stored stored) (Some seconds)
-    ⊎ (HasLifetime kind stored.received (fields_of_stored stored) None
-    × ((guess : Option ℕ) × HasHeuristic kind stored.status stored.received (fields_of_stored stored) guess
+abbrev pub IsFreshFor : Policy → ℕ → StoredResponse → ℕ → Type 0
+IsFreshFor policy most stored seconds =
+    HasLifetimeUnder policy stored.received (fields_of_stored stored) (Some seconds)
+    ⊎ (HasLifetimeUnder policy stored.received (fields_of_stored stored) None
+    × ((guess : Option ℕ) × HasHeuristicUnder policy stored.status stored.received (fields_of_stored stored) guess
     × (seconds ≡ min (unwrap_or guess 0) most)))
 
 -- such a lifetime, and its age
@@ -56,20 +55,21 @@ freshness_of seconds stored now =
     record { lifetime = seconds; age = capped (age_at (times_of stored now) (fields_of_stored stored)) }
 
 -- the policy decides so about a stored response, which suits the request or doesn't
-abbrev pub IsDecisionOf : Kind → ℕ → Request → ℕ → StoredResponse → Decision → Type 0
-IsDecisionOf kind most request now stored decision =
-    (lifetime : ℕ) × IsFreshFor kind most stored lifetime
-    × DecidesBy kind (request_of_stored stored) request (fields_of_stored stored) (freshness_of lifetime stored now)
+abbrev pub IsDecisionOf : Policy → ℕ → Request → ℕ → StoredResponse → Decision → Type 0
+IsDecisionOf policy most request now stored decision =
+    (lifetime : ℕ) × IsFreshFor policy most stored lifetime
+    × DecidesByUnder policy (request_of_stored stored) request (fields_of_stored stored)
+    (freshness_of lifetime stored now)
     decision
 
-module _ (kind : Kind) (most : ℕ) (request : Request) (now : ℕ) (responses : List StoredResponse) where
+module _ (policy : Policy) (most : ℕ) (request : Request) (now : ℕ) (responses : List StoredResponse) where
   -- The response at the place is the one that is selected for the request (section 4.1), and the policy decides so
   -- about it.
   pub record IsFound (decision : Decision) (place : ℕ) : Type 0 where
     pub selected : IsMostRecent (IsCandidate request) responses place
     pub lifetime : ℕ
-    pub fresh_for : IsFreshFor kind most selected.response lifetime
-    pub decided : Answers kind (directed request.fields) (directed (fields_of_stored selected.response))
+    pub fresh_for : IsFreshFor policy most selected.response lifetime
+    pub decided : AnswersUnder policy request.fields (fields_of_stored selected.response)
         (freshness_of lifetime selected.response now) decision
 
   -- none is selected

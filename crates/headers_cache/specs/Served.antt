@@ -2,9 +2,8 @@
 use Rattle.std.specs.Prelude.{◌≡◌, ℕ, List, Some, slice_get}
 use Rattle.headers.specs.LineMap.{Field, field_of}
 use Rattle.headers_cache_policy.specs.Decisions.{IsGoodEnough}
-use Rattle.headers_cache_policy.specs.Directives.{directed}
+use Rattle.headers_cache_policy.specs.Policies.{Policy, asks, tells}
 use Rattle.headers_cache_policy.specs.Requests.{Request}
-use Rattle.headers_cache_policy.specs.declared.kind.Kind.{Kind}
 use Rattle.headers_cache_rules.specs.Selection.{IsCandidate}
 use Rattle.headers_cache_rules.specs.Stored.{fields_of_stored}
 use Rattle.headers_cache_rules.specs.declared.stored.StoredResponse.{StoredResponse}
@@ -27,14 +26,16 @@ Serves Forward place age = ⊥
 -- is stored; it matches the request by method and Vary (sections 4 and 4.1); neither it nor the request says
 -- `no-cache`; it is as young as the request wants it; it is fresh, or each directive that applies allows it stale
 -- (section 4.2.4, and RFC 5861); and it has its current age (section 5.1).
-pub record IsRightlyServed (kind : Kind) (most : ℕ) (target : List ℕ) (calls : History) (request : Request) (now : ℕ)
+pub record IsRightlyServed (policy : Policy) (most : ℕ) (target : List ℕ) (calls : History) (request : Request)
+    (now : ℕ)
     (responses : List StoredResponse) (place : ℕ) (line : Field) : Type 0 where
   pub response : StoredResponse
   pub at : slice_get responses place ≡ Some response
-  pub justified : IsJustified kind target calls response
+  pub justified : IsJustified policy target calls response
   pub matches : IsCandidate request response
   pub lifetime : ℕ
-  pub fresh_for : IsFreshFor kind most response lifetime
-  pub good : IsGoodEnough kind (directed request.fields) (directed (fields_of_stored response))
-      (freshness_of lifetime response now)
+  pub fresh_for : IsFreshFor policy most response lifetime
+  pub good : IsGoodEnough policy.kind
+      (asks policy request.fields (fields_of_stored response) (freshness_of lifetime response now))
+      (tells policy (fields_of_stored response)) (freshness_of lifetime response now)
   pub age : line ≡ age_of_stored response now

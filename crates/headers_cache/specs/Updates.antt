@@ -3,7 +3,7 @@ use Rattle.std.specs.Prelude.{◌≡◌, ◌⊎◌, List, [], ◌++◌, ◌∷�
 use Rattle.headers.specs.LineMap.{LineMap}
 use Rattle.headers_cache_policy.specs.Requests.{Request}
 use Rattle.headers_cache_policy.specs.Updating.{HasStrongTag}
-use Rattle.headers_cache_policy.specs.declared.kind.Kind.{Kind}
+use Rattle.headers_cache_policy.specs.Policies.{Policy}
 use Rattle.headers_cache_rules.specs.Freshening.{IsFreshened, IsHeadOf, IsReusable}
 use Rattle.headers_cache_rules.specs.Selection.{IsCandidate, IsSought}
 use Rattle.headers_cache_rules.specs.Stored.{fields_of_stored}
@@ -31,12 +31,12 @@ pub record IsGetFor (request : Request) (stored : StoredResponse) : Type 0 where
   pub get : stored.method ≡ codes "GET"
   pub candidate : IsCandidate request stored
 
-module _ (kind : Kind) (request : Request) (update : LineMap) (exchange : Exchange) (old : StoredResponse) where
+module _ (policy : Policy) (request : Request) (update : LineMap) (exchange : Exchange) (old : StoredResponse) where
   -- an updated response stays stored if it may be reused
   abbrev pub BecomesUpdated : Option StoredResponse → Type 0
-  BecomesUpdated (Some new) = IsFreshened old update exchange new × IsReusable kind request update new
+  BecomesUpdated (Some new) = IsFreshened old update exchange new × IsReusable policy request update new
   BecomesUpdated None =
-      (new : StoredResponse) × IsFreshened old update exchange new × ¬ (IsReusable kind request update new)
+      (new : StoredResponse) × IsFreshened old update exchange new × ¬ (IsReusable policy request update new)
 
   -- what a 304 makes of a stored response that isn't the answer
   abbrev pub BecomesBeside : Option StoredResponse → Type 0

@@ -1,7 +1,7 @@
 //! What the calls of a store do to its entries.
 ghost use Rattle.std.specs.Prelude.{◌≡◌, ◌+◌, ◌-◌, ◌<◌, ◌≤◌, ◌^◌, ◌∷◌, ◌++◌, [], OnOk, OnErr, length, take};
 ghost use Rattle.headers_cache.specs.Contents.{IsAbsent, bytes_of, responses_at, size_of, with_target, without};
-ghost use Rattle.headers_cache.specs.Kept.{contents_of};
+ghost use Rattle.headers_cache.specs.Kept.{contents_of, policy_of_store};
 ghost use Rattle.headers_cache.specs.Room.{HasRoom, IsLongestWithRoom};
 
 use crate::store::Store;
@@ -26,7 +26,7 @@ impl Store {
         ensures contents { contents_of self.new ≡ without target.now (contents_of self.old) }
         ensures taken { result.items ≡ responses_at target.now (contents_of self.old) }
         ensures room { HasRoom self.old.limits (length result.items) (bytes_of result.items) (contents_of self.new) }
-        ensures kind { self.new.kind ≡ self.old.kind }
+        ensures policy { policy_of_store self.new ≡ policy_of_store self.old }
         ensures limits { self.new.limits ≡ self.old.limits }
     {
         let (count, bytes) = (self.responses, self.bytes);
@@ -48,7 +48,7 @@ impl Store {
         requires responses { responses ≤ self.old.limits.responses }
         requires bytes { bytes ≤ self.old.limits.bytes }
         ensures kept { IsLongestWithRoom self.old.limits responses bytes (contents_of self.old) (contents_of self.new) }
-        ensures kind { self.new.kind ≡ self.old.kind }
+        ensures policy { policy_of_store self.new ≡ policy_of_store self.old }
         ensures limits { self.new.limits ≡ self.old.limits }
     {
         while self.limits.responses - responses < self.responses
@@ -61,7 +61,7 @@ impl Store {
     // Removes the least recently used target.
     fn remove_last(&mut self)
         ensures contents { contents_of self.new ≡ take (length (contents_of self.old) - 1) (contents_of self.old) }
-        ensures kind { self.new.kind ≡ self.old.kind }
+        ensures policy { policy_of_store self.new ≡ policy_of_store self.old }
         ensures limits { self.new.limits ≡ self.old.limits }
     {
         let (count, bytes) = (self.responses, self.bytes);
@@ -83,7 +83,7 @@ impl Store {
         ensures ok { OnOk result (contents_of self.new ≡ with_target target.now kept.items (contents_of self.old)) }
         ensures err { OnErr result (contents_of self.new ≡ contents_of self.old) }
         ensures memory { OnErr result (0 < length kept.items) }
-        ensures kind { self.new.kind ≡ self.old.kind }
+        ensures policy { policy_of_store self.new ≡ policy_of_store self.old }
         ensures limits { self.new.limits ≡ self.old.limits }
     {
         if kept.is_empty() {
@@ -117,7 +117,7 @@ impl Store {
             (contents_of self.old) }
         ensures ok { OnOk result (contents_of self.new ≡ (target.now, kept.items ++ new ∷ []) ∷ contents_of self.old) }
         ensures err { OnErr result (contents_of self.new ≡ contents_of self.old) }
-        ensures kind { self.new.kind ≡ self.old.kind }
+        ensures policy { policy_of_store self.new ≡ policy_of_store self.old }
         ensures limits { self.new.limits ≡ self.old.limits }
     {
         let mut kept = kept;

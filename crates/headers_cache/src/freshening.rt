@@ -8,7 +8,7 @@ ghost use Rattle.headers_cache.specs.Changes.{IsRefreshed, IsRefreshedByHead, Is
 ghost use Rattle.headers_cache.specs.Contents.{responses_at, without};
 ghost use Rattle.headers_cache.specs.History.Call.{Described, Validated};
 ghost use Rattle.headers_cache.specs.History.{Step};
-ghost use Rattle.headers_cache.specs.Kept.{contents_of};
+ghost use Rattle.headers_cache.specs.Kept.{contents_of, policy_of_store};
 
 use crate::store::Store;
 use crate::updating::{By, left_of};
@@ -59,14 +59,15 @@ impl Store {
         update: &HeaderMap,
         exchange: Exchange,
     ) -> Result<Refreshed, InsertError>
-        ensures ok { IfOk result (IsRefreshed self.old.kind target.now (request_of request.now) (lines_at update.now)
+        ensures ok { IfOk result (IsRefreshed (policy_of_store self.old) target.now (request_of request.now)
+            (lines_at update.now)
             exchange (contents_of self.old) (contents_of self.new)) }
         ensures err { OnErr result (contents_of self.new ≡ without target.now (contents_of self.old)) }
         ensures memory { OnErr result (IsSomewhere (IsIdentified (request_of request.now) (lines_at update.now)
             (responses_at target.now (contents_of self.old)))) }
-        ensures step { Step self.old.kind self.old.limits (Validated target.now (request_of request.now)
+        ensures step { Step (policy_of_store self.old) self.old.limits (Validated target.now (request_of request.now)
             (lines_at update.now) exchange) (contents_of self.old) (contents_of self.new) }
-        ensures kind { self.new.kind ≡ self.old.kind }
+        ensures policy { policy_of_store self.new ≡ policy_of_store self.old }
         ensures limits { self.new.limits ≡ self.old.limits }
     {
         let Some(place) = select_updated(self.responses(target), request, update) else {
@@ -75,8 +76,9 @@ impl Store {
         let mut responses = self.take_out(alloc, target);
         let stored = responses.remove(place);
         let by = By::NotModified;
-        let left = left_of(alloc, responses, by, request, update, exchange, self.kind)?;
-        match freshen(alloc, stored, request, update, exchange, self.kind)? {
+        let policy = self.policy();
+        let left = left_of(alloc, responses, by, request, update, exchange, &policy)?;
+        match freshen(alloc, stored, request, update, exchange, &policy)? {
             Freshened::Stored(fresh) => {
                 let place = left.len();
                 self.put_with(alloc, target, left, fresh)?;
@@ -104,25 +106,19 @@ impl Store {
         head: &HeaderMap,
         exchange: Exchange,
     ) -> Result<(), InsertError>
-        ensures ok { OnOk result (IsRefreshedByHead self.old.kind target.now (request_of request.now)
+        ensures ok { OnOk result (IsRefreshedByHead (policy_of_store self.old) target.now (request_of request.now)
             (lines_at head.now) exchange (contents_of self.old) (contents_of self.new)) }
         ensures err { OnErr result (contents_of self.new ≡ without target.now (contents_of self.old)) }
         ensures memory { OnErr result (0 < length (responses_at target.now (contents_of self.old))) }
-        ensures step { Step self.old.kind self.old.limits (Described target.now (request_of request.now)
+        ensures step { Step (policy_of_store self.old) self.old.limits (Described target.now (request_of request.now)
             (lines_at head.now) exchange) (contents_of self.old) (contents_of self.new) }
-        ensures kind { self.new.kind ≡ self.old.kind }
+        ensures policy { policy_of_store self.new ≡ policy_of_store self.old }
         ensures limits { self.new.limits ≡ self.old.limits }
     {
         let responses = self.take_out(alloc, target);
-        let left = left_of(
-            alloc,
-            responses,
-            By::Head,
-            request,
-            head,
-            exchange,
-            self.kind,
-        )?;
+        let policy = self.policy();
+        let by = By::Head;
+        let left = left_of(alloc, responses, by, request, head, exchange, &policy)?;
         self.put_in(alloc, target, left)?;
         Ok(())
     }

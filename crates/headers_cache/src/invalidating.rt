@@ -4,7 +4,7 @@ ghost use Rattle.headers_cache_rules.specs.Invalidation.{Invalidates};
 ghost use Rattle.headers_cache.specs.Contents.{without};
 ghost use Rattle.headers_cache.specs.History.Call.{Answered, Removed};
 ghost use Rattle.headers_cache.specs.History.{Step};
-ghost use Rattle.headers_cache.specs.Kept.{contents_of};
+ghost use Rattle.headers_cache.specs.Kept.{contents_of, policy_of_store};
 
 use crate::store::Store;
 use headers_cache_rules::invalidates;
@@ -17,10 +17,11 @@ impl Store {
     pub fn invalidate(&mut self, alloc: Global, target: &str, method: &Method, status: StatusCode)
         ensures invalid { Invalidates method.now status
             → contents_of self.new ≡ without target.now (contents_of self.old) }
-        ensures step { Step self.old.kind self.old.limits (Answered target.now method.now status) (contents_of self.old)
+        ensures step { Step (policy_of_store self.old) self.old.limits (Answered target.now method.now status)
+            (contents_of self.old)
             (contents_of self.new) }
         ensures valid { ¬ (Invalidates method.now status) → contents_of self.new ≡ contents_of self.old }
-        ensures kind { self.new.kind ≡ self.old.kind }
+        ensures policy { policy_of_store self.new ≡ policy_of_store self.old }
         ensures limits { self.new.limits ≡ self.old.limits }
     {
         if invalidates(method, status) {
@@ -32,9 +33,9 @@ impl Store {
     /// response names.
     pub fn remove(&mut self, alloc: Global, target: &str)
         ensures contents { contents_of self.new ≡ without target.now (contents_of self.old) }
-        ensures step { Step self.old.kind self.old.limits (Removed target.now) (contents_of self.old)
+        ensures step { Step (policy_of_store self.old) self.old.limits (Removed target.now) (contents_of self.old)
             (contents_of self.new) }
-        ensures kind { self.new.kind ≡ self.old.kind }
+        ensures policy { policy_of_store self.new ≡ policy_of_store self.old }
         ensures limits { self.new.limits ≡ self.old.limits }
     {
         drop(self.take_out(alloc, target));

@@ -1,18 +1,18 @@
 //! What a store answers to a request.
 ghost use Rattle.std.specs.Prelude.{◌≡◌, ◌≢◌, IfOk, OnErr, option_copied, slice_get};
+ghost use Rattle.headers_cache_policy.specs.Policies.{policy_of};
 ghost use Rattle.headers_cache_policy.specs.Requests.{request_of};
 ghost use Rattle.headers_cache_policy.specs.declared.decision.Decision.TheVariants as decisions;
 ghost use Rattle.headers_cache.specs.Contents.{responses_at, used};
 ghost use Rattle.headers_cache.specs.History.Call.{Looked};
 ghost use Rattle.headers_cache.specs.History.{Step};
-ghost use Rattle.headers_cache.specs.Kept.{contents_of};
+ghost use Rattle.headers_cache.specs.Kept.{contents_of, policy_of_store};
 ghost use Rattle.headers_cache.specs.Lookups.{HasFields, IsAnswer, IsDecisionOf, IsFreshFor, IsLookupOf};
 
 use crate::store::Store;
 use headers::Encoded;
 use headers_cache_policy::{
-    Decision, Freshness, Kind, RequestHead, current_age, decide_by, decide_unstored,
-    heuristic_lifetime, lifetime, validation_fields,
+    Decision, Freshness, Policy, RequestHead, current_age, decide_unstored, validation_fields,
 };
 use headers_cache_rules::{StoredResponse, age_field, select};
 use std::alloc::{AllocError, Global};
@@ -82,13 +82,13 @@ fn found(
 }
 
 // How many seconds a stored response is fresh, if at most so many are guessed.
-fn lifetime_of(stored: &StoredResponse, kind: Kind, most: u64) -> u64
-    ensures { IsFreshFor kind most stored.now result }
+fn lifetime_of(stored: &StoredResponse, policy: &Policy<'_>, most: u64) -> u64
+    ensures { IsFreshFor (policy_of policy.now) most stored.now result }
 {
-    match lifetime(&stored.response, stored.received, kind) {
+    match policy.lifetime(&stored.response, stored.received) {
         Some(seconds) => seconds,
         None => {
-            let guess = heuristic_lifetime(stored.status, &stored.response, stored.received, kind);
+            let guess = policy.heuristic_lifetime(stored.status, &stored.response, stored.received);
             guess.unwrap_or(0).min(most)
         }
     }
@@ -99,16 +99,16 @@ fn decision_for(
     stored: &StoredResponse,
     request: &RequestHead<'_>,
     now: u64,
-    kind: Kind,
+    policy: &Policy<'_>,
     most: u64,
 ) -> Decision
-    ensures { IsDecisionOf kind most (request_of request.now) now stored.now result }
+    ensures { IsDecisionOf (policy_of policy.now) most (request_of request.now) now stored.now result }
 {
     let freshness = Freshness {
-        lifetime: lifetime_of(stored, kind, most),
+        lifetime: lifetime_of(stored, policy, most),
         age: current_age(&stored.response, stored.times(now)),
     };
-    decide_by(&stored.head(), request, &stored.response, freshness, kind)
+    policy.decide_by(&stored.head(), request, &stored.response, freshness)
 }
 
 // What is done with a request to a target under which these responses are stored.
@@ -117,16 +117,17 @@ pub(crate) fn answer(
     responses: &[StoredResponse],
     request: &RequestHead<'_>,
     now: u64,
-    kind: Kind,
+    policy: &Policy<'_>,
     most: u64,
 ) -> Result<Lookup, AllocError>
-    ensures answer { IfOk result (IsAnswer kind most (request_of request.now) now responses.now) }
-    ensures memory { OnErr result (HasFields kind most (request_of request.now) now responses.now) }
+    ensures answer { IfOk result (IsAnswer (policy_of policy.now) most (request_of request.now) now responses.now) }
+    ensures memory { OnErr result
+        (HasFields (policy_of policy.now) most (request_of request.now) now responses.now) }
 {
     match select(responses, request) {
         Some(place) => {
             let stored = &responses[place];
-            let decision = decision_for(stored, request, now, kind, most);
+            let decision = decision_for(stored, request, now, policy, most);
             found(alloc, stored, place, decision, now)
         }
         None => match decide_unstored(request) {
@@ -150,14 +151,14 @@ impl Store {
         request: &RequestHead<'_>,
         now: u64,
     ) -> Result<Lookup, AllocError>
-        ensures answer { IfOk result (IsAnswer self.old.kind 0 (request_of request.now) now
+        ensures answer { IfOk result (IsAnswer (policy_of_store self.old) 0 (request_of request.now) now
             (responses_at target.now (contents_of self.new))) }
-        ensures memory { OnErr result (HasFields self.old.kind 0 (request_of request.now) now
+        ensures memory { OnErr result (HasFields (policy_of_store self.old) 0 (request_of request.now) now
             (responses_at target.now (contents_of self.new))) }
-        ensures step { Step self.old.kind self.old.limits (Looked target.now) (contents_of self.old)
+        ensures step { Step (policy_of_store self.old) self.old.limits (Looked target.now) (contents_of self.old)
             (contents_of self.new) }
         ensures contents { contents_of self.new ≡ used target.now (contents_of self.old) }
-        ensures kind { self.new.kind ≡ self.old.kind }
+        ensures policy { policy_of_store self.new ≡ policy_of_store self.old }
         ensures limits { self.new.limits ≡ self.old.limits }
     {
         self.lookup_guessing(alloc, target, request, now, 0)
@@ -174,18 +175,25 @@ impl Store {
         now: u64,
         most: u64,
     ) -> Result<Lookup, AllocError>
-        ensures answer { IfOk result (IsAnswer self.old.kind most (request_of request.now) now
+        ensures answer { IfOk result (IsAnswer (policy_of_store self.old) most (request_of request.now) now
             (responses_at target.now (contents_of self.new))) }
-        ensures memory { OnErr result (HasFields self.old.kind most (request_of request.now) now
+        ensures memory { OnErr result (HasFields (policy_of_store self.old) most (request_of request.now) now
             (responses_at target.now (contents_of self.new))) }
-        ensures step { Step self.old.kind self.old.limits (Looked target.now) (contents_of self.old)
+        ensures step { Step (policy_of_store self.old) self.old.limits (Looked target.now) (contents_of self.old)
             (contents_of self.new) }
         ensures contents { contents_of self.new ≡ used target.now (contents_of self.old) }
-        ensures kind { self.new.kind ≡ self.old.kind }
+        ensures policy { policy_of_store self.new ≡ policy_of_store self.old }
         ensures limits { self.new.limits ≡ self.old.limits }
     {
         self.touch(target);
-        answer(alloc, self.responses(target), request, now, self.kind, most)
+        answer(
+            alloc,
+            self.responses(target),
+            request,
+            now,
+            &self.policy(),
+            most,
+        )
     }
 
     /// The responses that are stored under a target, in the order in which they were stored.
@@ -208,7 +216,7 @@ impl Store {
     // Makes a target the most recently used.
     fn touch(&mut self, target: &str)
         ensures contents { contents_of self.new ≡ used target.now (contents_of self.old) }
-        ensures kind { self.new.kind ≡ self.old.kind }
+        ensures policy { policy_of_store self.new ≡ policy_of_store self.old }
         ensures limits { self.new.limits ≡ self.old.limits }
     {
         // Shows that no target is there twice.

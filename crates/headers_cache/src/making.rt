@@ -1,17 +1,32 @@
 //! A new store.
 ghost use Rattle.std.specs.Prelude.{◌≡◌, [], IfOk};
+ghost use Rattle.headers_cache_policy.specs.Policies.{plain};
 ghost use Rattle.headers_cache.specs.History.{Run};
-ghost use Rattle.headers_cache.specs.Kept.{contents_of};
+ghost use Rattle.headers_cache.specs.Kept.{contents_of, policy_of_store, policy_with};
 
 use crate::limits::Limits;
 use crate::store::Store;
+use headers::HeaderName;
 use headers_cache_policy::Kind;
 use lru::LruCache;
 use std::alloc::{AllocError, Global};
 use std::hash::RandomState;
 
+/// What a store does beyond RFC 9111. By default nothing.
+#[derive(Debug, Drop)]
+pub struct Options {
+    /// Whether `immutable` of a response counts (RFC 8246): a reload by `max-age` of a request gets a
+    /// response with it that is fresh, and isn't forwarded.
+    pub immutable: bool,
+    /// The names of the cache's targeted fields, as CDN-Cache-Control, the most applicable first (RFC
+    /// 9213): the first one that a response has, valid and not empty, counts in place of its
+    /// Cache-Control and Expires.
+    pub targets: Vec<HeaderName>,
+}
+
 impl Store {
-    /// A store that has nothing. Names of targets come from clients: so `keys` should be random.
+    /// A store that has nothing, without options. Names of targets come from clients: so `keys` should
+    /// be random.
     pub fn new(
         alloc: Global,
         kind: Kind,
@@ -19,17 +34,39 @@ impl Store {
         keys: RandomState,
     ) -> Result<Store, AllocError>
         ensures contents { IfOk result (λ store. contents_of store ≡ []) }
-        ensures run { IfOk result (λ store. Run kind limits [] (contents_of store)) }
-        ensures kind { IfOk result (λ store. store.kind ≡ kind) }
+        ensures run { IfOk result (λ store. Run (plain kind) limits [] (contents_of store)) }
+        ensures policy { IfOk result (λ store. policy_of_store store ≡ plain kind) }
         ensures limits { IfOk result (λ store. store.limits ≡ limits) }
     {
-        let targets = LruCache::unbounded_with_hasher(alloc, keys)?;
+        let options = Options {
+            immutable: false,
+            targets: Vec::new(alloc),
+        };
+        Store::with_options(alloc, kind, options, limits, keys)
+    }
+
+    /// The same with options.
+    pub fn with_options(
+        alloc: Global,
+        kind: Kind,
+        options: Options,
+        limits: Limits,
+        keys: RandomState,
+    ) -> Result<Store, AllocError>
+        ensures contents { IfOk result (λ store. contents_of store ≡ []) }
+        ensures run { IfOk result (λ store. Run (policy_with kind options) limits [] (contents_of store)) }
+        ensures policy { IfOk result (λ store. policy_of_store store ≡ policy_with kind options) }
+        ensures limits { IfOk result (λ store. store.limits ≡ limits) }
+    {
+        let Options { immutable, targets } = options;
         Ok(Store {
-            targets,
+            targets: LruCache::unbounded_with_hasher(alloc, keys)?,
             responses: 0,
             bytes: 0,
             limits,
             kind,
+            immutable,
+            targeted: targets,
         })
     }
 }

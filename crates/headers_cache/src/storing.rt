@@ -7,7 +7,7 @@ ghost use Rattle.headers_cache.specs.Changes.{FitsAlone, IsFront, IsInserted, Is
 ghost use Rattle.headers_cache.specs.Contents.{bytes_of, size_of, without};
 ghost use Rattle.headers_cache.specs.History.Call.{Arrived};
 ghost use Rattle.headers_cache.specs.History.{Step};
-ghost use Rattle.headers_cache.specs.Kept.{contents_of};
+ghost use Rattle.headers_cache.specs.Kept.{contents_of, policy_of_store};
 
 use crate::entries::bytes_of;
 use crate::limits::Limits;
@@ -99,28 +99,25 @@ impl Store {
         came: StoredResponse,
         reception: Reception,
     ) -> Result<bool, InsertError>
-        ensures stored { result ≡ Ok true → (stored : StoredResponse) × IsToStore self.old.kind came reception
+        ensures stored { result ≡ Ok true → (stored : StoredResponse) × IsToStore
+            (policy_of_store self.old) came reception
             × IsStoredAs came stored
             × IsInserted self.old.limits target.now stored (contents_of self.old) (contents_of self.new) }
         ensures unstored { result ≡ Ok false
-            → ((¬ (IsToStore self.old.kind came reception)) ⊎ (¬ (FitsAlone self.old.limits 1 (size_of came))))
+            → ((¬ (IsToStore (policy_of_store self.old) came reception)) ⊎ (¬ (FitsAlone self.old.limits 1
+            (size_of came))))
             × (contents_of self.new ≡ contents_of self.old) }
         ensures err { OnErr result ((contents_of self.new ≡ contents_of self.old)
             ⊎ IsFront (without target.now (contents_of self.old)) (contents_of self.new)) }
         ensures memory { OnErr result
-            (IsToStore self.old.kind came reception × FitsAlone self.old.limits 1 (size_of came)) }
-        ensures step { Step self.old.kind self.old.limits (Arrived target.now came reception) (contents_of self.old)
+            (IsToStore (policy_of_store self.old) came reception × FitsAlone self.old.limits 1 (size_of came)) }
+        ensures step { Step (policy_of_store self.old) self.old.limits (Arrived target.now came reception)
+            (contents_of self.old)
             (contents_of self.new) }
-        ensures kind { self.new.kind ≡ self.old.kind }
+        ensures policy { policy_of_store self.new ≡ policy_of_store self.old }
         ensures limits { self.new.limits ≡ self.old.limits }
     {
-        let is_stored = is_stored(
-            &came.head(),
-            came.status,
-            &came.response,
-            reception,
-            self.kind,
-        );
+        let is_stored = self.is_to_store(&came, reception);
         if !is_stored || !fits(&[], came.content.len(), self.limits) {
             return Ok(false);
         }
@@ -131,13 +128,27 @@ impl Store {
         }
     }
 
+    // Whether a response is to be stored.
+    fn is_to_store(&self, came: &StoredResponse, reception: Reception) -> bool
+        ensures { MatchBool result (IsToStore (policy_of_store self.now) came.now reception)
+            (¬ (IsToStore (policy_of_store self.now) came.now reception)) }
+    {
+        is_stored(
+            &came.head(),
+            came.status,
+            &came.response,
+            reception,
+            &self.policy(),
+        )
+    }
+
     // Stores a response.
     fn insert(&mut self, alloc: Global, target: &str, new: StoredResponse) -> Result<(), AllocError>
         requires { FitsAlone self.old.limits 1 (size_of new) }
         ensures ok { OnOk result
             (IsInserted self.old.limits target.now new (contents_of self.old) (contents_of self.new)) }
         ensures err { OnErr result (IsFront (without target.now (contents_of self.old)) (contents_of self.new)) }
-        ensures kind { self.new.kind ≡ self.old.kind }
+        ensures policy { policy_of_store self.new ≡ policy_of_store self.old }
         ensures limits { self.new.limits ≡ self.old.limits }
     {
         let mut responses = self.take_out(alloc, target);

@@ -2,6 +2,7 @@
 ghost use Rattle.std.specs.Prelude.{◌≡◌, ◌<◌, ◌≤◌, ◌++◌, IfOk, OnErr, OnOk, length, option_to_list};
 ghost use Rattle.std.specs.Bool.{MatchBool};
 ghost use Rattle.headers.specs.LineMap.{lines_at};
+ghost use Rattle.headers_cache_policy.specs.Policies.{policy_of};
 ghost use Rattle.headers_cache_policy.specs.Requests.{request_of};
 ghost use Rattle.headers_cache_policy.specs.Updating.{IsUpdated};
 ghost use Rattle.headers_cache_rules.specs.Stored.{fields_of_stored};
@@ -9,7 +10,7 @@ ghost use Rattle.headers_cache.specs.Contents.{bytes_of};
 ghost use Rattle.headers_cache.specs.Updates.{AreLeft, Becomes, BecomesUpdated, IsGetFor, IsUpdatedToo};
 
 use headers::{HeaderMap, InsertError};
-use headers_cache_policy::{Kind, RequestHead, has_strong_tag, is_updated, matches};
+use headers_cache_policy::{Policy, RequestHead, has_strong_tag, is_updated, matches};
 use headers_cache_rules::{Exchange, Freshened, StoredResponse, freshen, is_head_of};
 use http::Method;
 use std::alloc::{AllocError, Global};
@@ -48,12 +49,13 @@ fn updated(
     request: &RequestHead<'_>,
     update: &HeaderMap,
     exchange: Exchange,
-    kind: Kind,
+    policy: &Policy<'_>,
 ) -> Result<Option<StoredResponse>, InsertError>
     requires { IsUpdated (fields_of_stored stored) (lines_at update.now) }
-    ensures { IfOk result (BecomesUpdated kind (request_of request.now) (lines_at update.now) exchange stored) }
+    ensures { IfOk result (BecomesUpdated (policy_of policy.now) (request_of request.now)
+        (lines_at update.now) exchange stored) }
 {
-    match freshen(alloc, stored, request, update, exchange, kind)? {
+    match freshen(alloc, stored, request, update, exchange, policy)? {
         Freshened::Stored(fresh) => Ok(Some(fresh)),
         Freshened::Once(_) => Ok(None),
         Freshened::Unchanged(_) => Ok(None),
@@ -68,14 +70,15 @@ fn become_of(
     request: &RequestHead<'_>,
     update: &HeaderMap,
     exchange: Exchange,
-    kind: Kind,
+    policy: &Policy<'_>,
 ) -> Result<Option<StoredResponse>, InsertError>
-    ensures { IfOk result (Becomes kind (request_of request.now) (lines_at update.now) exchange stored by) }
+    ensures { IfOk result (Becomes (policy_of policy.now) (request_of request.now)
+        (lines_at update.now) exchange stored by) }
 {
     match by {
         By::NotModified => {
             if is_updated_too(&stored, request, update) {
-                updated(alloc, stored, request, update, exchange, kind)
+                updated(alloc, stored, request, update, exchange, policy)
             } else {
                 Ok(Some(stored))
             }
@@ -84,7 +87,7 @@ fn become_of(
             if !is_get_for(&stored, request) {
                 Ok(Some(stored))
             } else if is_head_of(&stored, update) {
-                updated(alloc, stored, request, update, exchange, kind)
+                updated(alloc, stored, request, update, exchange, policy)
             } else {
                 Ok(None)
             }
@@ -110,10 +113,10 @@ pub(crate) fn left_of(
     request: &RequestHead<'_>,
     update: &HeaderMap,
     exchange: Exchange,
-    kind: Kind,
+    policy: &Policy<'_>,
 ) -> Result<Vec<StoredResponse>, InsertError>
     ensures left { IfOk result (λ left.
-        AreLeft (λ old. Becomes kind (request_of request.now) (lines_at update.now) exchange old by)
+        AreLeft (λ old. Becomes (policy_of policy.now) (request_of request.now) (lines_at update.now) exchange old by)
         responses.items left.items) }
     ensures fewer { IfOk result (λ left. length left.items ≤ length responses.items) }
     ensures lighter { IfOk result (λ left. bytes_of left.items ≤ bytes_of responses.items) }
@@ -122,7 +125,7 @@ pub(crate) fn left_of(
     let mut left = Vec::new(alloc);
     let mut all = responses.into_iter();
     while let Some(stored) = all.next() {
-        let fate = become_of(alloc, stored, by, request, update, exchange, kind)?;
+        let fate = become_of(alloc, stored, by, request, update, exchange, policy)?;
         append(&mut left, fate)?;
     }
     Ok(left)

@@ -261,7 +261,7 @@ one_unstored_answer request Unavailable ServeStale h k = absurd k
 one_unstored_answer request Unavailable RevalidateOrServe h k = absurd k
 one_unstored_answer request Unavailable Revalidate h k = absurd k
 
-unstored_not_from_store : (request : Request) (a : Decision) → AnswersUnstored request a → ¬ (IsFromStore a)
+pub unstored_not_from_store : (request : Request) (a : Decision) → AnswersUnstored request a → ¬ (IsFromStore a)
 unstored_not_from_store request Serve h s = h
 unstored_not_from_store request ServeAndRevalidate h s = h
 unstored_not_from_store request ServeStale h s = h

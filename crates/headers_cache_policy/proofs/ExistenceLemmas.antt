@@ -16,7 +16,7 @@ use Rattle.headers_cache_policy.specs.Decisions.{MayServeMeanwhile, MayServeOnEr
 use Rattle.headers_cache_policy.specs.Decisions.{MustBeFresh, freshness_at, staleness}
 use Rattle.headers_cache_policy.specs.Directives.{directed}
 use Rattle.headers_cache_policy.specs.Fields.{IsPresent, capped, date_in, dated}
-use Rattle.headers_cache_policy.specs.Freshness.{HasHeuristic, HasLifetime, MayGuess}
+use Rattle.headers_cache_policy.specs.Freshness.{HasHeuristic, HasLifetime, MayGuess, by_itself}
 use Rattle.headers_cache_policy.specs.Freshness.{StatesNoAge, is_heuristic, shared_age}
 use Rattle.headers_cache_policy.specs.Requests.{AllowsMethod, IsGetOrHead, IsSafe, Request}
 use Rattle.headers_cache_policy.specs.Varying.{Agree, AreSame, HaveSameMembers, SayTheSame, Suits, has_pairs}
@@ -72,7 +72,7 @@ module _ (kind : Kind) (status received : ℕ) (response : LineMap) where
       (decide_either (decide_Bool (is_heuristic status) true) (decide_Bool (directed response).public true)))
     where
       by : (o : Option ℕ) → date_in received (codes "last-modified") response ≡ o
-          → IsDecidable (MayGuess kind status received response)
+          → IsDecidable (MayGuess kind status received (by_itself response) response)
           → (guess : Option ℕ) × HasHeuristic kind status received response guess
       by o e (inr n) = (None, λ may. absurd (n may))
       by None e (inl may) = (None, λ _. e)

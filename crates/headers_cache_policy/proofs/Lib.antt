@@ -5,6 +5,8 @@ pub mod ExistenceLemmas
 pub mod FieldLemmas
 pub mod FresheningLemmas
 pub mod FreshnessLemmas
+pub mod PolicyLemmas
 pub mod StrictLemmas
+pub mod TargetLemmas
 pub mod ValidatingLemmas
 pub mod VaryLemmas

@@ -1,5 +1,6 @@
 -- What a cache does with a request that a stored response could answer (RFC 9111, section 4, and RFC 5861).
-use Rattle.std.specs.Prelude.{◌≡◌, ◌⊎◌, ⊤, ℕ, ◌+◌, ◌-◌, ◌<◌, ◌≤◌, true, false, Option, IfSome, IsSome}
+use Rattle.std.specs.Prelude.{◌≡◌, ◌⊎◌, ⊤, ℕ, ◌+◌, ◌-◌, ◌<◌, ◌≤◌, Bool, true, false, ◌&&◌, nat_lt, Option, None, IfSome, IsSome}
+use Rattle.std.specs.Prelude.{if◌then◌else◌}
 use Rattle.std.specs.Prelude.{IsSomeAnd, unwrap_or}
 use Rattle.headers.specs.LineMap.{LineMap}
 use Rattle.headers_cache_policy.specs.Age.{age_at}
@@ -100,6 +101,13 @@ module _ (kind : Kind) (asks tells : Directives) (freshness : Freshness) where
       (¬ IsGoodEnough) × (asks.only_if_cached ≡ false) × ¬ (MayServeOnError kind asks tells freshness)
   Answers Unavailable = (¬ IsGoodEnough) × (asks.only_if_cached ≡ true)
   Answers Fetch = ⊥
+
+-- The directives of a request that count for a stored response, in a cache in which `immutable` does: `max-age` doesn't
+-- count while a response with `immutable` is fresh (RFC 8246, section 2). A stale one is as any other.
+abbrev pub counted : Bool → Directives → Directives → Freshness → Directives
+counted immutable asks tells freshness =
+    if immutable && tells.immutable && nat_lt freshness.age freshness.lifetime then record asks { max_age = None }
+    else asks
 
 -- how long the response is fresh, 0 if nothing is stated, and how old it is
 abbrev pub freshness_at : Option ℕ → Times → LineMap → Freshness

@@ -1,11 +1,12 @@
 -- How long a response is fresh (RFC 9111, section 4.2).
-use Rattle.std.specs.Prelude.{◌≡◌, ◌⊎◌, ℕ, ◌-◌, ◌/◌, Bool, true, IsTrue, nat_eq, List, [], ◌∷◌, Option, Some}
+use Rattle.std.specs.Prelude.{◌≡◌, ◌⊎◌, ℕ, ◌-◌, ◌/◌, Bool, true, false, IsTrue, nat_eq, List, [], ◌∷◌, Option, Some}
 use Rattle.std.specs.Prelude.{None, MatchOption, codes}
 use Rattle.std.specs.List.{list_any}
 use Rattle.headers.specs.LineMap.{LineMap}
 use Rattle.headers_cache_policy.specs.Directives.{directed}
 use Rattle.headers_cache_policy.specs.Fields.{IsPresent, capped, date_in, dated}
 use Rattle.headers_cache_policy.specs.declared.directives.Directives.{Directives}
+use Rattle.headers_cache_policy.specs.declared.governing.Governing.{Governing}
 use Rattle.headers_cache_policy.specs.declared.kind.Kind.{Kind}
 use Rattle.headers_cache_policy.specs.declared.kind.Kind.TheVariants.{Shared, Private}
 
@@ -30,15 +31,27 @@ ExpiresAfter received response seconds =
     MatchOption (date_in received (codes "expires") response) (seconds ≡ 0)
     (λ expires. seconds ≡ expires - dated received response)
 
--- Which facts give each lifetime (section 4.2.1), for a response that came at that time: so many seconds by
--- Cache-Control, or by Expires if Cache-Control says nothing; or none is stated.
+-- Expires is there, and counts
+abbrev pub HasExpires : Bool → LineMap → Type 0
+HasExpires true response = IsPresent (codes "expires") response
+HasExpires false response = ⊥
+
+-- Which facts give each lifetime (section 4.2.1), for a response that came at that time, by what governs it: so many
+-- seconds by directives, or by Expires if they say nothing; or none is stated.
+abbrev pub HasLifetimeBy : Kind → ℕ → Governing → LineMap → Option ℕ → Type 0
+HasLifetimeBy kind received by response (Some seconds) =
+    StatesAge kind by.directives seconds
+    ⊎ (StatesNoAge kind by.directives × HasExpires by.by_expires response × ExpiresAfter received response seconds)
+HasLifetimeBy kind received by response None =
+    StatesNoAge kind by.directives × ¬ (HasExpires by.by_expires response)
+
+-- what governs a response in a cache without targeted fields: its Cache-Control, and Expires
+abbrev pub by_itself : LineMap → Governing
+by_itself response = record { directives = directed response; by_expires = true }
+
+-- the same by Cache-Control and Expires
 abbrev pub HasLifetime : Kind → ℕ → LineMap → Option ℕ → Type 0
-HasLifetime kind received response (Some seconds) =
-    StatesAge kind (directed response) seconds
-    ⊎ (StatesNoAge kind (directed response) × IsPresent (codes "expires") response
-    × ExpiresAfter received response seconds)
-HasLifetime kind received response None =
-    StatesNoAge kind (directed response) × ¬ (IsPresent (codes "expires") response)
+HasLifetime kind received response stated = HasLifetimeBy kind received (by_itself response) response stated
 
 -- the statuses that are heuristically cacheable (RFC 9110, section 15.1)
 abbrev pub heuristic_codes : List ℕ
@@ -52,16 +65,21 @@ IsHeuristic status = IsTrue (is_heuristic status)
 
 -- a cache may guess (section 4.2.2): no lifetime is stated, and the status is heuristically cacheable or the response
 -- is `public`
-abbrev pub MayGuess : Kind → ℕ → ℕ → LineMap → Type 0
-MayGuess kind status received response = HasLifetime kind received response None
-    × (IsHeuristic status ⊎ ((directed response).public ≡ true))
+abbrev pub MayGuess : Kind → ℕ → ℕ → Governing → LineMap → Type 0
+MayGuess kind status received by response = HasLifetimeBy kind received by response None
+    × (IsHeuristic status ⊎ (by.directives.public ≡ true))
 
 -- Which facts give each guess: a tenth of the time from Last-Modified to Date; or a cache may not guess, or knows no
 -- last modification.
-abbrev pub HasHeuristic : Kind → ℕ → ℕ → LineMap → Option ℕ → Type 0
-HasHeuristic kind status received response (Some seconds) =
-    MayGuess kind status received response
+abbrev pub HasHeuristicBy : Kind → ℕ → ℕ → Governing → LineMap → Option ℕ → Type 0
+HasHeuristicBy kind status received by response (Some seconds) =
+    MayGuess kind status received by response
     × ((modified : ℕ) × (date_in received (codes "last-modified") response ≡ Some modified)
     × (seconds ≡ capped (dated received response - modified) / 10))
-HasHeuristic kind status received response None =
-    MayGuess kind status received response → date_in received (codes "last-modified") response ≡ None
+HasHeuristicBy kind status received by response None =
+    MayGuess kind status received by response → date_in received (codes "last-modified") response ≡ None
+
+-- the same by Cache-Control and Expires
+abbrev pub HasHeuristic : Kind → ℕ → ℕ → LineMap → Option ℕ → Type 0
+HasHeuristic kind status received response guess =
+    HasHeuristicBy kind status received (by_itself response) response guess

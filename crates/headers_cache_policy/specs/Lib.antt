@@ -4,8 +4,10 @@ pub mod Directives
 pub mod Fields
 pub mod Freshening
 pub mod Freshness
+pub mod Policies
 pub mod Requests
 pub mod Storing
+pub mod Targets
 pub mod Updating
 pub mod Validating
 pub mod Varying

@@ -3,9 +3,10 @@ use Rattle.std.specs.Prelude.{◌≡◌, ◌≢◌, ◌⊎◌, ⊤, ℕ, ◌≤�
 use Rattle.headers.specs.LineMap.{LineMap}
 use Rattle.headers_cache_policy.specs.Directives.{directed}
 use Rattle.headers_cache_policy.specs.Fields.{IsPresent}
-use Rattle.headers_cache_policy.specs.Freshness.{IsHeuristic}
+use Rattle.headers_cache_policy.specs.Freshness.{HasExpires, IsHeuristic, by_itself}
 use Rattle.headers_cache_policy.specs.Requests.{IsGetOrHead, Request}
 use Rattle.headers_cache_policy.specs.declared.directives.Directives.{Directives}
+use Rattle.headers_cache_policy.specs.declared.governing.Governing.{Governing}
 use Rattle.headers_cache_policy.specs.declared.kind.Kind.{Kind}
 use Rattle.headers_cache_policy.specs.declared.kind.Kind.TheVariants.{Shared, Private}
 
@@ -37,22 +38,22 @@ IsMarkedFor Private tells = tells.private ≡ true
 IsMarkedFor Shared tells = IsSome tells.s_max_age
 
 -- something in the response marks it as one to store
-abbrev pub IsSuited : Kind → ℕ → LineMap → Directives → Type 0
-IsSuited kind status response tells =
-    (tells.public ≡ true) ⊎ IsMarkedFor kind tells ⊎ IsPresent (codes "expires") response ⊎ IsSome tells.max_age
-    ⊎ IsHeuristic status
+abbrev pub IsSuited : Kind → ℕ → Governing → LineMap → Type 0
+IsSuited kind status by response =
+    (by.directives.public ≡ true) ⊎ IsMarkedFor kind by.directives ⊎ HasExpires by.by_expires response
+    ⊎ IsSome by.directives.max_age ⊎ IsHeuristic status
 
--- All of section 3 holds of a response to a request, by what they direct.
-pub record StoresBy (kind : Kind) (request : Request) (status : ℕ) (response : LineMap) (asks tells : Directives)
-    : Type 0 where
+-- All of section 3 holds of a response to a request, by what the request directs and what governs the response.
+pub record StoresBy (kind : Kind) (request : Request) (status : ℕ) (response : LineMap) (asks : Directives)
+    (by : Governing) : Type 0 where
   pub understood : IsGetOrHead request.method
-  pub stored : IsStatusStored status tells
+  pub stored : IsStatusStored status by.directives
   pub request_lets : asks.no_store ≡ false
-  pub response_lets : IsStorable tells
-  pub shareable : IsShareable kind request.fields tells
-  pub suited : IsSuited kind status response tells
+  pub response_lets : IsStorable by.directives
+  pub shareable : IsShareable kind request.fields by.directives
+  pub suited : IsSuited kind status by response
 
 -- the response may be stored
 abbrev pub MayStore : Kind → Request → ℕ → LineMap → Type 0
 MayStore kind request status response =
-    StoresBy kind request status response (directed request.fields) (directed response)
+    StoresBy kind request status response (directed request.fields) (by_itself response)

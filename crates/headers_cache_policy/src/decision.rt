@@ -2,7 +2,9 @@
 ghost use Rattle.std.specs.Prelude.{◌≡◌, ◌≤◌, IfSome};
 ghost use Rattle.std.specs.Bool.{MatchBool};
 ghost use Rattle.headers.specs.LineMap.{lines_at};
-ghost use Rattle.headers_cache_policy.specs.Decisions.{Answers, AnswersUnstored, Decides, DecidesBy, DecidesMatched};
+ghost use Rattle.headers_cache_policy.specs.Decisions.{Answers, AnswersUnstored, Decides, DecidesBy, counted};
+ghost use Rattle.headers_cache_policy.specs.Directives.{directed};
+ghost use Rattle.headers_cache_policy.specs.Policies.{DecidesByUnder, DecidesMatchedUnder, DecidesUnder, policy_of};
 ghost use Rattle.headers_cache_policy.specs.Decisions.{IsNotRefused, IsServable};
 ghost use Rattle.headers_cache_policy.specs.Decisions.{IsGoodEnough, IsUsable, IsWanted, staleness};
 ghost use Rattle.headers_cache_policy.specs.Decisions.{MayServeMeanwhile, MayServeOnError, MayServeStale, MustBeFresh};
@@ -12,6 +14,7 @@ use crate::age::{Times, current_age};
 use crate::directives::{Directives, read_directives};
 use crate::freshness::lifetime_by;
 use crate::kind::Kind;
+use crate::policy::Policy;
 use crate::request::{RequestHead, is_safe};
 use crate::vary::matches;
 use headers::HeaderMap;
@@ -63,11 +66,12 @@ pub fn decide(
 ) -> Decision
     ensures { Decides kind (request_of stored.now) (request_of request.now) (lines_at response.now) times result }
 {
-    if matches(stored, request, response) {
-        decide_matched(request.fields, response, times, kind)
-    } else {
-        decide_unstored(request)
-    }
+    let policy = Policy {
+        kind,
+        immutable: false,
+        targets: &[],
+    };
+    policy.decide(stored, request, response, times)
 }
 
 /// The same as `decide`, by a lifetime and an age of the caller's.
@@ -80,12 +84,93 @@ pub fn decide_by(
 ) -> Decision
     ensures { DecidesBy kind (request_of stored.now) (request_of request.now) (lines_at response.now) freshness result }
 {
-    if matches(stored, request, response) {
-        let asks = read_directives(request.fields);
-        let tells = read_directives(response);
-        answer(&asks, &tells, freshness, kind)
+    let policy = Policy {
+        kind,
+        immutable: false,
+        targets: &[],
+    };
+    policy.decide_by(stored, request, response, freshness)
+}
+
+impl Policy<'_> {
+    /// What a cache does with a request, by a response that it has stored under the same URI: the
+    /// function `decide`, by this policy.
+    pub fn decide(
+        &self,
+        stored: &RequestHead<'_>,
+        request: &RequestHead<'_>,
+        response: &HeaderMap,
+        times: Times,
+    ) -> Decision
+        ensures { DecidesUnder (policy_of self.now) (request_of stored.now) (request_of request.now)
+            (lines_at response.now) times result }
+    {
+        if matches(stored, request, response) {
+            self.decide_matched(request.fields, response, times)
+        } else {
+            decide_unstored(request)
+        }
+    }
+
+    /// The same as `decide`, by a lifetime and an age of the caller's.
+    pub fn decide_by(
+        &self,
+        stored: &RequestHead<'_>,
+        request: &RequestHead<'_>,
+        response: &HeaderMap,
+        freshness: Freshness,
+    ) -> Decision
+        ensures { DecidesByUnder (policy_of self.now) (request_of stored.now) (request_of request.now)
+            (lines_at response.now) freshness result }
+    {
+        if matches(stored, request, response) {
+            let tells = self.read_governing(response).directives;
+            self.answer(request.fields, &tells, freshness)
+        } else {
+            decide_unstored(request)
+        }
+    }
+
+    // What is done with a request that the response suits.
+    fn decide_matched(&self, request: &HeaderMap, response: &HeaderMap, times: Times) -> Decision
+        ensures { DecidesMatchedUnder (policy_of self.now) (lines_at request.now) (lines_at response.now) times result }
+    {
+        let by = self.read_governing(response);
+        let stated = lifetime_by(&by, response, times.response, self.kind);
+        let freshness = Freshness {
+            lifetime: stated.unwrap_or(0),
+            age: current_age(response, times),
+        };
+        self.answer(request, &by.directives, freshness)
+    }
+
+    // The answer by what the response directs.
+    fn answer(&self, request: &HeaderMap, tells: &Directives, freshness: Freshness) -> Decision
+        ensures { Answers self.now.kind
+            (counted self.now.immutable (directed (lines_at request.now)) tells.now freshness) tells.now freshness
+            result }
+    {
+        let asks = counted(self.immutable, read_directives(request), tells, freshness);
+        answer(&asks, tells, freshness, self.kind)
+    }
+}
+
+// What counts of a request for a response that directs this.
+fn counted(
+    immutable: bool,
+    asks: Directives,
+    tells: &Directives,
+    freshness: Freshness,
+) -> Directives
+    ensures { result ≡ counted immutable asks tells.now freshness }
+{
+    if immutable && tells.immutable && freshness.age < freshness.lifetime {
+        Directives {
+            max_age: None,
+            ..asks
+        }
     } else {
-        decide_unstored(request)
+        asks
     }
 }
 
@@ -100,20 +185,6 @@ pub fn decide_unstored(request: &RequestHead<'_>) -> Decision
     } else {
         Decision::Fetch
     }
-}
-
-// What is done with a request that the response suits.
-fn decide_matched(request: &HeaderMap, response: &HeaderMap, times: Times, kind: Kind) -> Decision
-    ensures { DecidesMatched kind (lines_at request.now) (lines_at response.now) times result }
-{
-    let asks = read_directives(request);
-    let tells = read_directives(response);
-    let stated = lifetime_by(&tells, response, times.response, kind);
-    let freshness = Freshness {
-        lifetime: stated.unwrap_or(0),
-        age: current_age(response, times),
-    };
-    answer(&asks, &tells, freshness, kind)
 }
 
 fn answer(asks: &Directives, tells: &Directives, freshness: Freshness, kind: Kind) -> Decision

@@ -13,7 +13,7 @@ use headers::HeaderMap;
 use headers_fields::{Directive, FieldMembers, Malformed, directive_in};
 use http_header::CACHE_CONTROL;
 
-/// What Cache-Control directs a cache (RFC 9111, section 5.2, and RFC 5861). Numbers are seconds.
+/// What Cache-Control directs a cache (RFC 9111, section 5.2, RFC 5861 and RFC 8246). Numbers are seconds.
 ///
 /// The names of directives ignore case. Of a directive that is given twice the first counts. An
 /// argument is a token or a quoted-string, which mean the same. `no-cache` and `private` that name
@@ -36,6 +36,8 @@ pub struct Directives {
     pub public: bool,
     /// `private`: stored by no shared cache.
     pub private: bool,
+    /// `immutable`: not updated while it is fresh (RFC 8246).
+    pub immutable: bool,
     /// `max-age`: 0 without a valid number.
     pub max_age: Option<u64>,
     /// `s-maxage`: 0 without a valid number.
@@ -78,7 +80,7 @@ fn said_in<'a>(member: Result<&'a [u8], Malformed>) -> Option<Directive<'a>>
     }
 }
 
-fn nothing() -> Directives
+pub(crate) fn nothing() -> Directives
     ensures { result ≡ nothing }
 {
     Directives {
@@ -90,6 +92,7 @@ fn nothing() -> Directives
         must_understand: false,
         public: false,
         private: false,
+        immutable: false,
         max_age: None,
         s_max_age: None,
         max_stale: None,
@@ -126,6 +129,7 @@ fn directs(directive: &Directive<'_>) -> Directives
         must_understand: directive.is(b"must-understand"),
         public: directive.is(b"public"),
         private: directive.is(b"private"),
+        immutable: directive.is(b"immutable"),
         max_age: seconds_if(directive, b"max-age", 0, 0),
         s_max_age: seconds_if(directive, b"s-maxage", 0, 0),
         max_stale: seconds_if(directive, b"max-stale", u64::MAX, 0),
@@ -162,6 +166,7 @@ fn with_later(first: Directives, later: Directives) -> Directives
         must_understand: either(first.must_understand, later.must_understand),
         public: either(first.public, later.public),
         private: either(first.private, later.private),
+        immutable: either(first.immutable, later.immutable),
         max_age: first.max_age.or(later.max_age),
         s_max_age: first.s_max_age.or(later.s_max_age),
         max_stale: first.max_stale.or(later.max_stale),

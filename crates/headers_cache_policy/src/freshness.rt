@@ -1,14 +1,17 @@
 //! How long a response is fresh.
-ghost use Rattle.std.specs.Prelude.{◌≡◌, ◌-◌, MatchOption, codes};
+ghost use Rattle.std.specs.Prelude.{◌≡◌, ◌-◌, MatchOption};
+ghost use Rattle.std.specs.Bool.{MatchBool};
 ghost use Rattle.headers.specs.LineMap.{lines_at};
-ghost use Rattle.headers_cache_policy.specs.Directives.{directed};
-ghost use Rattle.headers_cache_policy.specs.Fields.{IsPresent, capped, dated};
-ghost use Rattle.headers_cache_policy.specs.Freshness.{ExpiresAfter, HasHeuristic, HasLifetime, StatesAge, StatesNoAge};
-ghost use Rattle.headers_cache_policy.specs.Freshness.{is_heuristic};
+ghost use Rattle.headers_cache_policy.specs.Fields.{capped, dated};
+ghost use Rattle.headers_cache_policy.specs.Freshness.{ExpiresAfter, HasExpires, HasHeuristic, HasHeuristicBy};
+ghost use Rattle.headers_cache_policy.specs.Freshness.{HasLifetime, HasLifetimeBy, StatesAge, StatesNoAge, is_heuristic};
+ghost use Rattle.headers_cache_policy.specs.Policies.{HasHeuristicUnder, HasLifetimeUnder, policy_of};
 
-use crate::directives::{Directives, read_directives};
+use crate::directives::Directives;
 use crate::fields::date;
+use crate::governing::Governing;
 use crate::kind::Kind;
+use crate::policy::Policy;
 use headers::HeaderMap;
 use headers_dates::Timestamp;
 use headers_fields::has_line;
@@ -24,7 +27,12 @@ use http_header::{DATE, EXPIRES, LAST_MODIFIED};
 pub fn lifetime(response: &HeaderMap, received: u64, kind: Kind) -> Option<u64>
     ensures { HasLifetime kind received (lines_at response.now) result }
 {
-    lifetime_by(&read_directives(response), response, received, kind)
+    let policy = Policy {
+        kind,
+        immutable: false,
+        targets: &[],
+    };
+    policy.lifetime(response, received)
 }
 
 /// How many seconds a response may be taken as fresh if its origin doesn't say so: a tenth of the
@@ -38,11 +46,62 @@ pub fn heuristic_lifetime(
 ) -> Option<u64>
     ensures { HasHeuristic kind status received (lines_at response.now) result }
 {
-    let tells = read_directives(response);
-    if lifetime_by(&tells, response, received, kind).is_some() {
+    let policy = Policy {
+        kind,
+        immutable: false,
+        targets: &[],
+    };
+    policy.heuristic_lifetime(status, response, received)
+}
+
+impl Policy<'_> {
+    /// How many seconds a response is fresh, if its origin says so: the function `lifetime`, by this
+    /// policy.
+    pub fn lifetime(&self, response: &HeaderMap, received: u64) -> Option<u64>
+        ensures { HasLifetimeUnder (policy_of self.now) received (lines_at response.now) result }
+    {
+        lifetime_by(
+            &self.read_governing(response),
+            response,
+            received,
+            self.kind,
+        )
+    }
+
+    /// How many seconds a response may be taken as fresh if its origin doesn't say so: the function
+    /// `heuristic_lifetime`, by this policy.
+    pub fn heuristic_lifetime(
+        &self,
+        status: StatusCode,
+        response: &HeaderMap,
+        received: u64,
+    ) -> Option<u64>
+        ensures { HasHeuristicUnder (policy_of self.now) status received (lines_at response.now) result }
+    {
+        heuristic_by(
+            &self.read_governing(response),
+            status,
+            response,
+            received,
+            self.kind,
+        )
+    }
+}
+
+// The lifetime that may be guessed, by what governs the response.
+fn heuristic_by(
+    by: &Governing,
+    status: StatusCode,
+    response: &HeaderMap,
+    received: u64,
+    kind: Kind,
+) -> Option<u64>
+    ensures { HasHeuristicBy kind status received by.now (lines_at response.now) result }
+{
+    if lifetime_by(by, response, received, kind).is_some() {
         return None;
     }
-    if !is_heuristic(status) && !tells.public {
+    if !is_heuristic(status) && !by.directives.public {
         return None;
     }
     match date(response, LAST_MODIFIED, received) {
@@ -60,19 +119,18 @@ pub(crate) fn is_heuristic(status: StatusCode) -> bool
     codes.contains(&status.as_u16())
 }
 
-// The lifetime that the origin states, by what Cache-Control directs.
+// The lifetime that the origin states, by what governs the response.
 pub(crate) fn lifetime_by(
-    tells: &Directives,
+    by: &Governing,
     response: &HeaderMap,
     received: u64,
     kind: Kind,
 ) -> Option<u64>
-    requires { tells.now ≡ directed (lines_at response.now) }
-    ensures { HasLifetime kind received (lines_at response.now) result }
+    ensures { HasLifetimeBy kind received by.now (lines_at response.now) result }
 {
-    match stated_age(tells, kind) {
+    match stated_age(&by.directives, kind) {
         Some(seconds) => Some(seconds),
-        None => lifetime_by_expires(response, received),
+        None => lifetime_by_expires(by.by_expires, response, received),
     }
 }
 
@@ -86,13 +144,21 @@ fn stated_age(tells: &Directives, kind: Kind) -> Option<u64>
     }
 }
 
-// Expires less Date, if Expires is there.
-fn lifetime_by_expires(response: &HeaderMap, received: u64) -> Option<u64>
-    ensures { MatchOption result (¬ (IsPresent (codes "expires") (lines_at response.now)))
-        (λ seconds. IsPresent (codes "expires") (lines_at response.now)
+// Whether Expires is there, and counts.
+pub(crate) fn has_expires(counts: bool, response: &HeaderMap) -> bool
+    ensures { MatchBool result (HasExpires counts (lines_at response.now))
+        (¬ (HasExpires counts (lines_at response.now))) }
+{
+    counts && has_line(&response.get_all(EXPIRES))
+}
+
+// Expires less Date, if Expires is there and counts.
+fn lifetime_by_expires(counts: bool, response: &HeaderMap, received: u64) -> Option<u64>
+    ensures { MatchOption result (¬ (HasExpires counts (lines_at response.now)))
+        (λ seconds. HasExpires counts (lines_at response.now)
         × ExpiresAfter received (lines_at response.now) seconds) }
 {
-    if !has_line(&response.get_all(EXPIRES)) {
+    if !has_expires(counts, response) {
         return None;
     }
     match date(response, EXPIRES, received) {

@@ -1,17 +1,19 @@
 //! What follows from the definitions alone. A proof cites a law by calling it.
-ghost use Rattle.std.specs.Prelude.{◌≡◌, ◌⊎◌, ◌↔◌, ◌≤◌, ℕ, List, Option, Some, None, codes};
+ghost use Rattle.std.specs.Prelude.{◌≡◌, ◌⊎◌, ◌↔◌, ◌≤◌, ◌∷◌, [], ℕ, List, Option, Some, None, codes, true, false};
 ghost use Rattle.http_header.specs.FieldValue.{FieldValue};
 ghost use Rattle.http_header.specs.HeaderMap.{Entries, IsHeaderMap};
 ghost use Rattle.headers.specs.LineMap.{LineMap, lines_at, set_all};
 ghost use Rattle.headers_cache_policy.specs.Age.{age_at};
 ghost use Rattle.headers_cache_policy.specs.Decisions.{Answers, AnswersUnstored, Decides, DecidesBy, IsFromStore};
 ghost use Rattle.headers_cache_policy.specs.Decisions.{IsServedMeanwhile, IsTakenStale, MayComeFromStore, MustBeFresh};
-ghost use Rattle.headers_cache_policy.specs.Directives.{IsMalformed, Says};
+ghost use Rattle.headers_cache_policy.specs.Directives.{IsMalformed, Says, directed};
 ghost use Rattle.headers_cache_policy.specs.Fields.{capped, greatest};
 ghost use Rattle.headers_cache_policy.specs.Freshening.{freshened, freshening_fields};
-ghost use Rattle.headers_cache_policy.specs.Freshness.{HasHeuristic, HasLifetime};
+ghost use Rattle.headers_cache_policy.specs.Freshness.{HasHeuristic, HasLifetime, by_itself};
+ghost use Rattle.headers_cache_policy.specs.Policies.{DecidesByUnder, Policy, asks, tells};
 ghost use Rattle.headers_cache_policy.specs.Requests.{IsSafe, Request};
 ghost use Rattle.headers_cache_policy.specs.Storing.{MayStore};
+ghost use Rattle.headers_cache_policy.specs.Targets.{governing, told_by};
 ghost use Rattle.headers_cache_policy.specs.Validating.{IsConditional, validation_fields};
 ghost use Rattle.headers_cache_policy.specs.declared.age.Times.{Times};
 ghost use Rattle.headers_cache_policy.specs.declared.decision.Decision.{Decision};
@@ -140,6 +142,35 @@ pub fn age_never_wraps()
         → capped (age_at times response) ≡ greatest }
     ensures grows { (times : Times) (later : ℕ) (response : LineMap) → times.now ≤ later
         → capped (age_at times response) ≤ capped (age_at (record times { now = later }) response) }
+{}
+
+/// Under a policy in which `immutable` counts (RFC 8246), nothing stale is served that wouldn't be served
+/// without it, and `no-cache` of a request or a response still asks the origin. While a response isn't
+/// fresh, each directive of a request counts.
+pub fn immutable_counts_while_fresh()
+    ensures stale { (policy : Policy) (request response : LineMap) (freshness : Freshness)
+        → freshness.lifetime ≤ freshness.age → asks policy request response freshness ≡ directed request }
+    ensures allowed { (policy : Policy) (stored request : Request) (response : LineMap) (freshness : Freshness)
+        (decision : Decision) → DecidesByUnder policy stored request response freshness decision
+        → IsFromStore decision → freshness.lifetime ≤ freshness.age
+        → (¬ (MustBeFresh policy.kind (tells policy response)))
+        × (IsTakenStale (directed request.fields) freshness ⊎ IsServedMeanwhile (tells policy response) freshness) }
+    ensures no_cache { (policy : Policy) (stored request : Request) (response : LineMap) (freshness : Freshness)
+        (decision : Decision)
+        → ((directed request.fields).no_cache ≡ true) ⊎ ((tells policy response).no_cache ≡ true)
+        → DecidesByUnder policy stored request response freshness decision → ¬ (MayComeFromStore decision) }
+{}
+
+/// The first targeted field that is there, valid and not empty governs a response in place of its
+/// Cache-Control and Expires. One that isn't counts for nothing, and without one the response is governed
+/// as in a cache without targeted fields (RFC 9213, section 2.2).
+pub fn first_valid_target_governs()
+    ensures first { (name : List ℕ) (names : List (List ℕ)) (response : LineMap) (said : Directives)
+        → told_by (response name) ≡ Some said
+        → governing (name ∷ names) response ≡ record { directives = said; by_expires = false } }
+    ensures invalid { (name : List ℕ) (names : List (List ℕ)) (response : LineMap) → told_by (response name) ≡ None
+        → governing (name ∷ names) response ≡ governing names response }
+    ensures none { (response : LineMap) → governing [] response ≡ by_itself response }
 {}
 
 /// After `set_all` of the validation fields a request has the validators of the response under

@@ -1,5 +1,6 @@
 //! What a cache may do with a response: whether it may store it, how long it is fresh, how old it
-//! is, and what it does with a request that the stored response could answer (RFC 9111, RFC 5861).
+//! is, and what it does with a request that the stored response could answer (RFC 9111, RFC 5861), and as options RFC 8246
+//! and RFC 9213.
 //!
 //! Fields are parsed by the grammar of the RFCs, and what is malformed makes each answer stricter.
 //! Only `validation_fields` and `freshening_fields` allocate.
@@ -11,10 +12,13 @@ mod directives;
 mod fields;
 mod freshening;
 mod freshness;
+mod governing;
 mod kind;
 pub mod laws;
+mod policy;
 mod request;
 mod storing;
+mod targets;
 mod updating;
 mod validating;
 mod vary;
@@ -25,7 +29,9 @@ pub use crate::directives::{Directives, read_directives};
 pub use crate::fields::date;
 pub use crate::freshening::freshening_fields;
 pub use crate::freshness::{heuristic_lifetime, lifetime};
+pub use crate::governing::Governing;
 pub use crate::kind::Kind;
+pub use crate::policy::Policy;
 pub use crate::request::RequestHead;
 pub use crate::storing::may_store;
 pub use crate::updating::{has_strong_tag, has_validator, is_updated};

@@ -3,17 +3,21 @@ ghost use Rattle.std.specs.Prelude.{◌≡◌, codes};
 ghost use Rattle.std.specs.Bool.{MatchBool};
 ghost use Rattle.headers.specs.LineMap.{lines_at};
 ghost use Rattle.headers_cache_policy.specs.Storing.{IsShareable, IsStatusStored, IsStorable, IsSuited};
-ghost use Rattle.headers_cache_policy.specs.Storing.{MayStore};
+ghost use Rattle.headers_cache_policy.specs.Storing.{MayStore, StoresBy};
+ghost use Rattle.headers_cache_policy.specs.Directives.{directed};
+ghost use Rattle.headers_cache_policy.specs.Policies.{MayStoreUnder, policy_of};
 ghost use Rattle.headers_cache_policy.specs.Requests.{request_of};
 
 use crate::directives::{Directives, read_directives};
-use crate::freshness::is_heuristic;
+use crate::freshness::{has_expires, is_heuristic};
+use crate::governing::Governing;
 use crate::kind::Kind;
+use crate::policy::Policy;
 use crate::request::{RequestHead, is_get_or_head};
 use headers::HeaderMap;
 use headers_fields::has_line;
 use http::StatusCode;
-use http_header::{AUTHORIZATION, EXPIRES};
+use http_header::AUTHORIZATION;
 
 /// Whether a cache may store the response to a request (RFC 9111, sections 3 and 3.5).
 ///
@@ -29,14 +33,57 @@ pub fn may_store(
     ensures { MatchBool result (MayStore kind (request_of request.now) status (lines_at response.now))
         (¬ (MayStore kind (request_of request.now) status (lines_at response.now))) }
 {
+    let policy = Policy {
+        kind,
+        immutable: false,
+        targets: &[],
+    };
+    policy.may_store(request, status, response)
+}
+
+impl Policy<'_> {
+    /// Whether a cache may store the response to a request: the function `may_store`, by this policy.
+    pub fn may_store(
+        &self,
+        request: &RequestHead<'_>,
+        status: StatusCode,
+        response: &HeaderMap,
+    ) -> bool
+        ensures { MatchBool result
+            (MayStoreUnder (policy_of self.now) (request_of request.now) status (lines_at response.now))
+            (¬ (MayStoreUnder (policy_of self.now) (request_of request.now) status (lines_at response.now))) }
+    {
+        stores_by(
+            request,
+            status,
+            response,
+            &self.read_governing(response),
+            self.kind,
+        )
+    }
+}
+
+// Whether the response may be stored, by what governs it.
+fn stores_by(
+    request: &RequestHead<'_>,
+    status: StatusCode,
+    response: &HeaderMap,
+    by: &Governing,
+    kind: Kind,
+) -> bool
+    ensures { MatchBool result
+        (StoresBy kind (request_of request.now) status (lines_at response.now)
+        (directed (request_of request.now).fields) by.now)
+        (¬ (StoresBy kind (request_of request.now) status (lines_at response.now)
+        (directed (request_of request.now).fields) by.now)) }
+{
     let asks = read_directives(request.fields);
-    let tells = read_directives(response);
     is_get_or_head(request.method)
-        && is_status_stored(status, &tells)
+        && is_status_stored(status, &by.directives)
         && !asks.no_store
-        && is_storable(&tells)
-        && is_shareable(request.fields, &tells, kind)
-        && is_suited(status, response, &tells, kind)
+        && is_storable(&by.directives)
+        && is_shareable(request.fields, &by.directives, kind)
+        && is_suited(status, response, by, kind)
 }
 
 // Whether responses of this status are stored: it is final and whole, and the cache understands it
@@ -73,13 +120,14 @@ fn is_shareable(request: &HeaderMap, tells: &Directives, kind: Kind) -> bool
 }
 
 // Whether something in the response marks it as one to store.
-fn is_suited(status: StatusCode, response: &HeaderMap, tells: &Directives, kind: Kind) -> bool
-    ensures { MatchBool result (IsSuited kind status (lines_at response.now) tells.now)
-        (¬ (IsSuited kind status (lines_at response.now) tells.now)) }
+fn is_suited(status: StatusCode, response: &HeaderMap, by: &Governing, kind: Kind) -> bool
+    ensures { MatchBool result (IsSuited kind status by.now (lines_at response.now))
+        (¬ (IsSuited kind status by.now (lines_at response.now))) }
 {
+    let tells = &by.directives;
     tells.public
         || (tells.private && kind == Kind::Private)
-        || has_line(&response.get_all(EXPIRES))
+        || has_expires(by.by_expires, response)
         || tells.max_age.is_some()
         || (tells.s_max_age.is_some() && kind == Kind::Shared)
         || is_heuristic(status)

@@ -1,10 +1,11 @@
 //! The calls of the cache policy.
-use headers::set_all;
+use headers::{HeaderName, set_all};
 use headers_cache_policy::{
-    Freshness, Kind, RequestHead, Times, current_age, decide, decide_by, decide_unstored,
+    Freshness, Kind, Policy, RequestHead, Times, current_age, decide, decide_by, decide_unstored,
     freshening_fields, heuristic_lifetime, lifetime, matches, may_store, validation_fields,
 };
 use headers_rows::{Answer, Arguments, Calls, Failure};
+use headers_structured::{Value, read_entry};
 use http::{Method, StatusCode};
 
 // The next word, as a kind of cache.
@@ -14,6 +15,45 @@ fn kind(arguments: &mut Arguments<'_>) -> Result<Kind, Failure> {
         "private" => Ok(Kind::Private),
         _ => Err(Failure::NoCall),
     }
+}
+
+// A policy with options.
+#[derive(Drop)]
+struct Options {
+    kind: Kind,
+    immutable: bool,
+    targets: Vec<HeaderName>,
+}
+
+impl Options {
+    fn policy(&self) -> Policy<'_> {
+        Policy {
+            kind: self.kind,
+            immutable: self.immutable,
+            targets: self.targets.as_slice(),
+        }
+    }
+}
+
+// The next two words, as a policy: a kind of cache; and `immutable`, `plain` or names of targeted
+// fields, with commas between them.
+fn read_options(arguments: &mut Arguments<'_>) -> Result<Options, Failure> {
+    let alloc = arguments.alloc();
+    let mut options = Options {
+        kind: kind(arguments)?,
+        immutable: false,
+        targets: Vec::new(alloc),
+    };
+    for word in arguments.word()?.split(',') {
+        match word {
+            "plain" => {}
+            "immutable" => options.immutable = true,
+            name => options
+                .targets
+                .push(HeaderName::from_bytes(alloc, name.as_bytes())?)?,
+        }
+    }
+    Ok(options)
 }
 
 // The next word, as a status.
@@ -154,6 +194,88 @@ fn call_decide_by(arguments: &mut Arguments<'_>, answer: &mut Answer) -> Result<
     Ok(answer.word(format_args!("{decision:?}"))?)
 }
 
+// POLICY METHOD STATUS REQUEST RESPONSE: whether it may be stored by the policy.
+fn call_may_store_under(arguments: &mut Arguments<'_>, answer: &mut Answer) -> Result<(), Failure> {
+    let options = read_options(arguments)?;
+    let (method, status) = (method(arguments)?, status(arguments)?);
+    let (request, response) = (arguments.map()?, arguments.map()?);
+    let request = RequestHead {
+        method: &method,
+        fields: &request,
+    };
+    let may_store = options.policy().may_store(&request, status, &response);
+    Ok(answer.word(may_store)?)
+}
+
+// POLICY STATUS RECEIVED RESPONSE: for how long it is fresh by the policy, and may be taken as fresh.
+fn call_lifetimes_under(arguments: &mut Arguments<'_>, answer: &mut Answer) -> Result<(), Failure> {
+    let options = read_options(arguments)?;
+    let status = status(arguments)?;
+    let received = arguments.number()?;
+    let response = arguments.map()?;
+    let policy = options.policy();
+    answer.option(policy.lifetime(&response, received))?;
+    Ok(answer.option(policy.heuristic_lifetime(status, &response, received))?)
+}
+
+// POLICY REQUESTED RECEIVED NOW REQUEST RESPONSE: what is done with the GET, by a response to the same.
+fn call_decide_under(arguments: &mut Arguments<'_>, answer: &mut Answer) -> Result<(), Failure> {
+    let options = read_options(arguments)?;
+    let times = times(arguments)?;
+    let (request, response) = (arguments.map()?, arguments.map()?);
+    let request = RequestHead {
+        method: &Method::GET,
+        fields: &request,
+    };
+    let policy = options.policy();
+    let decision = policy.decide(&request, &request, &response, times);
+    Ok(answer.word(format_args!("{decision:?}"))?)
+}
+
+// Whether each member of a dictionary is well formed.
+fn is_dictionary(line: &[u8]) -> bool {
+    let mut rest = Some(line);
+    for _ in 0..=line.len() {
+        let Some(text) = rest else {
+            return true;
+        };
+        let Some(entry) = read_entry(text) else {
+            return false;
+        };
+        rest = entry.next;
+    }
+    true
+}
+
+// LINE: the members of a dictionary, each with its key and its value.
+fn call_dictionary(arguments: &mut Arguments<'_>, answer: &mut Answer) -> Result<(), Failure> {
+    let line = arguments.bytes()?;
+    if !is_dictionary(&line) {
+        return Ok(answer.word("malformed")?);
+    }
+    let mut rest = Some(line.as_slice());
+    for _ in 0..=line.len() {
+        let Some(text) = rest else {
+            break;
+        };
+        let Some(entry) = read_entry(text) else {
+            break;
+        };
+        answer.bytes(entry.member.key)?;
+        match entry.member.value {
+            Value::Integer(digits) => answer.bytes(digits)?,
+            Value::Boolean(is) => answer.word(is)?,
+            Value::String(inside) => {
+                answer.word("(string)")?;
+                answer.bytes(inside)?;
+            }
+            Value::Other => answer.word("(other)")?,
+        }
+        rest = entry.next;
+    }
+    Ok(())
+}
+
 /// Makes the calls of the cache policy.
 pub struct CachePolicy;
 
@@ -170,6 +292,10 @@ impl Calls for CachePolicy {
             "validation_steps" => call_validation(arguments, answer),
             "freshening_steps" => call_freshening(arguments, answer),
             "decide_by" => call_decide_by(arguments, answer),
+            "may_store_under" => call_may_store_under(arguments, answer),
+            "lifetimes_under" => call_lifetimes_under(arguments, answer),
+            "decide_under" => call_decide_under(arguments, answer),
+            "dictionary" => call_dictionary(arguments, answer),
             _ => Err(Failure::NoCall),
         }
     }

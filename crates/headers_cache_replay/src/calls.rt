@@ -1,6 +1,6 @@
 //! The calls of a store.
 use headers::Encoded;
-use headers_cache::{Limits, Lookup, Refreshed, Store};
+use headers_cache::{Limits, Lookup, Options, Refreshed, Store};
 use headers_cache_policy::{Kind, RequestHead};
 use headers_cache_rules::{Exchange, Reception, StoredAnswer, StoredResponse};
 use headers_rows::{Answer, Arguments, Failure};
@@ -8,7 +8,8 @@ use http::{Method, StatusCode};
 use std::alloc::{AllocError, Global};
 use std::hash::RandomState;
 
-/// KIND VARIANTS RESPONSES BYTES: a store without a response.
+/// KIND VARIANTS RESPONSES BYTES, and maybe `immutable` or `plain` with the names of targeted fields: a
+/// store without a response.
 pub fn new_store(alloc: Global, keys: RandomState, limits: &str) -> Result<Store, Failure> {
     let mut arguments = Arguments::new(alloc, limits);
     let kind = match arguments.word()? {
@@ -21,7 +22,22 @@ pub fn new_store(alloc: Global, keys: RandomState, limits: &str) -> Result<Store
         responses: size(&mut arguments)?,
         bytes: size(&mut arguments)?,
     };
-    Ok(Store::new(alloc, kind, limits, keys)?)
+    if arguments.is_empty() {
+        return Ok(Store::new(alloc, kind, limits, keys)?);
+    }
+    let options = read_options(alloc, &mut arguments)?;
+    Ok(Store::with_options(alloc, kind, options, limits, keys)?)
+}
+
+// The next words, as options.
+fn read_options(alloc: Global, arguments: &mut Arguments<'_>) -> Result<Options, Failure> {
+    let immutable = match arguments.word()? {
+        "immutable" => true,
+        "plain" => false,
+        _ => return Err(Failure::NoCall),
+    };
+    let targets = arguments.names()?.collect(alloc)?;
+    Ok(Options { immutable, targets })
 }
 
 // The next word, as a number of bytes or of responses.

@@ -1,8 +1,10 @@
 -- What is stored of the fields of a response.
 use Rattle.std.proofs.Common.{◌≡◌, ◌≢◌, ◌∙◌, ℕ, ◌<◌, Bool, true, false, List, [], ◌∷◌, ◌++◌, length, get_or, inl, inr}
 use Rattle.std.proofs.Common.{refl, sym, ap, arith}
-use Rattle.std.specs.Prelude.{bytes_eq, codes, if◌then◌else◌}
-use Rattle.std.proofs.lemmas.Bool.{cases_Bool}
+use Rattle.std.specs.List.{list_any}
+use Rattle.std.specs.Option.{option_map_or, option_or}
+use Rattle.std.specs.Prelude.{◌||◌, Option, bytes_eq, codes, if◌then◌else◌}
+use Rattle.std.proofs.lemmas.Bool.{both_ways, cases_Bool}
 use Rattle.std.proofs.lemmas.List.{map-append}
 use Rattle.std.proofs.lemmas.List.Folds.{list_any_at}
 use Rattle.std.proofs.lemmas.Slice.Eq.{bytes_eq-Decides}
@@ -11,9 +13,15 @@ use Rattle.http_header.specs.HeaderMap.{Entries, keys}
 use Rattle.headers.specs.LineMap.{Field, LineMap, field_of, fields_of, lines_at, set_all}
 use Rattle.headers.specs.declared.Encoded.{Encoded}
 use Rattle.headers.specs.Lines.{Line}
+use Rattle.headers_fields.specs.Members.{field_members}
+use Rattle.headers_cache_policy.specs.Directives.{directed_by_members}
+use Rattle.headers_cache_policy.specs.Freshness.{by_itself}
+use Rattle.headers_cache_policy.specs.Targets.{governing, told, told_by}
+use Rattle.headers_cache_policy.specs.declared.directives.Directives.{Directives}
+use Rattle.headers_cache_policy.specs.declared.governing.Governing.{Governing}
 use Rattle.headers_gateway.specs.HopByHop.{connection_options, is_hop_by_hop, is_named}
 use Rattle.headers_cache_rules.specs.Storing.{HasFairOptions, IsAsStored, IsHopByHop, LacksDate, date_lines}
-use Rattle.headers_cache_rules.specs.Storing.{or_date, removals, reuse_names}
+use Rattle.headers_cache_rules.specs.Storing.{is_lost, or_date, removals, reuse_names}
 use Rattle.headers_cache_rules.proofs.FieldLemmas.{set_all-append, without_all}
 
 -- names that aren't equal are told apart
@@ -98,7 +106,48 @@ dated_fields done all date fields second pushed before is =
 
 -- ---- fields on which reuse depends
 
-module _ (received : ℕ) (given kept : LineMap) (fair : HasFairOptions given) (is : IsAsStored received given kept) where
+abbrev targeted : Directives → Governing
+targeted directives = record { directives = directives; by_expires = false }
+
+abbrev governed_by : List Line → Governing
+governed_by lines = record { directives = directed_by_members (field_members true lines); by_expires = true }
+
+or_false : (a b : Bool) → (a || b) ≡ false → (a ≡ false) × (b ≡ false)
+or_false true b e = absurd (let h : true ≡ false = e in cc)
+or_false false b e = (refl, e)
+
+-- two messages that have the same lines of each field that a cache serves as it came, and of Cache-Control
+module _ (given a b : LineMap)
+    (same : (name : List ℕ) → ¬ (IsHopByHop given name) → name ≢ codes "age" → name ≢ codes "date" → a name ≡ b name)
+    (control : a (codes "cache-control") ≡ b (codes "cache-control")) where
+  unlost : (name : List ℕ) → is_lost given name ≡ false → a name ≡ b name
+  unlost name e =
+      let first = or_false (bytes_eq name (codes "age") || bytes_eq name (codes "date"))
+      (is_hop_by_hop true (connection_options given) name) e in
+      let set = or_false (bytes_eq name (codes "age")) (bytes_eq name (codes "date")) first.0 in
+      same name (λ hop. both_ways _ first.1 hop)
+      (λ is. both_ways _ set.0 ((bytes_eq-Decides name (codes "age")).1 is))
+      (λ is. both_ways _ set.1 ((bytes_eq-Decides name (codes "date")).1 is))
+
+  told_alike : (names : List (List ℕ)) → list_any (is_lost given) names ≡ false → told names a ≡ told names b
+  told_alike [] e = refl
+  told_alike (name ∷ names) e =
+      let found = or_false (is_lost given name) (list_any (is_lost given) names) e in
+      ap (λ (lines : List Line). option_or (told_by lines) (told names a)) (unlost name found.0)
+      ∙ ap (λ (o : Option Directives). option_or (told_by (b name)) o) (told_alike names found.1)
+
+  itself_alike : by_itself a ≡ by_itself b
+  itself_alike = ap governed_by control
+
+  -- the same governs both
+  pub governed_alike : (targets : List (List ℕ)) → list_any (is_lost given) targets ≡ false
+      → governing targets a ≡ governing targets b
+  governed_alike targets e =
+      ap (λ (o : Option Directives). option_map_or targeted o (by_itself a)) (told_alike targets e)
+      ∙ ap (λ (by : Governing). option_map_or targeted (told targets b) by) itself_alike
+
+module _ (targets : List (List ℕ)) (received : ℕ) (given kept : LineMap) (fair : HasFairOptions targets given)
+    (is : IsAsStored received given kept) where
   unnamed : (i : ℕ) → i < length reuse_names → is_named (connection_options given) (get_or reuse_names i []) ≡ true → ⊥
   unnamed i within named =
       grind (arith, fair.unnamed, list_any_at (is_named (connection_options given)) reuse_names i [] within named)
@@ -110,3 +159,9 @@ module _ (received : ℕ) (given kept : LineMap) (fair : HasFairOptions given) (
   pub expires_stays : kept (codes "expires") ≡ given (codes "expires")
   expires_stays = is.end_to_end (codes "expires") (unnamed 8 (omega arith))
       (λ same. absurd (omega (arith, ap length same)))
+
+  -- what governs the response as it came governs it as it is stored
+  pub governing_stays : governing targets kept ≡ governing targets given
+  governing_stays =
+      governed_alike given kept given (λ name hop age date. is.end_to_end name hop date) cache_control_stays targets
+      fair.targeted

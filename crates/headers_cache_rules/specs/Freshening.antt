@@ -4,10 +4,9 @@ use Rattle.headers.specs.LineMap.{LineMap}
 use Rattle.headers.specs.Lines.{Line}
 use Rattle.headers.specs.Typed.{HasLine}
 use Rattle.headers_cache_policy.specs.Freshening.{freshened}
+use Rattle.headers_cache_policy.specs.Policies.{MayStoreUnder, Policy}
 use Rattle.headers_cache_policy.specs.Requests.{Request}
-use Rattle.headers_cache_policy.specs.Storing.{MayStore}
 use Rattle.headers_cache_policy.specs.Updating.{IsUpdated}
-use Rattle.headers_cache_policy.specs.declared.kind.Kind.{Kind}
 use Rattle.headers_cache_rules.specs.Selection.{IsCandidate}
 use Rattle.headers_cache_rules.specs.Storing.{HasFairOptions, date_lines}
 use Rattle.headers_cache_rules.specs.Stored.{fields_of_stored, request_of_stored}
@@ -46,23 +45,23 @@ IsFreshened old update exchange new =
 -- The response may be stored and reused, with its new fields: section 3 allows it for the request that it answered
 -- first and for the one that validated it, it suits the latter, and it is known which fields of the validating response
 -- are those of the connection.
-pub record IsReusable (kind : Kind) (request : Request) (update : LineMap) (new : StoredResponse) : Type 0 where
-  pub first : MayStore kind (request_of_stored new) new.status (fields_of_stored new)
-  pub validating : MayStore kind request new.status (fields_of_stored new)
+pub record IsReusable (policy : Policy) (request : Request) (update : LineMap) (new : StoredResponse) : Type 0 where
+  pub first : MayStoreUnder policy (request_of_stored new) new.status (fields_of_stored new)
+  pub validating : MayStoreUnder policy request new.status (fields_of_stored new)
   pub suits : IsCandidate request new
-  pub fair : HasFairOptions update
+  pub fair : HasFairOptions policy.targets update
 
 -- What becomes of a stored response: the validating one isn't about it; or it is updated, and stays stored if it may be
 -- reused.
-abbrev pub IsFreshenedAs : Kind → StoredResponse → Request → LineMap → Exchange → Freshened → Type 0
-IsFreshenedAs kind old request update exchange (Unchanged new) =
+abbrev pub IsFreshenedAs : Policy → StoredResponse → Request → LineMap → Exchange → Freshened → Type 0
+IsFreshenedAs policy old request update exchange (Unchanged new) =
     (¬ (IsUpdated (fields_of_stored old) update)) × (new ≡ old)
-IsFreshenedAs kind old request update exchange (Stored new) =
+IsFreshenedAs policy old request update exchange (Stored new) =
     IsUpdated (fields_of_stored old) update × IsFreshened old update exchange new
-    × IsReusable kind request update new
-IsFreshenedAs kind old request update exchange (Once new) =
+    × IsReusable policy request update new
+IsFreshenedAs policy old request update exchange (Once new) =
     IsUpdated (fields_of_stored old) update × IsFreshened old update exchange new
-    × ¬ (IsReusable kind request update new)
+    × ¬ (IsReusable policy request update new)
 
 -- ---- HEAD
 

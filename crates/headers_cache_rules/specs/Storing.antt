@@ -1,6 +1,6 @@
 -- Which responses are stored, and which of their field lines (RFC 9111, sections 3, 3.1 and 3.3).
-use Rattle.std.specs.Prelude.{◌≡◌, ◌≢◌, ◌⊎◌, ℕ, true, false, List, [], ◌∷◌, map, filter, nat_lt, codes}
-use Rattle.std.specs.Prelude.{if◌then◌else◌}
+use Rattle.std.specs.Prelude.{◌≡◌, ◌≢◌, ◌⊎◌, ℕ, Bool, true, false, ◌||◌, List, [], ◌∷◌, map, filter, nat_lt, codes}
+use Rattle.std.specs.Prelude.{bytes_eq, if◌then◌else◌}
 use Rattle.std.specs.List.{list_any}
 use Rattle.http_header.specs.FieldValue.{FieldValue}
 use Rattle.http_header.specs.HeaderMap.{Entries, keys}
@@ -9,9 +9,8 @@ use Rattle.headers.specs.LineMap.{Field, LineMap}
 use Rattle.headers.specs.Lines.{Line}
 use Rattle.headers_fields.specs.Scan.{Member}
 use Rattle.headers_gateway.specs.HopByHop.{are_options, connection_options, is_hop_by_hop, is_named}
+use Rattle.headers_cache_policy.specs.Policies.{MayStoreUnder, Policy}
 use Rattle.headers_cache_policy.specs.Requests.{Request}
-use Rattle.headers_cache_policy.specs.Storing.{MayStore}
-use Rattle.headers_cache_policy.specs.declared.kind.Kind.{Kind}
 use Rattle.headers_cache_rules.specs.declared.storing.Reception.{Reception}
 use Rattle.headers_cache_rules.specs.declared.storing.Reception.TheVariants.{Complete}
 
@@ -35,20 +34,28 @@ reuse_names =
     ∷ codes "vary"
     ∷ []
 
--- each connection option is a token, and none names a field on which reuse depends
-pub record HasFairOptions (message : LineMap) : Type 0 where
+-- a field of this name isn't served as it came: it is hop-by-hop, or Age or Date, which a cache sets
+abbrev pub is_lost : LineMap → List ℕ → Bool
+is_lost message name =
+    bytes_eq name (codes "age") || bytes_eq name (codes "date")
+    || is_hop_by_hop true (connection_options message) name
+
+-- Each connection option is a token, none names a field on which reuse depends, and each targeted field of the cache
+-- (RFC 9213) is served as it comes.
+pub record HasFairOptions (targets : List (List ℕ)) (message : LineMap) : Type 0 where
   pub listed : are_options (connection_options message) ≡ true
   pub unnamed : list_any (is_named (connection_options message)) reuse_names ≡ false
+  pub targeted : list_any (is_lost message) targets ≡ false
 
 -- ---- which responses
 
--- A cache of this kind stores the response: section 3 allows it, all of it came (section 3.3), and it is known which of
--- its fields are those of the connection.
-pub record IsStored (kind : Kind) (request : Request) (status : ℕ) (response : LineMap) (reception : Reception)
+-- A cache with this policy stores the response: section 3 allows it, all of it came (section 3.3), and it is known
+-- which of its fields are those of the connection.
+pub record IsStored (policy : Policy) (request : Request) (status : ℕ) (response : LineMap) (reception : Reception)
     : Type 0 where
-  pub allowed : MayStore kind request status response
+  pub allowed : MayStoreUnder policy request status response
   pub whole : reception ≡ Complete
-  pub fair : HasFairOptions response
+  pub fair : HasFairOptions policy.targets response
 
 -- ---- which field lines
 

@@ -4,8 +4,8 @@ ghost use Rattle.std.specs.Bool.{MatchBool};
 ghost use Rattle.headers.specs.LineMap.{fields_of, lines_at, set_all};
 ghost use Rattle.headers.specs.Lines.{lines_of};
 ghost use Rattle.headers.specs.Typed.{HasLine};
+ghost use Rattle.headers_cache_policy.specs.Policies.{MayStoreUnder, policy_of};
 ghost use Rattle.headers_cache_policy.specs.Requests.{request_of};
-ghost use Rattle.headers_cache_policy.specs.Storing.{MayStore};
 ghost use Rattle.headers_cache_policy.specs.Updating.{IsUpdated};
 ghost use Rattle.headers_cache_rules.specs.Freshening.{IsFreshenedAs, IsHeadOf, IsRenewed, IsReusable, SaysAsBefore};
 ghost use Rattle.headers_cache_rules.specs.Freshening.{aged_anew};
@@ -16,7 +16,7 @@ use crate::selection::is_sought;
 use crate::stored::StoredResponse;
 use crate::storing::{date_field, has_fair_options};
 use headers::{Encoded, HeaderMap, HeaderValue, InsertError, set_all};
-use headers_cache_policy::{Kind, RequestHead, freshening_fields, is_updated, may_store};
+use headers_cache_policy::{Policy, RequestHead, freshening_fields, is_updated};
 use http_header::{AGE, CONTENT_LENGTH, GetAll, LAST_MODIFIED};
 use std::alloc::{AllocError, Global};
 
@@ -57,10 +57,10 @@ pub fn freshen(
     request: &RequestHead<'_>,
     update: &HeaderMap,
     exchange: Exchange,
-    kind: Kind,
+    policy: &Policy<'_>,
 ) -> Result<Freshened, InsertError>
     ensures freshened { IfOk result
-        (IsFreshenedAs kind stored (request_of request.now) (lines_at update.now) exchange) }
+        (IsFreshenedAs (policy_of policy.now) stored (request_of request.now) (lines_at update.now) exchange) }
     ensures memory { OnErr result (IsUpdated (fields_of_stored stored) (lines_at update.now)) }
 {
     // It ensures that the map is valid.
@@ -69,7 +69,7 @@ pub fn freshen(
         return Ok(Freshened::Unchanged(stored));
     };
     let fresh = updated(alloc, stored, fields, exchange)?;
-    if is_reusable(&fresh, request, update, kind) {
+    if is_reusable(&fresh, request, update, policy) {
         Ok(Freshened::Stored(fresh))
     } else {
         Ok(Freshened::Once(fresh))
@@ -118,12 +118,14 @@ fn age_fields(alloc: Global, received: u64) -> Result<Vec<Encoded>, AllocError>
 }
 
 // Whether section 3 allows to store an updated response for the request that it answered first.
-fn may_keep(fresh: &StoredResponse, kind: Kind) -> bool
+fn may_keep(fresh: &StoredResponse, policy: &Policy<'_>) -> bool
     ensures { MatchBool result
-        (MayStore kind (request_of_stored fresh.now) fresh.now.status (fields_of_stored fresh.now))
-        (¬ (MayStore kind (request_of_stored fresh.now) fresh.now.status (fields_of_stored fresh.now))) }
+        (MayStoreUnder (policy_of policy.now) (request_of_stored fresh.now) fresh.now.status
+        (fields_of_stored fresh.now))
+        (¬ (MayStoreUnder (policy_of policy.now) (request_of_stored fresh.now) fresh.now.status
+        (fields_of_stored fresh.now))) }
 {
-    may_store(&fresh.head(), fresh.status, &fresh.response, kind)
+    policy.may_store(&fresh.head(), fresh.status, &fresh.response)
 }
 
 // Whether an updated response may be stored and reused.
@@ -131,15 +133,16 @@ fn is_reusable(
     fresh: &StoredResponse,
     request: &RequestHead<'_>,
     update: &HeaderMap,
-    kind: Kind,
+    policy: &Policy<'_>,
 ) -> bool
-    ensures { MatchBool result (IsReusable kind (request_of request.now) (lines_at update.now) fresh.now)
-        (¬ (IsReusable kind (request_of request.now) (lines_at update.now) fresh.now)) }
+    ensures { MatchBool result
+        (IsReusable (policy_of policy.now) (request_of request.now) (lines_at update.now) fresh.now)
+        (¬ (IsReusable (policy_of policy.now) (request_of request.now) (lines_at update.now) fresh.now)) }
 {
-    if !has_fair_options(update) || !may_keep(fresh, kind) {
+    if !has_fair_options(update, policy.targets) || !may_keep(fresh, policy) {
         return false;
     }
-    may_store(request, fresh.status, &fresh.response, kind) && is_sought(fresh, request, None)
+    policy.may_store(request, fresh.status, &fresh.response) && is_sought(fresh, request, None)
 }
 
 fn has_line(lines: &GetAll<'_, HeaderValue>) -> bool

@@ -7,12 +7,13 @@ ghost use Rattle.headers.specs.LineMap.{field_of, fields_of, lines_at, set_all};
 ghost use Rattle.headers.specs.Lines.{lines_of};
 ghost use Rattle.headers_fields.specs.Members.{field_members};
 ghost use Rattle.headers_gateway.specs.HopByHop.{connection_options, is_hop_by_hop, is_named};
+ghost use Rattle.headers_cache_policy.specs.Policies.{policy_of};
 ghost use Rattle.headers_cache_policy.specs.Requests.{request_of};
 ghost use Rattle.headers_cache_rules.specs.Storing.{HasFairOptions, IsAsStored, IsChanged, IsStored, LacksDate};
-ghost use Rattle.headers_cache_rules.specs.Storing.{date_lines, removals, reuse_names};
+ghost use Rattle.headers_cache_rules.specs.Storing.{date_lines, is_lost, removals, reuse_names};
 
 use headers::{Date, Encoded, HeaderMap, HeaderName, HeaderValue, encoding};
-use headers_cache_policy::{Kind, RequestHead, may_store};
+use headers_cache_policy::{Policy, RequestHead};
 use headers_fields::{are_tokens, contains_token};
 use headers_gateway::is_hop_by_hop;
 use http::StatusCode;
@@ -32,21 +33,22 @@ pub enum Reception {
 }
 
 /// Whether a cache stores the response to a request (RFC 9111, sections 3, 3.1 and 3.3): `may_store` of
-/// `headers_cache_policy` allows it, and all of it came. If its Connection is malformed, or names a
-/// field on which reuse depends, as Cache-Control or Vary, it isn't stored.
+/// its policy allows it, and all of it came. If its Connection is malformed, or names a field on which
+/// reuse depends, as Cache-Control, Vary or a targeted field, it isn't stored.
 pub fn is_stored(
     request: &RequestHead<'_>,
     status: StatusCode,
     response: &HeaderMap,
     reception: Reception,
-    kind: Kind,
+    policy: &Policy<'_>,
 ) -> bool
-    ensures { MatchBool result (IsStored kind (request_of request.now) status (lines_at response.now) reception)
-        (¬ (IsStored kind (request_of request.now) status (lines_at response.now) reception)) }
+    ensures { MatchBool result
+        (IsStored (policy_of policy.now) (request_of request.now) status (lines_at response.now) reception)
+        (¬ (IsStored (policy_of policy.now) (request_of request.now) status (lines_at response.now) reception)) }
 {
     reception == Reception::Complete
-        && has_fair_options(response)
-        && may_store(request, status, response, kind)
+        && has_fair_options(response, policy.targets)
+        && policy.may_store(request, status, response)
 }
 
 // Whether a connection option names a field on which reuse depends.
@@ -67,13 +69,34 @@ fn names_reuse(connection: &GetAll<'_, HeaderValue>) -> bool
         || contains_token(connection, b"vary")
 }
 
-/// Whether each connection option of a message is a token, and none names a field on which reuse
-/// depends.
-pub(crate) fn has_fair_options(message: &HeaderMap) -> bool
-    ensures { MatchBool result (HasFairOptions (lines_at message.now)) (¬ (HasFairOptions (lines_at message.now))) }
+// Whether a field of this name isn't served as it came: it is one of the connection or of a proxy, or
+// Age or Date, which a cache sets.
+fn is_lost(message: &HeaderMap, name: &HeaderName) -> bool
+    ensures { result ≡ is_lost (lines_at message.now) name.now }
+{
+    name.as_str() == "age" || name.as_str() == "date" || is_of_connection(message, name)
+}
+
+// Whether one of these fields isn't served as it came.
+fn loses_some(message: &HeaderMap, names: &[HeaderName]) -> bool
+    ensures { result ≡ list_any (is_lost (lines_at message.now)) names.now }
+{
+    for name in names {
+        if is_lost(message, name) {
+            return true;
+        }
+    }
+    false
+}
+
+/// Whether each connection option of a message is a token, none names a field on which reuse depends,
+/// and each targeted field is served as it comes.
+pub(crate) fn has_fair_options(message: &HeaderMap, targets: &[HeaderName]) -> bool
+    ensures { MatchBool result (HasFairOptions targets.now (lines_at message.now))
+        (¬ (HasFairOptions targets.now (lines_at message.now))) }
 {
     let connection = message.get_all(CONNECTION);
-    are_tokens(&connection) && !names_reuse(&connection)
+    are_tokens(&connection) && !names_reuse(&connection) && !loses_some(message, targets)
 }
 
 /// The fields by which the fields of a received response become those that are stored, for `set_all`

@@ -8,7 +8,7 @@ use Rattle.headers.specs.Lines.{Line}
 use Rattle.headers_cache.specs.Lookups.{freshness_of}
 use Rattle.headers_cache.specs.declared.limits.Limits.{Limits}
 use Rattle.headers_cache_policy.specs.Fields.{age_of, greatest}
-use Rattle.headers_cache_policy.specs.declared.kind.Kind.{Kind}
+use Rattle.headers_cache_policy.specs.Policies.{Policy}
 use Rattle.headers_cache_rules.specs.Stored.{fields_of_stored}
 use Rattle.headers_chain.specs.Caches.{HasComeFrom, IsFromStore, IsPlain, Origin, Reply}
 use Rattle.headers_chain.specs.Chains.{Hop, IsCarried, IsForwardedBack, IsGoodAt, IsOwn, IsSteady}
@@ -97,7 +97,7 @@ module _ (server : Server) (now : ℕ) (reply : Reply) where
       good_as (inr g) =
           inr (
           record {
-            kind = g.kind;
+            policy = g.policy;
             stored = g.stored;
             same = g.same;
             asks = g.asks;
@@ -115,7 +115,7 @@ module _ (reads : ReadsNoMore) where
   as_meant : (request : Request) → request.protocol ≡ Http11 → request.authority ≡ None
       → connection_options request.fields ≡ [] → (hops : List Hop) → Same (meant hops request) request
   as_meant request modern origin none [] = stays request
-  as_meant request modern origin none (Stores kind limits ∷ hops) = as_meant request modern origin none hops
+  as_meant request modern origin none (Stores policy limits ∷ hops) = as_meant request modern origin none hops
   as_meant request modern origin none (Forwards gateway ∷ hops) =
       let both = λ (present : ℕ) (resource : Resource) (answer : Answer).
       reads present resource request (sent_directly gateway request) answer (direct gateway request modern origin none)
@@ -208,7 +208,7 @@ module _ (reads : ReadsNoMore) where
         good (inr g) =
             inr (
             record {
-              kind = g.kind;
+              policy = g.policy;
               stored = g.stored;
               same = λ name c. comes name t.no_options c.end_to_end c.not_own ∙ g.same name c;
               asks = g.asks;
@@ -224,22 +224,22 @@ module _ (reads : ReadsNoMore) where
 -- ---- a cache
 
 module _ (sound : VaryIsSound) (members : MembersSelect) (law : StoreLaws) (server : Server)
-    (steady : IsSteady server) (kind : Kind) (limits : Limits) (origin : Origin) (target : List ℕ) (host : List Line)
+    (steady : IsSteady server) (policy : Policy) (limits : Limits) (origin : Origin) (target : List ℕ) (host : List Line)
     (now : ℕ) (request : Request) (reply : Reply)
-    (f : IsFromStore kind limits origin target host now request reply) where
-  abbrev came : HasComeFrom origin host now (come law kind limits origin target host now request reply f).came
-  came = from law kind limits origin target host now request reply f
+    (f : IsFromStore policy limits origin target host now request reply) where
+  abbrev came : HasComeFrom origin host now (come law policy limits origin target host now request reply f).came
+  came = from law policy limits origin target host now request reply f
 
   status_is : reply.status ≡ came.reply.status
   status_is =
-      f.status ∙ (come law kind limits origin target host now request reply f).kept.status ∙ came.status
+      f.status ∙ (come law policy limits origin target host now request reply f).kept.status ∙ came.status
 
   from_store : now ≤ greatest → IsTold server came.time came.request came.reply → IsTold server now request reply
   from_store fits t =
       let said = t.said in
       let none = t.no_options in
       let stored = λ (name : List ℕ) (c : IsCarried name).
-      stored_as law kind limits origin target host now request reply f none name c.end_to_end
+      stored_as law policy limits origin target host now request reply f none name c.end_to_end
       (date_not_carried name c) in
       let varies : fields_of_stored f.stored (codes "vary")
       ≡ set_all (server.own t.time came.reply.status) (fields_of said.answer.fields.items) (codes "vary")
@@ -249,11 +249,11 @@ module _ (sound : VaryIsSound) (members : MembersSelect) (law : StoreLaws) (serv
       = suited sound members t.time (server.resource t.time) came.request request said.answer now_said.0
       (server.own t.time came.reply.status) said.is now_said.1
       (plain_alike host came.request request came.plain f.plain)
-      (suits law kind limits origin target host now request reply f
+      (suits law policy limits origin target host now request reply f
       (set_all (server.own t.time came.reply.status) (fields_of said.answer.fields.items)) varies) in
-      let aged : now - t.time ≤ counted law kind limits origin target host now request reply f
-      = counts law kind limits origin target host now request reply f none t.time t.past fits t.aged in
-      let known = right law kind limits origin target host now request reply f in
+      let aged : now - t.time ≤ counted law policy limits origin target host now request reply f
+      = counts law policy limits origin target host now request reply f none t.time t.past fits t.aged in
+      let known = right law policy limits origin target host now request reply f in
       record {
         time = t.time;
         said =
@@ -263,7 +263,7 @@ module _ (sound : VaryIsSound) (members : MembersSelect) (law : StoreLaws) (serv
               status = sym same.status ∙ said.status ∙ ap (λ (n : ℕ). Some n) (sym status_is);
               content =
                   f.content ∙ ap (λ c. c.items)
-                  (come law kind limits origin target host now request reply f).kept.content
+                  (come law policy limits origin target host now request reply f).kept.content
                   ∙ came.content ∙ said.content
                   ∙ steady.same t.time said.answer.sends now_said.0.sends same.sends;
               fields = λ name c.
@@ -276,11 +276,11 @@ module _ (sound : VaryIsSound) (members : MembersSelect) (law : StoreLaws) (serv
         past = omega (arith, t.past, came.before, came.past);
         aged =
             subst (λ (n : ℕ). now - t.time ≤ n)
-            (sym (age_is law kind limits origin target host now request reply f)) aged;
+            (sym (age_is law policy limits origin target host now request reply f)) aged;
         good =
             inr (
             record {
-              kind = kind;
+              policy = policy;
               stored = f.stored;
               same = λ name c. f.fields name c.not_age;
               asks = request.fields;
@@ -292,7 +292,7 @@ module _ (sound : VaryIsSound) (members : MembersSelect) (law : StoreLaws) (serv
               good = known.good;
             }
             );
-        no_options = quiet law kind limits origin target host now request reply f;
+        no_options = quiet law policy limits origin target host now request reply f;
       }
 
 -- ---- a chain
@@ -326,11 +326,11 @@ module _ (reads : ReadsNoMore) (sound : VaryIsSound) (members : MembersSelect) (
         | inr own ↦
             inr (subst (λ (n : ℕ). Contains own_statuses n) (sym (f.status ∙ f.response_status)) own)
       ]
-  tells (Stores kind limits ∷ hops) now request reply fits (inl h) = tells hops now request reply fits h
-  tells (Stores kind limits ∷ hops) now request reply fits (inr (inr own)) = inr own
-  tells (Stores kind limits ∷ hops) now request reply fits (inr (inl f)) =
+  tells (Stores policy limits ∷ hops) now request reply fits (inl h) = tells hops now request reply fits h
+  tells (Stores policy limits ∷ hops) now request reply fits (inr (inr own)) = inr own
+  tells (Stores policy limits ∷ hops) now request reply fits (inr (inl f)) =
       let origin = behind server target host hops in
-      let first = came sound members law server steady kind limits origin target host now request reply f in
+      let first = came sound members law server steady policy limits origin target host now request reply f in
       let early : first.time ≤ greatest = omega (arith, fits, first.before, first.past) in
       elim (tells hops first.time first.request first.reply early first.answered) [
         | inl t ↦
@@ -340,13 +340,13 @@ module _ (reads : ReadsNoMore) (sound : VaryIsSound) (members : MembersSelect) (
             inl (
             told_as server now reply request (meant hops request) back.back
             (
-            from_store sound members law server steady kind limits origin target host now request reply f fits
+            from_store sound members law server steady policy limits origin target host now request reply f fits
             (told_as server first.time first.reply (meant hops first.request) first.request there.there t)
             )
             )
         | inr own ↦
             inr (
             subst (λ (n : ℕ). Contains own_statuses n)
-            (sym (status_is sound members law server steady kind limits origin target host now request reply f)) own
+            (sym (status_is sound members law server steady policy limits origin target host now request reply f)) own
             )
       ]

@@ -20,17 +20,19 @@ use Rattle.headers_cache.specs.declared.lookup.Lookup.{Lookup}
 use Rattle.headers_cache.specs.declared.lookup.Lookup.TheVariants.{Serve, ServeAndRevalidate, Validate, ValidateOrServe}
 use Rattle.headers_cache.specs.declared.lookup.Lookup.TheVariants.{Unavailable, Forward}
 use Rattle.headers_cache.proofs.HistoryLemmas.{Has-slice_get, HasUnder-responses_at}
-use Rattle.headers_cache_policy.specs.Decisions.{Answers, IsGoodEnough, MayServeOnError}
+use Rattle.headers_cache_policy.specs.Decisions.{IsGoodEnough, MayServeOnError}
 use Rattle.headers_cache_policy.specs.declared.decision.Decision.TheVariants as decisions
 use Rattle.headers_cache_policy.specs.Age.{age_at}
 use Rattle.headers_cache_policy.specs.Fields.{age_of, age_value, capped, greatest}
 use Rattle.headers_cache_policy.specs.Requests.{AllowsMethod, Request as Asked}
-use Rattle.headers_cache_policy.specs.Directives.{directed, directed_by_members}
 use Rattle.headers_cache_policy.specs.Storing.{IsShareable}
-use Rattle.headers_cache_policy.specs.declared.directives.Directives.{Directives}
+use Rattle.headers_cache_policy.specs.Targets.{governing}
+use Rattle.headers_cache_policy.specs.declared.governing.Governing.{Governing}
+use Rattle.headers_cache_policy.specs.declared.kind.Kind.{Kind}
 use Rattle.headers_cache_policy.specs.declared.kind.Kind.TheVariants.{Private, Shared}
 use Rattle.headers_cache_policy.specs.Varying.{Agree, SayTheSame, Suits}
-use Rattle.headers_cache_policy.specs.declared.kind.Kind.{Kind}
+use Rattle.headers_cache_policy.specs.Policies.{AnswersUnder, Policy, asks as counted_of, tells}
+use Rattle.headers_cache_rules.proofs.StoringLemmas.{governed_alike}
 use Rattle.headers_cache_rules.specs.Selection.{IsCandidate}
 use Rattle.headers_cache_rules.specs.Stored.{fields_of_stored, times_of}
 use Rattle.headers_cache_rules.specs.Storing.{reuse_names}
@@ -51,17 +53,17 @@ use Rattle.headers_chain.proofs.AgeLemmas.{age_of-decimal}
 -- what a law of a store says
 abbrev pub ServesWhatIsJustified : Type 0
 ServesWhatIsJustified =
-    (kind : Kind) (limits : Limits) (calls : History) (contents : Contents) → Run kind limits calls contents
+    (policy : Policy) (limits : Limits) (calls : History) (contents : Contents) → Run policy limits calls contents
     → (target : List ℕ) (most : ℕ) (request : Asked) (now : ℕ) (lookup : Lookup)
-    → IsAnswer kind most request now (responses_at target contents) lookup → (place : ℕ) (age : Field)
+    → IsAnswer policy most request now (responses_at target contents) lookup → (place : ℕ) (age : Field)
     → Serves lookup place age
-    → IsRightlyServed kind most target calls request now (responses_at target contents) place age
+    → IsRightlyServed policy most target calls request now (responses_at target contents) place age
 
 abbrev pub JustifiesWhatIsStored : Type 0
 JustifiesWhatIsStored =
-    (kind : Kind) (limits : Limits) (calls : History) (contents : Contents) → Run kind limits calls contents
+    (policy : Policy) (limits : Limits) (calls : History) (contents : Contents) → Run policy limits calls contents
     → (target : List ℕ) (stored : StoredResponse) → HasUnder contents target stored
-    → IsJustified kind target calls stored
+    → IsJustified policy target calls stored
 
 pub record StoreLaws : Type 0 where
   pub serves : ServesWhatIsJustified
@@ -69,21 +71,21 @@ pub record StoreLaws : Type 0 where
 
 -- ---- how it came
 
-pub record HasCome (kind : Kind) (target : List ℕ) (events : List Event) (stored : StoredResponse) : Type 0 where
+pub record HasCome (policy : Policy) (target : List ℕ) (events : List Event) (stored : StoredResponse) : Type 0 where
   pub came : StoredResponse
   pub reception : Reception
   pub called : Has events (Came target came reception)
-  pub allowed : IsToStore kind came reception
+  pub allowed : IsToStore policy came reception
   pub kept : IsStoredAs came stored
 
-module _ (kind : Kind) (target : List ℕ) (stored : StoredResponse) where
-  later : (event : Event) (events : List Event) → HasCome kind target events stored
-      → HasCome kind target (event ∷ events) stored
+module _ (policy : Policy) (target : List ℕ) (stored : StoredResponse) where
+  later : (event : Event) (events : List Event) → HasCome policy target events stored
+      → HasCome policy target (event ∷ events) stored
   later event events h =
       record { came = h.came; reception = h.reception; called = inr h.called; allowed = h.allowed; kept = h.kept }
 
-  has_come : (events : List Event) → IsJustified kind target (calls_of events) stored
-      → HasCome kind target events stored
+  has_come : (events : List Event) → IsJustified policy target (calls_of events) stored
+      → HasCome policy target events stored
   has_come [] h = absurd h
   has_come (Sought other ∷ events) h = later (Sought other) events (has_come events h)
   has_come (Came other came reception ∷ events) (inl h) =
@@ -129,29 +131,32 @@ got stored method (inr h) e = absurd (cc (h.1, e))
 -- ---- what is served
 
 -- what is known of a stored response that a cache serves
-pub record IsRight (kind : Kind) (most : ℕ) (target : List ℕ) (calls : History) (request : LineMap) (asks : Asked)
+pub record IsRight (policy : Policy) (most : ℕ) (target : List ℕ) (calls : History) (request : LineMap) (asks : Asked)
     (now : ℕ) (stored : StoredResponse) (age : Field) : Type 0 where
-  pub justified : IsJustified kind target calls stored
+  pub justified : IsJustified policy target calls stored
   pub matches : IsCandidate asks stored
   pub lifetime : ℕ
-  pub fresh_for : IsFreshFor kind most stored lifetime
-  pub good : IsGoodEnough kind (directed request) (directed (fields_of_stored stored))
-      (freshness_of lifetime stored now)
-      ⊎ MayServeOnError kind (directed request) (directed (fields_of_stored stored)) (freshness_of lifetime stored now)
+  pub fresh_for : IsFreshFor policy most stored lifetime
+  pub good : IsGoodEnough policy.kind
+      (counted_of policy request (fields_of_stored stored) (freshness_of lifetime stored now))
+      (tells policy (fields_of_stored stored)) (freshness_of lifetime stored now)
+      ⊎ MayServeOnError policy.kind
+      (counted_of policy request (fields_of_stored stored) (freshness_of lifetime stored now))
+      (tells policy (fields_of_stored stored)) (freshness_of lifetime stored now)
   pub aged : age ≡ age_of_stored stored now
 
-module _ (law : StoreLaws) (kind : Kind) (limits : Limits) (origin : Origin) (target : List ℕ)
+module _ (law : StoreLaws) (policy : Policy) (limits : Limits) (origin : Origin) (target : List ℕ)
     (host : List Line) (now : ℕ) (request : Request) (reply : Reply)
-    (f : IsFromStore kind limits origin target host now request reply) where
+    (f : IsFromStore policy limits origin target host now request reply) where
   abbrev Right : StoredResponse → Type 0
   Right stored =
-      IsRight kind f.most target (calls_of f.events) request.fields (asked request) now stored f.age
+      IsRight policy f.most target (calls_of f.events) request.fields (asked request) now stored f.age
 
   at_once : Serves f.lookup f.place f.age → Right f.stored
   at_once serves =
-      let s : IsRightlyServed kind f.most target (calls_of f.events) (asked request) now
+      let s : IsRightlyServed policy f.most target (calls_of f.events) (asked request) now
       (responses_at target f.contents) f.place f.age
-      = law.serves kind limits (calls_of f.events) f.contents f.run target f.most (asked request) now f.lookup f.answer
+      = law.serves policy limits (calls_of f.events) f.contents f.run target f.most (asked request) now f.lookup f.answer
       f.place f.age serves in
       let same : s.response ≡ f.stored = cc (sym s.at ∙ f.at) in
       subst Right same
@@ -166,30 +171,30 @@ module _ (law : StoreLaws) (kind : Kind) (limits : Limits) (origin : Origin) (ta
       }
       )
 
-  under : IsJustified kind target (calls_of f.events) f.stored
+  under : IsJustified policy target (calls_of f.events) f.stored
   under =
-      law.justifies kind limits (calls_of f.events) f.contents f.run target f.stored
+      law.justifies policy limits (calls_of f.events) f.contents f.run target f.stored
       (HasUnder-responses_at target f.contents f.stored
       (Has-slice_get (responses_at target f.contents) f.place f.stored f.at))
 
-  on_error : (lookup : Lookup) → IsAnswer kind f.most (asked request) now (responses_at target f.contents) lookup
+  on_error : (lookup : Lookup) → IsAnswer policy f.most (asked request) now (responses_at target f.contents) lookup
       → ServesOnError lookup f.place → f.age ≡ age_of_stored f.stored now → Right f.stored
   on_error (ValidateOrServe at fields) answer here aged =
       let found = answer.found in
       let selected = found.selected in
       let same : selected.response ≡ f.stored
       = cc (sym selected.at ∙ ap (λ (p : ℕ). slice_get (responses_at target f.contents) p) here ∙ f.at) in
-      let decided : Answers kind (directed request.fields) (directed (fields_of_stored f.stored))
+      let decided : AnswersUnder policy request.fields (fields_of_stored f.stored)
       (freshness_of found.lifetime f.stored now) decisions.RevalidateOrServe
       = subst
-      (λ (s : StoredResponse). Answers kind (directed request.fields) (directed (fields_of_stored s))
+      (λ (s : StoredResponse). AnswersUnder policy request.fields (fields_of_stored s)
       (freshness_of found.lifetime s now) decisions.RevalidateOrServe)
       same found.decided in
       record {
         justified = under;
         matches = subst (IsCandidate (asked request)) same selected.is;
         lifetime = found.lifetime;
-        fresh_for = subst (λ (s : StoredResponse). IsFreshFor kind f.most s found.lifetime) same found.fresh_for;
+        fresh_for = subst (λ (s : StoredResponse). IsFreshFor policy f.most s found.lifetime) same found.fresh_for;
         good = inr decided.2;
         aged = aged;
       }
@@ -208,8 +213,8 @@ module _ (law : StoreLaws) (kind : Kind) (limits : Limits) (origin : Origin) (ta
   pub is_candidate : IsCandidate (asked request) f.stored
   is_candidate = right.matches
 
-  pub come : HasCome kind target f.events f.stored
-  come = has_come kind target f.stored f.events right.justified
+  pub come : HasCome policy target f.events f.stored
+  come = has_come policy target f.stored f.events right.justified
 
   pub from : HasComeFrom origin host now come.came
   from =
@@ -312,24 +317,26 @@ module _ (law : StoreLaws) (kind : Kind) (limits : Limits) (origin : Origin) (ta
             | inr e ↦ e
           ]
 
-  directs_as : directed reply.fields ≡ directed (fields_of_stored come.came)
-  directs_as =
-      ap (λ (lines : List Line). directed_by_members (field_members true lines))
+  governed_as : governing policy.targets reply.fields ≡ governing policy.targets (fields_of_stored come.came)
+  governed_as =
+      governed_alike (fields_of_stored come.came) reply.fields (fields_of_stored come.came)
+      (λ name hop age date. f.fields name age ∙ come.kept.fields.end_to_end name hop date)
       (
       f.fields (codes "cache-control") (λ e. absurd (cc e)) ∙ kept_control
       ∙ sym (from.fields (codes "cache-control"))
       )
+      policy.targets come.allowed.fair.targeted
 
   pub content_is : reply.content ≡ from.reply.content
   content_is = f.content ∙ ap (λ c. c.items) come.kept.content ∙ from.content
 
-  pub shareable : IsShareable kind from.request.fields (directed reply.fields)
+  pub shareable : IsShareable policy.kind from.request.fields (tells policy reply.fields)
   shareable =
-      subst (λ (tells : Directives). IsShareable kind from.request.fields tells) (sym directs_as)
-      (by kind come.allowed.allowed.shareable)
+      subst (λ (g : Governing). IsShareable policy.kind from.request.fields g.directives) (sym governed_as)
+      (by policy.kind come.allowed.allowed.shareable)
     where
-      by : (k : Kind) → IsShareable k (lines_at come.came.request) (directed (fields_of_stored come.came))
-          → IsShareable k from.request.fields (directed (fields_of_stored come.came))
+      by : (k : Kind) → IsShareable k (lines_at come.came.request) (tells policy (fields_of_stored come.came))
+          → IsShareable k from.request.fields (tells policy (fields_of_stored come.came))
       by Private h = tt
       by Shared h = (h.0, λ present. h.1 (subst HasLine (sym (from.asked_fields (codes "authorization"))) present))
 

@@ -11,8 +11,8 @@ use Rattle.headers_cache.specs.declared.limits.Limits.{Limits}
 use Rattle.headers_cache.specs.declared.lookup.Lookup.{Lookup}
 use Rattle.headers_cache.specs.declared.lookup.Lookup.TheVariants.{Serve, ServeAndRevalidate, Validate, ValidateOrServe}
 use Rattle.headers_cache.specs.declared.lookup.Lookup.TheVariants.{Unavailable, Forward}
+use Rattle.headers_cache_policy.specs.Policies.{Policy}
 use Rattle.headers_cache_policy.specs.Requests.{Request as Asked}
-use Rattle.headers_cache_policy.specs.declared.kind.Kind.{Kind}
 use Rattle.headers_cache_rules.specs.Stored.{fields_of_stored}
 use Rattle.headers_cache_rules.specs.declared.storing.Reception.{Reception}
 use Rattle.headers_cache_rules.specs.declared.stored.StoredResponse.{StoredResponse}
@@ -107,16 +107,16 @@ ServesOnError Forward place = ⊥
 
 -- The reply is the stored response that a lookup of the cache's store serves to a plain request, at once or as the
 -- servers behind it fail, with its age. Where no lifetime is stated, the cache guesses so many seconds at most.
-pub record IsFromStore (kind : Kind) (limits : Limits) (origin : Origin) (target : List ℕ) (host : List Line) (now : ℕ)
-    (request : Request) (reply : Reply) : Type 0 where
+pub record IsFromStore (policy : Policy) (limits : Limits) (origin : Origin) (target : List ℕ) (host : List Line)
+    (now : ℕ) (request : Request) (reply : Reply) : Type 0 where
   pub plain : IsPlain host request
   pub events : List Event
   pub true_events : AreTrue origin host now target events
   pub contents : Contents
-  pub run : Run kind limits (calls_of events) contents
+  pub run : Run policy limits (calls_of events) contents
   pub most : ℕ
   pub lookup : Lookup
-  pub answer : IsAnswer kind most (asked request) now (responses_at target contents) lookup
+  pub answer : IsAnswer policy most (asked request) now (responses_at target contents) lookup
   pub place : ℕ
   pub age : Field
   pub stored : StoredResponse

@@ -6,10 +6,9 @@ use Rattle.headers.specs.Lines.{Line}
 use Rattle.headers_cache.specs.Lookups.{IsFreshFor}
 use Rattle.headers_cache.specs.declared.limits.Limits.{Limits}
 use Rattle.headers_cache_policy.specs.Decisions.{IsGoodEnough, MayServeOnError}
-use Rattle.headers_cache_policy.specs.Directives.{directed}
 use Rattle.headers_cache_policy.specs.Fields.{age_value}
+use Rattle.headers_cache_policy.specs.Policies.{Policy, asks as counted_of, tells}
 use Rattle.headers_cache_policy.specs.declared.decision.Freshness.{Freshness}
-use Rattle.headers_cache_policy.specs.declared.kind.Kind.{Kind}
 use Rattle.headers_cache_rules.specs.Stored.{fields_of_stored}
 use Rattle.headers_cache_rules.specs.declared.stored.StoredResponse.{StoredResponse}
 use Rattle.headers_chain.specs.Caches.{IsFromStore, Origin, Reply}
@@ -70,7 +69,7 @@ pub record IsSent (server : Server) (now : ℕ) (request : Request) (reply : Rep
 -- what stands between a client and a resource
 pub data Hop : Type 0 where
   Forwards : Gateway → Hop
-  Stores : Kind → Limits → Hop
+  Stores : Policy → Limits → Hop
 
 -- a gateway forwards the request, and what comes back
 pub record IsForwardedBack (gateway : Gateway) (origin : Origin) (now : ℕ) (request : Request) (reply : Reply) : Type 0
@@ -106,31 +105,33 @@ module _ (server : Server) (target : List ℕ) (host : List Line) where
   behind [] now request reply = IsSent server now request reply
   behind (Forwards gateway ∷ hops) now request reply =
       IsForwardedBack gateway (behind hops) now request reply ⊎ IsOwn reply
-  behind (Stores kind limits ∷ hops) now request reply =
-      behind hops now request reply ⊎ IsFromStore kind limits (behind hops) target host now request reply ⊎ IsOwn reply
+  behind (Stores policy limits ∷ hops) now request reply =
+      behind hops now request reply ⊎ IsFromStore policy limits (behind hops) target host now request reply ⊎ IsOwn reply
 
 -- the request as the client would send it to the server itself: without what is for the first gateway alone
 abbrev pub meant : List Hop → Request → Request
 meant [] request = request
 meant (Forwards gateway ∷ hops) request = sent_directly gateway request
-meant (Stores kind limits ∷ hops) request = meant hops request
+meant (Stores policy limits ∷ hops) request = meant hops request
 
 -- ---- what a client may rely on
 
 -- A cache found the reply good enough for a request with this Cache-Control, at an age that is no less than this: it
 -- is fresh, or each directive that applies allows it stale, maybe because the servers behind the cache failed.
 pub record IsGoodAt (age : ℕ) (request : Request) (reply : Reply) : Type 0 where
-  pub kind : Kind
+  pub policy : Policy
   pub stored : StoredResponse
   pub same : (name : List ℕ) → IsCarried name → reply.fields name ≡ fields_of_stored stored name
   pub asks : LineMap
   pub directs : asks (codes "cache-control") ≡ request.fields (codes "cache-control")
   pub most : ℕ
   pub freshness : Freshness
-  pub fresh_for : IsFreshFor kind most stored freshness.lifetime
+  pub fresh_for : IsFreshFor policy most stored freshness.lifetime
   pub old : age ≤ freshness.age
-  pub good : IsGoodEnough kind (directed asks) (directed (fields_of_stored stored)) freshness
-      ⊎ MayServeOnError kind (directed asks) (directed (fields_of_stored stored)) freshness
+  pub good : IsGoodEnough policy.kind (counted_of policy asks (fields_of_stored stored) freshness)
+      (tells policy (fields_of_stored stored)) freshness
+      ⊎ MayServeOnError policy.kind (counted_of policy asks (fields_of_stored stored) freshness)
+      (tells policy (fields_of_stored stored)) freshness
 
 -- The reply is what the resource said about the request at some time. That is now, or a cache found it good enough; and
 -- it isn't longer ago than Age says.

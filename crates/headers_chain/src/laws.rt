@@ -3,10 +3,9 @@ ghost use Rattle.std.specs.Prelude.{◌≡◌, ◌≢◌, ◌↔◌, ◌⊎◌, 
 ghost use Rattle.headers.specs.LineMap.{LineMap, fields_of, set_all};
 ghost use Rattle.headers.specs.Lines.{Line};
 ghost use Rattle.headers_cache_policy.specs.Varying.{Suits};
-ghost use Rattle.headers_cache_policy.specs.Directives.{directed};
 ghost use Rattle.headers_cache_policy.specs.Fields.{IsPresent, greatest};
+ghost use Rattle.headers_cache_policy.specs.Policies.{Policy, tells};
 ghost use Rattle.headers_cache_policy.specs.Storing.{IsOpen};
-ghost use Rattle.headers_cache_policy.specs.declared.kind.Kind.{Kind};
 ghost use Rattle.headers_cache_policy.specs.declared.kind.Kind.TheVariants.{Shared};
 ghost use Rattle.headers_cache.specs.declared.limits.Limits.{Limits};
 ghost use Rattle.headers_chain.specs.Caches.{IsFromStore, Reply, asked};
@@ -106,20 +105,21 @@ pub fn client_gets_what_the_resource_says()
     other_fields_change_nothing();
 }
 
-/// A shared cache gives away nothing that is for one client. What it serves from its store isn't `private`;
-/// and it is the content of an answer to some request, which had no Authorization, or whose answer allows
-/// that others get it (RFC 9111, sections 3.5 and 5.2.2.7).
+/// A shared cache gives away nothing that is for one client. What it serves from its store isn't `private`,
+/// by what governs the response under the policy of the cache: without targeted fields its Cache-Control. And
+/// it is the content of an answer to some request, which had no Authorization, or whose answer allows that
+/// others get it (RFC 9111, sections 3.5 and 5.2.2.7).
 pub fn shared_caches_serve_nothing_private()
-    ensures private { (server : Server) (hops : List Hop) (limits : Limits) (target : List ℕ) (host : List Line)
-        (now : ℕ) (request : Request) (reply : Reply)
-        → IsFromStore Shared limits (behind server target host hops) target host now request reply
-        → (directed reply.fields).private ≡ false }
-    ensures credentials { (server : Server) (hops : List Hop) (limits : Limits) (target : List ℕ) (host : List Line)
-        (now : ℕ) (request : Request) (reply : Reply)
-        → IsFromStore Shared limits (behind server target host hops) target host now request reply
+    ensures private { (server : Server) (hops : List Hop) (policy : Policy) (limits : Limits) (target : List ℕ)
+        (host : List Line) (now : ℕ) (request : Request) (reply : Reply) → policy.kind ≡ Shared
+        → IsFromStore policy limits (behind server target host hops) target host now request reply
+        → (tells policy reply.fields).private ≡ false }
+    ensures credentials { (server : Server) (hops : List Hop) (policy : Policy) (limits : Limits) (target : List ℕ)
+        (host : List Line) (now : ℕ) (request : Request) (reply : Reply) → policy.kind ≡ Shared
+        → IsFromStore policy limits (behind server target host hops) target host now request reply
         → (time : ℕ) × (first : Request) × (came : Reply) × behind server target host hops time first came
         × (reply.content ≡ came.content)
-        × (IsPresent (codes "authorization") first.fields → IsOpen (directed reply.fields)) }
+        × (IsPresent (codes "authorization") first.fields → IsOpen (tells policy reply.fields)) }
 {
     calls_justify_what_is_stored();
     lookups_serve_what_calls_justify();
@@ -132,9 +132,9 @@ pub fn no_connection_field_crosses()
         (now : ℕ) (request : Request) (reply : Reply) (name : List ℕ)
         → (f : IsForwardedBack gateway (behind server target host hops) now request reply)
         → IsHopByHop gateway f.behind.fields name → name ≢ codes "transfer-encoding" → reply.fields name ≡ [] }
-    ensures stored { (server : Server) (hops : List Hop) (kind : Kind) (limits : Limits) (target : List ℕ)
+    ensures stored { (server : Server) (hops : List Hop) (policy : Policy) (limits : Limits) (target : List ℕ)
         (host : List Line) (now : ℕ) (request : Request) (reply : Reply) (name : List ℕ)
-        → IsFromStore kind limits (behind server target host hops) target host now request reply
+        → IsFromStore policy limits (behind server target host hops) target host now request reply
         → is_known true name ≡ true → reply.fields name ≡ [] }
 {
     calls_justify_what_is_stored();

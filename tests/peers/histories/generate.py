@@ -38,7 +38,18 @@ CONDITIONS = {"if-none-match": ['"1"', '"1"', 'W/"1"', '"2"', '"0", "1"', "*", '
               "range": ["bytes=0-0", "bytes=1-", "bytes=-2", "bytes=50-", "bytes=0-1,4-", "x=0-1", "bytes=2-1"],
               "if-range": ['"1"', 'W/"1"', imf_fixdate(BEGIN - 1000)], "if-match": ['"1"', "*"],
               "if-unmodified-since": [imf_fixdate(BEGIN)]}
-CONNECTIONS = ["close", "close, x-b", "x-b", "keep-alive", "Vary", "cache-control", "x b", ",", "date"]
+CONNECTIONS = ["close", "close, x-b", "x-b", "keep-alive", "Vary", "cache-control", "x b", ",", "date",
+               "CDN-Cache-Control"]
+# The options of a cache: targeted fields, and what one has.
+TARGETED = [(), ("cdn-cache-control",), ("cdn-cache-control",), ("cdn-cache-control", "x-cdn-control"),
+            ("x-cdn-control", "cdn-cache-control")]
+MEMBERS = ["max-age=60", "max-age=60", "max-age=600", "max-age=0", "max-age=3600", "s-maxage=60", "no-store",
+           "no-cache", "private", "public", "must-revalidate", "immutable", "immutable", "stale-while-revalidate=600",
+           "stale-if-error=600", "none", "max-age=60;x", 'max-age="60"', "max-age=60.0", "max-age", "max-age=-1",
+           "no-store=?0", "no-store=?1", "no-store=x", 'private="x-a"', 'no-cache="a, b"', "x=(1 2;y);z", "x=:YQ==:",
+           "public;x=\"\\\"\"", "max-age=600; a=1;b", "must-understand", "proxy-revalidate"]
+MALFORMED = ["Max-Age=60", "max-age =60", "max-age=1234567890123456", "x=", "x=(1", 'x="a', "x=1.", "x=?2", "x;",
+             "x=@1", "", "x=1 y", 'x="\\a"', "x=:a", "no-store "]
 
 
 class Player:
@@ -48,8 +59,11 @@ class Player:
         self.draw, self.now, self.count = draw, BEGIN, 0
         limits = (draw.choice([1, 2, 3, 4, 8]), draw.choice([1, 2, 3, 4, 6, 16]), draw.choice([10, 40, 100, 1000]))
         is_shared = draw.random() < 0.5
-        self.cache = Cache(is_shared, *limits)
-        self.head = writing.head(is_shared, *limits)
+        has_options = draw.random() < 0.5
+        is_immutable = has_options and draw.random() < 0.7
+        self.targeted = draw.choice(TARGETED) if has_options else ()
+        self.cache = Cache(is_shared, *limits, is_immutable, self.targeted)
+        self.head = writing.head(is_shared, *limits, is_immutable, self.targeted)
         self.calls: list[writing.Call] = []
 
     def is_likely(self, share: float) -> bool:
@@ -144,6 +158,9 @@ class Player:
         fields: Fields = []
         if self.is_likely(0.85):
             fields += self.control()
+        for name in ("cdn-cache-control", "x-cdn-control"):
+            if self.is_likely(0.5 if name in self.targeted else 0.05):
+                fields += [(name, self.dictionary()) for _ in range(2 if self.is_likely(0.1) else 1)]
         if self.is_likely(0.6):
             made = received - self.draw.choice([0, 0, 0, 1, 5, 30, 60, 3600, -5])
             fields.append(("date", imf_fixdate(made) if self.is_likely(0.9) else date(self.draw, made)))
@@ -167,6 +184,12 @@ class Player:
         found = [self.draw.choice(LIFETIMES)] if self.is_likely(0.9) else []
         found += [self.draw.choice(EXTRAS) for _ in range(self.draw.choice([0, 0, 1, 1, 2]))]
         return [("cache-control", ", ".join(found))]
+
+    def dictionary(self) -> str:
+        found = [self.draw.choice(MEMBERS) for _ in range(self.draw.choice([1, 1, 2, 2, 3]))]
+        if self.is_likely(0.12):
+            found.insert(self.draw.randrange(len(found) + 1), self.draw.choice(MALFORMED))
+        return self.draw.choice([", ", ",", " ,\t"]).join(found)
 
     def response(self, received: int) -> Fields:
         fields = self.common_fields(received) + self.validators()

@@ -13,6 +13,7 @@ from caching.model import (LISTS, NAMES, TOKEN, TOP, Directives, Malformed, curr
 from common.dates import imf_fixdate
 from common.fields import Fields, lines_of, members
 from conditional import model as conditional
+from histories.targets import effective
 
 SAFE = ("GET", "HEAD", "OPTIONS", "TRACE")
 # RFC 9110, section 7.6.1, and RFC 9111, section 3.1.
@@ -155,9 +156,11 @@ def options(fields: Fields) -> set[str] | None:
     return found if all(re.fullmatch(TOKEN, it) for it in found) else None
 
 
-def is_fair(fields: Fields) -> bool:
+def is_fair(fields: Fields, targets: tuple[str, ...]) -> bool:
+    """Choice: a targeted field that isn't stored as it came is as wrong as one on which reuse depends."""
     found = options(fields)
-    return found is not None and not found & REUSE
+    lost = OF_CONNECTION | OF_PROXY | {"age", "date"}
+    return found is not None and not found & (REUSE | set(targets)) and not lost & set(targets)
 
 
 def without_connection(fields: Fields) -> Fields:
@@ -237,8 +240,11 @@ class Cache:
     """The stored responses by target, the most recently used target last. Those of a target are in the order in which
     they were stored."""
 
-    def __init__(self, is_shared: bool, variants: int, responses: int, content: int) -> None:
+    def __init__(self, is_shared: bool, variants: int, responses: int, content: int, is_immutable: bool = False,
+                 targeted: tuple[str, ...] = ()) -> None:
         self.is_shared = is_shared
+        # Options: `immutable` counts (RFC 8246), and the names of targeted fields (RFC 9213).
+        self.is_immutable, self.targeted = is_immutable, targeted
         self.variants, self.responses, self.content = variants, responses, content
         self.targets: dict[str, list[Stored]] = {}
 
@@ -257,7 +263,7 @@ class Cache:
     def may_store(self, request: Request, status: int, fields: Fields) -> bool:
         """Section 3. Choice: nothing is stored if a Cache-Control is malformed."""
         try:
-            return may_store(request.method, status, request.fields, fields, self.is_shared)
+            return may_store(request.method, status, request.fields, effective(fields, self.targeted), self.is_shared)
         except Malformed:
             return False
 
@@ -270,11 +276,17 @@ class Cache:
         if not found:
             return Answer("unavailable" if has(asks, "only-if-cached") else "forward")
         stored = most_recent(found)
-        tells = read(stored.fields)
+        governed = replace(stored, fields=effective(stored.fields, self.targeted))
+        tells = read(governed.fields)
         [age] = current_ages(stored.fields, stored.requested, stored.received, now)
+        fresh_for = lifetime(governed, self.is_shared, most)
+        if self.is_immutable and has(tells, "immutable") and age < fresh_for:
+            # "Clients SHOULD NOT issue a conditional request during the response's freshness lifetime (e.g., upon a
+            # reload) unless explicitly overridden by the user (e.g., a force reload)" (RFC 8246, section 2)
+            asks = [it for it in asks if it[0] != "max-age"]
         limits = [number(it, "stale-if-error", 0) for it in (asks, tells)]
         decided = decision(
-            asks, tells, lifetime(stored, self.is_shared, most), age, number(asks, "max-age", 0),
+            asks, tells, fresh_for, age, number(asks, "max-age", 0),
             number(asks, "min-fresh", TOP), number(asks, "max-stale", 0, TOP), number(tells, "stale-while-revalidate", 0),
             min((it for it in limits if it is not None), default=None), self.is_shared)
         name = NAMES[decided]
@@ -290,7 +302,7 @@ class Cache:
     def store(self, target: str, came: Stored, is_complete: bool) -> Answer:
         """Sections 3, 3.1, 3.3 and 4.3.3."""
         size = len(came.content)
-        if not (is_complete and is_fair(came.fields) and self.may_store(came.request, came.status, came.fields)
+        if not (is_complete and is_fair(came.fields, self.targeted) and self.may_store(came.request, came.status, came.fields)
                 and self.fits([], size)):
             return Answer("unstored")
         new = replace(came, fields=with_date(without_connection(came.fields), came.received))
@@ -319,7 +331,7 @@ class Cache:
 
     def is_reusable(self, new: Stored, request: Request, update: Fields) -> bool:
         """Whether an updated response may be stored, for each request that it answered, and be reused for this one."""
-        return (is_fair(update) and matches(new, request)
+        return (is_fair(update, self.targeted) and matches(new, request)
                 and all(self.may_store(it, new.status, new.fields) for it in (new.request, request)))
 
     def freshen(self, target: str, request: Request, update: Fields, requested: int, received: int) -> Answer:

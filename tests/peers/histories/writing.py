@@ -7,9 +7,13 @@ from common.rows import map_words, word
 from histories.model import Answer, Request, Stored
 
 
-def head(is_shared: bool, variants: int, responses: int, content: int) -> str:
+def head(is_shared: bool, variants: int, responses: int, content: int, is_immutable: bool,
+         targeted: tuple[str, ...]) -> str:
     """The line that begins a history."""
-    return f"cache {'shared' if is_shared else 'private'} {variants} {responses} {content}"
+    limits = f"cache {'shared' if is_shared else 'private'} {variants} {responses} {content}"
+    if not is_immutable and not targeted:
+        return limits
+    return " ".join([limits, "immutable" if is_immutable else "plain", *targeted])
 
 
 @dataclass(frozen=True)

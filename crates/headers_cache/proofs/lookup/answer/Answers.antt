@@ -1,3 +1,4 @@
+use Rattle.headers_cache_policy.specs.Policies.{policy_of}
 use Rattle.headers_cache_policy.specs.Requests.{request_of}
 use Rattle.headers_cache.proofs.LookupLemmas.{answer_decided, has_fields, if_ok, on_err}
 use Rattle.headers_cache.proofs.lookup.answer.Goals as goal
@@ -5,7 +6,8 @@ use Rattle.headers_cache.proofs.lookup.answer.Goals as goal
 pub returns-in-Some-clause-answer : goal.returns-in-Some-clause-answer
 returns-in-Some-clause-answer c =
     if_ok c.found.result
-    (λ lookup is. answer_decided c.args.kind c.args.most (request_of c.args.request.now) c.args.now c.args.responses.now
+    (λ lookup is. answer_decided (policy_of c.args.policy.now) c.args.most
+    (request_of c.args.request.now) c.args.now c.args.responses.now
     c.in-Some.place c.in-Some.ensures c.decision_for-decision.result c.index-responses-place.result
     c.index-responses-place.is c.decision_for-decision.ensures lookup is)
     c.found.ensures.answer
@@ -13,7 +15,8 @@ returns-in-Some-clause-answer c =
 pub returns-in-Some-clause-memory : goal.returns-in-Some-clause-memory
 returns-in-Some-clause-memory c =
     on_err c.found.result
-    (λ other. has_fields c.args.kind c.args.most (request_of c.args.request.now) c.args.now c.args.responses.now
+    (λ other. has_fields (policy_of c.args.policy.now) c.args.most
+    (request_of c.args.request.now) c.args.now c.args.responses.now
     c.in-Some.place c.in-Some.ensures c.decision_for-decision.result c.index-responses-place.result
     c.index-responses-place.is c.decision_for-decision.ensures other)
     c.found.ensures.memory

@@ -1,6 +1,7 @@
 use Rattle.std.proofs.Common.{◌≡◌, length, arith}
 use Rattle.std.proofs.lemmas.List.{nil_from_length}
 use Rattle.headers.specs.LineMap.{lines_at}
+use Rattle.headers_cache_policy.specs.Policies.{policy_of}
 use Rattle.headers_cache_policy.specs.Requests.{request_of}
 use Rattle.headers_cache.specs.Contents.{bytes_of}
 use Rattle.headers_cache.specs.Updates.{Becomes}
@@ -16,14 +17,15 @@ loop-stored-preserved c =
     let request = request_of c.args.request.now in
     let update = lines_at c.args.update.now in
     record {
-      left = continues-next (λ one. Becomes c.args.kind request update c.args.exchange one c.args.by)
+      left = continues-next (λ one. Becomes (policy_of c.args.policy.now) request update c.args.exchange one c.args.by)
           c.args.responses.items old new others these c.in-Some.stored c.in_ok-fate.fate
           c.in-Some.ensures.items c.in_ok-append.ensures c.loop-stored.invariant.left c.in_ok-fate.ensures;
       fewer = fewer-next old new others these c.in-Some.stored c.in_ok-fate.fate c.in-Some.ensures.items
           c.in_ok-append.ensures (length c.args.responses.items) c.loop-stored.invariant.fewer;
       lighter = lighter-next old new others these c.in-Some.stored c.in_ok-fate.fate c.in-Some.ensures.items
           c.in_ok-append.ensures (bytes_of c.args.responses.items)
-          (becomes-light c.args.kind request update c.args.exchange c.in-Some.stored c.args.by c.in_ok-fate.fate
+          (becomes-light
+          (policy_of c.args.policy.now) request update c.args.exchange c.in-Some.stored c.args.by c.in_ok-fate.fate
           c.in_ok-fate.ensures)
           c.loop-stored.invariant.lighter;
     }
@@ -33,6 +35,7 @@ returns-clause-left c =
     let these = c.loop-stored.all.rest.items in
     let zero : length these ≡ 0 = omega (arith, c.in_default.ensures.cases, c.loop-stored.all.rest.ok.0) in
     continues-end
-    (λ one. Becomes c.args.kind (request_of c.args.request.now) (lines_at c.args.update.now) c.args.exchange one
+    (λ one. Becomes (policy_of c.args.policy.now) (request_of c.args.request.now)
+    (lines_at c.args.update.now) c.args.exchange one
     c.args.by)
     c.args.responses.items c.loop-stored.left.items these (nil_from_length these zero) c.loop-stored.invariant.left

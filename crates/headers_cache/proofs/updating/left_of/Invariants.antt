@@ -1,6 +1,7 @@
 use Rattle.std.proofs.Common.{◌≤◌, ◌+◌, length}
 use Rattle.std.specs.Vec.Iter.{into_iter_items}
 use Rattle.headers.specs.LineMap.{lines_at}
+use Rattle.headers_cache_policy.specs.Policies.{policy_of}
 use Rattle.headers_cache_policy.specs.Requests.{request_of}
 use Rattle.headers_cache.specs.Contents.{bytes_of}
 use Rattle.headers_cache.specs.Updates.{Becomes}
@@ -11,7 +12,8 @@ abbrev pub invariant-loop-stored : goal.invariant-loop-stored
 invariant-loop-stored l =
     record {
       left : Continues
-          (λ old. Becomes l.fn.kind (request_of l.fn.request) (lines_at l.fn.update) l.fn.exchange old l.fn.by)
+          (λ old. Becomes (policy_of l.fn.policy) (request_of l.fn.request)
+          (lines_at l.fn.update) l.fn.exchange old l.fn.by)
           l.fn.responses.items l.left.items (into_iter_items l.all);
       fewer : length l.left.items + length (into_iter_items l.all) ≤ length l.fn.responses.items;
       lighter : bytes_of l.left.items + bytes_of (into_iter_items l.all) ≤ bytes_of l.fn.responses.items;

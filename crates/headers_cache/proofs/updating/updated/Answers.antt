@@ -1,5 +1,6 @@
 use Rattle.std.proofs.Common.{subst}
 use Rattle.headers.specs.LineMap.{lines_at}
+use Rattle.headers_cache_policy.specs.Policies.{policy_of}
 use Rattle.headers_cache_policy.specs.Requests.{request_of}
 use Rattle.headers_cache_rules.specs.Freshening.{IsFreshenedAs}
 use Rattle.headers_cache.proofs.UpdateLemmas.{becomes-none}
@@ -7,7 +8,9 @@ use Rattle.headers_cache.proofs.updating.updated.Goals as goal
 
 pub returns-in-Once : goal.returns-in-Once
 returns-in-Once c =
-    becomes-none c.args.kind (request_of c.args.request.now) (lines_at c.args.update.now) c.args.exchange c.args.stored
+    becomes-none (policy_of c.args.policy.now) (request_of c.args.request.now)
+    (lines_at c.args.update.now) c.args.exchange c.args.stored
     c.in-Once.field-0
-    (subst (IsFreshenedAs c.args.kind c.args.stored (request_of c.args.request.now) (lines_at c.args.update.now)
+    (subst (IsFreshenedAs (policy_of c.args.policy.now) c.args.stored (request_of c.args.request.now)
+    (lines_at c.args.update.now)
     c.args.exchange) c.in-Once.is c.in_ok-fresh.ensures.freshened)

@@ -1,6 +1,6 @@
-use Rattle.std.proofs.Common.{refl, ap, ◌∙◌, List, codes}
+use Rattle.std.proofs.Common.{refl, ap, List, codes}
 use Rattle.http_header.specs.FieldValue.{FieldValue, plain_value}
-use Rattle.headers.specs.LineMap.{Field, lines_at}
+use Rattle.headers.specs.LineMap.{lines_at}
 use Rattle.headers.specs.Lines.{Line, lines_of}
 use Rattle.headers.specs.Shapes.{only_tag}
 use Rattle.headers_cache_policy.proofs.ValidatingLemmas.{canonical-lines}

@@ -1,7 +1,7 @@
 use Rattle.std.proofs.Common.{subst}
 use Rattle.std.specs.Bool.{MatchBool}
+use Rattle.headers_cache_policy.specs.Policies.{MayStoreUnder, policy_of}
 use Rattle.headers_cache_policy.specs.Requests.{Request}
-use Rattle.headers_cache_policy.specs.Storing.{MayStore}
 use Rattle.headers_cache_rules.specs.Stored.{fields_of_stored}
 use Rattle.headers_cache_rules.proofs.freshening.may_keep.Goals as goal
 
@@ -10,6 +10,6 @@ returns c =
     let fresh = c.args.fresh.now in
     subst
     (λ (request : Request). MatchBool c.may_store.result
-    (MayStore c.args.kind request fresh.status (fields_of_stored fresh))
-    (¬ (MayStore c.args.kind request fresh.status (fields_of_stored fresh))))
+    (MayStoreUnder (policy_of c.args.policy.now) request fresh.status (fields_of_stored fresh))
+    (¬ (MayStoreUnder (policy_of c.args.policy.now) request fresh.status (fields_of_stored fresh))))
     c.head.ensures c.may_store.ensures

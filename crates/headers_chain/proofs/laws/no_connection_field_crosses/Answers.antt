@@ -8,10 +8,10 @@ returns-clause-forwarded c server hops gateway target host now request reply nam
     ends c.other_fields_change_nothing.ensures server gateway (behind server target host hops) now request reply f name
 
 pub returns-clause-stored : goal.returns-clause-stored
-returns-clause-stored c server hops kind limits target host now request reply name f =
+returns-clause-stored c server hops policy limits target host now request reply name f =
     let law : StoreLaws =
     record {
       serves = c.lookups_serve_what_calls_justify.ensures;
       justifies = c.calls_justify_what_is_stored.ensures;
     } in
-    stores_none law kind limits (behind server target host hops) target host now request reply f name
+    stores_none law policy limits (behind server target host hops) target host now request reply f name

@@ -1,11 +1,12 @@
 use Rattle.std.proofs.Common.{length, sym, ap, subst, arith, Some, None, inl, ◌∙◌}
 use Rattle.headers.specs.LineMap.{lines_at}
+use Rattle.headers_cache_policy.specs.Policies.{policy_of}
 use Rattle.headers_cache_policy.specs.Requests.{request_of}
 use Rattle.headers_cache_rules.specs.Freshening.{IsFreshenedAs}
 use Rattle.headers_cache_rules.specs.Identifying.{IsUpdatedAnswer}
 use Rattle.headers_cache.specs.Changes.{IsUnrefreshed}
 use Rattle.headers_cache.specs.Contents.{IsAbsent, responses_at}
-use Rattle.headers_cache.specs.Kept.{contents_of}
+use Rattle.headers_cache.specs.Kept.{contents_of, policy_of_store}
 use Rattle.headers_cache.specs.declared.freshening.Refreshed.TheVariants as answer
 use Rattle.headers_cache.proofs.EntryLemmas.{IsAbsent-without}
 use Rattle.headers_cache.proofs.RefreshLemmas.{let_go, none_refreshed, not_unchanged, restored, within}
@@ -13,7 +14,8 @@ use Rattle.headers_cache.proofs.store.Store.freshen.Goals as goal
 
 pub returns-in_default-clause-ok : goal.returns-in_default-clause-ok
 returns-in_default-clause-ok c =
-    none_refreshed c.args.self.now.kind c.args.target.now (request_of c.args.request.now) (lines_at c.args.update.now)
+    none_refreshed (policy_of_store c.args.self.now) c.args.target.now (request_of c.args.request.now)
+    (lines_at c.args.update.now)
     c.args.exchange (contents_of c.args.self.now)
     (subst (λ l. IsUpdatedAnswer (request_of c.args.request.now) (lines_at c.args.update.now) l None)
     c.responses.ensures
@@ -49,16 +51,18 @@ put_in-requires-clause-absent c =
 
 pub returns-in_ok-put_with-in-Stored-clause-ok : goal.returns-in_ok-put_with-in-Stored-clause-ok
 returns-in_ok-put_with-in-Stored-clause-ok c =
-    restored c.args.self.now.kind c.take_out-responses.new.self.kind c.args.target.now (request_of c.args.request.now)
+    restored (policy_of_store c.args.self.now) (policy_of c.policy-policy.result) c.args.target.now
+    (request_of c.args.request.now)
     (lines_at c.args.update.now) c.args.exchange
     (contents_of c.args.self.now) (contents_of c.put_with.new.self) (contents_of c.take_out-responses.new.self)
     c.take_out-responses.result.items c.remove-stored.new.self.items c.in_ok-left.left.items c.in-Some.place
     (subst (λ l. IsUpdatedAnswer (request_of c.args.request.now) (lines_at c.args.update.now) l (Some c.in-Some.place))
     c.responses.ensures c.in-Some.ensures)
-    c.remove-stored.result c.in-Stored.fresh c.take_out-responses.ensures.kind c.take_out-responses.ensures.contents
+    c.remove-stored.result c.in-Stored.fresh
+    (c.policy-policy.ensures ∙ c.take_out-responses.ensures.policy) c.take_out-responses.ensures.contents
     c.take_out-responses.ensures.taken c.remove-stored.ensures.value
     c.remove-stored.ensures.items c.in_ok-left.ensures.left
-    (subst (IsFreshenedAs c.take_out-responses.new.self.kind c.remove-stored.result (request_of c.args.request.now)
+    (subst (IsFreshenedAs (policy_of c.policy-policy.result) c.remove-stored.result (request_of c.args.request.now)
     (lines_at c.args.update.now) c.args.exchange) c.in-Stored.is c.in_ok-fresh.ensures.freshened)
     c.len-place.result (c.len-place.ensures ∙ c.in_ok-left.left.ok.0) c.in_ok-put_with-in-Stored.ensures.ok
 
@@ -68,16 +72,18 @@ returns-in_ok-put_with-in-Stored-clause-step c =
 
 pub returns-in_ok-put_in-in-Once-clause-ok : goal.returns-in_ok-put_in-in-Once-clause-ok
 returns-in_ok-put_in-in-Once-clause-ok c =
-    let_go c.args.self.now.kind c.take_out-responses.new.self.kind c.args.target.now (request_of c.args.request.now)
+    let_go (policy_of_store c.args.self.now) (policy_of c.policy-policy.result) c.args.target.now
+    (request_of c.args.request.now)
     (lines_at c.args.update.now) c.args.exchange
     (contents_of c.args.self.now) (contents_of c.put_in.new.self) (contents_of c.take_out-responses.new.self)
     c.take_out-responses.result.items c.remove-stored.new.self.items c.in_ok-left.left.items c.in-Some.place
     (subst (λ l. IsUpdatedAnswer (request_of c.args.request.now) (lines_at c.args.update.now) l (Some c.in-Some.place))
     c.responses.ensures c.in-Some.ensures)
-    c.remove-stored.result c.in-Once.fresh c.take_out-responses.ensures.kind c.take_out-responses.ensures.contents
+    c.remove-stored.result c.in-Once.fresh
+    (c.policy-policy.ensures ∙ c.take_out-responses.ensures.policy) c.take_out-responses.ensures.contents
     c.take_out-responses.ensures.taken c.remove-stored.ensures.value
     c.remove-stored.ensures.items c.in_ok-left.ensures.left
-    (subst (IsFreshenedAs c.take_out-responses.new.self.kind c.remove-stored.result (request_of c.args.request.now)
+    (subst (IsFreshenedAs (policy_of c.policy-policy.result) c.remove-stored.result (request_of c.args.request.now)
     (lines_at c.args.update.now) c.args.exchange) c.in-Once.is c.in_ok-fresh.ensures.freshened)
     c.in_ok-put_in-in-Once.ensures.ok
 
@@ -86,7 +92,8 @@ returns-in_ok-put_in-in-Once-clause-step c =
     inl (answer.Once c.in-Once.fresh, returns-in_ok-put_in-in-Once-clause-ok c)
 
 pub returns-in-Unchanged-clause-ok : goal.returns-in-Unchanged-clause-ok
-returns-in-Unchanged-clause-ok c = absurd (not_unchanged c.args.self.now.kind c.take_out-responses.new.self.kind
+returns-in-Unchanged-clause-ok c = absurd (not_unchanged (policy_of_store c.args.self.now)
+    (policy_of c.policy-policy.result)
     c.args.target.now (request_of c.args.request.now)
     (lines_at c.args.update.now) c.args.exchange
     (contents_of c.args.self.now) (contents_of c.take_out-responses.new.self)
@@ -94,9 +101,9 @@ returns-in-Unchanged-clause-ok c = absurd (not_unchanged c.args.self.now.kind c.
     c.take_out-responses.result.items c.remove-stored.new.self.items c.in_ok-left.left.items c.in-Some.place
     (subst (λ l. IsUpdatedAnswer (request_of c.args.request.now) (lines_at c.args.update.now) l (Some c.in-Some.place))
     c.responses.ensures c.in-Some.ensures)
-    c.remove-stored.result c.in-Unchanged.field-0 c.take_out-responses.ensures.kind
+    c.remove-stored.result c.in-Unchanged.field-0 (c.policy-policy.ensures ∙ c.take_out-responses.ensures.policy)
     c.take_out-responses.ensures.contents
     c.take_out-responses.ensures.taken c.remove-stored.ensures.value
     c.remove-stored.ensures.items c.in_ok-left.ensures.left
-    (subst (IsFreshenedAs c.take_out-responses.new.self.kind c.remove-stored.result (request_of c.args.request.now)
+    (subst (IsFreshenedAs (policy_of c.policy-policy.result) c.remove-stored.result (request_of c.args.request.now)
     (lines_at c.args.update.now) c.args.exchange) c.in-Unchanged.is c.in_ok-fresh.ensures.freshened))

@@ -1,5 +1,5 @@
 use Rattle.std.proofs.Common.{◌≡◌, length}
-use Rattle.headers_cache.specs.Kept.{contents_of}
+use Rattle.headers_cache.specs.Kept.{contents_of, policy_of_store}
 use Rattle.headers_cache.proofs.EntryLemmas.{IsFrontWithout}
 use Rattle.headers_cache.proofs.store.Store.make_room.Given as goal
 
@@ -7,7 +7,7 @@ abbrev pub invariant-loop-self : goal.invariant-loop-self
 invariant-loop-self l =
     record {
       front : IsFrontWithout l.fn.self.limits l.responses l.bytes (contents_of l.fn.self) (contents_of l.self);
-      kind : l.self.kind ≡ l.fn.self.kind;
+      policy : policy_of_store l.self ≡ policy_of_store l.fn.self;
       limits : l.self.limits ≡ l.fn.self.limits;
     }
 

@@ -1,0 +1,20 @@
+//! How a store decides.
+ghost use Rattle.std.specs.Prelude.{◌≡◌};
+ghost use Rattle.headers_cache_policy.specs.Policies.{policy_of};
+ghost use Rattle.headers_cache.specs.Kept.{policy_of_store};
+
+use crate::store::Store;
+use headers_cache_policy::Policy;
+
+impl Store {
+    // Its policy.
+    pub(crate) fn policy(&self) -> Policy<'_>
+        ensures { policy_of result ≡ policy_of_store self.now }
+    {
+        Policy {
+            kind: self.kind,
+            immutable: self.immutable,
+            targets: self.targeted.as_slice(),
+        }
+    }
+}

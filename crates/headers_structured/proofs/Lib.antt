@@ -1,0 +1,3 @@
+pub mod DictionaryLemmas
+pub mod ItemLemmas
+pub mod RepeatLemmas

@@ -1,0 +1,4 @@
+pub mod Bytes
+pub mod Dictionaries
+pub mod Items
+pub mod Values
