@@ -15,7 +15,7 @@ import sys
 
 HERE = os.path.dirname(os.path.abspath(__file__))
 # The one reason that the table leaves out.
-PAGE = "nginx writes a page for people."
+PAGE = "The page for people is another one."
 # How many requests of a reason the table shows.
 MOST_SHOWN = 8
 # What is compared, in this order.

@@ -82,13 +82,15 @@ def contents_of(folder):
 
 
 def are_right(answer, contents):
-    """Whether the responses are whole, and each content is that of a file."""
+    """Whether the responses are whole, and each content of a 200 is that of a file."""
     while answer:
         head, _, answer = answer.partition(b"\r\n\r\n")
         first, *lines = head.decode("latin-1").split("\r\n")
         length = next((int(line.split(":")[1]) for line in lines if line.lower().startswith("content-length:")), 0)
         body, answer = answer[:length], answer[length:]
-        if not first.startswith("HTTP/1.1 ") or len(body) != length or (length and body not in contents):
+        if not first.startswith("HTTP/1.1 ") or len(body) != length:
+            return False
+        if first.startswith("HTTP/1.1 200 ") and body not in contents:
             return False
     return True
 

@@ -27,10 +27,10 @@ use Rattle.headers_preconditions.specs.declared.plan.Plan.TheVariants.{Unsatisfi
 use Rattle.headers_preconditions.specs.declared.resource.Resource.{Resource}
 use Rattle.headers_preconditions.specs.declared.response.Response.{Response as Answer}
 use Rattle.headers_preconditions.proofs.OnePlanLemmas.{one_plan}
-use Rattle.headers_serve.specs.Answer.{AnswersBehind, AnswersEntry, AnswersFile, AnswersOther, Carries, IsAnswerAt}
-use Rattle.headers_serve.specs.Answer.{IsAnswerOf, IsSendable, LeadsTo, boundary_of, cache_sent, coding_sent}
+use Rattle.headers_serve.specs.Answer.{AnswersBehind, AnswersEntry, AnswersFile, AnswersHere, AnswersOther}
+use Rattle.headers_serve.specs.Answer.{Carries, IsAnswerAt, IsAnswerOf, IsSendable, LeadsTo, boundary_of, cache_sent, coding_sent}
 use Rattle.headers_serve.specs.Answer.{date_fields}
-use Rattle.headers_serve.specs.Answer.{clock, is_several, pieces_sent, sniff_field}
+use Rattle.headers_serve.specs.Answer.{clock, closing_fields, is_several, pieces_sent, sniff_field}
 use Rattle.headers_serve.specs.Cors.{IsShared}
 use Rattle.headers_serve.specs.File.{content_of, len_of, resource_of}
 use Rattle.headers_serve.specs.Multipart.{multipart}
@@ -236,12 +236,12 @@ leads_once negotiates look request path e f x y =
     ]
 
 -- what is said after the same fields is one response
-behind_once : (present : ℕ) (before : List Header) (settings : Settings) (look : List ℕ → Entry)
+here_once : (present : ℕ) (before : List Header) (settings : Settings) (look : List ℕ → Entry)
     (request : Request (List ℕ)) (r s : Response) (a b : Source)
-    → AnswersBehind present before settings (λ named entry. entry ≡ look named) request r a
-    → AnswersBehind present before settings (λ named entry. entry ≡ look named) request s b
+    → AnswersHere present before settings (λ named entry. entry ≡ look named) request r a
+    → AnswersHere present before settings (λ named entry. entry ≡ look named) request s b
     → IsSameResponse r s
-behind_once present before settings look request r s a b x y =
+here_once present before settings look request r s a b x y =
     elim x [
       | inl h ↦
           elim y [
@@ -260,6 +260,21 @@ behind_once present before settings look request r s a b x y =
           ]
     ]
 
+behind_once : (present : ℕ) (before : List Header) (settings : Settings) (look : List ℕ → Entry)
+    (request : Request (List ℕ)) (r s : Response) (a b : Source)
+    → AnswersBehind present before settings (λ named entry. entry ≡ look named) request r a
+    → AnswersBehind present before settings (λ named entry. entry ≡ look named) request s b
+    → IsSameResponse r s
+behind_once present before settings look request r s a b x y =
+    elim x [
+      | inl h ↦ elim y [ inl k ↦ with_same _ _ _ _ r s h.1 k.1 | inr k ↦ absurd (cc (h.0, k.0)) ]
+      | inr h ↦
+          elim y [
+            | inl k ↦ absurd (cc (h.0, k.0))
+            | inr k ↦ here_once present before settings look request r s a b h.1 k.1
+          ]
+    ]
+
 -- a policy says one list of fields of a request
 shared_once : (cors : Option Policy) (request : Request (List ℕ)) (f g : List Header) → IsShared cors request f
     → IsShared cors request g → f ≡ g
@@ -271,15 +286,15 @@ shared_once (Some policy) request f g x y =
     (lines_at (head_of request).headers) no_lines x.0 y.0 x.1 y.1 refl refl)
     ∙ sym y.2
 
-pub one_response : (now : Option ℕ) (settings : Settings) (look : List ℕ → Entry) (request : Request (List ℕ))
+pub one_response : (now : Option ℕ) (left : ℕ) (settings : Settings) (look : List ℕ → Entry) (request : Request (List ℕ))
     (r s : Response) (a b : Source)
-    → IsAnswerAt now settings (λ path entry. entry ≡ look path) request r a
-    → IsAnswerAt now settings (λ path entry. entry ≡ look path) request s b → IsSameResponse r s
-one_response now settings look request r s a b x y =
-    behind_once (clock now) ((date_fields now ++ sniff_field ∷ []) ++ y.0) settings look request r s a b
+    → IsAnswerAt now left settings (λ path entry. entry ≡ look path) request r a
+    → IsAnswerAt now left settings (λ path entry. entry ≡ look path) request s b → IsSameResponse r s
+one_response now left settings look request r s a b x y =
+    behind_once (clock now) (((date_fields now ++ sniff_field ∷ []) ++ closing_fields left) ++ y.0) settings look request r s a b
     (subst
     (λ (fields : List Header).
-    AnswersBehind (clock now) ((date_fields now ++ sniff_field ∷ []) ++ fields) settings
+    AnswersBehind (clock now) (((date_fields now ++ sniff_field ∷ []) ++ closing_fields left) ++ fields) settings
     (λ path entry. entry ≡ look path) request r a)
     (shared_once settings.cors request x.0 y.0 x.1 y.1) x.2)
     y.2

@@ -11,7 +11,7 @@ use Rattle.http1.specs.Fields.{Header}
 use Rattle.headers_exchange.specs.declared.plan.Plan.{Plan as Response}
 use Rattle.headers_serve.specs.Path.{IsStorePath, ends_in_slash, is_name, is_plain, with_index}
 use Rattle.headers_serve.specs.Redirect.{AnswersFolder, IsOnHost, index_target}
-use Rattle.headers_serve.specs.Response.{fields_of}
+use Rattle.headers_serve.specs.Response.{fields_of, html_field}
 
 -- a byte that is no percent sign is its own
 keeps_slash : (rest : List ℕ) → percent_decode (47 ∷ rest) ≡ 47 ∷ percent_decode rest
@@ -73,7 +73,7 @@ on_host (root ∷ first ∷ rest) named query h unslashed = record {
 
 pub stays_on_host : (before : List Header) (path named : List ℕ) (query : Option (List ℕ)) (response : Response)
     → IsStorePath path named → AnswersFolder before path query response → response.status ≡ 301
-    → (target : List ℕ) × (fields_of response ≡ before ++ (codes "location", target) ∷ []) × IsOnHost target
+    → (target : List ℕ) × (fields_of response ≡ before ++ (codes "location", target) ∷ html_field ∷ []) × IsOnHost target
 stays_on_host before path named query response h x status =
     elim x [
       | inl missing ↦ let other = missing.1.status in absurd (omega (arith, other, status))

@@ -22,9 +22,10 @@ use Rattle.headers_preconditions.specs.declared.response.Response.{Response as A
 use Rattle.headers_preconditions.specs.declared.selection.Selection.TheVariants.{Whole}
 use Rattle.headers_preconditions.proofs.OnePlanLemmas.{one_plan}
 use Rattle.headers_preconditions.proofs.PreconditionLemmas.{unconditional}
-use Rattle.headers_serve.specs.Answer.{AnswersBehind, AnswersEntry, AnswersFile, AsksForAll, Carries, IsAnswerOf}
-use Rattle.headers_serve.specs.Answer.{Opens, boundary_of, is_several, pieces_sent}
+use Rattle.headers_serve.specs.Answer.{AnswersBehind, AnswersEntry, AnswersFile, AnswersHere, AsksForAll}
+use Rattle.headers_serve.specs.Answer.{Carries, IsAnswerOf, Opens, boundary_of, is_several, pieces_sent}
 use Rattle.headers_serve.specs.File.{gives_at, len_of, resource_of, validators_of}
+use Rattle.headers_serve.specs.Hosts.{is_misdirected}
 use Rattle.headers_serve.specs.Multipart.{multipart}
 use Rattle.headers_serve.specs.Path.{Names}
 use Rattle.headers_serve.specs.declared.file.Entry.{Entry}
@@ -111,15 +112,15 @@ all_sent own source response kept sent opens memory pieces h =
     (subst (λ (s : Source). AreSent (gives_at s) (all_of (InMemory kept)) sent) (opens ∙ memory)
     (subst (λ (l : List Piece). AreSent (gives_at source) l sent) (pieces ∙ ap all_of memory) h))
 
-pub get_whole : (present : ℕ) (settings : Settings) (look : List ℕ → Entry) (before : List Header)
+here_whole : (present : ℕ) (settings : Settings) (look : List ℕ → Entry) (before : List Header)
     (request : Request (List ℕ)) (named : List ℕ) (file : File) (response : Response) (source : Source)
     → (head_of request).method ≡ get → Names (uri_path (head_of request).uri) (Some named) → look named ≡ Readable file
     → AsksForAll settings.negotiates (lines_at (head_of request).headers)
-    → AnswersBehind present before settings (λ path entry. entry ≡ look path) request response source
+    → AnswersHere present before settings (λ path entry. entry ≡ look path) request response source
     → (response.status ≡ 200)
     × ((kept : Kept) (sent : List ℕ) → file.source ≡ InMemory kept
     → AreSent (gives_at source) response.pieces.items sent → sent ≡ kept.content)
-get_whole present settings look before request named file response source method names found all x =
+here_whole present settings look before request named file response source method names found all x =
     elim x [
       | inl h ↦
           let lines : LineMap = lines_at (head_of request).headers in
@@ -136,4 +137,18 @@ get_whole present settings look before request named file response source method
                 all_sent own.0.source source response kept sent opens (own.2 ∙ memory) whole.1,
           )
       | inr h ↦ absurd (h.0 (inl method))
+    ]
+
+pub get_whole : (present : ℕ) (settings : Settings) (look : List ℕ → Entry) (before : List Header)
+    (request : Request (List ℕ)) (named : List ℕ) (file : File) (response : Response) (source : Source)
+    → is_misdirected settings.hosts.items request ≡ false → (head_of request).method ≡ get → Names (uri_path (head_of request).uri) (Some named)
+    → look named ≡ Readable file → AsksForAll settings.negotiates (lines_at (head_of request).headers)
+    → AnswersBehind present before settings (λ path entry. entry ≡ look path) request response source
+    → (response.status ≡ 200)
+    × ((kept : Kept) (sent : List ℕ) → file.source ≡ InMemory kept
+    → AreSent (gives_at source) response.pieces.items sent → sent ≡ kept.content)
+get_whole present settings look before request named file response source own method names found all x =
+    elim x [
+      | inl h ↦ absurd (cc (h.0, own))
+      | inr h ↦ here_whole present settings look before request named file response source method names found all h.1
     ]

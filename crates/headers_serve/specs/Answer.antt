@@ -1,5 +1,5 @@
 -- What a request is answered with.
-use Rattle.std.specs.Prelude.{◌≡◌, ◌≢◌, ◌⊎◌, ℕ, Bool, true, false, List, [], ◌∷◌, ◌++◌, codes}
+use Rattle.std.specs.Prelude.{◌≡◌, ◌≢◌, ◌⊎◌, ℕ, Bool, true, false, nat_lt, List, [], ◌∷◌, ◌++◌, codes}
 use Rattle.std.specs.Prelude.{Option, Some, None, ⊤, if◌then◌else◌, string_bytes}
 use Rattle.http.specs.declared.request.Request.{Request}
 use Rattle.http.specs.Request.{head_of}
@@ -23,12 +23,13 @@ use Rattle.headers_preconditions.specs.declared.response.Response.{Response as A
 use Rattle.headers_serve.specs.Codings.{coding_name, is_encoded}
 use Rattle.headers_serve.specs.Cors.{IsShared}
 use Rattle.headers_serve.specs.File.{content_of, len_of, resource_of}
+use Rattle.headers_serve.specs.Hosts.{is_misdirected}
 use Rattle.headers_serve.specs.Multipart.{multipart}
 use Rattle.headers_serve.specs.Parts.{IsKnownToHold, part_extent}
 use Rattle.headers_serve.specs.Path.{Names}
 use Rattle.headers_serve.specs.Redirect.{AnswersFolder}
 use Rattle.headers_serve.specs.Representations.{IsServedAt}
-use Rattle.headers_serve.specs.Response.{IsWith, fields_of, headers_of}
+use Rattle.headers_serve.specs.Response.{IsExplained, IsWith, fields_of, headers_of}
 use Rattle.headers_serve.specs.declared.coding.Coding.{Coding}
 use Rattle.headers_serve.specs.declared.coding.Coding.TheVariants.{Identity, Brotli, Gzip}
 use Rattle.headers_serve.specs.declared.file.Entry.{Entry}
@@ -162,9 +163,9 @@ module _ (present : ℕ) (before : List Header) (settings : Settings) (request :
 
   -- the response to a GET or a HEAD where this was found
   abbrev pub AnswersEntry : Entry → Response → Type 0
-  AnswersEntry Missing response = IsWith before 404 [] [] response
-  AnswersEntry Forbidden response = IsWith before 403 [] [] response
-  AnswersEntry Unavailable response = IsWith before 503 [] [] response
+  AnswersEntry Missing response = IsExplained before 404 [] response
+  AnswersEntry Forbidden response = IsExplained before 403 [] response
+  AnswersEntry Unavailable response = IsExplained before 503 [] response
   AnswersEntry Folder response = AnswersFolder before (uri_path uri_of) (uri_query uri_of) response
   AnswersEntry (Readable file) response =
       AnswersFile present before settings method_of (lines_at (head_of request).headers) file response
@@ -177,7 +178,7 @@ allow_field = (codes "allow", codes "GET, HEAD, OPTIONS")
 abbrev pub AnswersOther : List Header → List ℕ → Response → Type 0
 AnswersOther before method response =
     ((method ≡ codes "OPTIONS") × IsWith before 204 (allow_field ∷ []) [] response)
-    ⊎ ((method ≢ codes "OPTIONS") × IsWith before 405 (allow_field ∷ []) [] response)
+    ⊎ ((method ≢ codes "OPTIONS") × IsExplained before 405 (allow_field ∷ []) response)
 
 -- what the path of a URI leads a request to in a store: what it gets where the store has something at the path that is
 -- named, or nothing if none is named
@@ -195,15 +196,24 @@ Opens Unavailable source = ⊤
 Opens Folder source = ⊤
 Opens (Readable file) source = source ≡ file.source
 
--- the response to a request, where the store has this at its paths, and the source of its ranges
-abbrev pub AnswersBehind : ℕ → List Header → Settings → (List ℕ → Entry → Type 0) → Request (List ℕ) → Response
+-- the response to a request for a host that is served, where the store has this at its paths, and the source of its
+-- ranges
+abbrev pub AnswersHere : ℕ → List Header → Settings → (List ℕ → Entry → Type 0) → Request (List ℕ) → Response
     → Source → Type 0
-AnswersBehind present before settings has request response source =
+AnswersHere present before settings has request response source =
     (IsGetOrHead (head_of request).method
     × ((entry : Entry)
     × LeadsTo settings.negotiates has (lines_at (head_of request).headers) (uri_path (head_of request).uri) entry
     × AnswersEntry present before settings request entry response × Opens entry source))
     ⊎ ((¬ (IsGetOrHead (head_of request).method)) × AnswersOther before (head_of request).method response)
+
+-- the response to a request: 421 if it is for another host (section 15.5.20)
+abbrev pub AnswersBehind : ℕ → List Header → Settings → (List ℕ → Entry → Type 0) → Request (List ℕ) → Response
+    → Source → Type 0
+AnswersBehind present before settings has request response source =
+    ((is_misdirected settings.hosts.items request ≡ true) × IsExplained before 421 [] response)
+    ⊎ ((is_misdirected settings.hosts.items request ≡ false)
+    × AnswersHere present before settings has request response source)
 
 -- the request makes no condition, and asks for no range, and for no coding where codings are negotiated
 pub record AsksForAll (negotiates : Bool) (request : LineMap) : Type 0 where
@@ -223,20 +233,25 @@ date_fields (Some seconds) = (codes "date", fixdate seconds) ∷ []
 abbrev pub sniff_field : Header
 sniff_field = (codes "x-content-type-options", codes "nosniff")
 
+-- the connection is done after this response (RFC 9112, section 9.6), if it is the last of so many
+abbrev pub closing_fields : ℕ → List Header
+closing_fields left = if nat_lt 1 left then [] else (codes "connection", codes "close") ∷ []
+
 -- the time by which a request is answered: the start of 1970 where there is no clock
 abbrev pub clock : Option ℕ → ℕ
 clock None = 0
 clock (Some seconds) = seconds
 
--- The response to a request at a moment, if there is a clock, where the store has this at its paths: after the date,
--- that browsers shall not guess its type, and what a policy for requests from other origins says, if there is one. The
+-- The response to a request at a moment, if there is a clock, where the store has this at its paths and so many
+-- responses are left: after the date, that browsers shall not guess its type, whether it is the last, and what a policy for requests from other origins says, if there is one. The
 -- answer to a preflight (OPTIONS) is 204, which lets it pass. Its ranges are of this source.
-abbrev pub IsAnswerAt : Option ℕ → Settings → (List ℕ → Entry → Type 0) → Request (List ℕ) → Response → Source → Type 0
-IsAnswerAt now settings has request response source =
+abbrev pub IsAnswerAt : Option ℕ → ℕ → Settings → (List ℕ → Entry → Type 0) → Request (List ℕ) → Response → Source → Type 0
+IsAnswerAt now left settings has request response source =
     (shared : List Header) × IsShared settings.cors request shared
-    × AnswersBehind (clock now) ((date_fields now ++ sniff_field ∷ []) ++ shared) settings has request response source
+    × AnswersBehind (clock now) (((date_fields now ++ sniff_field ∷ []) ++ closing_fields left) ++ shared) settings has
+    request response source
 
 -- the response to a request at some moment
-abbrev pub IsAnswer : Settings → (List ℕ → Entry → Type 0) → Request (List ℕ) → Response → Source → Type 0
-IsAnswer settings has request response source =
-    (now : Option ℕ) × IsAnswerAt now settings has request response source
+abbrev pub IsAnswer : ℕ → Settings → (List ℕ → Entry → Type 0) → Request (List ℕ) → Response → Source → Type 0
+IsAnswer left settings has request response source =
+    (now : Option ℕ) × IsAnswerAt now left settings has request response source

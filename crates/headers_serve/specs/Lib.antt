@@ -2,6 +2,8 @@ pub mod Answer
 pub mod Codings
 pub mod Cors
 pub mod File
+pub mod Hosts
+pub mod Log
 pub mod MediaTypes
 pub mod Memory
 pub mod Multipart

@@ -4,7 +4,7 @@ use Rattle.http_header.specs.FieldValue.{IsFieldValue}
 use Rattle.http1.specs.Fields.{Header}
 use Rattle.headers_exchange.specs.declared.plan.Plan.{Plan as Response}
 use Rattle.headers_serve.specs.Path.{ends_in_slash}
-use Rattle.headers_serve.specs.Response.{IsWith}
+use Rattle.headers_serve.specs.Response.{IsExplained}
 
 -- a query after its question mark
 abbrev pub query_text : Option (List ℕ) → List ℕ
@@ -34,5 +34,5 @@ pub record IsOnHost (target : List ℕ) : Type 0 where
 -- 301 to the index of the folder, or 404 if there is no such place
 abbrev pub AnswersFolder : List Header → List ℕ → Option (List ℕ) → Response → Type 0
 AnswersFolder before path query response =
-    (HasNoIndex path query × IsWith before 404 [] [] response)
-    ⊎ ((¬ (HasNoIndex path query)) × IsWith before 301 ((codes "location", index_target path query) ∷ []) [] response)
+    (HasNoIndex path query × IsExplained before 404 [] response)
+    ⊎ ((¬ (HasNoIndex path query)) × IsExplained before 301 ((codes "location", index_target path query) ∷ []) response)

@@ -1,5 +1,5 @@
 //! A store served over one connection.
-ghost use Rattle.std.specs.Prelude.{◌≡◌, ℕ, List, is_ok};
+ghost use Rattle.std.specs.Prelude.{◌≡◌, ◌-◌, ℕ, List, is_ok};
 ghost use Rattle.std.specs.Io.KnownBytes.{Appends, Consumes};
 ghost use Rattle.headers_exchange.specs.Connection.{Exchanged};
 ghost use Rattle.headers_serve.specs.Answer.{IsAnswer};
@@ -30,8 +30,8 @@ pub fn serve_store<S: Store, R: Read, W: Write>(
         × Consumes (R.remaining reader.old) (R.remaining reader.new) received
         × Appends (W.contents writer.old) (W.contents writer.new) sent
         × Exchanged
-        (λ before request plan after. IsAnswer before.settings (S.has before.store) request plan after.source
-        × (after.settings ≡ before.settings) × (after.store ≡ before.store))
+        (λ before request plan after. IsAnswer before.left before.settings (S.has before.store) request plan after.source
+        × (after.settings ≡ before.settings) × (after.store ≡ before.store) × (after.left ≡ before.left - 1))
         (λ now. gives_at now.source) config service.old service.new received sent (is_ok result) }
 {
     serve_exchanges(service.alloc, keys, config, service, reader, writer)

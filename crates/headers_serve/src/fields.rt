@@ -1,12 +1,12 @@
 //! The fields of a response.
 ghost use Rattle.std.specs.Prelude.{◌≡◌, [], ◌∷◌, ◌++◌, OnOk};
 ghost use Rattle.headers.specs.LineMap.{field_of};
-ghost use Rattle.headers_serve.specs.Answer.{date_fields, sniff_field};
+ghost use Rattle.headers_serve.specs.Answer.{closing_fields, date_fields, sniff_field};
 ghost use Rattle.headers_serve.specs.Response.{fields_of, headers_of, lines_under};
 
 use headers::{Date, Encoded, HeaderValue, encoding};
 use headers_exchange::Plan as Response;
-use http_header::X_CONTENT_TYPE_OPTIONS;
+use http_header::{CONNECTION, X_CONTENT_TYPE_OPTIONS};
 use std::alloc::{AllocError, Global};
 
 /// The date of a moment, if there is a clock and its year has four digits.
@@ -39,6 +39,17 @@ pub(crate) fn put_sniff(response: &mut Response) -> Result<(), AllocError>
     ensures pieces { response.new.pieces.items ≡ response.old.pieces.items }
 {
     response.add_header(X_CONTENT_TYPE_OPTIONS, HeaderValue::from_static("nosniff"))
+}
+
+/// Says that the connection ends, if no more response than this is left.
+pub(crate) fn put_closing(response: &mut Response, left: u64) -> Result<(), AllocError>
+    ensures headers { OnOk result (fields_of response.new ≡ fields_of response.old ++ closing_fields left) }
+    ensures pieces { response.new.pieces.items ≡ response.old.pieces.items }
+{
+    if left > 1 {
+        return Ok(());
+    }
+    response.add_header(CONNECTION, HeaderValue::from_static("close"))
 }
 
 // Adds the field lines of a field.

@@ -1,5 +1,7 @@
 //! What follows from the definitions alone. A proof cites a law by calling it.
-ghost use Rattle.std.specs.Prelude.{◌≡◌, ℕ, Bool, true, List, [], ◌∷◌, ◌++◌, Option, Some, codes};
+ghost use Rattle.std.specs.Prelude.{◌≡◌, ℕ, ◌<◌, All, Bool, true, false, List, [], ◌∷◌, ◌++◌};
+ghost use Rattle.std.specs.Prelude.{Option, Some, codes};
+ghost use Rattle.std.specs.List.{list_all};
 ghost use Rattle.http.specs.Request.{head_of};
 ghost use Rattle.http.specs.declared.request.Request.{Request};
 ghost use Rattle.http_header.specs.FieldValue.{FieldValue};
@@ -13,10 +15,12 @@ ghost use Rattle.headers_preconditions.specs.declared.part.Part.{Part};
 ghost use Rattle.headers_preconditions.specs.declared.response.Response.{Response as Answer};
 ghost use Rattle.headers_serve.specs.Answer.{AnswersBehind, AnswersRead, AsksForAll, IsAnswerAt, is_several};
 ghost use Rattle.headers_serve.specs.File.{gives_at};
+ghost use Rattle.headers_serve.specs.Hosts.{is_misdirected};
+ghost use Rattle.headers_serve.specs.Log.{is_quotable, logged};
 ghost use Rattle.headers_serve.specs.Parts.{Occurs, bytes_of, part_bytes};
 ghost use Rattle.headers_serve.specs.Path.{Names};
 ghost use Rattle.headers_serve.specs.Redirect.{AnswersFolder, IsOnHost};
-ghost use Rattle.headers_serve.specs.Response.{IsSameResponse, fields_of};
+ghost use Rattle.headers_serve.specs.Response.{IsSameResponse, fields_of, html_field};
 ghost use Rattle.headers_serve.specs.declared.file.Entry.TheVariants.{Readable};
 ghost use Rattle.headers_serve.specs.declared.file.Entry.{Entry};
 ghost use Rattle.headers_serve.specs.declared.file.File.{File};
@@ -28,10 +32,10 @@ ghost use Rattle.headers_serve.specs.declared.settings.Settings.{Settings};
 /// A request has one response at most at a moment, where the store has one entry at each path: two
 /// responses have the same status, the same fields in the same order, and the same pieces.
 pub fn request_has_one_response()
-    ensures { (now : Option ℕ) (settings : Settings) (look : List ℕ → Entry) (request : Request (List ℕ))
+    ensures { (now : Option ℕ) (left : ℕ) (settings : Settings) (look : List ℕ → Entry) (request : Request (List ℕ))
         (r s : Response) (a b : Source)
-        → IsAnswerAt now settings (λ path entry. entry ≡ look path) request r a
-        → IsAnswerAt now settings (λ path entry. entry ≡ look path) request s b
+        → IsAnswerAt now left settings (λ path entry. entry ≡ look path) request r a
+        → IsAnswerAt now left settings (λ path entry. entry ≡ look path) request s b
         → IsSameResponse r s }
 {}
 
@@ -42,13 +46,13 @@ pub fn sent_bytes_are_those_of_the_ranges()
         → sent ≡ bytes_of kept.content pieces }
 {}
 
-/// A GET of a file that makes no condition and asks for no range, and for no coding where the store
-/// negotiates codings, is answered by 200. Of a file in memory exactly the content is sent.
+/// A GET of a file, for a host that is served, that makes no condition and asks for no range, and for no
+/// coding where the store negotiates codings, is answered by 200. Of a file in memory exactly the content is sent.
 pub fn get_gets_the_content()
     ensures { (present : ℕ) (settings : Settings) (look : List ℕ → Entry)
         (before : List Header) (request : Request (List ℕ)) (named : List ℕ) (file : File) (response : Response)
         (source : Source)
-        → (head_of request).method ≡ codes "GET"
+        → is_misdirected settings.hosts.items request ≡ false → (head_of request).method ≡ codes "GET"
         → Names (uri_path (head_of request).uri) (Some named) → look named ≡ Readable file
         → AsksForAll settings.negotiates (lines_at (head_of request).headers)
         → AnswersBehind present before settings (λ path entry. entry ≡ look path) request response source
@@ -61,7 +65,8 @@ pub fn get_gets_the_content()
 pub fn redirects_stay_on_the_host()
     ensures { (before : List Header) (path named : List ℕ) (query : Option (List ℕ)) (response : Response)
         → Names path (Some named) → AnswersFolder before path query response → response.status ≡ 301
-        → (target : List ℕ) × (fields_of response ≡ before ++ (codes "location", target) ∷ []) × IsOnHost target }
+        → (target : List ℕ) × (fields_of response ≡ before ++ (codes "location", target) ∷ html_field ∷ [])
+        × IsOnHost target }
 {}
 
 /// If an answer sends several parts of bytes in memory, none holds the boundary between them (RFC 2046,
@@ -72,4 +77,10 @@ pub fn no_part_holds_the_boundary()
         → AnswersRead present boundary method request file answer → is_several answer.plan ≡ true
         → file.source ≡ InMemory kept
         → (part : Part) → ¬ (Occurs boundary (part_bytes kept.content part)) }
+{}
+
+/// What a client chose is logged in visible ASCII and spaces, without a quote. So it ends neither the
+/// quoted text that it stands in nor the line.
+pub fn logged_text_has_no_quote()
+    ensures { (text : List ℕ) → All (λ byte. byte < 256) text → list_all is_quotable (logged text) ≡ true }
 {}

@@ -4,7 +4,10 @@ use crate::file::{Entry, File};
 use crate::kept::Kept;
 use crate::source::Source;
 use crate::store::Store;
+use bytes::Bytes;
 use headers::{HeaderValue, LastModified};
+use headers_exchange::Plan as Response;
+use http::Request;
 use std::alloc::{AllocError, Global};
 
 /// A store of one file, without a clock.
@@ -42,4 +45,6 @@ impl Store for Memory {
     fn now(&self) -> Option<u64> {
         None
     }
+
+    fn note(&self, _: &Request<Bytes>, _: &Response) {}
 }

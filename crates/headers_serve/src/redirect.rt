@@ -3,6 +3,7 @@ ghost use Rattle.std.specs.Prelude.{◌≡◌, [], IfOk, OnOk, option_copied, op
 ghost use Rattle.headers_serve.specs.Redirect.{AnswersFolder, IsLocation, index_target};
 ghost use Rattle.headers_serve.specs.Response.{fields_of};
 
+use crate::page::explain;
 use crate::path::ends_in_slash;
 use headers::HeaderValue;
 use headers_exchange::Plan as Response;
@@ -24,11 +25,11 @@ pub(crate) fn answer_folder(
     match location(alloc, path, query)? {
         Some(value) => {
             response.add_header(LOCATION, value)?;
-            response.status = StatusCode::MOVED_PERMANENTLY;
+            explain(alloc, StatusCode::MOVED_PERMANENTLY, response)?;
             Ok(())
         }
         None => {
-            response.status = StatusCode::NOT_FOUND;
+            explain(alloc, StatusCode::NOT_FOUND, response)?;
             Ok(())
         }
     }

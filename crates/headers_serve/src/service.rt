@@ -6,8 +6,8 @@ ghost use Rattle.http_uri.specs.Uri.{uri_path, uri_query};
 ghost use Rattle.headers.specs.LineMap.{lines_at};
 ghost use Rattle.headers_preconditions.specs.Fields.{is_known_by};
 ghost use Rattle.headers_preconditions.specs.Preconditions.{IsGetOrHead};
-ghost use Rattle.headers_serve.specs.Answer.{AnswersBehind, AnswersEntry, AnswersFile, AnswersOther, Carries};
-ghost use Rattle.headers_serve.specs.Answer.{LeadsTo, Opens, clock, pieces_sent};
+ghost use Rattle.headers_serve.specs.Answer.{AnswersBehind, AnswersEntry, AnswersFile, AnswersHere, AnswersOther};
+ghost use Rattle.headers_serve.specs.Answer.{Carries, LeadsTo, Opens, clock, pieces_sent};
 ghost use Rattle.headers_serve.specs.File.{len_of};
 ghost use Rattle.headers_serve.specs.Parts.{Fits};
 ghost use Rattle.headers_serve.specs.Response.{fields_of};
@@ -15,9 +15,11 @@ ghost use Rattle.headers_serve.specs.Response.{fields_of};
 use crate::answer::answer_read;
 use crate::cache::{put_cache_control, put_coding};
 use crate::cors::put_shared;
-use crate::fields::{add_fields, date_of, put_date, put_sniff};
+use crate::fields::{add_fields, date_of, put_closing, put_date, put_sniff};
 use crate::file::{Entry, File};
+use crate::hosts::is_misdirected;
 use crate::multipart::{extent_of, push_parts};
+use crate::page::explain;
 use crate::path::store_path;
 use crate::redirect::answer_folder;
 use crate::representation::served_at;
@@ -33,7 +35,7 @@ use http_header::ALLOW;
 use std::alloc::{AllocError, Global};
 use std::io;
 
-/// Answers GET, HEAD and OPTIONS from a store, and 405 to other methods.
+/// Answers GET, HEAD and OPTIONS from a store, 405 to other methods, and 421 for other hosts.
 #[derive(Debug, Drop)]
 pub struct FileService<S: Store> {
     /// For responses.
@@ -42,6 +44,8 @@ pub struct FileService<S: Store> {
     pub store: S,
     /// How they are served.
     pub settings: Settings,
+    /// How many responses are left. The last one says that the connection ends.
+    pub left: u64,
     /// What the ranges of the last response are read from.
     pub source: Source,
 }
@@ -135,15 +139,15 @@ fn answer_entry(
 {
     match entry {
         Entry::Missing => {
-            response.status = StatusCode::NOT_FOUND;
+            explain(alloc, StatusCode::NOT_FOUND, response)?;
             Ok(())
         }
         Entry::Forbidden => {
-            response.status = StatusCode::FORBIDDEN;
+            explain(alloc, StatusCode::FORBIDDEN, response)?;
             Ok(())
         }
         Entry::Unavailable => {
-            response.status = StatusCode::SERVICE_UNAVAILABLE;
+            explain(alloc, StatusCode::SERVICE_UNAVAILABLE, response)?;
             Ok(())
         }
         Entry::Folder => {
@@ -200,7 +204,7 @@ fn look_up<S: Store>(
 }
 
 // Answers a request that is no GET or HEAD.
-fn answer_other(method: &Method, response: &mut Response) -> Result<(), AllocError>
+fn answer_other(alloc: Global, method: &Method, response: &mut Response) -> Result<(), AllocError>
     requires { response.old.pieces.items ≡ [] }
     ensures { OnOk result (AnswersOther (fields_of response.old) method.now response.new) }
 {
@@ -209,7 +213,7 @@ fn answer_other(method: &Method, response: &mut Response) -> Result<(), AllocErr
         response.status = StatusCode::NO_CONTENT;
         return Ok(());
     }
-    response.status = StatusCode::METHOD_NOT_ALLOWED;
+    explain(alloc, StatusCode::METHOD_NOT_ALLOWED, response)?;
     Ok(())
 }
 
@@ -236,8 +240,8 @@ fn source_of(entry: Entry) -> Source
     }
 }
 
-// Answers a request from a store. What its ranges are read from is returned.
-fn answer<S: Store>(
+// Answers a request for a host that is served. What its ranges are read from is returned.
+fn answer_here<S: Store>(
     alloc: Global,
     store: &S,
     settings: &Settings,
@@ -246,11 +250,11 @@ fn answer<S: Store>(
     response: &mut Response,
 ) -> Result<Source, AllocError>
     requires { response.old.pieces.items ≡ [] }
-    ensures { IfOk result (AnswersBehind present (fields_of response.old) settings.now (S.has store.now)
+    ensures { IfOk result (AnswersHere present (fields_of response.old) settings.now (S.has store.now)
         request.now response.new) }
 {
     if !is_get_or_head(request.method()) {
-        answer_other(request.method(), response)?;
+        answer_other(alloc, request.method(), response)?;
         return Ok(Source::empty());
     }
     let entry = look_up(
@@ -264,14 +268,35 @@ fn answer<S: Store>(
     Ok(source_of(entry))
 }
 
+// Answers a request from a store. What its ranges are read from is returned.
+fn answer<S: Store>(
+    alloc: Global,
+    store: &S,
+    settings: &Settings,
+    request: &Request<Bytes>,
+    present: u64,
+    response: &mut Response,
+) -> Result<Source, AllocError>
+    requires { response.old.pieces.items ≡ [] }
+    ensures { IfOk result (AnswersBehind present (fields_of response.old) settings.now (S.has store.now)
+        request.now response.new) }
+{
+    if is_misdirected(&settings.hosts, request) {
+        explain(alloc, StatusCode::MISDIRECTED_REQUEST, response)?;
+        return Ok(Source::empty());
+    }
+    let source = answer_here(alloc, store, settings, request, present, response)?;
+    Ok(source)
+}
+
 impl<S: Store> Handler for FileService<S> {
-    ghost use Rattle.std.specs.Prelude.{◌≡◌};
+    ghost use Rattle.std.specs.Prelude.{◌≡◌, ◌-◌};
     ghost use Rattle.headers_serve.specs.Answer.{IsAnswer};
     ghost use Rattle.headers_serve.specs.File.{gives_at};
 
     ghost plans = { λ before request plan after.
-        IsAnswer before.settings (S.has before.store) request plan after.source
-        × (after.settings ≡ before.settings) × (after.store ≡ before.store) };
+        IsAnswer before.left before.settings (S.has before.store) request plan after.source
+        × (after.settings ≡ before.settings) × (after.store ≡ before.store) × (after.left ≡ before.left - 1) };
 
     ghost gives = { λ service. gives_at service.source };
 
@@ -279,6 +304,8 @@ impl<S: Store> Handler for FileService<S> {
         let date = date_of(self.store.now());
         put_date(self.alloc, plan, &date)?;
         put_sniff(plan)?;
+        put_closing(plan, self.left)?;
+        self.left = self.left.saturating_sub(1);
         put_shared(self.alloc, &self.settings.cors, request, plan)?;
         let source = answer(
             self.alloc,
@@ -288,6 +315,7 @@ impl<S: Store> Handler for FileService<S> {
             clock(&date),
             plan,
         )?;
+        self.store.note(request, plan);
         self.source = source;
         Ok(())
     }

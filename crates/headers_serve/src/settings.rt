@@ -45,6 +45,9 @@ pub struct Settings {
     pub cache_control: Option<HeaderValue>,
     /// Whether a client may get what stands beside a file in a coding, by Accept-Encoding.
     pub negotiates: bool,
+    /// The hosts that are served, in any case and at any port. If there are none, all are. A request for
+    /// another one is answered by 421 (RFC 9110, section 15.5.20).
+    pub hosts: Vec<HeaderValue>,
     /// What answers say to requests from other origins, if they say anything.
     pub cors: Option<CorsPolicy>,
     /// What stands between several parts.

@@ -4,6 +4,9 @@ ghost use Rattle.headers_serve.specs.Path.{is_plain};
 ghost use Rattle.headers_serve.specs.declared.file.Entry.{Entry};
 
 use crate::file::Entry;
+use bytes::Bytes;
+use headers_exchange::Plan as Response;
+use http::Request;
 use std::alloc::{AllocError, Global};
 
 /// Files by paths: names with a slash between them.
@@ -19,4 +22,7 @@ pub trait Store {
 
     /// The seconds since the start of 1970, if there is a clock.
     fn now(&self) -> Option<u64>;
+
+    /// Is told each request and its response before that is sent, as for a log.
+    fn note(&self, request: &Request<Bytes>, response: &Response);
 }

@@ -1,28 +1,39 @@
 //! The policy for requests from other origins.
 
-use headers::{Header, HeaderValue, Origin};
-use headers_cors_policy::{Allowed, AllowedNames, CorsPolicy, CorsRules};
+use headers::{Header, HeaderValue, Origin, Refused};
+use headers_cors_policy::{Allowed, AllowedNames, CorsPolicy, CorsRules, RulesError};
 use http_header::{
-    ACCEPT_RANGES, CONTENT_ENCODING, CONTENT_RANGE, ETAG, IF_MATCH, IF_MODIFIED_SINCE,
-    IF_NONE_MATCH, IF_RANGE, IF_UNMODIFIED_SINCE, RANGE,
+    ACCEPT_RANGES, CONTENT_ENCODING, CONTENT_RANGE, ETAG, HeaderValueError, IF_MATCH,
+    IF_MODIFIED_SINCE, IF_NONE_MATCH, IF_RANGE, IF_UNMODIFIED_SINCE, RANGE,
 };
-use std::alloc::Global;
+use std::alloc::{AllocError, Global};
+
+/// The text is no origin.
+#[derive(Clone, Copy)]
+pub struct NoOrigin;
 
 // One origin, or any.
-fn origins_of(alloc: Global, text: &str) -> Option<Allowed<Origin>> {
+fn origins_of(alloc: Global, text: &str) -> Result<Allowed<Origin>, Refused<NoOrigin>> {
     if text == "*" {
-        return Some(Allowed::Any);
+        return Ok(Allowed::Any);
     }
-    let lines = [HeaderValue::from_str(alloc, text).ok()?];
-    let origin = Origin::decode(alloc, &mut lines.iter()).ok()?;
-    let listed = vec![in alloc; origin].ok()?;
-    Some(Allowed::Listed(listed))
+    let line = match HeaderValue::from_str(alloc, text) {
+        Ok(line) => line,
+        Err(HeaderValueError::Invalid) => return Err(Refused::Invalid(NoOrigin)),
+        Err(HeaderValueError::OutOfMemory) => return Err(Refused::Memory(AllocError)),
+    };
+    let lines = [line];
+    match Origin::decode(alloc, &mut lines.iter()) {
+        Ok(origin) => Ok(Allowed::Listed(vec![in alloc; origin]?)),
+        Err(Refused::Invalid(_)) => Err(Refused::Invalid(NoOrigin)),
+        Err(Refused::Memory(refused)) => Err(Refused::Memory(refused)),
+    }
 }
 
 /// The policy for scripts of one origin, or of any if it is `*`: they may ask for ranges and make
-/// conditions, and read what an answer says of its representation. Credentials aren't allowed. `None`
-/// if the text is no origin that a browser sends.
-pub fn policy_for(alloc: Global, text: &str) -> Option<CorsPolicy> {
+/// conditions, and read what an answer says of its representation. Credentials aren't allowed.
+/// `NoOrigin` if the text is no origin that a browser sends.
+pub fn policy_for(alloc: Global, text: &str) -> Result<CorsPolicy, Refused<NoOrigin>> {
     let mut rules = CorsRules::new(alloc, origins_of(alloc, text)?);
     let names = vec![in alloc;
         IF_MATCH,
@@ -31,10 +42,13 @@ pub fn policy_for(alloc: Global, text: &str) -> Option<CorsPolicy> {
         IF_RANGE,
         IF_UNMODIFIED_SINCE,
         RANGE,
-    ]
-    .ok()?;
-    let exposed = vec![in alloc; ACCEPT_RANGES, CONTENT_ENCODING, CONTENT_RANGE, ETAG].ok()?;
+    ]?;
+    let exposed = vec![in alloc; ACCEPT_RANGES, CONTENT_ENCODING, CONTENT_RANGE, ETAG]?;
     rules.names = AllowedNames::Listed(names);
     rules.exposed = Allowed::Listed(exposed);
-    CorsPolicy::new(alloc, rules).ok()
+    match CorsPolicy::new(alloc, rules) {
+        Ok(policy) => Ok(policy),
+        Err(RulesError::Memory) => Err(Refused::Memory(AllocError)),
+        Err(_) => Err(Refused::Invalid(NoOrigin)),
+    }
 }

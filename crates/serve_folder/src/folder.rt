@@ -3,10 +3,12 @@
 use crate::kept::KeptFiles;
 use crate::place::Place;
 use bytes::Bytes;
-use headers::{ETag, HeaderValue, LastModified};
-use headers_serve::{Entry, File, Kept, Opened, Source, Store, media_type_of};
+use headers::{Date, ETag, HeaderValue, LastModified, Refused};
+use headers_exchange::Plan as Response;
+use headers_serve::{Entry, File, Kept, Opened, Source, Store, log_line, media_type_of};
+use http::Request;
 use std::alloc::{AllocError, Global};
-use std::io::{ErrorKind, Read};
+use std::io::{ErrorKind, Read, Write};
 use std::os::unix::fs::MetadataExt;
 use std::time::{SystemTime, UNIX_EPOCH};
 use std::{fs, io};
@@ -30,6 +32,8 @@ pub struct Folder<'a> {
     pub max_file: u64,
     /// Whether answers have dates: of the clock, and of the files.
     pub has_dates: bool,
+    /// Whom the log names as the client, if there is a log.
+    pub logged: Option<String>,
     /// Files that were read before.
     pub kept: KeptFiles,
 }
@@ -82,7 +86,11 @@ fn stamp_of(alloc: Global, metadata: &fs::Metadata) -> io::Result<Option<ETag>> 
         metadata.ctime(),
         metadata.ctime_nsec()
     )?;
-    Ok(ETag::from_str(alloc, text.as_str()).ok())
+    match ETag::from_str(alloc, text.as_str()) {
+        Ok(tag) => Ok(Some(tag)),
+        Err(Refused::Invalid(_)) => Ok(None),
+        Err(Refused::Memory(error)) => Err(error.into()),
+    }
 }
 
 impl Folder<'_> {
@@ -202,4 +210,26 @@ impl Store for Folder<'_> {
             None
         }
     }
+
+    // A log that can't be written stops nothing.
+    fn note(&self, request: &Request<Bytes>, response: &Response) {
+        if let Some(client) = &self.logged {
+            let _ = log(self.rt, client.as_str(), request, response);
+        }
+    }
+}
+
+// Writes the line of a request to standard error.
+fn log(
+    rt: &HostRuntime,
+    client: &str,
+    request: &Request<Bytes>,
+    response: &Response,
+) -> io::Result<()> {
+    let now = match seconds_of(SystemTime::now(rt)?) {
+        Some(seconds) if seconds < 253_402_300_800 => Some(Date::from_unix_secs(seconds)),
+        _ => None,
+    };
+    let line = log_line(rt.alloc(), client, now, request, response)?;
+    rt.stderr().write_all(line.as_slice())
 }

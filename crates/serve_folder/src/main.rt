@@ -7,18 +7,20 @@ mod kept;
 mod options;
 mod place;
 
-use crate::cors::policy_for;
+use crate::cors::{NoOrigin, policy_for};
 use crate::folder::Folder;
 use crate::kept::KeptFiles;
 use crate::options::command;
 use clap::ArgMatches;
-use headers::HeaderValue;
+use headers::{HeaderValue, Refused};
 use headers_cors_policy::CorsPolicy;
 use headers_serve::{Divider, FileService, Settings, Source, serve_store};
 use http_header::HeaderValueError;
 use http_server::Config;
 use std::alloc::{AllocError, Global};
+use std::env::VarError;
 use std::hash::RandomState;
+use std::io::ErrorKind;
 use std::path::PathBuf;
 use std::process::ExitCode;
 use std::random::RandomSource;
@@ -27,14 +29,22 @@ use std::{env, fs};
 // The status of a mistake in the words of the command line.
 const MISTAKE: u8 = 2;
 
-// The text is no origin.
-#[derive(Clone, Copy)]
-struct NoOrigin;
-
 // The path of a folder with every link resolved. `None` if it is no folder.
-fn folder_at(rt: &HostRuntime, path: &str) -> Option<PathBuf> {
-    let path = fs::canonicalize(rt, path).ok()?;
-    path.is_dir(rt).then_some(path)
+fn folder_at(rt: &HostRuntime, path: &str) -> Result<Option<PathBuf>, AllocError> {
+    match fs::canonicalize(rt, path) {
+        Ok(path) => Ok(path.is_dir(rt).then_some(path)),
+        Err(error) if error.kind() == ErrorKind::OutOfMemory => Err(AllocError),
+        Err(_) => Ok(None),
+    }
+}
+
+// A value, or `None` if the text can't stand in a header.
+fn valid<T: Drop>(made: Result<T, HeaderValueError>) -> Result<Option<T>, AllocError> {
+    match made {
+        Ok(value) => Ok(Some(value)),
+        Err(HeaderValueError::Invalid) => Ok(None),
+        Err(HeaderValueError::OutOfMemory) => Err(AllocError),
+    }
 }
 
 // A boundary between parts that nobody can foresee.
@@ -57,28 +67,64 @@ fn cache_control_of(
 }
 
 // The policy for other origins, if it is asked for.
-fn cors_of(alloc: Global, matches: &ArgMatches<'_>) -> Result<Option<CorsPolicy>, NoOrigin> {
+fn cors_of(
+    alloc: Global,
+    matches: &ArgMatches<'_>,
+) -> Result<Option<CorsPolicy>, Refused<NoOrigin>> {
     match matches.get_str("cors-origin") {
-        Some(text) => Ok(Some(policy_for(alloc, text).ok_or(NoOrigin)?)),
+        Some(text) => Ok(Some(policy_for(alloc, text)?)),
         None => Ok(None),
+    }
+}
+
+// The hosts that are served, or none for any.
+fn hosts_of(alloc: Global, matches: &ArgMatches<'_>) -> Result<Vec<HeaderValue>, HeaderValueError> {
+    let mut hosts = Vec::new(alloc);
+    for name in matches.get_strs("host").unwrap_or(&[]) {
+        let host = HeaderValue::from_str(alloc, name)?;
+        if hosts.push(host).is_err() {
+            return Err(HeaderValueError::OutOfMemory);
+        }
+    }
+    Ok(hosts)
+}
+
+// Whom the log names as the client, if a log is asked for: the address that socat gives, or a hyphen.
+fn logged_for(rt: &HostRuntime, matches: &ArgMatches<'_>) -> Result<Option<String>, AllocError> {
+    if !matches.get_flag("log") {
+        return Ok(None);
+    }
+    match env::var(rt, "SOCAT_PEERADDR") {
+        Ok(client) => Ok(Some(client)),
+        Err(VarError::OutOfMemory) => Err(AllocError),
+        Err(_) => Ok(Some(String::from_str(rt.alloc(), "-")?)),
     }
 }
 
 // How the words of the command line have the files served. `None` if one of them is wrong; standard error
 // says which.
 fn settings_of(rt: &HostRuntime, matches: &ArgMatches<'_>) -> anyhow::Result<Option<Settings>> {
-    let Ok(cache_control) = cache_control_of(rt.alloc(), matches) else {
+    let Some(cache_control) = valid(cache_control_of(rt.alloc(), matches))? else {
         eprintln!(rt; "error: the value of '--cache-control' can't stand in a header")?;
         return Ok(None);
     };
-    let Ok(cors) = cors_of(rt.alloc(), matches) else {
-        eprintln!(rt; "error: the value of '--cors-origin' is no origin")?;
+    let cors = match cors_of(rt.alloc(), matches) {
+        Ok(cors) => cors,
+        Err(Refused::Memory(refused)) => return Err(refused.into()),
+        Err(Refused::Invalid(NoOrigin)) => {
+            eprintln!(rt; "error: the value of '--cors-origin' is no origin")?;
+            return Ok(None);
+        }
+    };
+    let Some(hosts) = valid(hosts_of(rt.alloc(), matches))? else {
+        eprintln!(rt; "error: the value of '--host' can't stand in a header")?;
         return Ok(None);
     };
     let divider = divider_for(rt)?;
     Ok(Some(Settings {
         cache_control,
         negotiates: matches.get_flag("precompressed"),
+        hosts,
         cors,
         divider,
     }))
@@ -96,17 +142,24 @@ fn folder_of<'a>(
         root,
         max_file: matches.get_one::<u64>("max-file").unwrap_or(u64::MAX),
         has_dates: !matches.get_flag("no-dates"),
+        logged: logged_for(rt, matches)?,
         kept,
     })
 }
 
 // Serves one connection. The status is 1 if reading or writing fails.
-fn serve(rt: &HostRuntime, store: Folder<'_>, settings: Settings) -> anyhow::Result<ExitCode> {
+fn serve(
+    rt: &HostRuntime,
+    store: Folder<'_>,
+    settings: Settings,
+    requests: u64,
+) -> anyhow::Result<ExitCode> {
     let keys = RandomState::new(rt)?;
     let mut service = FileService {
         alloc: rt.alloc(),
         store,
         settings,
+        left: requests,
         source: Source::empty(),
     };
     let (mut reader, mut writer) = (rt.stdin(), rt.stdout());
@@ -124,7 +177,7 @@ fn serve(rt: &HostRuntime, store: Folder<'_>, settings: Settings) -> anyhow::Res
 
 fn run(rt: &HostRuntime, matches: &ArgMatches<'_>) -> anyhow::Result<ExitCode> {
     let name = matches.get_str("FOLDER").unwrap_or("");
-    let Some(root) = folder_at(rt, name) else {
+    let Some(root) = folder_at(rt, name)? else {
         eprintln!(rt; "error: '{name}' is no folder")?;
         return Ok(ExitCode::from(MISTAKE));
     };
@@ -132,7 +185,8 @@ fn run(rt: &HostRuntime, matches: &ArgMatches<'_>) -> anyhow::Result<ExitCode> {
         return Ok(ExitCode::from(MISTAKE));
     };
     let store = folder_of(rt, matches, root.as_str())?;
-    serve(rt, store, settings)
+    let requests = matches.get_one::<u64>("requests").unwrap_or(u64::MAX);
+    serve(rt, store, settings, requests)
 }
 
 fn main(rt: HostRuntime) -> anyhow::Result<ExitCode> {

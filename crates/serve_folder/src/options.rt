@@ -17,11 +17,25 @@ pub fn command<'a>(alloc: Global) -> Result<Command<'a>, AllocError> {
         .long("cors-origin")
         .value_name("ORIGIN")
         .help("Let scripts of another origin read the files, or of any, by *");
+    let host = Arg::new(alloc, "host")
+        .long("host")
+        .value_name("NAME")
+        .action(ArgAction::Append)
+        .help("Answer 421 to requests for other hosts; may be repeated");
+    let log = Arg::new(alloc, "log")
+        .long("log")
+        .action(ArgAction::SetTrue)
+        .help("Log each request on standard error");
     let max_file = Arg::new(alloc, "max-file")
         .long("max-file")
         .value_name("BYTES")
         .value_parser(value_parser!(u64))
         .help("A longer file is answered by 403");
+    let requests = Arg::new(alloc, "requests")
+        .long("requests")
+        .value_name("N")
+        .value_parser(value_parser!(u64))
+        .help("Close a connection after N requests");
     let precompressed = Arg::new(alloc, "precompressed")
         .long("precompressed")
         .action(ArgAction::SetTrue)
@@ -34,7 +48,10 @@ pub fn command<'a>(alloc: Global) -> Result<Command<'a>, AllocError> {
         .arg(folder)?
         .arg(cache_control)?
         .arg(cors_origin)?
+        .arg(host)?
+        .arg(log)?
         .arg(max_file)?
         .arg(precompressed)?
+        .arg(requests)?
         .arg(no_dates)
 }

@@ -5,7 +5,7 @@ use Rattle.http_header.specs.HeaderMap.{Entries}
 use Rattle.headers.specs.LineMap.{lines_at}
 use Rattle.headers_preconditions.specs.Preconditions.{IsGetOrHead}
 use Rattle.headers_serve.specs.Answer.{LeadsTo}
-use Rattle.headers_serve.proofs.service.answer.Goals as goal
+use Rattle.headers_serve.proofs.service.answer_here.Goals as goal
 
 pub returns : goal.returns
 returns g c =
