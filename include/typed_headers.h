@@ -16,9 +16,9 @@
  *   its name. No space is taken off its ends.
  * - A call that writes bytes takes room for them. `*written` says how many bytes there are, also if they don't fit: the
  *   status is TYPED_HEADERS_NO_ROOM then, and the room is as it was. Nothing is written after them.
- * - Calls keep no state. They may run in several threads at once; none may run in a signal handler, nor in the child
- *   of a fork of a process with threads.
- * - Memory comes from malloc, realloc and free, and is given back before the call returns.
+ * - Calls keep no state, but for a `struct typed_headers_cache`. They may run in several threads at once; none may run
+ *   in a signal handler, nor in the child of a fork of a process with threads.
+ * - Memory comes from malloc, realloc and free, and is given back before the call returns, but for that of a cache.
  */
 #ifndef TYPED_HEADERS_H
 #define TYPED_HEADERS_H
@@ -206,6 +206,124 @@ enum typed_headers_decision {
     TYPED_HEADERS_UNAVAILABLE = 5,
     /* The origin has to answer: the stored response doesn't suit the request, or its method isn't safe. */
     TYPED_HEADERS_FETCH = 6
+};
+
+/*
+ * A cache: closed, or open with a store of responses. Zero bytes are a closed one, as TYPED_HEADERS_CLOSED_CACHE. Its
+ * members are the library's: a program changes none, and copies none but of a closed one. Two calls on one cache may
+ * not run at once. Another thread may make the next one, if the two are ordered, as by a lock.
+ */
+struct typed_headers_cache {
+    void *place;
+    bool is_open;
+};
+
+#define TYPED_HEADERS_CLOSED_CACHE {0}
+
+/* How much a cache stores, and for whom. */
+struct typed_headers_cache_options {
+    /* How many responses there may be under one target. */
+    size_t variants;
+    /* How many responses there may be in all. */
+    size_t responses;
+    /* How many bytes of content there may be in all. */
+    size_t bytes;
+    /* Whether the cache is that of several users, as a proxy's. */
+    bool is_shared;
+};
+
+/* A request to a cache. */
+struct typed_headers_cache_request {
+    /* The key of its target, in UTF-8: its URI, as a text that the program makes the same way each time. */
+    struct typed_headers_text target;
+    /* Its method. */
+    struct typed_headers_text method;
+    /* Its header section. */
+    struct typed_headers_text section;
+};
+
+/* A response that came from the origin. */
+struct typed_headers_cache_response {
+    /* Its header section. */
+    struct typed_headers_text section;
+    /* Its content, without framing. */
+    struct typed_headers_text content;
+    /* When the request was made, in seconds since the start of 1970, and when the response came. */
+    uint64_t requested;
+    uint64_t received;
+    /* Its status. */
+    uint16_t status;
+    /* Whether all of its content came. */
+    bool is_complete;
+};
+
+/* What is told of a stored response. */
+struct typed_headers_stored {
+    /* How many seconds old it is (RFC 9111, section 4.2.3). */
+    uint64_t age;
+    /* When the request was made that it answered, or that validated it last, and when the response to that came. */
+    uint64_t requested;
+    uint64_t received;
+    /* How many bytes of content it has. */
+    size_t length;
+    /* Its status. */
+    uint16_t status;
+};
+
+/* What a cache does with a request. */
+struct typed_headers_looked_up {
+    /* What is told of the stored response, if `action` is about one; else 0. */
+    struct typed_headers_stored stored;
+    /* Its place under the target, for the calls that take one, until a call changes what is stored; else 0. */
+    size_t place;
+    /* What is done, one of `typed_headers_decision` but SERVE_STALE. */
+    uint8_t action;
+};
+
+/* How a stored response answers a client's own conditions and ranges. */
+enum typed_headers_answer_kind {
+    /* As it is. */
+    TYPED_HEADERS_WHOLE = 0,
+    /* By 206, with a part of its content. */
+    TYPED_HEADERS_PART = 1,
+    /* By 304, without content. */
+    TYPED_HEADERS_NOT_MODIFIED = 2,
+    /* By 416: no byte that is asked for is there. */
+    TYPED_HEADERS_UNSATISFIABLE = 3,
+    /* Not at all: the request has a condition that the origin has to evaluate. */
+    TYPED_HEADERS_FORWARD = 4
+};
+
+/* How a stored response answers a client. */
+struct typed_headers_stored_answer {
+    /* The first and the last position of the part, both included, if `kind` is TYPED_HEADERS_PART; else 0. */
+    uint64_t first;
+    uint64_t last;
+    /* One of `typed_headers_answer_kind`. */
+    uint8_t kind;
+};
+
+/* What a 304 makes of stored responses. */
+enum typed_headers_outcome {
+    /* No stored response may answer the request. It has to be sent again without conditions. */
+    TYPED_HEADERS_NONE_STORED = 0,
+    /* The 304 is about none of those that may. The request has to be sent again without conditions. */
+    TYPED_HEADERS_NONE_UPDATED = 1,
+    /* A stored response is updated, and is the answer. */
+    TYPED_HEADERS_UPDATED = 2,
+    /* The same, but it is stored no longer: its new fields forbid that, or its reuse for this request. */
+    TYPED_HEADERS_UPDATED_ONCE = 3
+};
+
+/* The place, under any target, of a response that answers once, until a later 304 answers a request. */
+#define TYPED_HEADERS_ONCE SIZE_MAX
+
+/* What a 304 makes of stored responses, and where the answer is. */
+struct typed_headers_freshened {
+    /* The place of the answer: TYPED_HEADERS_ONCE if it is stored no longer, 0 if there is none. */
+    size_t place;
+    /* One of `typed_headers_outcome`. */
+    uint8_t outcome;
 };
 
 /* What a response carries of a representation. */
@@ -540,6 +658,193 @@ uint8_t typed_headers_cors_answer(const struct typed_headers_cors_rules *rules, 
                                   const struct typed_headers_keys *keys, struct typed_headers_cors_facts *facts,
                                   uint8_t *room, size_t room_length, size_t *written);
 
+/* What the target of a request is. */
+enum typed_headers_resource_state {
+    /* It has a current representation. */
+    TYPED_HEADERS_STATE_CURRENT = 0,
+    /* It has none. */
+    TYPED_HEADERS_STATE_ABSENT = 1,
+    /* It has none, and none is expected again (RFC 9110, section 15.5.11). */
+    TYPED_HEADERS_STATE_GONE = 2,
+    /* It is under another URI: for good (301, or 308, which keeps the method), or for now (307). */
+    TYPED_HEADERS_STATE_MOVED_PERMANENTLY = 301,
+    TYPED_HEADERS_STATE_TEMPORARY_REDIRECT = 307,
+    TYPED_HEADERS_STATE_PERMANENT_REDIRECT = 308
+};
+
+/*
+ * What a server knows of the target of a request before it performs a method. Each text has one value a line; of those
+ * that say something of each method or of each representation, a line that is empty or missing says nothing. A struct
+ * of zeros is a resource without methods, for any host, which has no representation to show.
+ */
+struct typed_headers_resource {
+    /* The hosts that it is served for, as they are written in Host (section 7.4). Empty: any. They are compared without
+       case. */
+    struct typed_headers_text hosts;
+    /* The methods that it has, in the order of Allow. GET stands for HEAD too, and each resource has OPTIONS. */
+    struct typed_headers_text methods;
+    /* Those of `methods` that are performed if there is no current representation, as PUT (section 9.3.4). Any other is
+       answered by 404. */
+    struct typed_headers_text creating;
+    /* Those of `methods` that need a precondition (RFC 6585, section 3). */
+    struct typed_headers_text guarded;
+    /* The media types that each of `methods` takes, as the line of Accept that a 415 has. Nothing said: any. */
+    struct typed_headers_text accept;
+    /* The codings that each of `methods` takes, as the line of Accept-Encoding that a 415 has. Nothing said: any. */
+    struct typed_headers_text accept_encoding;
+    /* Where it is, as Location has it. It counts only if it has moved, and may not be empty then. */
+    struct typed_headers_text location;
+    /* The media type of each representation, as the line of Content-Type. Nothing said: it isn't known. */
+    struct typed_headers_text media_types;
+    /* The language of each, as the line of Content-Language. Nothing said: none. */
+    struct typed_headers_text languages;
+    /* The coding of each, as the line of Content-Encoding. Nothing said: none. */
+    struct typed_headers_text codings;
+    /* The entity tag of each, with its quotes. Nothing said: none. */
+    struct typed_headers_text etags;
+    /* What stands between several parts, as `typed_headers_respond` takes it. Empty: THIS_STRING_SEPARATES. */
+    struct typed_headers_text boundary;
+    /* The greatest length of content that is taken, if `has_limit`. */
+    uint64_t limit;
+    /* One of `typed_headers_resource_state`. */
+    uint16_t state;
+    /* By which fields a representation is chosen: Accept, Accept-Language, Accept-Encoding. Vary names them. */
+    bool by_media_type;
+    bool by_language;
+    bool by_coding;
+    /* Whether a read is answered by 406 if no representation is acceptable. If not, it gets the first. */
+    bool is_strict;
+    /* Whether content must have a length (section 15.5.12). */
+    bool needs_length;
+    /* Whether `limit` counts. */
+    bool has_limit;
+    /* Whether the rules for other origins count. If not, no answer has their fields. */
+    bool has_cors;
+};
+
+/* What a server knows of a representation of a resource, beside its lines there. */
+struct typed_headers_representation {
+    /* How many bytes it has, if `has_length`. */
+    uint64_t length;
+    /* When it was last modified, in seconds since the start of 1970, if `has_last_modified`. */
+    uint64_t last_modified;
+    /* Whether the length is known. If not, no ranges are sent. */
+    bool has_length;
+    /* Whether ranges of it are sent. */
+    bool sends_ranges;
+    /* Whether `last_modified` is known. It must lie before the year 10000 then. */
+    bool has_last_modified;
+    /* Whether that date is a strong validator (RFC 9110, section 8.8.2.2). */
+    bool is_date_strong;
+};
+
+/* What a server knows of a request, beside its method, its target and its fields. */
+struct typed_headers_resource_request {
+    /* When it is answered, in seconds since the start of 1970. */
+    uint64_t present;
+    /* How many bytes its content has, if `has_content` and `has_length`. */
+    uint64_t length;
+    /* Its version: 10 for HTTP/1.0, 11, 20 or 30. */
+    uint8_t version;
+    /* Whether it has content, and whether its length is stated, by the framing of its message (section 6.4). */
+    bool has_content;
+    bool has_length;
+};
+
+/* Why a request is answered as it is: the first of these that applies. */
+enum typed_headers_resource_reason {
+    /* Nothing stands in the way: the preconditions and Range decide, and then the method. */
+    TYPED_HEADERS_ADMITTED = 0,
+    /* 400: Host is missing, is there twice, or is no host. */
+    TYPED_HEADERS_INVALID_HOST = 1,
+    /* 421: the host isn't one of the resource's. */
+    TYPED_HEADERS_MISDIRECTED = 2,
+    /* 501: the method isn't known. */
+    TYPED_HEADERS_UNKNOWN_METHOD = 3,
+    /* 405: the resource doesn't have the method. */
+    TYPED_HEADERS_METHOD_NOT_ALLOWED = 4,
+    /* 204: the method is OPTIONS, also as a preflight. */
+    TYPED_HEADERS_OPTIONS = 5,
+    /* 417: Expect has a member other than `100-continue`. */
+    TYPED_HEADERS_UNMET_EXPECTATION = 6,
+    /* 301, 307 or 308: the resource is under another URI. */
+    TYPED_HEADERS_MOVED = 7,
+    /* 410: the resource is gone. */
+    TYPED_HEADERS_GONE = 8,
+    /* 404: there is no current representation, and the method makes none. */
+    TYPED_HEADERS_NOT_FOUND = 9,
+    /* 411: the length of the content isn't stated. */
+    TYPED_HEADERS_LENGTH_REQUIRED = 10,
+    /* 413: the content is longer than the limit. */
+    TYPED_HEADERS_CONTENT_TOO_LARGE = 11,
+    /* 415: the method doesn't take the media type of the content. */
+    TYPED_HEADERS_UNSUPPORTED_MEDIA_TYPE = 12,
+    /* 415: the method doesn't take a coding of the content. */
+    TYPED_HEADERS_UNSUPPORTED_CODING = 13,
+    /* 406: no representation is acceptable. */
+    TYPED_HEADERS_NOT_ACCEPTABLE = 14,
+    /* 428: the request has no precondition. */
+    TYPED_HEADERS_PRECONDITION_REQUIRED = 15
+};
+
+/* What an answer sends. A response to HEAD never has content. */
+enum typed_headers_resource_sends {
+    /* Nothing of the resource. The server may explain the status. */
+    TYPED_HEADERS_SENDS_NOTHING = 0,
+    /* A list of the representations that there are. */
+    TYPED_HEADERS_SENDS_ALTERNATIVES = 1,
+    /* All of the representation, or without a place all that the server makes as it performs GET. */
+    TYPED_HEADERS_SENDS_WHOLE = 2,
+    /* The ranges of it that are written. */
+    TYPED_HEADERS_SENDS_PARTS = 3,
+    /* What comes of the method, which the server performs. */
+    TYPED_HEADERS_SENDS_RESULT = 4
+};
+
+/* What the answer of a resource is. */
+struct typed_headers_resource_facts {
+    /* The place of the representation that it is about, from 0, if `has_place`; else 0. */
+    size_t place;
+    /* The status. 0 if it comes of the method, which the server performs. */
+    uint16_t status;
+    /* One of `typed_headers_resource_reason`. */
+    uint8_t reason;
+    /* One of `typed_headers_resource_sends`. */
+    uint8_t sends;
+    /* 1 if it is about a representation, else 0. */
+    uint8_t has_place;
+};
+
+/*
+ * The whole answer of a resource to a request (RFC 9110, sections 7.4 to 15): by its host, its method, its content,
+ * negotiation, preconditions, ranges, and the rules for other origins. `representations` are the current ones, the most
+ * wanted first. `rules` count if `resource->has_cors`. `target` is that of the request line: if it is in
+ * absolute-form, its host counts, else that of Host; it may be empty. There may be no representation to show though the
+ * state is current, if the server makes them only as it performs GET.
+ *
+ * The text is the lines of the answer, each `name: value` and a LF, names in lower case. They are all that the response
+ * has of the fields that these decisions own. If the status is 0, the server performs the method and sets the lines in
+ * the response that comes of it: lines of `vary` stand in place of the response's own, and if `rules` count, the six
+ * fields of `typed_headers_cors_answer` are taken off first. The ranges and their limits are those of
+ * `typed_headers_respond`. Both rooms, their counts and `*facts` are given as there.
+ *
+ * Refused: a line of a text can't be a field line; a method is no token; a list has more lines than there are methods
+ * or representations; the state or the version is another number; the location is empty; the boundary or an entity tag
+ * is none; a date lies past the year 9999; the rules count and are refused; the target is in absolute-form without a
+ * host; or a line of the section before its first empty one is no field. Too large: the section has more names than a
+ * map has room for (24,576).
+ */
+uint8_t typed_headers_resource_answer(const struct typed_headers_resource *resource,
+                                      const struct typed_headers_representation *representations,
+                                      size_t representations_length, const struct typed_headers_cors_rules *rules,
+                                      const struct typed_headers_resource_request *request, const uint8_t *method,
+                                      size_t method_length, const uint8_t *target, size_t target_length,
+                                      const uint8_t *section, size_t section_length,
+                                      const struct typed_headers_keys *keys,
+                                      struct typed_headers_resource_facts *facts,
+                                      struct typed_headers_bytes_range *parts, size_t parts_length,
+                                      size_t *parts_written, uint8_t *room, size_t room_length, size_t *written);
+
 /*
  * Whether a cache may store the response to a request (RFC 9111, sections 3 and 3.5): `*answer` is 1 if it may, 0 if
  * not. `is_shared` is true for a cache of several users, as a proxy's, and false for that of one, as a browser's.
@@ -604,6 +909,291 @@ uint8_t typed_headers_decide(const uint8_t *stored_method, size_t stored_method_
 uint8_t typed_headers_validators(const uint8_t *response, size_t response_length, uint64_t received,
                                  const struct typed_headers_keys *keys, uint8_t *room, size_t room_length,
                                  size_t *written);
+
+/*
+ * Opens a closed cache, with an empty store in bounded memory (RFC 9111). It copies the keys. Refused: it is open.
+ * Such a cache has memory until it is closed again. Absent, of each other call on a cache: it is closed. On a failure
+ * of parsing what is handed in, a cache is as it was.
+ */
+uint8_t typed_headers_cache_new(struct typed_headers_cache *cache, const struct typed_headers_cache_options *options,
+                                const struct typed_headers_keys *keys);
+
+/* Closes a cache, and gives its memory back. It may be closed before. The status is TYPED_HEADERS_DONE. */
+uint8_t typed_headers_cache_free(struct typed_headers_cache *cache);
+
+/*
+ * What a cache does with a request, by its store (RFC 9111, section 4). `now` is the present. Where the origin states
+ * no lifetime, at most `guess` seconds are guessed (section 4.2.2), none if it is 0. The target becomes the most
+ * recently used. The text is, by `facts->action`:
+ *
+ * - SERVE and SERVE_AND_REVALIDATE: the field lines of the stored response, with its present Age in place of its own.
+ *   They are sent with its status and its content.
+ * - REVALIDATE and REVALIDATE_OR_SERVE: the fields by which the origin is asked, as `typed_headers_validators` writes
+ *   them. The request is sent with them in place of its own two fields.
+ * - UNAVAILABLE and FETCH: empty.
+ *
+ * Refused, here and below: the target is no UTF-8, a method is no token, a status is no number from 100 to 999, or a
+ * line of a section before its first empty one is no field.
+ */
+uint8_t typed_headers_cache_lookup(struct typed_headers_cache *cache,
+                                   const struct typed_headers_cache_request *request, uint64_t now, uint64_t guess,
+                                   struct typed_headers_looked_up *facts, uint8_t *room, size_t room_length,
+                                   size_t *written);
+
+/*
+ * What is told of the stored response at a place of a target, and its field lines with its Age at the present `now`.
+ * Places count from 0 in the order of storing. Absent: no response is at the place.
+ */
+uint8_t typed_headers_cache_response(struct typed_headers_cache *cache, const uint8_t *target, size_t target_length,
+                                     size_t place, uint64_t now, struct typed_headers_stored *facts, uint8_t *room,
+                                     size_t room_length, size_t *written);
+
+/*
+ * The content of the stored response at a place of a target, from a position on: as much of it as fits. So content is
+ * sent in pieces, with no call between them that changes what is stored. Absent: no response is at the place.
+ */
+uint8_t typed_headers_cache_content(struct typed_headers_cache *cache, const uint8_t *target, size_t target_length,
+                                    size_t place, size_t from, uint8_t *room, size_t room_length, size_t *written);
+
+/*
+ * How the stored response at a place answers the conditions and the ranges of a request that it may answer (RFC 9111,
+ * section 4.3.2). `ranges` says whether a part is sent. Absent: no response is at the place.
+ */
+uint8_t typed_headers_cache_answer(struct typed_headers_cache *cache,
+                                   const struct typed_headers_cache_request *request, size_t place, uint64_t now,
+                                   bool ranges, struct typed_headers_stored_answer *facts);
+
+/*
+ * Stores the response to a request, if a cache may (RFC 9111, section 3): `*stored` is 1 if it did, 0 if not. If there
+ * is too little room, older responses of its target go first, and then the targets that weren't used for the longest
+ * time. If there is no memory, some of these may be gone, and nothing is stored that wasn't before.
+ */
+uint8_t typed_headers_cache_store(struct typed_headers_cache *cache, const struct typed_headers_cache_request *request,
+                                  const struct typed_headers_cache_response *response, uint8_t *stored);
+
+/*
+ * Updates stored responses by a 304 to a request, with this section (RFC 9111, section 4.3.4). If there is no memory to
+ * update them, nothing is stored under the target.
+ */
+uint8_t typed_headers_cache_freshen(struct typed_headers_cache *cache,
+                                    const struct typed_headers_cache_request *request, const uint8_t *section,
+                                    size_t section_length, uint64_t requested, uint64_t received,
+                                    struct typed_headers_freshened *facts);
+
+/*
+ * Updates stored responses to GET by a 200 to a HEAD, with this section, and removes those that it isn't about (RFC
+ * 9111, section 4.3.5). If there is no memory for that, nothing is stored under the target.
+ */
+uint8_t typed_headers_cache_freshen_by_head(struct typed_headers_cache *cache,
+                                            const struct typed_headers_cache_request *request,
+                                            const uint8_t *section, size_t section_length, uint64_t requested,
+                                            uint64_t received);
+
+/*
+ * Removes what is stored under a target, if the response to a request with this method and this status invalidates it:
+ * the method isn't safe, and the status is 2xx or 3xx (RFC 9111, section 4.4).
+ */
+uint8_t typed_headers_cache_invalidate(struct typed_headers_cache *cache, const uint8_t *target, size_t target_length,
+                                       const uint8_t *method, size_t method_length, uint16_t status);
+
+/* Removes what is stored under a target, as one that Location or Content-Location names (RFC 9111, section 4.4). */
+uint8_t typed_headers_cache_remove(struct typed_headers_cache *cache, const uint8_t *target, size_t target_length);
+
+/* What a gateway or proxy is to the messages that pass it. */
+struct typed_headers_gateway {
+    /* Its name in Via: a token (RFC 9110, section 7.6.3). A request whose Via has it is rejected as a loop. */
+    struct typed_headers_text name;
+    /* The names of further fields that no connection option may name, one a line: those that the servers behind the
+       gateway rely on, as X-Forwarded-For (RFC 9110, section 7.6.1). */
+    struct typed_headers_text protected_fields;
+    /* Whether clients authenticate to it as their proxy. Proxy-Authorization and the challenges of other proxies go no
+       further then (RFC 9110, section 11.7). */
+    bool consumes_credentials;
+};
+
+/*
+ * How a request arrived, and what is known of the next connection. With zeros but for `server_version` nothing is told
+ * of the client, and what it told of others is dropped.
+ *
+ * A node is an IP address as inet_ntop writes it, without brackets, or an underscore and letters, digits, `.`, `_` and
+ * `-`, which hide the address (RFC 7239, section 6.3). A port of 0 isn't told.
+ */
+struct typed_headers_hop {
+    /* The node that sent the request, or empty if it isn't known. */
+    struct typed_headers_text client;
+    /* The node at which the gateway received it, or empty if that isn't told: `by` of Forwarded. */
+    struct typed_headers_text interface_node;
+    uint16_t client_port;
+    uint16_t interface_port;
+    /* The version of HTTP that the next server is known to speak: 10 for HTTP/1.0, or 11. */
+    uint8_t server_version;
+    /* Whether the request came over TLS. */
+    bool is_secure;
+    /* Whether the client is trusted to tell who sent it the request: a gateway of one's own. Forwarded and
+       X-Forwarded-For, -Host and -Proto of any other client are dropped. */
+    bool is_trusted;
+    /* Whether the gateway writes Forwarded (RFC 7239), and the three others. */
+    bool writes_forwarded;
+    bool writes_x_forwarded;
+    /* Whether these tell the host to which the request came. */
+    bool tells_host;
+    /* Whether the next connection is closed after the request: `Connection: close`. */
+    bool closes;
+    /* Whether the gateway, and all clients behind it, accept trailer fields: `TE: trailers`. */
+    bool accepts_trailers;
+};
+
+/* How the content of a message is delimited (RFC 9112, section 6.3). */
+enum typed_headers_framing_kind {
+    /* There is none. */
+    TYPED_HEADERS_NO_CONTENT = 0,
+    /* By its length in bytes. */
+    TYPED_HEADERS_LENGTH = 1,
+    /* It is sent in chunks. */
+    TYPED_HEADERS_CHUNKED = 2,
+    /* It ends when the connection is closed. */
+    TYPED_HEADERS_UNTIL_CLOSE = 3,
+    /* The connection is a tunnel from here on. */
+    TYPED_HEADERS_TUNNEL = 4
+};
+
+struct typed_headers_framing {
+    /* How many bytes there are, if the kind is TYPED_HEADERS_LENGTH, else 0. */
+    uint64_t length;
+    /* One of `typed_headers_framing_kind`. */
+    uint8_t kind;
+};
+
+/* What a gateway does with a message. */
+enum typed_headers_gateway_action {
+    /* It sends the lines. */
+    TYPED_HEADERS_GATEWAY_FORWARD = 0,
+    /* It answers the request itself: the request may be forwarded no more (`Max-Forwards: 0` of TRACE or OPTIONS). */
+    TYPED_HEADERS_GATEWAY_ANSWER = 1,
+    /* It rejects it: it answers the request with `status`. */
+    TYPED_HEADERS_GATEWAY_REJECT = 2,
+    /* It drops an interim response, which a client of HTTP/1.0 doesn't know. */
+    TYPED_HEADERS_GATEWAY_DISCARD = 3
+};
+
+/* Why a message is rejected. */
+enum typed_headers_gateway_reason {
+    /* It has both Content-Length and Transfer-Encoding. */
+    TYPED_HEADERS_GATEWAY_LENGTH_AND_CODING = 1,
+    /* Content-Length isn't one number in digits below 2^64 - 1. */
+    TYPED_HEADERS_GATEWAY_INVALID_LENGTH = 2,
+    /* It has transfer codings before `chunked`, or several lines of them. */
+    TYPED_HEADERS_GATEWAY_UNKNOWN_CODING = 3,
+    /* Its last transfer coding isn't `chunked`. */
+    TYPED_HEADERS_GATEWAY_LAST_CODING_NOT_CHUNKED = 4,
+    /* It is of HTTP/1.0 and has Transfer-Encoding. */
+    TYPED_HEADERS_GATEWAY_CODING_IN_HTTP_10 = 5,
+    /* Connection isn't a list of tokens. */
+    TYPED_HEADERS_GATEWAY_INVALID_OPTION = 6,
+    /* Connection names a field that is meant for all recipients. */
+    TYPED_HEADERS_GATEWAY_PROTECTED_OPTION = 7,
+    /* It has no Host, several, or an invalid one. */
+    TYPED_HEADERS_GATEWAY_INVALID_HOST = 8,
+    /* Max-Forwards isn't one number. */
+    TYPED_HEADERS_GATEWAY_INVALID_HOPS = 9,
+    /* It passed this gateway before. */
+    TYPED_HEADERS_GATEWAY_LOOP = 10,
+    /* Expect has another expectation than `100-continue`. */
+    TYPED_HEADERS_GATEWAY_UNKNOWN_EXPECTATION = 11,
+    /* It is a 101, which this gateway never asks for. */
+    TYPED_HEADERS_GATEWAY_SWITCHED_PROTOCOLS = 12,
+    /* Its content comes in chunks, which the next server doesn't know. */
+    TYPED_HEADERS_GATEWAY_LENGTH_REQUIRED = 13
+};
+
+/* What a gateway does with a request. */
+struct typed_headers_request_outcome {
+    /* How the content is delimited, as received and as sent, unless the request is rejected. */
+    struct typed_headers_framing framing;
+    /* The status that answers a rejected request: 400, 411, 417, 501 or 508. Else 0. */
+    uint16_t status;
+    /* One of `typed_headers_gateway_action`. */
+    uint8_t action;
+    /* One of `typed_headers_gateway_reason` if the request is rejected, else 0. */
+    uint8_t reason;
+    /* 1 if the client waits for a 100 (Continue) that the next server doesn't send, so that the gateway does. */
+    uint8_t sends_continue;
+};
+
+/* What a gateway does with a response. */
+struct typed_headers_response_outcome {
+    /* How the content is delimited as received, and as sent with the lines, if the response is forwarded. The gateway
+       closes the client's connection after content that is sent TYPED_HEADERS_UNTIL_CLOSE. */
+    struct typed_headers_framing received;
+    struct typed_headers_framing sent;
+    /* 502, the status that takes the place of a rejected response, if that is final. Else 0. */
+    uint16_t status;
+    /* One of `typed_headers_gateway_action`. */
+    uint8_t action;
+    /* One of `typed_headers_gateway_reason` if the response is rejected, else 0. */
+    uint8_t reason;
+};
+
+/* How the content of a message is delimited, or why the message is rejected. */
+struct typed_headers_framing_outcome {
+    /* How it is delimited, unless the message is rejected. */
+    struct typed_headers_framing framing;
+    /* The status that answers a rejected request, or 502, which takes the place of a rejected response. Else 0. */
+    uint16_t status;
+    /* The first five of `typed_headers_gateway_reason`, or 0. */
+    uint8_t reason;
+};
+
+/*
+ * What a gateway does with a request, and the lines that it sends on its next connection (RFC 9110, section 7.6; RFC
+ * 9112, sections 3.2 and 6; RFC 7239). `version` is that of the request: 10 for HTTP/1.0, or 11. `authority` is the
+ * host and the port of a target in absolute-form, which takes the place of Host, or empty for any other target.
+ *
+ * The text is all lines of the section to send, each `name: value` and a LF, names in lower case; the empty line that
+ * ends a section isn't among them. It is empty unless the request is forwarded. Fields of one connection go no
+ * further. Via, Content-Length, Transfer-Encoding, Connection, TE, Forwarded and X-Forwarded-* are the gateway's own.
+ * Max-Forwards of TRACE and OPTIONS is one less. `*outcome` is given also if the text doesn't fit.
+ *
+ * Refused: the gateway's name or the method is no token, a protected name is no field name, a node is none, a version
+ * is another number, `authority` is no line, or a line of the section before its first empty one is no field. Too
+ * large, here and below: the section has more names than a map has room for (24,576).
+ */
+uint8_t typed_headers_forward_request(const struct typed_headers_gateway *gateway,
+                                      const struct typed_headers_hop *hop, const uint8_t *method,
+                                      size_t method_length, uint8_t version, const uint8_t *authority,
+                                      size_t authority_length, const uint8_t *section, size_t section_length,
+                                      const struct typed_headers_keys *keys,
+                                      struct typed_headers_request_outcome *outcome, uint8_t *room,
+                                      size_t room_length, size_t *written);
+
+/*
+ * What a gateway does with a response, and the lines that it sends to the client (RFC 9110, sections 6.6.1, 7.6 and
+ * 15.2; RFC 9112, section 6.3). `version` is that of the response; `method` and `client_version` are those of the
+ * client's request. `received` is when the response came, in seconds since the start of 1970: the date of one that has
+ * none. The text is as above, without a Connection of the gateway's own. `*outcome` is given also if it doesn't fit.
+ *
+ * Refused: the gateway's name or the method is no token, a protected name is no field name, the status is no number
+ * from 100 to 999, a version is another number, the date lies past the year 9999, or a line of the section before its
+ * first empty one is no field.
+ */
+uint8_t typed_headers_forward_response(const struct typed_headers_gateway *gateway, uint16_t status, uint8_t version,
+                                       const uint8_t *section, size_t section_length,
+                                       const struct typed_headers_keys *keys, const uint8_t *method,
+                                       size_t method_length, uint8_t client_version, uint64_t received,
+                                       struct typed_headers_response_outcome *outcome, uint8_t *room,
+                                       size_t room_length, size_t *written);
+
+/*
+ * How the content of a message is delimited (RFC 9112, section 6.3). `status` is that of a response, or 0 if the
+ * message is a request. `method` is that of the request, and `version` that of the message: 10 for HTTP/1.0, or 11.
+ * What recipients are known to delimit in different ways is rejected.
+ *
+ * Refused: the method is no token, the status is neither 0 nor a number from 100 to 999, the version is another number,
+ * or a line of the section before its first empty one is no field.
+ */
+uint8_t typed_headers_framing(const uint8_t *method, size_t method_length, uint16_t status, uint8_t version,
+                              const uint8_t *section, size_t section_length, const struct typed_headers_keys *keys,
+                              struct typed_headers_framing_outcome *outcome);
 
 #ifdef __cplusplus
 }

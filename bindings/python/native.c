@@ -920,7 +920,265 @@ static PyObject *validators(PyObject *module, PyObject *arguments) {
     return with_text(write_validators, &it);
 }
 
+/* A cache behind a handle: a capsule, whose cache is closed once nothing refers to it. */
+
+static const char CACHE_NAME[] = "typed_headers.cache";
+
+static void free_cache(PyObject *capsule) {
+    struct typed_headers_cache *cache = PyCapsule_GetPointer(capsule, CACHE_NAME);
+    typed_headers_cache_free(cache);
+    PyMem_Free(cache);
+}
+
+static PyObject *cache_new(PyObject *module, PyObject *arguments) {
+    unsigned long long variants, responses, content;
+    int is_shared;
+    (void)module;
+    if (!PyArg_ParseTuple(arguments, "KKKp", &variants, &responses, &content, &is_shared)) {
+        return NULL;
+    }
+    struct typed_headers_cache *cache = PyMem_Malloc(sizeof *cache);
+    if (!cache) {
+        return PyErr_NoMemory();
+    }
+    *cache = (struct typed_headers_cache)TYPED_HEADERS_CLOSED_CACHE;
+    const struct typed_headers_cache_options options = {(size_t)variants, (size_t)responses, (size_t)content,
+                                                        is_shared};
+    uint8_t status = typed_headers_cache_new(cache, &options, &keys);
+    PyObject *capsule = PyCapsule_New(cache, CACHE_NAME, free_cache);
+    if (!capsule) {
+        typed_headers_cache_free(cache);
+        PyMem_Free(cache);
+        return NULL;
+    }
+    return Py_BuildValue("BN", status, capsule);
+}
+
+static int into_cache(PyObject *capsule, void *cache) {
+    *(struct typed_headers_cache **)cache = PyCapsule_GetPointer(capsule, CACHE_NAME);
+    return *(struct typed_headers_cache **)cache != NULL;
+}
+
+/* How PyArg_ParseTuple reads a cache, and the parts of a request to it, and where. */
+#define CACHE "O&"
+#define INTO_CACHE(cache) into_cache, &(cache)
+#define REQUEST TEXT TEXT TEXT
+
+struct cache_texts {
+    struct text target, method, section;
+};
+
+#define INTO_REQUEST(it) INTO((it).target), INTO((it).method), INTO((it).section)
+
+static struct typed_headers_text as_text(struct text text) {
+    return (struct typed_headers_text){text.bytes, (size_t)text.length};
+}
+
+static struct typed_headers_cache_request as_request(const struct cache_texts *it) {
+    return (struct typed_headers_cache_request){as_text(it->target), as_text(it->method), as_text(it->section)};
+}
+
+/* The facts of a stored response: its status, its age, its times and the length of its content. */
+#define STORED "HKKKK"
+#define OF_STORED(it)                                                                                                  \
+    (it).status, (unsigned long long)(it).age, (unsigned long long)(it).requested, (unsigned long long)(it).received,  \
+        (unsigned long long)(it).length
+
+struct cache_lookup_of {
+    struct typed_headers_cache *cache;
+    struct typed_headers_cache_request request;
+    unsigned long long now, guess;
+    struct typed_headers_looked_up *facts;
+};
+
+static uint8_t write_cache_lookup(const void *given, uint8_t *room, size_t room_length, size_t *written) {
+    const struct cache_lookup_of *it = given;
+    return typed_headers_cache_lookup(it->cache, &it->request, it->now, it->guess, it->facts, room, room_length,
+                                      written);
+}
+
+static PyObject *cache_lookup(PyObject *module, PyObject *arguments) {
+    struct cache_texts texts;
+    struct typed_headers_looked_up facts = {{0, 0, 0, 0, 0}, 0, 0};
+    struct cache_lookup_of it = {.facts = &facts};
+    uint8_t status;
+    (void)module;
+    if (!PyArg_ParseTuple(arguments, CACHE REQUEST "KK", INTO_CACHE(it.cache), INTO_REQUEST(texts), &it.now,
+                          &it.guess)) {
+        return NULL;
+    }
+    it.request = as_request(&texts);
+    PyObject *found = written_text(write_cache_lookup, &it, &status);
+    return found ? Py_BuildValue("BBK(" STORED ")N", status, facts.action, (unsigned long long)facts.place,
+                                 OF_STORED(facts.stored), found)
+                 : NULL;
+}
+
+struct cache_response_of {
+    struct typed_headers_cache *cache;
+    struct text target;
+    unsigned long long place, now;
+    struct typed_headers_stored *facts;
+};
+
+static uint8_t write_cache_response(const void *given, uint8_t *room, size_t room_length, size_t *written) {
+    const struct cache_response_of *it = given;
+    return typed_headers_cache_response(it->cache, BYTES(it->target), (size_t)it->place, it->now, it->facts, room,
+                                        room_length, written);
+}
+
+static PyObject *cache_response(PyObject *module, PyObject *arguments) {
+    struct typed_headers_stored facts = {0, 0, 0, 0, 0};
+    struct cache_response_of it = {.facts = &facts};
+    uint8_t status;
+    (void)module;
+    if (!PyArg_ParseTuple(arguments, CACHE TEXT "KK", INTO_CACHE(it.cache), INTO(it.target), &it.place, &it.now)) {
+        return NULL;
+    }
+    PyObject *found = written_text(write_cache_response, &it, &status);
+    return found ? Py_BuildValue("B(" STORED ")N", status, OF_STORED(facts), found) : NULL;
+}
+
+static PyObject *cache_content(PyObject *module, PyObject *arguments) {
+    struct typed_headers_cache *cache;
+    struct text target;
+    unsigned long long place, from;
+    Py_ssize_t most;
+    size_t written = 0;
+    (void)module;
+    if (!PyArg_ParseTuple(arguments, CACHE TEXT "KKn", INTO_CACHE(cache), INTO(target), &place, &from, &most)) {
+        return NULL;
+    }
+    uint8_t *room = PyMem_Malloc(most > 0 ? (size_t)most : 1);
+    if (!room) {
+        return PyErr_NoMemory();
+    }
+    uint8_t status = typed_headers_cache_content(cache, BYTES(target), (size_t)place, (size_t)from, room,
+                                                 most > 0 ? (size_t)most : 0, &written);
+    PyObject *found = PyBytes_FromStringAndSize((const char *)room, (Py_ssize_t)written);
+    PyMem_Free(room);
+    return found ? Py_BuildValue("BN", status, found) : NULL;
+}
+
+static PyObject *cache_answer(PyObject *module, PyObject *arguments) {
+    struct typed_headers_cache *cache;
+    struct cache_texts texts;
+    struct typed_headers_stored_answer facts = {0, 0, 0};
+    unsigned long long place, now;
+    int ranges;
+    (void)module;
+    if (!PyArg_ParseTuple(arguments, CACHE REQUEST "KKp", INTO_CACHE(cache), INTO_REQUEST(texts), &place, &now,
+                          &ranges)) {
+        return NULL;
+    }
+    const struct typed_headers_cache_request request = as_request(&texts);
+    uint8_t status = typed_headers_cache_answer(cache, &request, (size_t)place, now, ranges, &facts);
+    return Py_BuildValue("BBKK", status, facts.kind, (unsigned long long)facts.first, (unsigned long long)facts.last);
+}
+
+static PyObject *cache_store(PyObject *module, PyObject *arguments) {
+    struct typed_headers_cache *cache;
+    struct cache_texts texts;
+    struct text section, content;
+    unsigned short code;
+    unsigned long long requested, received;
+    int is_complete;
+    uint8_t stored = 0;
+    (void)module;
+    if (!PyArg_ParseTuple(arguments, CACHE REQUEST "H" TEXT TEXT "KKp", INTO_CACHE(cache), INTO_REQUEST(texts), &code,
+                          INTO(section), INTO(content), &requested, &received, &is_complete)) {
+        return NULL;
+    }
+    const struct typed_headers_cache_request request = as_request(&texts);
+    const struct typed_headers_cache_response response = {as_text(section), as_text(content), requested,
+                                                          received,         code,             is_complete};
+    uint8_t status = typed_headers_cache_store(cache, &request, &response, &stored);
+    return with_number(status, stored);
+}
+
+/* What the calls over a validating response take. */
+struct update_of {
+    struct typed_headers_cache *cache;
+    struct typed_headers_cache_request request;
+    struct text section;
+    unsigned long long requested, received;
+};
+
+static bool read_update(PyObject *arguments, struct update_of *it) {
+    struct cache_texts texts;
+    if (!PyArg_ParseTuple(arguments, CACHE REQUEST TEXT "KK", INTO_CACHE(it->cache), INTO_REQUEST(texts),
+                          INTO(it->section), &it->requested, &it->received)) {
+        return false;
+    }
+    it->request = as_request(&texts);
+    return true;
+}
+
+static PyObject *cache_freshen(PyObject *module, PyObject *arguments) {
+    struct update_of it;
+    struct typed_headers_freshened facts = {0, 0};
+    (void)module;
+    if (!read_update(arguments, &it)) {
+        return NULL;
+    }
+    uint8_t status = typed_headers_cache_freshen(it.cache, &it.request, BYTES(it.section), it.requested, it.received,
+                                                 &facts);
+    return Py_BuildValue("BBK", status, facts.outcome, (unsigned long long)facts.place);
+}
+
+static PyObject *cache_freshen_by_head(PyObject *module, PyObject *arguments) {
+    struct update_of it;
+    (void)module;
+    if (!read_update(arguments, &it)) {
+        return NULL;
+    }
+    return PyLong_FromLong(
+        typed_headers_cache_freshen_by_head(it.cache, &it.request, BYTES(it.section), it.requested, it.received));
+}
+
+static PyObject *cache_invalidate(PyObject *module, PyObject *arguments) {
+    struct typed_headers_cache *cache;
+    struct text target, method;
+    unsigned short code;
+    (void)module;
+    if (!PyArg_ParseTuple(arguments, CACHE TEXT TEXT "H", INTO_CACHE(cache), INTO(target), INTO(method), &code)) {
+        return NULL;
+    }
+    return PyLong_FromLong(typed_headers_cache_invalidate(cache, BYTES(target), BYTES(method), code));
+}
+
+static PyObject *cache_remove(PyObject *module, PyObject *arguments) {
+    struct typed_headers_cache *cache;
+    struct text target;
+    (void)module;
+    if (!PyArg_ParseTuple(arguments, CACHE TEXT, INTO_CACHE(cache), INTO(target))) {
+        return NULL;
+    }
+    return PyLong_FromLong(typed_headers_cache_remove(cache, BYTES(target)));
+}
+
+static PyObject *cache_free(PyObject *module, PyObject *arguments) {
+    struct typed_headers_cache *cache;
+    (void)module;
+    if (!PyArg_ParseTuple(arguments, CACHE, INTO_CACHE(cache))) {
+        return NULL;
+    }
+    return PyLong_FromLong(typed_headers_cache_free(cache));
+}
+
 /* The whole response. */
+
+static PyObject *range_list(const struct typed_headers_bytes_range *parts, size_t count) {
+    PyObject *ranges = PyList_New(0);
+    for (size_t place = 0; ranges && place < count; place++) {
+        PyObject *range = one_range(NULL, &parts[place]);
+        if (!range || PyList_Append(ranges, range)) {
+            Py_CLEAR(ranges);
+        }
+        Py_XDECREF(range);
+    }
+    return ranges;
+}
 
 static PyObject *respond(PyObject *module, PyObject *arguments) {
     struct request it;
@@ -959,14 +1217,7 @@ static PyObject *respond(PyObject *module, PyObject *arguments) {
         }
     }
     const bool is_done = status == TYPED_HEADERS_DONE;
-    ranges = PyList_New(0);
-    for (size_t place = 0; ranges && is_done && place < count; place++) {
-        PyObject *range = one_range(NULL, &parts[place]);
-        if (!range || PyList_Append(ranges, range)) {
-            Py_CLEAR(ranges);
-        }
-        Py_XDECREF(range);
-    }
+    ranges = range_list(parts, is_done ? count : 0);
     if (ranges) {
         found = Py_BuildValue("BHBNy#", status, response.status, response.keeps_encoding, ranges, (const char *)room,
                               is_done ? (Py_ssize_t)written : 0);
@@ -978,6 +1229,156 @@ out:
     if (room != short_text) {
         PyMem_Free(room);
     }
+    return found;
+}
+
+/* The whole answer of a resource. */
+
+enum { RESOURCE_TEXTS = 12, RESOURCE_FLAGS = 5 };
+
+struct resource_of {
+    struct typed_headers_resource resource;
+    struct typed_headers_representation *representations;
+    size_t count;
+    struct typed_headers_cors_rules rules;
+    struct typed_headers_resource_request request;
+    struct text method, target, section;
+};
+
+/* Reads a tuple of texts into the places of as many. */
+static bool read_texts(PyObject *tuple, struct typed_headers_text *const *places, Py_ssize_t count) {
+    for (Py_ssize_t place = 0; place < count; place++) {
+        char *bytes;
+        Py_ssize_t length;
+        PyObject *text = PyTuple_GetItem(tuple, place);
+        if (!text || PyBytes_AsStringAndSize(text, &bytes, &length)) {
+            return false;
+        }
+        *places[place] = (struct typed_headers_text){(const uint8_t *)bytes, (size_t)length};
+    }
+    return true;
+}
+
+static bool read_resource(PyObject *texts, PyObject *flags, PyObject *limit, struct typed_headers_resource *it) {
+    struct typed_headers_text *places[RESOURCE_TEXTS] = {
+        &it->hosts,    &it->methods,     &it->creating,  &it->guarded, &it->accept, &it->accept_encoding,
+        &it->location, &it->media_types, &it->languages, &it->codings, &it->etags,  &it->boundary};
+    bool *flag_places[RESOURCE_FLAGS] = {&it->by_media_type, &it->by_language, &it->by_coding, &it->is_strict,
+                                         &it->needs_length};
+    for (Py_ssize_t place = 0; place < RESOURCE_FLAGS; place++) {
+        PyObject *flag = PyTuple_GetItem(flags, place);
+        int is_set = flag ? PyObject_IsTrue(flag) : -1;
+        if (is_set < 0) {
+            return false;
+        }
+        *flag_places[place] = is_set;
+    }
+    return read_texts(texts, places, RESOURCE_TEXTS) && read_optional(limit, &it->limit, &it->has_limit);
+}
+
+static bool read_rules(PyObject *given, struct resource_of *it) {
+    struct typed_headers_cors_rules *rules = &it->rules;
+    struct typed_headers_text *places[] = {&rules->origins, &rules->methods, &rules->headers, &rules->exposed};
+    PyObject *max_age;
+    it->resource.has_cors = given != Py_None;
+    if (!it->resource.has_cors) {
+        return true;
+    }
+    max_age = PyTuple_GetItem(given, 4);
+    PyObject *credentials = PyTuple_GetItem(given, 5);
+    if (!max_age || !credentials) {
+        return false;
+    }
+    rules->credentials = PyObject_IsTrue(credentials) == 1;
+    return read_texts(given, places, 4) && read_optional(max_age, &rules->max_age, &rules->has_max_age);
+}
+
+/* Reads the representations into memory that is given back with PyMem_Free. */
+static bool read_representations(PyObject *given, struct resource_of *it) {
+    Py_ssize_t count = PyTuple_Size(given);
+    if (count < 0) {
+        return false;
+    }
+    it->count = (size_t)count;
+    it->representations = PyMem_Malloc((it->count + 1) * sizeof *it->representations);
+    if (!it->representations) {
+        PyErr_NoMemory();
+        return false;
+    }
+    for (Py_ssize_t place = 0; place < count; place++) {
+        struct typed_headers_representation *one = &it->representations[place];
+        PyObject *length, *last_modified;
+        int sends_ranges, is_date_strong;
+        if (!PyArg_ParseTuple(PyTuple_GetItem(given, place), "OOpp", &length, &last_modified, &sends_ranges,
+                              &is_date_strong) ||
+            !read_optional(length, &one->length, &one->has_length) ||
+            !read_optional(last_modified, &one->last_modified, &one->has_last_modified)) {
+            return false;
+        }
+        one->sends_ranges = sends_ranges;
+        one->is_date_strong = is_date_strong;
+    }
+    return true;
+}
+
+static PyObject *resource_facts(uint8_t status, const struct typed_headers_resource_facts *facts, PyObject *ranges,
+                                const uint8_t *room, size_t written) {
+    PyObject *place = optional(facts->place, facts->has_place);
+    return Py_BuildValue("BHBBNNy#", status, facts->status, facts->reason, facts->sends, place, ranges,
+                         (const char *)room, (Py_ssize_t)written);
+}
+
+static PyObject *answer_resource(const struct resource_of *it) {
+    struct typed_headers_resource_facts facts = {0, 0, 0, 0, 0};
+    struct typed_headers_bytes_range few[FEW_RANGES], *parts = few;
+    uint8_t short_text[SHORT_TEXT], *room = short_text, status;
+    size_t parts_length = FEW_RANGES, room_length = SHORT_TEXT, count = 0, written = 0;
+    PyObject *found = NULL;
+    while ((status = typed_headers_resource_answer(&it->resource, it->representations, it->count, &it->rules,
+                                                   &it->request, BYTES(it->method), BYTES(it->target),
+                                                   BYTES(it->section), &keys, &facts, parts, parts_length, &count, room,
+                                                   room_length, &written)) == TYPED_HEADERS_NO_ROOM) {
+        /* (both rooms grow at most once, as in `respond`) */
+        parts_length = count;
+        room_length = written;
+        parts = PyMem_Malloc((count + 1) * sizeof *parts);
+        room = PyMem_Malloc(written + 1);
+        if (!parts || !room) {
+            PyErr_NoMemory();
+            goto out;
+        }
+    }
+    const bool is_done = status == TYPED_HEADERS_DONE;
+    PyObject *ranges = range_list(parts, is_done ? count : 0);
+    if (ranges) {
+        found = resource_facts(status, &facts, ranges, room, is_done ? written : 0);
+    }
+out:
+    if (parts != few) {
+        PyMem_Free(parts);
+    }
+    if (room != short_text) {
+        PyMem_Free(room);
+    }
+    return found;
+}
+
+static PyObject *resource_answer(PyObject *module, PyObject *arguments) {
+    struct resource_of it;
+    PyObject *texts, *flags, *limit, *representations, *rules, *present, *length, *found = NULL;
+    (void)module;
+    memset(&it, 0, sizeof it);
+    if (PyArg_ParseTuple(arguments, "OOOHOOOBO" TEXT TEXT TEXT, &texts, &flags, &limit, &it.resource.state,
+                         &representations, &rules, &present, &it.request.version, &length, INTO(it.method),
+                         INTO(it.target), INTO(it.section)) &&
+        read_resource(texts, flags, limit, &it.resource) && read_rules(rules, &it) &&
+        read_number(present, &it.request.present) &&
+        read_optional(length, &it.request.length, &it.request.has_length) &&
+        read_representations(representations, &it)) {
+        it.request.has_content = !it.request.has_length || it.request.length;
+        found = answer_resource(&it);
+    }
+    PyMem_Free(it.representations);
     return found;
 }
 
@@ -1076,6 +1477,112 @@ static PyObject *websocket_check(PyObject *module, PyObject *arguments) {
     return with_number(status, flaw);
 }
 
+/* Gateways. */
+
+/* How PyArg_ParseTuple reads a gateway and a hop. */
+#define GATEWAY "(" TEXT TEXT "p)"
+#define HOP "(" TEXT "H" TEXT "HBppppppp)"
+
+struct gateway_of {
+    struct text name, protected_fields;
+    int consumes_credentials;
+};
+
+static struct typed_headers_gateway gateway_of(const struct gateway_of *it) {
+    return (struct typed_headers_gateway){
+        {BYTES(it->name)}, {BYTES(it->protected_fields)}, it->consumes_credentials != 0};
+}
+
+struct forwarding_of {
+    struct typed_headers_gateway gateway;
+    struct typed_headers_hop hop;
+    struct text method, authority, section;
+    struct typed_headers_request_outcome *request;
+    struct typed_headers_response_outcome *response;
+    uint64_t received;
+    unsigned short code;
+    uint8_t version, client_version;
+};
+
+static uint8_t write_request(const void *given, uint8_t *room, size_t room_length, size_t *written) {
+    const struct forwarding_of *it = given;
+    return typed_headers_forward_request(&it->gateway, &it->hop, BYTES(it->method), it->version, BYTES(it->authority),
+                                         BYTES(it->section), &keys, it->request, room, room_length, written);
+}
+
+static PyObject *forward_request(PyObject *module, PyObject *arguments) {
+    struct typed_headers_request_outcome outcome = {{0, 0}, 0, 0, 0, 0};
+    struct forwarding_of it = {.request = &outcome};
+    struct gateway_of gateway;
+    struct text client, interface_node;
+    int flags[7];
+    uint8_t status;
+    (void)module;
+    if (!PyArg_ParseTuple(arguments, GATEWAY HOP TEXT "B" TEXT TEXT, INTO(gateway.name),
+                          INTO(gateway.protected_fields), &gateway.consumes_credentials, INTO(client),
+                          &it.hop.client_port, INTO(interface_node), &it.hop.interface_port, &it.hop.server_version,
+                          &flags[0], &flags[1], &flags[2], &flags[3], &flags[4], &flags[5], &flags[6],
+                          INTO(it.method), &it.version, INTO(it.authority), INTO(it.section))) {
+        return NULL;
+    }
+    it.gateway = gateway_of(&gateway);
+    it.hop.client = (struct typed_headers_text){BYTES(client)};
+    it.hop.interface_node = (struct typed_headers_text){BYTES(interface_node)};
+    bool *const places[] = {&it.hop.is_secure,          &it.hop.is_trusted, &it.hop.writes_forwarded,
+                            &it.hop.writes_x_forwarded, &it.hop.tells_host, &it.hop.closes,
+                            &it.hop.accepts_trailers};
+    for (int place = 0; place < 7; place++) {
+        *places[place] = flags[place];
+    }
+    PyObject *found = written_text(write_request, &it, &status);
+    return found ? Py_BuildValue("BBKHBBBN", status, outcome.framing.kind, (unsigned long long)outcome.framing.length,
+                                 outcome.status, outcome.action, outcome.reason, outcome.sends_continue, found)
+                 : NULL;
+}
+
+static uint8_t write_response(const void *given, uint8_t *room, size_t room_length, size_t *written) {
+    const struct forwarding_of *it = given;
+    return typed_headers_forward_response(&it->gateway, it->code, it->version, BYTES(it->section), &keys,
+                                          BYTES(it->method), it->client_version, it->received, it->response, room,
+                                          room_length, written);
+}
+
+static PyObject *forward_response(PyObject *module, PyObject *arguments) {
+    struct typed_headers_response_outcome outcome = {{0, 0}, {0, 0}, 0, 0, 0};
+    struct forwarding_of it = {.response = &outcome};
+    struct gateway_of gateway;
+    PyObject *received;
+    uint8_t status;
+    (void)module;
+    if (!PyArg_ParseTuple(arguments, GATEWAY "HB" TEXT TEXT "BO", INTO(gateway.name), INTO(gateway.protected_fields),
+                          &gateway.consumes_credentials, &it.code, &it.version, INTO(it.section), INTO(it.method),
+                          &it.client_version, &received) ||
+        !read_number(received, &it.received)) {
+        return NULL;
+    }
+    it.gateway = gateway_of(&gateway);
+    PyObject *found = written_text(write_response, &it, &status);
+    return found ? Py_BuildValue("BBKBKHBBN", status, outcome.received.kind,
+                                 (unsigned long long)outcome.received.length, outcome.sent.kind,
+                                 (unsigned long long)outcome.sent.length, outcome.status, outcome.action,
+                                 outcome.reason, found)
+                 : NULL;
+}
+
+static PyObject *framing(PyObject *module, PyObject *arguments) {
+    struct typed_headers_framing_outcome outcome = {{0, 0}, 0, 0};
+    struct text method, section;
+    unsigned short code;
+    uint8_t version;
+    (void)module;
+    if (!PyArg_ParseTuple(arguments, TEXT "HB" TEXT, INTO(method), &code, &version, INTO(section))) {
+        return NULL;
+    }
+    uint8_t status = typed_headers_framing(BYTES(method), code, version, BYTES(section), &keys, &outcome);
+    return Py_BuildValue("BBKHB", status, outcome.framing.kind, (unsigned long long)outcome.framing.length,
+                         outcome.status, outcome.reason);
+}
+
 #define METHOD(name) {#name, name, METH_VARARGS, NULL}
 static PyMethodDef methods[] = {
     METHOD(age),         METHOD(cache_control), METHOD(canonical),  METHOD(content_length), METHOD(content_range),
@@ -1085,8 +1592,12 @@ static PyMethodDef methods[] = {
     METHOD(format_content_range), METHOD(format_date), METHOD(format_etag), METHOD(last_modified),
     METHOD(heuristic_lifetime), METHOD(lifetime), METHOD(may_store),     METHOD(media_type), METHOD(ranges),
     METHOD(strong_eq),   METHOD(use_keys),      METHOD(validators), METHOD(version),
-    METHOD(choose),      METHOD(rate),          METHOD(respond),
+    METHOD(choose),      METHOD(rate),          METHOD(respond),    METHOD(resource_answer),
     METHOD(websocket_check), METHOD(websocket_request), METHOD(websocket_respond),
+    METHOD(cache_answer), METHOD(cache_content), METHOD(cache_free), METHOD(cache_freshen),
+    METHOD(cache_freshen_by_head), METHOD(cache_invalidate), METHOD(cache_lookup), METHOD(cache_new),
+    METHOD(cache_remove), METHOD(cache_response), METHOD(cache_store),
+    METHOD(forward_request), METHOD(forward_response), METHOD(framing),
     METHOD(weak_eq),     METHOD(websocket_accept), {"select", select_part, METH_VARARGS, NULL}, {NULL, NULL, 0, NULL},
 };
 

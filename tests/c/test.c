@@ -101,7 +101,7 @@ static void complain(const struct row *row, const char *what) {
     printf("%s:%d: %s: %s, wanted %s\n", row->file, row->number, row->call, what, row->answer);
 }
 
-static int digit(char c) { return c <= '9' ? c - '0' : c - 'A' + 10; }
+static int digit(char c) { return c <= '9' ? c - '0' : (c | 32) - 'a' + 10; }
 
 /* Decodes a word in place. */
 static size_t decode(char *word) {
@@ -1368,7 +1368,566 @@ static void check_opened(const struct row *row) {
     check(row, call_check, &call, TYPED_HEADERS_REFUSED, NO_NUMBER, NO_TEXT);
 }
 
+/* The resources of crates/headers_resource_replay: their lines, in the order of the struct, and what else is said. */
+struct resource_of {
+    const char *name;
+    const char *texts[12];
+    size_t count;
+    bool is_note, is_strict;
+};
+
+static const struct resource_of RESOURCES[] = {
+    {"note",
+     {"a.example", "GET\nPUT\nDELETE\nPATCH\n", "PUT", "DELETE", "\napplication/json\n\napplication/merge-patch+json",
+      "\ngzip\n\ngzip", "", "application/json", "", "", "\"n1\"", "THIS_STRING_SEPARATES"},
+     1, true, true},
+    {"page",
+     {"", "GET", "", "", "", "", "", "text/html\ntext/html\ntext/html\n", "en\nde\nen", "\n\ngzip",
+      "\"en\"\n\"de\"\n\"gz\"", ""},
+     3, false, false},
+    {"report", {"", "GET", "", "", "", "", "", "application/pdf", "", "", "\"r1\"", ""}, 1, false, true},
+    {"inbox", {"", "POST", "", "", "", "", "", "", "", "", "", ""}, 0, false, false},
+    {"feed", {"", "POST", "", "", "application/json", "gzip", "", "", "", "", "", ""}, 0, false, false},
+};
+enum { RESOURCE_TEXTS = 12, LOCATION = 6, ETAGS = 10, BOUNDARY = 11 };
+static struct area resource_areas[RESOURCE_TEXTS];
+
+struct resource_call {
+    struct typed_headers_resource resource;
+    struct typed_headers_representation representations[3];
+    size_t count, most_parts;
+    struct typed_headers_cors_rules rules;
+    struct typed_headers_resource_request request;
+    struct text method, target, section;
+};
+
+static uint8_t call_resource(const void *arguments, uint64_t *number, uint8_t *room, size_t room_length,
+                             size_t *written) {
+    const struct resource_call *call = arguments;
+    struct typed_headers_resource_facts facts, before;
+    memset(&facts, FILL, sizeof facts);
+    before = facts;
+    sent_count = NOT_WRITTEN;
+    uint8_t status = typed_headers_resource_answer(
+        &call->resource, call->count ? call->representations : NULL, call->count, &call->rules, &call->request,
+        call->method.bytes, call->method.length, call->target.bytes, call->target.length, call->section.bytes,
+        call->section.length, &KEYS, &facts, call->most_parts ? sent_parts : NULL, call->most_parts, &sent_count, room,
+        room_length, written);
+    if (facts.status != before.status || facts.place != before.place || facts.sends != before.sends) {
+        *number = (((facts.status * 16ull + facts.reason) * 8 + facts.sends) * 2 + facts.has_place) * 8 + facts.place;
+    } else if (sent_count != NOT_WRITTEN) {
+        *number = FILL;
+    }
+    return status;
+}
+
+static void put_part(struct resource_call *call, int place, const char *bytes, size_t length) {
+    struct typed_headers_text *texts[RESOURCE_TEXTS] = {
+        &call->resource.hosts,       &call->resource.methods,  &call->resource.creating,
+        &call->resource.guarded,     &call->resource.accept,   &call->resource.accept_encoding,
+        &call->resource.location,    &call->resource.media_types, &call->resource.languages,
+        &call->resource.codings,     &call->resource.etags,    &call->resource.boundary};
+    struct text text = put(resource_areas[place], bytes, length);
+    *texts[place] = (struct typed_headers_text){text.bytes, text.length};
+}
+
+static void put_resource(struct resource_call *call, const struct resource_of *resource) {
+    for (int place = 0; place < RESOURCE_TEXTS; place++) {
+        put_part(call, place, resource->texts[place], strlen(resource->texts[place]));
+    }
+    call->count = resource->count;
+    for (size_t place = 0; place < resource->count; place++) {
+        call->representations[place] =
+            (struct typed_headers_representation){.length = 20, .has_length = true, .sends_ranges = true};
+    }
+    call->resource.by_media_type = true;
+    call->resource.by_language = call->resource.by_coding = !resource->is_note;
+    call->resource.is_strict = resource->is_strict;
+    call->resource.limit = 100;
+    call->resource.needs_length = call->resource.has_limit = call->resource.has_cors = resource->is_note;
+    if (resource->is_note) {
+        struct text origins = put(rule_areas[0], "https://app.example", 19);
+        call->rules.origins = (struct typed_headers_text){origins.bytes, origins.length};
+    }
+}
+
+/* What an answer sends, from a word on: its number, the place and its parts. The place after it. */
+static size_t read_sends(const struct row *answer, size_t i, uint64_t *number, size_t *count) {
+    uint64_t sends = 0, place = 0;
+    bool has_place = false;
+    *count = 0;
+    if (is_word(&answer->words[i], "alternatives") || is_word(&answer->words[i], "perform")) {
+        sends = is_word(&answer->words[i], "perform") ? 4 : 1;
+        i++;
+    } else if (is_word(&answer->words[i], "nothing")) {
+        i++;
+    } else {
+        has_place = !is_word(&answer->words[i], "(none)");
+        place = has_place ? read_number(answer, i) : 0;
+        i++;
+        sends = is_word(&answer->words[i], "whole") ? 2 : is_word(&answer->words[i], "nothing") ? 0 : 3;
+        for (; i < answer->count && !is_name(&answer->words[i]); i++) {
+            if (sends == 3) {
+                char *dash = memchr(answer->words[i].bytes, '-', answer->words[i].length);
+                selected_parts[(*count)++] = (struct typed_headers_bytes_range){
+                    strtoull(answer->words[i].bytes, NULL, 10), strtoull(dash + 1, NULL, 10)};
+            }
+        }
+    }
+    *number = ((*number * 8 + sends) * 2 + has_place) * 8 + place;
+    return i;
+}
+
+/* Calls that are refused: a text, a number or a list that none of these is. */
+static void check_refused_resource(const struct row *row, const struct resource_call *given) {
+    struct resource_call call = *given;
+    call.resource.state = 3;
+    check(row, call_resource, &call, TYPED_HEADERS_REFUSED, NO_NUMBER, NO_TEXT);
+    call = *given;
+    call.request.version = 9;
+    check(row, call_resource, &call, TYPED_HEADERS_REFUSED, NO_NUMBER, NO_TEXT);
+    call = *given;
+    call.target = put(second_area, "HTTPS:///x", 10);
+    check(row, call_resource, &call, TYPED_HEADERS_REFUSED, NO_NUMBER, NO_TEXT);
+    call = *given;
+    put_part(&call, BOUNDARY, "\xC3\xA4", 2);
+    check(row, call_resource, &call, TYPED_HEADERS_REFUSED, NO_NUMBER, NO_TEXT);
+    call = *given;
+    put_part(&call, ETAGS, "\n\n\n\n", 4);
+    check(row, call_resource, &call, TYPED_HEADERS_REFUSED, NO_NUMBER, NO_TEXT);
+    if (given->count) {
+        put_part(&call, ETAGS, "n1", 2);
+        check(row, call_resource, &call, TYPED_HEADERS_REFUSED, NO_NUMBER, NO_TEXT);
+        call = *given;
+        call.representations[0].has_last_modified = true;
+        call.representations[0].last_modified = 253402300800;
+        check(row, call_resource, &call, TYPED_HEADERS_REFUSED, NO_NUMBER, NO_TEXT);
+    }
+}
+
+/* `answer RESOURCE STATE VERSION METHOD AUTHORITY CONTENT FIELDS` */
+static void check_resource(const struct row *row) {
+    static const char *const reasons[] = {"InvalidHost", "Misdirected", "UnknownMethod", "MethodNotAllowed", "Options",
+                                          "UnmetExpectation", "Moved", "Gone", "NotFound", "LengthRequired",
+                                          "ContentTooLarge", "UnsupportedMediaType", "UnsupportedCoding",
+                                          "NotAcceptable", "PreconditionRequired"};
+    static const char *const names[] = {
+        "allow", "location", "accept", "accept-patch", "accept-post", "accept-encoding", "content-encoding",
+        "content-language", "etag", "last-modified", "accept-ranges", "content-range", "content-length", "content-type",
+        "access-control-allow-origin", "access-control-allow-methods", "vary"};
+    static char wanted[AREA], authority[256];
+    struct resource_call call = {.most_parts = MOST_PARTS, .request = {.present = 1767225600}};
+    size_t i = 0, length = 0, count;
+    while (!is_word(&row->words[0], RESOURCES[i].name)) {
+        i++;
+    }
+    put_resource(&call, &RESOURCES[i]);
+    static const char *const states[] = {"absent", "gone"};
+    call.resource.state = (uint16_t)place_of(&row->words[1], states, 2);
+    i = 2;
+    if (row->words[1].bytes[0] == '3') {
+        call.resource.state = (uint16_t)read_number(row, 1);
+        put_part(&call, LOCATION, row->words[2].bytes, row->words[2].length);
+        i++;
+    }
+    call.request.version = is_word(&row->words[i], "1.0") ? 10 : 11;
+    call.method = put(third_area, row->words[i + 1].bytes, row->words[i + 1].length);
+    const struct word *host = &row->words[i + 2];
+    size_t target = is_word(host, "(none)") ? sprintf(authority, "/x")
+                                            : sprintf(authority, "Http://%.*s?x", (int)host->length, host->bytes);
+    call.target = put(second_area, authority, target);
+    call.request.has_content = !is_word(&row->words[i + 3], "none");
+    call.request.has_length = !is_word(&row->words[i + 3], "unsized");
+    call.request.length = call.request.has_content && call.request.has_length ? read_number(row, i + 3) : 0;
+    read_section(row, i + 4, first_area, &call.section);
+
+    const struct row *answer = answer_words(row);
+    const bool performs = is_word(&answer->words[1], "(none)");
+    uint64_t number = (performs ? 0 : read_number(answer, 1)) * 16 + place_of(&answer->words[0], reasons, 15);
+    i = read_sends(answer, 2, &number, &count);
+    for (size_t name = 0; name < sizeof names / sizeof *names; name++) {
+        char form[64];
+        snprintf(form, sizeof form, "%s: %%.*s\n", names[name]);
+        length += field_lines(answer, i, names[name], form, wanted + length);
+    }
+    const struct word text = {wanted, length};
+    check(row, call_resource, &call, TYPED_HEADERS_DONE, number, text);
+    make(call_resource, &call, length, 0);
+    if (sent_count != count || memcmp(sent_parts, selected_parts, count * sizeof *sent_parts) != 0) {
+        complain(row, "other parts");
+    }
+    if (count) {
+        call.most_parts = 0;
+        struct gift gift = make(call_resource, &call, length, 0);
+        if (gift.status != TYPED_HEADERS_NO_ROOM || sent_count != count || gift.written != length ||
+            memcmp(room_area.end - length, wanted, length) != 0) {
+            complain(row, "another answer without room for parts");
+        }
+        call.most_parts = MOST_PARTS;
+    }
+    check_refused_resource(row, &call);
+}
+
+/* A gateway. What it does with a message is one number: no two outcomes of the rows have the same. */
+struct gateway_call {
+    struct typed_headers_gateway gateway;
+    struct typed_headers_hop hop;
+    struct text method, authority, section;
+    uint64_t received;
+    uint16_t status;
+    uint8_t version, client_version;
+};
+
+static const char *const REASONS[] = {"LengthAndCoding", "InvalidLength", "UnknownCoding",      "LastCodingNotChunked",
+                                      "CodingInHttp10",  "InvalidOption", "ProtectedOption",    "InvalidHost",
+                                      "InvalidHops",     "Loop",          "UnknownExpectation", "SwitchedProtocols"};
+enum { REASON_COUNT = 12, FRAMING_REASONS = 5 };
+
+static uint64_t number_of_framing(struct typed_headers_framing framing) {
+    return framing.length * 0x9E3779B97F4A7C15 + framing.kind;
+}
+
+static uint64_t number_of_request(struct typed_headers_request_outcome outcome) {
+    return number_of_framing(outcome.framing) * 31 +
+           (((uint64_t)outcome.status * 8 + outcome.action) * 16 + outcome.reason) * 2 + outcome.sends_continue;
+}
+
+static uint64_t number_of_response(struct typed_headers_response_outcome outcome) {
+    return (number_of_framing(outcome.received) * 31 + number_of_framing(outcome.sent)) * 31 +
+           ((uint64_t)outcome.status * 8 + outcome.action) * 16 + outcome.reason;
+}
+
+static uint64_t number_of_framed(struct typed_headers_framing_outcome outcome) {
+    return number_of_framing(outcome.framing) * 31 + (uint64_t)outcome.status * 16 + outcome.reason;
+}
+
+static uint8_t call_forward_request(const void *arguments, uint64_t *number, uint8_t *room, size_t room_length,
+                                    size_t *written) {
+    const struct gateway_call *call = arguments;
+    struct typed_headers_request_outcome outcome = {.action = FILL};
+    uint8_t status = typed_headers_forward_request(
+        &call->gateway, &call->hop, call->method.bytes, call->method.length, call->version, call->authority.bytes,
+        call->authority.length, call->section.bytes, call->section.length, &KEYS, &outcome, room, room_length, written);
+    if (outcome.action != FILL) {
+        *number = number_of_request(outcome);
+    }
+    return status;
+}
+
+static uint8_t call_forward_response(const void *arguments, uint64_t *number, uint8_t *room, size_t room_length,
+                                     size_t *written) {
+    const struct gateway_call *call = arguments;
+    struct typed_headers_response_outcome outcome = {.action = FILL};
+    uint8_t status = typed_headers_forward_response(
+        &call->gateway, call->status, call->version, call->section.bytes, call->section.length, &KEYS,
+        call->method.bytes, call->method.length, call->client_version, call->received, &outcome, room, room_length,
+        written);
+    if (outcome.action != FILL) {
+        *number = number_of_response(outcome);
+    }
+    return status;
+}
+
+static uint8_t call_framing(const void *arguments, uint64_t *number, uint8_t *room, size_t room_length,
+                            size_t *written) {
+    const struct gateway_call *call = arguments;
+    struct typed_headers_framing_outcome outcome = {.reason = FILL};
+    (void)room, (void)room_length, (void)written;
+    uint8_t status = typed_headers_framing(call->method.bytes, call->method.length, call->status, call->version,
+                                           call->section.bytes, call->section.length, &KEYS, &outcome);
+    if (outcome.reason != FILL) {
+        *number = number_of_framed(outcome);
+    }
+    return status;
+}
+
+static struct typed_headers_text put_text(struct area area, const char *bytes, size_t length) {
+    struct text text = put(area, bytes, length);
+    return (struct typed_headers_text){text.bytes, text.length};
+}
+
+/* The gateway `gw`, which protects X-Client, with nothing known but a server of HTTP/1.1. */
+static struct gateway_call new_gateway_call(void) {
+    struct gateway_call call = {.version = 11, .client_version = 11, .hop.server_version = 11};
+    call.gateway.name = put_text(rule_areas[0], "gw", 2);
+    call.gateway.protected_fields = put_text(rule_areas[1], "X-Client\n", 9);
+    call.gateway.consumes_credentials = true;
+    call.hop.client = put_text(rule_areas[2], "", 0);
+    call.hop.interface_node = put_text(rule_areas[3], "", 0);
+    call.authority = put(second_area, "", 0);
+    call.method = put(third_area, "GET", 3);
+    return call;
+}
+
+static uint8_t read_version(const struct word *word) { return is_word(word, "1.0") ? 10 : 11; }
+
+/* `NAME consumed|relayed VERSION` */
+static struct gateway_call read_gateway(const struct row *row) {
+    struct gateway_call call = new_gateway_call();
+    call.gateway.name = put_text(rule_areas[0], row->words[0].bytes, row->words[0].length);
+    call.gateway.consumes_credentials = is_word(&row->words[1], "consumed");
+    call.version = read_version(&row->words[2]);
+    return call;
+}
+
+/* How a word says that content is delimited, with this kind if its fields state nothing. */
+static struct typed_headers_framing read_framing(const struct word *word, uint8_t unstated) {
+    static const char *const kinds[] = {"absent", "length", "chunked", "until-close", "tunnel"};
+    struct typed_headers_framing framing = {0, unstated};
+    if (word->length > 7 && memcmp(word->bytes, "length:", 7) == 0) {
+        framing.kind = TYPED_HEADERS_LENGTH;
+        framing.length = strtoull(word->bytes + 7, NULL, 10);
+    } else if (!is_word(word, "unstated")) {
+        framing.kind = (uint8_t)(place_of(word, kinds, 5) - 1);
+    }
+    return framing;
+}
+
+/* The lines of all fields from a word on, in order. */
+static struct word all_lines(const struct row *row, size_t i) {
+    static char text[AREA];
+    struct word name = {"", 0};
+    size_t length = 0;
+    for (; i < row->count; i++) {
+        const struct word *word = &row->words[i];
+        if (is_name(word)) {
+            name = (struct word){word->bytes + 1, word->length - 2};
+        } else {
+            length += sprintf(text + length, "%.*s: %.*s\n", (int)name.length, name.bytes, (int)word->length,
+                              word->bytes);
+        }
+    }
+    return (struct word){text, length};
+}
+
+static const struct word EMPTY = {"", 0};
+
+/* What is delimited by the message alone, if the gateway's outcome tells it. */
+static void check_framing(const struct row *row, const struct gateway_call *call, const struct word *framing) {
+    struct typed_headers_framing_outcome outcome = {0};
+    if (framing) {
+        outcome.framing = read_framing(framing, TYPED_HEADERS_NO_CONTENT);
+    } else {
+        const struct word reason = answer_word(row, 1);
+        outcome.reason = (uint8_t)place_of(&reason, REASONS, FRAMING_REASONS);
+        const struct word status = answer_word(row, 2);
+        outcome.status = (uint16_t)(call->status ? 502 : strtoul(status.bytes, NULL, 10));
+        if (!outcome.reason) {
+            return;
+        }
+    }
+    check(row, call_framing, call, TYPED_HEADERS_DONE, number_of_framed(outcome), NO_TEXT);
+    struct gateway_call other = *call;
+    other.status = 99;
+    check(row, call_framing, &other, TYPED_HEADERS_REFUSED, NO_NUMBER, NO_TEXT);
+    other = *call;
+    other.version = 20;
+    check(row, call_framing, &other, TYPED_HEADERS_REFUSED, NO_NUMBER, NO_TEXT);
+}
+
+/* A call that nothing fits: each part that can't be read makes it refuse all. */
+static void check_refused_gateway(const struct row *row, call_fn *function, const struct gateway_call *call) {
+    struct gateway_call others[4] = {*call, *call, *call, *call};
+    others[0].gateway.name = put_text(rule_areas[0], "a b", 3);
+    others[1].gateway.protected_fields = (struct typed_headers_text){(const uint8_t *)"a b", 3};
+    others[2].version = 9;
+    others[3].method = (struct text){(const uint8_t *)"(", 1};
+    for (int i = 1; i < 4; i++) {
+        others[i].gateway.name = (struct typed_headers_text){(const uint8_t *)"gw", 2};
+    }
+    for (int i = 0; i < 4; i++) {
+        check(row, function, &others[i], TYPED_HEADERS_REFUSED, NO_NUMBER, NO_TEXT);
+    }
+}
+
+/* `request NAME CREDENTIALS VERSION METHOD AUTHORITY FIELDS` */
+static void check_forwarded_request(const struct row *row) {
+    struct gateway_call call = read_gateway(row);
+    struct typed_headers_request_outcome outcome = {0};
+    struct word text = EMPTY;
+    call.method = put(third_area, row->words[3].bytes, row->words[3].length);
+    if (!is_word(&row->words[4], "(none)")) {
+        call.authority = put(second_area, row->words[4].bytes, row->words[4].length);
+    }
+    read_section(row, 5, first_area, &call.section);
+    const struct row *answer = answer_words(row);
+    const bool is_sent = is_word(&answer->words[0], "forward");
+    if (is_sent || is_word(&answer->words[0], "respond")) {
+        outcome.framing = read_framing(&answer->words[1], TYPED_HEADERS_NO_CONTENT);
+        outcome.action = is_sent ? TYPED_HEADERS_GATEWAY_FORWARD : TYPED_HEADERS_GATEWAY_ANSWER;
+        text = is_sent ? all_lines(answer, 3) : EMPTY;
+    } else {
+        const struct word status = answer_word(row, 2);
+        outcome.action = TYPED_HEADERS_GATEWAY_REJECT;
+        outcome.reason = (uint8_t)place_of(&answer->words[1], REASONS, REASON_COUNT);
+        outcome.status = (uint16_t)strtoul(status.bytes, NULL, 10);
+    }
+    check(row, call_forward_request, &call, TYPED_HEADERS_DONE, number_of_request(outcome), text);
+    check_framing(row, &call, outcome.action == TYPED_HEADERS_GATEWAY_REJECT ? NULL : &answer_words(row)->words[1]);
+    check_refused_gateway(row, call_forward_request, &call);
+}
+
+/* `response NAME CREDENTIALS VERSION STATUS METHOD CLIENT DATE FIELDS` */
+static void check_forwarded_response(const struct row *row) {
+    struct gateway_call call = read_gateway(row);
+    struct typed_headers_response_outcome outcome = {0};
+    struct word text = EMPTY;
+    call.status = (uint16_t)read_number(row, 3);
+    call.method = put(third_area, row->words[4].bytes, row->words[4].length);
+    call.client_version = read_version(&row->words[5]);
+    call.received = read_number(row, 6);
+    read_section(row, 7, first_area, &call.section);
+    const struct row *answer = answer_words(row);
+    if (is_word(&answer->words[0], "forward")) {
+        outcome.received = read_framing(&answer->words[1], 0);
+        outcome.sent = outcome.received;
+        if (outcome.received.kind != TYPED_HEADERS_NO_CONTENT && outcome.received.kind != TYPED_HEADERS_TUNNEL) {
+            outcome.sent = read_framing(&answer->words[2], TYPED_HEADERS_UNTIL_CLOSE);
+        }
+        text = all_lines(answer, 3);
+    } else if (is_word(&answer->words[0], "discard")) {
+        outcome.action = TYPED_HEADERS_GATEWAY_DISCARD;
+    } else {
+        outcome.action = TYPED_HEADERS_GATEWAY_REJECT;
+        outcome.reason = (uint8_t)place_of(&answer->words[1], REASONS, REASON_COUNT);
+        outcome.status = 502;
+    }
+    check(row, call_forward_response, &call, TYPED_HEADERS_DONE, number_of_response(outcome), text);
+    if (outcome.action != TYPED_HEADERS_GATEWAY_DISCARD) {
+        check_framing(row, &call, outcome.action == TYPED_HEADERS_GATEWAY_REJECT ? NULL : &answer_words(row)->words[1]);
+    }
+    check_refused_gateway(row, call_forward_response, &call);
+    call.received = 253402300800;
+    check(row, call_forward_response, &call, TYPED_HEADERS_REFUSED, NO_NUMBER, NO_TEXT);
+}
+
+/* A request whose lines are a few of its own before the received ones, and what is sent of it. */
+static void check_sent(const struct row *row, struct gateway_call *call, const char *section,
+                       struct typed_headers_request_outcome outcome, const char *sent) {
+    static char wanted[AREA];
+    call->section = put(first_area, section, strlen(section));
+    const size_t length = (size_t)sprintf(wanted, "%s", sent);
+    check(row, call_forward_request, call, TYPED_HEADERS_DONE, number_of_request(outcome),
+          (struct word){wanted, length});
+}
+
+/* `expectation CLIENT SERVER FRAMING FIELDS`, as a request with content that is delimited so. */
+static void check_expectation(const struct row *row) {
+    static char section[AREA], sent[AREA], framing[64], fields[4096];
+    struct gateway_call call = new_gateway_call();
+    struct typed_headers_request_outcome outcome = {.sends_continue = answer_is(row, 0, "Answered")};
+    call.version = read_version(&row->words[0]);
+    call.hop.server_version = read_version(&row->words[1]);
+    call.method = put(third_area, "PUT", 3);
+    framing[0] = 0;
+    if (is_word(&row->words[2], "chunked")) {
+        outcome.framing.kind = TYPED_HEADERS_CHUNKED;
+        sprintf(framing, "transfer-encoding: chunked\n");
+    } else if (!is_word(&row->words[2], "unstated")) {
+        outcome.framing = (struct typed_headers_framing){read_number(row, 2), TYPED_HEADERS_LENGTH};
+        sprintf(framing, "content-length: %llu\n", (unsigned long long)outcome.framing.length);
+    }
+    size_t length = field_lines(row, 3, "accept", "accept: %.*s\n", fields);
+    if (answer_is(row, 0, "Forwarded")) {
+        field_lines(row, 3, "expect", "expect: %.*s\n", fields + length);
+    }
+    sprintf(sent, "host: a\n%svia: %s gw\n%s", fields, call.version == 10 ? "1.0" : "1.1", framing);
+    length = field_lines(row, 3, "accept", "accept: %.*s\n", fields);
+    field_lines(row, 3, "expect", "expect: %.*s\n", fields + length);
+    sprintf(section, "host: a\n%s%s", framing, fields);
+    check_sent(row, &call, section, outcome, sent);
+}
+
+/* `connection close|no trailers|no UPGRADE`: C offers no Upgrade. */
+static void check_connection(const struct row *row) {
+    static char sent[AREA];
+    struct gateway_call call = new_gateway_call();
+    if (!is_word(&row->words[2], "(none)")) {
+        return;
+    }
+    call.hop.closes = is_word(&row->words[0], "close");
+    call.hop.accepts_trailers = is_word(&row->words[1], "trailers");
+    const struct word lines = all_lines(answer_words(row), 0);
+    sprintf(sent, "host: a\nvia: 1.1 gw\n%.*s", (int)lines.length, lines.bytes);
+    check_sent(row, &call, "Connection: close\nHost: a\nTE: trailers\n", (struct typed_headers_request_outcome){0},
+               sent);
+}
+
+/* `NAME PORT` of a node: false if C has none such. */
+static bool read_node(const struct row *row, size_t i, struct area area, struct typed_headers_text *name,
+                      uint16_t *port) {
+    const bool is_known = !is_word(&row->words[i], "unknown"), has_port = !is_word(&row->words[i + 1], "(none)");
+    *name = is_known ? put_text(area, row->words[i].bytes, row->words[i].length) : put_text(area, "", 0);
+    *port = has_port && row->words[i + 1].bytes[0] != '_' ? (uint16_t)read_number(row, i + 1) : 0;
+    return has_port == (*port != 0);
+}
+
+/* `forwarding kept|no WRITES CLIENT INTERFACE HOST https|no trusted|no FIELDS`, of a request with that host. */
+static void check_forwarding(const struct row *row) {
+    static char section[AREA], sent[AREA];
+    struct gateway_call call = new_gateway_call();
+    const struct word *writes = &row->words[1], *host = &row->words[6];
+    if (!read_node(row, 2, rule_areas[2], &call.hop.client, &call.hop.client_port) ||
+        !read_node(row, 4, rule_areas[3], &call.hop.interface_node, &call.hop.interface_port)) {
+        return;
+    }
+    call.hop.writes_forwarded = is_word(writes, "forwarded") || is_word(writes, "both");
+    call.hop.writes_x_forwarded = is_word(writes, "x") || is_word(writes, "both");
+    call.hop.is_secure = is_word(&row->words[7], "https");
+    call.hop.is_trusted = is_word(&row->words[0], "kept") && is_word(&row->words[8], "trusted");
+    call.hop.tells_host = !is_word(host, "(none)");
+    /* (a host that isn't valid is that of the target, which the gateway takes as it comes) */
+    const bool is_target = call.hop.tells_host && memchr(host->bytes, '"', host->length);
+    const struct word other = {"a", 1}, told = call.hop.tells_host ? *host : other, line = is_target ? other : told;
+    if (is_target) {
+        call.authority = put(second_area, host->bytes, host->length);
+    }
+    read_section(row, 9, first_area, &call.section);
+    sprintf(section, "Host: %.*s\r\n%.*s", (int)line.length, line.bytes, (int)call.section.length,
+            (const char *)call.section.bytes);
+    const struct word lines = all_lines(answer_words(row), 0);
+    const char *form = is_target ? "via: 1.1 gw\nhost: %.*s\n%.*s" : "host: %.*s\nvia: 1.1 gw\n%.*s";
+    sprintf(sent, form, (int)told.length, told.bytes, (int)lines.length, lines.bytes);
+    check_sent(row, &call, section, (struct typed_headers_request_outcome){0}, sent);
+    call.hop.client = (struct typed_headers_text){(const uint8_t *)"192.0.2", 7};
+    check(row, call_forward_request, &call, TYPED_HEADERS_REFUSED, NO_NUMBER, NO_TEXT);
+}
+
+/* Chunks to a server of HTTP/1.0, which no row has: RFC 9112, section 6.1. */
+static void check_length_required(const struct row *row) {
+    struct gateway_call call = new_gateway_call();
+    call.hop.server_version = 10;
+    check_sent(row, &call, "Host: a\nTransfer-Encoding: chunked\n",
+               (struct typed_headers_request_outcome){
+                   .status = 411, .action = TYPED_HEADERS_GATEWAY_REJECT,
+                   .reason = TYPED_HEADERS_GATEWAY_LENGTH_REQUIRED},
+               "");
+}
+
+/* The rows of a gateway. */
+static void check_gateway(const struct row *row) {
+    if (has_outer_blanks(row)) {
+        return;
+    }
+    if (strcmp(row->call, "request") == 0) {
+        check_forwarded_request(row);
+    } else if (strcmp(row->call, "response") == 0) {
+        check_forwarded_response(row);
+    } else if (strcmp(row->call, "expectation") == 0) {
+        check_expectation(row);
+    } else if (strcmp(row->call, "connection") == 0) {
+        check_connection(row);
+        check_length_required(row);
+    } else if (strcmp(row->call, "forwarding") == 0) {
+        check_forwarding(row);
+    }
+}
+
 static void make_row(struct row *row) {
+    if (strstr(row->file, "headers_gateway_replay")) {
+        check_gateway(row);
+        return;
+    }
     const char *decode = strstr(row->call, ".decode");
     if (decode && strcmp(decode, ".decode") == 0) {
         char type[64];
@@ -1431,6 +1990,8 @@ static void make_row(struct row *row) {
         check_offers(row, row->call, row->call + 9);
     } else if (strcmp(row->call, "respond") == 0 || strcmp(row->call, "respond_whole") == 0) {
         check_respond(row, strcmp(row->call, "respond") == 0);
+    } else if (strcmp(row->call, "answer") == 0) {
+        check_resource(row);
     } else if (strcmp(row->call, "request") == 0) {
         check_offer(row);
     } else if (strncmp(row->call, "accept", 6) == 0 && !has_outer_blanks(row)) {
@@ -1507,6 +2068,9 @@ int main(int count, char **names) {
     third_area = new_area();
     for (int i = 0; i < 4; i++) {
         rule_areas[i] = new_area();
+    }
+    for (int i = 0; i < RESOURCE_TEXTS; i++) {
+        resource_areas[i] = new_area();
     }
     room_area = new_area();
     is_null = count > 1 && strcmp(names[1], "--null") == 0;

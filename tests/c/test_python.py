@@ -275,6 +275,78 @@ def respond(words, wanted, sends_ranges=True):
     return given.status == int(wanted[0]) and sorted(given.apply(before)) == sorted(hoped)
 
 
+NEGOTIATED = {"by_media_type": True, "by_language": True, "by_coding": True}
+
+
+def shown(media_type, tag, **named):
+    return headers.Representation(media_type, 20, f'"{tag}"', **named)
+
+
+#: The resources of crates/headers_resource_replay.
+RESOURCES = {
+    "note": {
+        "methods": [
+            "GET",
+            headers.Method("PUT", "application/json", "gzip", creates=True),
+            headers.Method("DELETE", needs_condition=True),
+            headers.Method("PATCH", "application/merge-patch+json", "gzip"),
+        ],
+        "representations": [shown("application/json", "n1")],
+        "hosts": ["a.example"],
+        "by_media_type": True,
+        "is_strict": True,
+        "needs_length": True,
+        "limit": 100,
+        "cors": headers.CorsPolicy("https://app.example"),
+    },
+    "page": {
+        "methods": ["GET"],
+        "representations": [
+            shown("text/html", "en", language="en"),
+            shown("text/html", "de", language="de"),
+            shown("text/html", "gz", language="en", coding="gzip"),
+        ],
+        **NEGOTIATED,
+    },
+    "report": {
+        "methods": ["GET"],
+        "representations": [shown("application/pdf", "r1")],
+        "is_strict": True,
+        **NEGOTIATED,
+    },
+    "inbox": {"methods": ["POST"], **NEGOTIATED},
+    "feed": {"methods": [headers.Method("POST", "application/json", "gzip")], **NEGOTIATED},
+}
+STATES = {"current": 0, "absent": 1, "gone": 2}
+
+
+def resource_answer(words, wanted):
+    name, state, *left = words
+    location = decode(left.pop(0)).decode("latin-1") if state.isdigit() else ""
+    version, method, authority, content, *left = left
+    resource = headers.Resource(**RESOURCES[name], location=location,
+                                state=STATES[state] if state in STATES else int(state))
+    target = "/" if authority == "(none)" else f"http://{authority}/"
+    length = {"none": 0, "unsized": None}[content] if content.isalpha() else int(content)
+    given = resource.answer(decode(method), section(left)[0], target=target, length=length,
+                            version=10 if version == "1.0" else 11, now=1_767_225_600)
+    reason, status, *left = wanted
+    sends, place, ranges = "nothing", None, []
+    if left[0] in ("nothing", "alternatives", "perform"):
+        sends = left.pop(0)
+    else:
+        place, sends, *left = left
+        place = None if place == "(none)" else int(place)
+        while "-" in sends and sends[0].isdigit():
+            ranges.append(headers.ByteRange(*map(int, sends.split("-"))))
+            sends, *left = left if left[0][0].isdigit() else ["parts", *left]
+    hoped = [] if left == ["(none)"] else shown_fields(left)
+    name = given.sends.name.lower().replace("result", "perform")
+    seen = (given.reason.name.replace("_", "").lower(), given.status, name, given.place, list(given.ranges))
+    return seen == (reason.lower(), None if status == "(none)" else int(status), sends, place, ranges) and sorted(
+        given.fields) == sorted(hoped)
+
+
 def handshake(words, wanted, own=(), origins="*"):
     if any(decode(it) != decode(it).strip(b" \t") for it in words):
         return True  # (a section's values have no blanks at their ends)
@@ -306,6 +378,88 @@ def offer(words, wanted):
 def commas(word):
     return decode(word).decode("latin-1").split(",")
 
+
+def gateway_of(words):
+    return headers.Gateway(decode(words[0]).decode("latin-1"), ["X-Client"], words[1] == "consumed")
+
+
+def version_of(word):
+    return 10 if word == "1.0" else 11
+
+
+def delimited(word, unstated):
+    """How a word says that content is delimited, with this kind if its fields state nothing."""
+    kind, _, length = word.partition(":")
+    name = {"absent": "NO_CONTENT", "unstated": unstated}.get(kind, kind.upper().replace("-", "_"))
+    return headers.Framing(headers.FramingKind[name], int(length) if length else None)
+
+
+def reason_of(word):
+    return headers.Rejection[re.sub(r"(?<!^)(?=[A-Z])|(?<=Http)(?=\d)", "_", word).upper()]
+
+
+def framed(method, section_text, version, status, wanted):
+    """Whether the content is delimited as the gateway's outcome tells, if that does."""
+    given = headers.framing(method, section_text, status, version)
+    if wanted[0] in ("forward", "respond"):
+        return given == headers.FramingOutcome(delimited(wanted[1], "NO_CONTENT"))
+    if wanted[0] != "reject" or reason_of(wanted[1]) > headers.Rejection.CODING_IN_HTTP_10:
+        return True
+    reason = reason_of(wanted[1])
+    return given == headers.FramingOutcome(None, 502 if status else int(wanted[2]), reason)
+
+
+def gateway_request(words, wanted):
+    version, method = version_of(words[2]), decode(words[3])
+    authority = None if words[4] == "(none)" else decode(words[4])
+    sent = section(words[5:])[0]
+    given = gateway_of(words).forward_request(method, sent, version=version, authority=authority)
+    if wanted[0] == "reject":
+        hoped = headers.RequestOutcome(headers.Action.REJECT, None, (), int(wanted[2]), reason_of(wanted[1]))
+    else:
+        action = headers.Action.FORWARD if wanted[0] == "forward" else headers.Action.ANSWER
+        shown = tuple(shown_fields(wanted[3:])) if wanted[0] == "forward" else ()
+        hoped = headers.RequestOutcome(action, delimited(wanted[1], "NO_CONTENT"), shown)
+    return given == hoped and framed(method, sent, version, None, wanted)
+
+
+def gateway_response(words, wanted):
+    version, status, method, client = version_of(words[2]), int(words[3]), decode(words[4]), version_of(words[5])
+    told = section(words[7:])[0]
+    given = gateway_of(words).forward_response(method, status, told, version, client, int(words[6]))
+    if wanted[0] == "forward":
+        received = delimited(wanted[1], "")
+        has_content = received.kind not in (headers.FramingKind.NO_CONTENT, headers.FramingKind.TUNNEL)
+        sent = delimited(wanted[2], "UNTIL_CLOSE") if has_content else received
+        hoped = headers.ResponseOutcome(headers.Action.FORWARD, received, sent, tuple(shown_fields(wanted[3:])))
+    elif wanted[0] == "discard":
+        hoped = headers.ResponseOutcome(headers.Action.DISCARD, None, None)
+    else:
+        hoped = headers.ResponseOutcome(headers.Action.REJECT, None, None, (), 502, reason_of(wanted[1]))
+    return given == hoped and framed(method, told, version, status, wanted)
+
+
+def forwarding(words, wanted):
+    """The fields that tell who made a request, of one that has the host."""
+    keeps, writes, client, client_port, interface, interface_port, host, scheme, trusted, *left = words
+    if client_port.startswith("_") or '"' in host:
+        return True  # (a port that is hidden can't be said, and a request with an invalid host is rejected)
+    ports = [None if it == "(none)" else int(it) for it in (client_port, interface_port)]
+    names = [None if it == "unknown" else it for it in (client, interface)]
+    hop = headers.Hop(
+        names[0], ports[0], names[1], ports[1],
+        is_secure=scheme == "https",
+        is_trusted=keeps == "kept" and trusted == "trusted",
+        writes_forwarded=writes in ("forwarded", "both"),
+        writes_x_forwarded=writes in ("x", "both"),
+        tells_host=host != "(none)",
+    )
+    sent = section(left)[0] + b"host: " + (b"a" if host == "(none)" else decode(host)) + b"\n"
+    given = headers.Gateway("gw").forward_request("GET", sent, hop)
+    return [it for it in given.fields if it[0] not in ("host", "via")] == shown_fields(wanted)
+
+
+GATEWAY = {"request": gateway_request, "response": gateway_response, "forwarding": forwarding}
 
 CALLS = {
     "Age.decode": lambda *row: number(headers.age, *row),
@@ -339,12 +493,16 @@ CALLS = {
     "accept_with": lambda words, wanted: handshake(words[1:], wanted, own=commas(words[0])),
     "accept_from": lambda words, wanted: handshake(words[1:], wanted, origins=commas(words[0])),
     "check": opened,
+    "answer": resource_answer,
     "request": offer,
 }
 
 
-def calls_of(row):
-    """What is made of a row."""
+def calls_of(row, file):
+    """What is made of a row of a file."""
+    if "headers_gateway_replay" in file:
+        yield from filter(None, [GATEWAY.get(row)])
+        return
     kind, _, action = row.partition(".")
     if action == "decode" and "Authorization" not in kind:
         yield lambda words, wanted: canonical_field(kind, words, wanted)
@@ -361,7 +519,7 @@ def main(names):
                 words = call.split(" ")
                 if " ! " in wanted:
                     wanted = wanted.partition(" ! ")[2].partition(" ")[2]
-                for call in calls_of(words[0]):
+                for call in calls_of(words[0], name):
                     rows += 1
                     if not call(words[1:], wanted.split(" ")):
                         wrong += 1

@@ -39,6 +39,8 @@ class Framework:
     cors_name: str = ""
     # Leaves other origins to the middleware.
     plain_cors: Callable[[list[tuple[str, str]]], Any] | None = None
+    # Answers by a resource of the package.
+    served: Callable[[], Any] | None = None
 
     def version(self) -> str | None:
         try:
@@ -91,6 +93,19 @@ def werkzeug_plain() -> Any:
         return Response(content, headers=fields)(environ, start_response)
 
     return application
+
+
+def werkzeug_served() -> Any:
+    from typed_headers import Representation, Resource
+    from typed_headers.wsgi import Served, Serves
+
+    def find(environ: Any) -> Served:
+        content, tag, is_dated = known(environ["PATH_INFO"])
+        modified = TIME if is_dated else None
+        shown = Representation("application/octet-stream", len(content), tag, modified)
+        return Served(Resource(["GET"], [shown]), lambda place: content)
+
+    return Serves(find)
 
 
 def flask_own() -> Any:
@@ -263,7 +278,8 @@ def __getattr__(name: str) -> Any:
 
 
 FRAMEWORKS = [
-    Framework("werkzeug", False, werkzeug_own, "`Response.make_conditional`", plain=werkzeug_plain),
+    Framework("werkzeug", False, werkzeug_own, "`Response.make_conditional`", plain=werkzeug_plain,
+              served=werkzeug_served),
     Framework("flask", False, flask_own, "`send_file`", ("strong", "none", "nodate", "bare"), flask_plain,
               None, "", flask_plain_cors),
     Framework("flask-cors", False, own_cors=flask_own_cors, cors_name="`CORS`"),

@@ -262,6 +262,9 @@ def main(count: int, seed: int) -> None:
             rows.append(Row(name, f"`{kind.__name__}.ConditionalRequests`", True, "conditions"))
             application = kind.ConditionalRequests(framework.plain())
             judge_conditions(rows[-1], framework, application, tuple(cases.KINDS), every)
+        if framework.served is not None:
+            rows.append(Row(name, "`typed_headers.wsgi.Serves`", True, "conditions"))
+            judge_conditions(rows[-1], framework, framework.served(), tuple(cases.KINDS), every)
         own_cors = framework.own_cors
         if own_cors is not None:
             rows.append(Row(name, framework.cors_name, False, "origins"))

@@ -18,10 +18,38 @@ What the library rejects raises `HeaderError`, a `ValueError` that says which fi
 
 from ._library import version
 from ._version import VERSION as __version__
-from .caching import Decision, Times, current_age, decide, heuristic_lifetime, lifetime, may_store, validators
+from .caching import (
+    Cache,
+    CacheAnswer,
+    CacheAnswerKind,
+    CacheLookup,
+    Decision,
+    Freshened,
+    FreshenOutcome,
+    StoredResponse,
+    Times,
+    current_age,
+    decide,
+    heuristic_lifetime,
+    lifetime,
+    may_store,
+    validators,
+)
 from .conditions import Content, Precondition, Response, Selection, Target, evaluate, respond, select
 from .cors import CORS_FIELDS, CorsAnswer, CorsKind, CorsPolicy
 from .errors import HeaderError, InvalidField, InvalidSection, TooLarge
+from .gateway import (
+    Action,
+    Framing,
+    FramingKind,
+    FramingOutcome,
+    Gateway,
+    Hop,
+    Rejection,
+    RequestOutcome,
+    ResponseOutcome,
+    framing,
+)
 from .headers import Headers, HeadersLike, canonical_field, canonical_section
 from .negotiation import (
     Quality,
@@ -33,6 +61,7 @@ from .negotiation import (
     look_up_language,
     type_quality,
 )
+from .resource import Answer, Method, Reason, Representation, Resource, Sends, State
 from .values import (
     ByteRange,
     CacheControl,
@@ -55,8 +84,14 @@ from .websocket import Fault, Flaw, Handshake, websocket_check, websocket_reques
 
 __all__ = [
     "CORS_FIELDS",
+    "Action",
+    "Answer",
     "ByteRange",
+    "Cache",
+    "CacheAnswer",
+    "CacheAnswerKind",
     "CacheControl",
+    "CacheLookup",
     "Content",
     "ContentRange",
     "CorsAnswer",
@@ -66,20 +101,37 @@ __all__ = [
     "ETag",
     "Fault",
     "Flaw",
+    "Framing",
+    "FramingKind",
+    "FramingOutcome",
+    "FreshenOutcome",
+    "Freshened",
+    "Gateway",
     "Handshake",
     "HeaderError",
     "Headers",
     "HeadersLike",
+    "Hop",
     "InvalidField",
     "InvalidSection",
     "MediaType",
+    "Method",
     "Precondition",
     "Quality",
     "Range",
+    "Reason",
+    "Rejection",
     "ReferrerPolicy",
+    "Representation",
+    "RequestOutcome",
+    "Resource",
     "Response",
+    "ResponseOutcome",
     "RetryAfter",
     "Selection",
+    "Sends",
+    "State",
+    "StoredResponse",
     "StrictTransportSecurity",
     "Target",
     "Times",
@@ -99,6 +151,7 @@ __all__ = [
     "evaluate",
     "expires",
     "format_date",
+    "framing",
     "heuristic_lifetime",
     "language_quality",
     "last_modified",

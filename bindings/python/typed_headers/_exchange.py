@@ -123,16 +123,28 @@ def _partial(
         fields += [("content-range", str(ContentRange(ranges[0], length))), ("content-length", str(ranges[0].length))]
         return Response(206, [*fields, ("accept-ranges", "bytes")], [(b"", ranges[0])])
     boundary = secrets.token_hex(16)
+    parts, end = multipart(ranges, media_type, length, boundary)
+    fields = _without(fields, "content-type") + [("content-type", f"multipart/byteranges; boundary={boundary}")]
+    size = size_of(parts, end)
+    return Response(206, [*fields, ("content-length", str(size)), ("accept-ranges", "bytes")], parts, end)
+
+
+def multipart(
+    ranges: Sequence[ByteRange], media_type: Optional[str], length: int, boundary: str
+) -> Tuple[List[Tuple[bytes, ByteRange]], bytes]:
+    """The ranges with what is sent before each, and what is sent after the last (RFC 9110, section 14.6)."""
     typed = f"Content-Type: {media_type}\r\n" if media_type is not None else ""
     parts = []
     for place, part in enumerate(ranges):
         lead = "\r\n" if place else ""
         head = f"{lead}--{boundary}\r\n{typed}Content-Range: {ContentRange(part, length)}\r\n\r\n"
         parts.append((head.encode("latin-1"), part))
-    end = f"\r\n--{boundary}--\r\n".encode("latin-1")
-    size = sum(len(head) + part.length for head, part in parts) + len(end)
-    fields = _without(fields, "content-type") + [("content-type", f"multipart/byteranges; boundary={boundary}")]
-    return Response(206, [*fields, ("content-length", str(size)), ("accept-ranges", "bytes")], parts, end)
+    return parts, f"\r\n--{boundary}--\r\n".encode("latin-1")
+
+
+def size_of(parts: Sequence[Tuple[bytes, ByteRange]], end: bytes) -> int:
+    """How many bytes the parts are, with what is sent around them."""
+    return sum(len(head) + part.length for head, part in parts) + len(end)
 
 
 class Cutter:

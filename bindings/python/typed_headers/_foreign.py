@@ -109,6 +109,105 @@ class _Moments(ctypes.Structure):
     _fields_ = [("request", ctypes.c_uint64), ("response", ctypes.c_uint64), ("now", ctypes.c_uint64)]
 
 
+class _Cache(ctypes.Structure):
+    _fields_ = [("place", ctypes.c_void_p), ("is_open", ctypes.c_bool)]
+
+
+class _CacheOptions(ctypes.Structure):
+    _fields_ = [
+        ("variants", ctypes.c_size_t),
+        ("responses", ctypes.c_size_t),
+        ("bytes", ctypes.c_size_t),
+        ("is_shared", ctypes.c_bool),
+    ]
+
+
+class _CacheRequest(ctypes.Structure):
+    _fields_ = [("target", _Text), ("method", _Text), ("section", _Text)]
+
+
+class _CacheResponse(ctypes.Structure):
+    _fields_ = [
+        ("section", _Text),
+        ("content", _Text),
+        ("requested", ctypes.c_uint64),
+        ("received", ctypes.c_uint64),
+        ("status", ctypes.c_uint16),
+        ("is_complete", ctypes.c_bool),
+    ]
+
+
+class _Stored(ctypes.Structure):
+    _fields_ = [
+        ("age", ctypes.c_uint64),
+        ("requested", ctypes.c_uint64),
+        ("received", ctypes.c_uint64),
+        ("length", ctypes.c_size_t),
+        ("status", ctypes.c_uint16),
+    ]
+
+
+class _LookedUp(ctypes.Structure):
+    _fields_ = [("stored", _Stored), ("place", ctypes.c_size_t), ("action", ctypes.c_uint8)]
+
+
+class _StoredAnswer(ctypes.Structure):
+    _fields_ = [("first", ctypes.c_uint64), ("last", ctypes.c_uint64), ("kind", ctypes.c_uint8)]
+
+
+class _Freshened(ctypes.Structure):
+    _fields_ = [("place", ctypes.c_size_t), ("outcome", ctypes.c_uint8)]
+
+
+class _Gateway(ctypes.Structure):
+    _fields_ = [("name", _Text), ("protected_fields", _Text), ("consumes_credentials", ctypes.c_bool)]
+
+
+class _Hop(ctypes.Structure):
+    _fields_ = [
+        ("client", _Text),
+        ("interface_node", _Text),
+        ("client_port", ctypes.c_uint16),
+        ("interface_port", ctypes.c_uint16),
+        ("server_version", ctypes.c_uint8),
+        ("is_secure", ctypes.c_bool),
+        ("is_trusted", ctypes.c_bool),
+        ("writes_forwarded", ctypes.c_bool),
+        ("writes_x_forwarded", ctypes.c_bool),
+        ("tells_host", ctypes.c_bool),
+        ("closes", ctypes.c_bool),
+        ("accepts_trailers", ctypes.c_bool),
+    ]
+
+
+class _Framing(ctypes.Structure):
+    _fields_ = [("length", ctypes.c_uint64), ("kind", ctypes.c_uint8)]
+
+
+class _RequestOutcome(ctypes.Structure):
+    _fields_ = [
+        ("framing", _Framing),
+        ("status", ctypes.c_uint16),
+        ("action", ctypes.c_uint8),
+        ("reason", ctypes.c_uint8),
+        ("sends_continue", ctypes.c_uint8),
+    ]
+
+
+class _ResponseOutcome(ctypes.Structure):
+    _fields_ = [
+        ("received", _Framing),
+        ("sent", _Framing),
+        ("status", ctypes.c_uint16),
+        ("action", ctypes.c_uint8),
+        ("reason", ctypes.c_uint8),
+    ]
+
+
+class _FramingOutcome(ctypes.Structure):
+    _fields_ = [("framing", _Framing), ("status", ctypes.c_uint16), ("reason", ctypes.c_uint8)]
+
+
 def _load() -> ctypes.CDLL:
     beside = Path(__file__).with_name(SONAME)
     name = os.environ.get("TYPED_HEADERS_LIBRARY") or (str(beside) if beside.exists() else SONAME)
@@ -185,6 +284,53 @@ _websocket_respond = _call(
 )
 _websocket_request = _call("websocket_request", *_TEXT, *_ROOM)
 _websocket_check = _call("websocket_check", *_TEXT, ctypes.c_uint16, *_SECTION, _FLAG)
+
+_CACHE = ctypes.POINTER(_Cache)
+_ASKED = [_CACHE, ctypes.POINTER(_CacheRequest)]
+_UPDATE = [*_ASKED, *_TEXT, ctypes.c_uint64, ctypes.c_uint64]
+_cache_new = _call("cache_new", _CACHE, ctypes.POINTER(_CacheOptions), ctypes.POINTER(_Keys))
+_cache_free = _call("cache_free", _CACHE)
+_cache_lookup = _call(
+    "cache_lookup", *_ASKED, ctypes.c_uint64, ctypes.c_uint64, ctypes.POINTER(_LookedUp), *_ROOM
+)
+_cache_response = _call(
+    "cache_response", _CACHE, *_TEXT, ctypes.c_size_t, ctypes.c_uint64, ctypes.POINTER(_Stored), *_ROOM
+)
+_cache_content = _call("cache_content", _CACHE, *_TEXT, ctypes.c_size_t, ctypes.c_size_t, *_ROOM)
+_cache_answer = _call(
+    "cache_answer", *_ASKED, ctypes.c_size_t, ctypes.c_uint64, ctypes.c_bool, ctypes.POINTER(_StoredAnswer)
+)
+_cache_store = _call("cache_store", *_ASKED, ctypes.POINTER(_CacheResponse), _FLAG)
+_cache_freshen = _call("cache_freshen", *_UPDATE, ctypes.POINTER(_Freshened))
+_cache_freshen_by_head = _call("cache_freshen_by_head", *_UPDATE)
+_cache_invalidate = _call("cache_invalidate", _CACHE, *_TEXT, *_TEXT, ctypes.c_uint16)
+_cache_remove = _call("cache_remove", _CACHE, *_TEXT)
+_forward_request = _call(
+    "forward_request",
+    ctypes.POINTER(_Gateway),
+    ctypes.POINTER(_Hop),
+    *_TEXT,
+    ctypes.c_uint8,
+    *_TEXT,
+    *_SECTION,
+    ctypes.POINTER(_RequestOutcome),
+    *_ROOM,
+)
+_forward_response = _call(
+    "forward_response",
+    ctypes.POINTER(_Gateway),
+    ctypes.c_uint16,
+    ctypes.c_uint8,
+    *_SECTION,
+    *_TEXT,
+    ctypes.c_uint8,
+    ctypes.c_uint64,
+    ctypes.POINTER(_ResponseOutcome),
+    *_ROOM,
+)
+_framing = _call(
+    "framing", *_TEXT, ctypes.c_uint16, ctypes.c_uint8, *_SECTION, ctypes.POINTER(_FramingOutcome)
+)
 
 
 def version() -> str:
@@ -522,6 +668,115 @@ def validators(response: bytes, received: int) -> Tuple[int, bytes]:
     return _text(_validators, response, len(response), received, ctypes.byref(_keys))
 
 
+class CacheHandle:
+    """A cache, which is closed once nothing refers to it."""
+
+    def __init__(self) -> None:
+        self.cache = _Cache()
+        # The call is bound here, since the module may be gone when the last handle is.
+        self.free = _cache_free
+
+    def __del__(self) -> None:
+        self.free(ctypes.byref(self.cache))
+
+
+#: The facts of a stored response: its status, its age, its times and the length of its content.
+StoredNumbers = Tuple[int, int, int, int, int]
+
+
+def _request_of(target: bytes, method: bytes, section: bytes) -> _CacheRequest:
+    return _CacheRequest(_Text(target, len(target)), _Text(method, len(method)), _Text(section, len(section)))
+
+
+def _stored_numbers(facts: _Stored) -> StoredNumbers:
+    return facts.status, facts.age, facts.requested, facts.received, facts.length
+
+
+def cache_new(variants: int, responses: int, content: int, is_shared: bool) -> Tuple[int, CacheHandle]:
+    handle, options = CacheHandle(), _CacheOptions(variants, responses, content, is_shared)
+    return _cache_new(ctypes.byref(handle.cache), ctypes.byref(options), ctypes.byref(_keys)), handle
+
+
+def cache_free(handle: CacheHandle) -> int:
+    return _cache_free(ctypes.byref(handle.cache))
+
+
+def cache_lookup(
+    handle: CacheHandle, target: bytes, method: bytes, section: bytes, now: int, guess: int
+) -> Tuple[int, int, int, StoredNumbers, bytes]:
+    facts, request = _LookedUp(), _request_of(target, method, section)
+    arguments = (ctypes.byref(handle.cache), ctypes.byref(request), now, guess, ctypes.byref(facts))
+    status, text = _text(_cache_lookup, *arguments)
+    return status, facts.action, facts.place, _stored_numbers(facts.stored), text
+
+
+def cache_response(handle: CacheHandle, target: bytes, place: int, now: int) -> Tuple[int, StoredNumbers, bytes]:
+    facts = _Stored()
+    arguments = (ctypes.byref(handle.cache), target, len(target), place, now, ctypes.byref(facts))
+    status, text = _text(_cache_response, *arguments)
+    return status, _stored_numbers(facts), text
+
+
+def cache_content(handle: CacheHandle, target: bytes, place: int, start: int, most: int) -> Tuple[int, bytes]:
+    room, count = ctypes.create_string_buffer(most or 1), ctypes.c_size_t()
+    asked = (ctypes.byref(handle.cache), target, len(target), place, start)
+    status = _cache_content(*asked, room, most, ctypes.byref(count))
+    return status, room.raw[: count.value]
+
+
+def cache_answer(
+    handle: CacheHandle, target: bytes, method: bytes, section: bytes, place: int, now: int, ranges: bool
+) -> Tuple[int, int, int, int]:
+    facts, request = _StoredAnswer(), _request_of(target, method, section)
+    asked = (ctypes.byref(handle.cache), ctypes.byref(request), place, now, ranges)
+    status = _cache_answer(*asked, ctypes.byref(facts))
+    return status, facts.kind, facts.first, facts.last
+
+
+def cache_store(
+    handle: CacheHandle,
+    target: bytes,
+    method: bytes,
+    section: bytes,
+    code: int,
+    response: bytes,
+    content: bytes,
+    requested: int,
+    received: int,
+    is_complete: bool,
+) -> Tuple[int, int]:
+    stored, request = ctypes.c_uint8(), _request_of(target, method, section)
+    texts = (_Text(response, len(response)), _Text(content, len(content)))
+    came = _CacheResponse(*texts, requested, received, code, is_complete)
+    asked = (ctypes.byref(handle.cache), ctypes.byref(request), ctypes.byref(came))
+    return _cache_store(*asked, ctypes.byref(stored)), stored.value
+
+
+def cache_freshen(
+    handle: CacheHandle, target: bytes, method: bytes, section: bytes, update: bytes, requested: int, received: int
+) -> Tuple[int, int, int]:
+    facts, request = _Freshened(), _request_of(target, method, section)
+    asked = (ctypes.byref(handle.cache), ctypes.byref(request), update, len(update), requested, received)
+    status = _cache_freshen(*asked, ctypes.byref(facts))
+    return status, facts.outcome, facts.place
+
+
+def cache_freshen_by_head(
+    handle: CacheHandle, target: bytes, method: bytes, section: bytes, head: bytes, requested: int, received: int
+) -> int:
+    request = _request_of(target, method, section)
+    asked = (ctypes.byref(handle.cache), ctypes.byref(request), head, len(head), requested, received)
+    return _cache_freshen_by_head(*asked)
+
+
+def cache_invalidate(handle: CacheHandle, target: bytes, method: bytes, code: int) -> int:
+    return _cache_invalidate(ctypes.byref(handle.cache), target, len(target), method, len(method), code)
+
+
+def cache_remove(handle: CacheHandle, target: bytes) -> int:
+    return _cache_remove(ctypes.byref(handle.cache), target, len(target))
+
+
 def respond(
     method: bytes,
     section: bytes,
@@ -597,3 +852,204 @@ def websocket_check(sent: bytes, status: int, response: bytes) -> Tuple[int, int
     flaw = ctypes.c_uint8()
     section = (response, len(response), ctypes.byref(_keys))
     return _websocket_check(sent, len(sent), status, *section, ctypes.byref(flaw)), flaw.value
+
+
+_RESOURCE_TEXTS = (
+    "hosts",
+    "methods",
+    "creating",
+    "guarded",
+    "accept",
+    "accept_encoding",
+    "location",
+    "media_types",
+    "languages",
+    "codings",
+    "etags",
+    "boundary",
+)
+_RESOURCE_FLAGS = ("by_media_type", "by_language", "by_coding", "is_strict", "needs_length")
+
+
+class _Resource(ctypes.Structure):
+    _fields_ = [
+        *((name, _Text) for name in _RESOURCE_TEXTS),
+        ("limit", ctypes.c_uint64),
+        ("state", ctypes.c_uint16),
+        *((name, ctypes.c_bool) for name in (*_RESOURCE_FLAGS, "has_limit", "has_cors")),
+    ]
+
+
+class _Representation(ctypes.Structure):
+    _fields_ = [
+        ("length", ctypes.c_uint64),
+        ("last_modified", ctypes.c_uint64),
+        ("has_length", ctypes.c_bool),
+        ("sends_ranges", ctypes.c_bool),
+        ("has_last_modified", ctypes.c_bool),
+        ("is_date_strong", ctypes.c_bool),
+    ]
+
+
+class _ResourceRequest(ctypes.Structure):
+    _fields_ = [
+        ("present", ctypes.c_uint64),
+        ("length", ctypes.c_uint64),
+        ("version", ctypes.c_uint8),
+        ("has_content", ctypes.c_bool),
+        ("has_length", ctypes.c_bool),
+    ]
+
+
+class _ResourceFacts(ctypes.Structure):
+    _fields_ = [
+        ("place", ctypes.c_size_t),
+        ("status", ctypes.c_uint16),
+        ("reason", ctypes.c_uint8),
+        ("sends", ctypes.c_uint8),
+        ("has_place", ctypes.c_uint8),
+    ]
+
+
+_resource_answer = _call(
+    "resource_answer",
+    ctypes.POINTER(_Resource),
+    ctypes.c_void_p,
+    ctypes.c_size_t,
+    ctypes.POINTER(_Rules),
+    ctypes.POINTER(_ResourceRequest),
+    *_TEXT,
+    *_TEXT,
+    *_TEXT,
+    ctypes.POINTER(_Keys),
+    ctypes.POINTER(_ResourceFacts),
+    *_ROOM,
+    *_ROOM,
+)
+
+#: The length, the time of the last modification, whether ranges are sent, and whether that time is strong.
+RepresentationOf = Tuple[Optional[int], Optional[int], bool, bool]
+#: The arguments of `cors_answer` up to the method.
+RulesOf = Tuple[bytes, bytes, bytes, bytes, Optional[int], bool]
+
+
+def resource_answer(
+    texts: Tuple[bytes, ...],
+    flags: Tuple[bool, ...],
+    limit: Optional[int],
+    state: int,
+    representations: Tuple[RepresentationOf, ...],
+    rules: Optional[RulesOf],
+    present: int,
+    version: int,
+    length: Optional[int],
+    method: bytes,
+    target: bytes,
+    section: bytes,
+) -> Tuple[int, int, int, int, Optional[int], List[Tuple[int, int]], bytes]:
+    """The status, that of the answer, its reason, what it sends, the place, the ranges and the fields.
+
+    The texts and the flags are in the order of the struct. The length is that of the request's content, 0 without any.
+    """
+    lists = (_Text(text, len(text)) for text in texts)
+    resource = _Resource(*lists, limit or 0, state, *flags, limit is not None, rules is not None)
+    sent = (_Representation * len(representations))(
+        *(_Representation(size or 0, at or 0, size is not None, ranges, at is not None, strong)
+          for size, at, ranges, strong in representations)
+    )
+    *names, max_age, credentials = rules or (b"", b"", b"", b"", None, False)
+    shared = _Rules(*(_Text(text, len(text)) for text in names), max_age or 0, max_age is not None, credentials)
+    request = _ResourceRequest(present, length or 0, version, length != 0, length is not None)
+    facts, parts, room = _ResourceFacts(), 16, 1024
+    while True:
+        ranges_room, count = (_Range * parts)(), ctypes.c_size_t()
+        buffer, written = ctypes.create_string_buffer(room), ctypes.c_size_t()
+        status = _resource_answer(
+            ctypes.byref(resource),
+            sent,
+            len(representations),
+            ctypes.byref(shared),
+            ctypes.byref(request),
+            method,
+            len(method),
+            target,
+            len(target),
+            section,
+            len(section),
+            ctypes.byref(_keys),
+            ctypes.byref(facts),
+            ranges_room,
+            parts,
+            ctypes.byref(count),
+            buffer,
+            room,
+            ctypes.byref(written),
+        )
+        if status != _NO_ROOM:
+            found = [(it.first, it.last) for it in ranges_room[: count.value]]
+            place = facts.place if facts.has_place else None
+            return status, facts.status, facts.reason, facts.sends, place, found, buffer.raw[: written.value]
+        parts, room = max(parts, count.value), max(room, written.value)
+
+
+#: The name of a gateway, the names that it protects, one a line, and whether it consumes credentials.
+GatewayParts = Tuple[bytes, bytes, bool]
+#: The client and its port, the interface and its port, the version of the next server, and seven flags.
+HopParts = Tuple[bytes, int, bytes, int, int, bool, bool, bool, bool, bool, bool, bool]
+
+
+def _gateway(parts: GatewayParts) -> _Gateway:
+    name, protected, consumes_credentials = parts
+    return _Gateway(_Text(name, len(name)), _Text(protected, len(protected)), consumes_credentials)
+
+
+def forward_request(
+    gateway: GatewayParts, hop: HopParts, method: bytes, version: int, authority: bytes, section: bytes
+) -> Tuple[int, int, int, int, int, int, int, bytes]:
+    """The status, the kind and the length of the content, the status of an answer, the action, the reason, whether the
+    gateway sends a 100, and the fields."""
+    client, client_port, interface, interface_port, *others = hop
+    nodes = (_Text(client, len(client)), _Text(interface, len(interface)))
+    given, arrived, outcome = _gateway(gateway), _Hop(*nodes, client_port, interface_port, *others), _RequestOutcome()
+    texts = (method, len(method), version, authority, len(authority), section, len(section), ctypes.byref(_keys))
+    status, found = _text(
+        _forward_request, ctypes.byref(given), ctypes.byref(arrived), *texts, ctypes.byref(outcome)
+    )
+    content = (outcome.framing.kind, outcome.framing.length)
+    return (status, *content, outcome.status, outcome.action, outcome.reason, outcome.sends_continue, found)
+
+
+def forward_response(
+    gateway: GatewayParts,
+    code: int,
+    version: int,
+    section: bytes,
+    method: bytes,
+    client_version: int,
+    received: int,
+) -> Tuple[int, int, int, int, int, int, int, int, bytes]:
+    """The status, the kind and the length of the content as received and as sent, the status of an answer, the action,
+    the reason, and the fields."""
+    given, outcome = _gateway(gateway), _ResponseOutcome()
+    texts = (section, len(section), ctypes.byref(_keys), method, len(method))
+    status, found = _text(
+        _forward_response,
+        ctypes.byref(given),
+        code,
+        version,
+        *texts,
+        client_version,
+        received,
+        ctypes.byref(outcome),
+    )
+    before = (outcome.received.kind, outcome.received.length)
+    after = (outcome.sent.kind, outcome.sent.length)
+    return (status, *before, *after, outcome.status, outcome.action, outcome.reason, found)
+
+
+def framing(method: bytes, code: int, version: int, section: bytes) -> Tuple[int, int, int, int, int]:
+    """The status, the kind and the length of the content, the status of an answer, and the reason."""
+    outcome = _FramingOutcome()
+    texts = (method, len(method), code, version, section, len(section), ctypes.byref(_keys))
+    status = _framing(*texts, ctypes.byref(outcome))
+    return status, outcome.framing.kind, outcome.framing.length, outcome.status, outcome.reason

@@ -3,17 +3,34 @@
 A shared cache serves several users, as a proxy does; a private one serves a single user, as a browser does.
 """
 
+import threading
 import time
 from dataclasses import dataclass
 from enum import IntEnum
-from typing import Optional, Tuple
+from typing import Any, Callable, Optional, Tuple, TypeVar
 
 from . import _library
 from ._library import Text, Time
 from .errors import HeaderError
 from .headers import Headers, HeadersLike
 
-__all__ = ["Decision", "Times", "current_age", "decide", "heuristic_lifetime", "lifetime", "may_store", "validators"]
+__all__ = [
+    "Cache",
+    "CacheAnswer",
+    "CacheAnswerKind",
+    "CacheLookup",
+    "Decision",
+    "FreshenOutcome",
+    "Freshened",
+    "StoredResponse",
+    "Times",
+    "current_age",
+    "decide",
+    "heuristic_lifetime",
+    "lifetime",
+    "may_store",
+    "validators",
+]
 
 
 class Decision(IntEnum):
@@ -165,3 +182,305 @@ def validators(response: HeadersLike, received: Optional[Time] = None) -> Tuple[
     status, text = _library.calls.validators(given, _received(received))
     _library.check(status, lambda: _refused(given))
     return tuple(Headers(text))
+
+
+# A cache
+
+
+#: The place of a response that answers once, until a later 304.
+_ONCE = (1 << 64) - 1
+
+
+class FreshenOutcome(IntEnum):
+    """What a 304 makes of stored responses."""
+
+    #: No stored response may answer the request. It has to be sent again without conditions.
+    NONE_STORED = 0
+    #: The 304 is about none of those that may. The request has to be sent again without conditions.
+    NONE_UPDATED = 1
+    #: A stored response is updated, and is the answer.
+    UPDATED = 2
+    #: The same, but it is stored no longer: its new fields forbid that, or its reuse for this request.
+    UPDATED_ONCE = 3
+
+
+class CacheAnswerKind(IntEnum):
+    """How a stored response answers a client's own conditions and ranges."""
+
+    #: As it is.
+    WHOLE = 0
+    #: By 206, with a part of its content.
+    PART = 1
+    #: By 304, without content.
+    NOT_MODIFIED = 2
+    #: By 416: no byte that is asked for is there.
+    UNSATISFIABLE = 3
+    #: Not at all: the request has a condition that the origin has to evaluate.
+    FORWARD = 4
+
+
+@dataclass(frozen=True)
+class StoredResponse:
+    """A stored response, but for its content, which `Cache.content` returns."""
+
+    #: Its place under its target, until a call changes what is stored.
+    place: int
+    #: Its status.
+    status: int
+    #: How many seconds old it is.
+    age: int
+    #: When the request was made that it answered, or that validated it last, in seconds since 1970.
+    requested: int
+    #: When the response to that came.
+    received: int
+    #: How many bytes of content it has.
+    length: int
+
+
+@dataclass(frozen=True)
+class CacheLookup:
+    """What a cache does with a request."""
+
+    #: What is done. A response that is served stale, but needs no validation after that, is `SERVE` too.
+    decision: Decision
+    #: The stored response, if it is served or validated.
+    stored: Optional[StoredResponse]
+    #: `SERVE` and `SERVE_AND_REVALIDATE`: the fields to send with the stored content. `REVALIDATE` and
+    #: `REVALIDATE_OR_SERVE`: the fields that replace the request's own conditions. Else none.
+    fields: Tuple[Tuple[str, str], ...]
+
+
+@dataclass(frozen=True)
+class Freshened:
+    """What a 304 makes of stored responses."""
+
+    #: What becomes of them.
+    outcome: FreshenOutcome
+    #: The place of the answer, if there is one, for `Cache.response` and `Cache.content`.
+    place: Optional[int]
+
+
+@dataclass(frozen=True)
+class CacheAnswer:
+    """How a stored response answers a client's own conditions and ranges."""
+
+    #: How it answers.
+    kind: CacheAnswerKind
+    #: The first and the last position of the part that is sent, both included.
+    part: Optional[Tuple[int, int]]
+
+
+Found = TypeVar("Found")
+
+
+def _present(now: Optional[Time]) -> int:
+    return int(time.time()) if now is None else _library.to_seconds(now, "now")
+
+
+class Cache:
+    """A store of responses in bounded memory, and what a cache does by it (RFC 9111).
+
+    A request is a method, a target and its fields. The target is its URI, as a text that is made the same way each
+    time. A time is that of a single clock; the present, if it isn't given. Limits are responses under one target,
+    responses in all, and bytes of content in all. A cache may be used by several threads.
+
+    >>> with Cache(shared=True) as cache:
+    ...     cache.lookup("GET", "/a", {}, now=1000).decision
+    ...     cache.store("GET", "/a", {}, 200, {"Cache-Control": "max-age=60"}, b"hello", requested=1000, received=1000)
+    ...     found = cache.lookup("GET", "/a", {}, now=1010)
+    ...     found.decision, found.stored.status, cache.content("/a", found.stored.place)
+    ...     found.fields
+    <Decision.FETCH: 6>
+    True
+    (<Decision.SERVE: 0>, 200, b'hello')
+    (('cache-control', 'max-age=60'), ('date', 'Thu, 01 Jan 1970 00:16:40 GMT'), ('age', '10'))
+    """
+
+    def __init__(
+        self, *, shared: bool, variants: int = 16, responses: int = 4096, content: int = 64 * 1024 * 1024
+    ) -> None:
+        status, self._handle = _library.calls.cache_new(
+            _library.to_number(variants, "variants"),
+            _library.to_number(responses, "responses"),
+            _library.to_number(content, "content"),
+            shared,
+        )
+        _library.check(status, lambda: HeaderError("a new cache is open"))
+        self._lock, self._is_open = threading.Lock(), True
+
+    def __enter__(self) -> "Cache":
+        return self
+
+    def __exit__(self, *_: object) -> None:
+        self.close()
+
+    def close(self) -> None:
+        """Gives the memory of the cache back. Every other call then raises `ValueError`."""
+        with self._lock:
+            self._is_open = False
+            _library.calls.cache_free(self._handle)
+
+    def _call(self, call: Callable[..., Found], *arguments: Any) -> Found:
+        with self._lock:
+            if not self._is_open:
+                raise ValueError("the cache is closed")
+            return call(self._handle, *arguments)
+
+    def lookup(
+        self, method: Text, target: str, request: HeadersLike, *, now: Optional[Time] = None, guess: int = 0
+    ) -> CacheLookup:
+        """What the cache does with a request. The target becomes the most recently used.
+
+        Where the origin states no lifetime, at most `guess` seconds are guessed (RFC 9111, section 4.2.2).
+        """
+        asked = _request(method, target, request)
+        seconds = _library.to_number(guess, "guess")
+        status, action, place, facts, text = self._call(
+            _library.calls.cache_lookup, *asked, _present(now), seconds
+        )
+        _check(status, asked)
+        decision = Decision(action)
+        is_found = decision not in (Decision.UNAVAILABLE, Decision.FETCH)
+        return CacheLookup(decision, StoredResponse(place, *facts) if is_found else None, tuple(Headers(text)))
+
+    def response(
+        self, target: str, place: int, *, now: Optional[Time] = None
+    ) -> Optional[Tuple[StoredResponse, Tuple[Tuple[str, str], ...]]]:
+        """The stored response at a place of a target and its fields, with its present Age, or `None`.
+
+        Places count from 0, in the order of storing.
+
+        >>> cache = Cache(shared=False)
+        >>> cache.response("/a", 0) is None
+        True
+        """
+        key = target.encode()
+        where = _library.to_number(place, "place")
+        status, facts, text = self._call(_library.calls.cache_response, key, where, _present(now))
+        _check(status)
+        return None if status == _library.ABSENT else (StoredResponse(place, *facts), tuple(Headers(text)))
+
+    def content(self, target: str, place: int, start: int = 0, length: Optional[int] = None) -> bytes:
+        """The content of the stored response at a place, or a part of it. `LookupError` if there is none."""
+        key, where = target.encode(), _library.to_number(place, "place")
+        begin = _library.to_number(start, "start")
+        if length is None:
+            found_response = self.response(target, place)
+            length = 0 if found_response is None else max(found_response[0].length - begin, 0)
+        status, found = self._call(_library.calls.cache_content, key, where, begin, length)
+        _check(status)
+        if status == _library.ABSENT:
+            raise LookupError(f"no response is stored at place {place} of {target!r}")
+        return found
+
+    def answer(
+        self,
+        method: Text,
+        target: str,
+        request: HeadersLike,
+        place: int,
+        *,
+        now: Optional[Time] = None,
+        ranges: bool = True,
+    ) -> Optional[CacheAnswer]:
+        """How the stored response at a place answers the request's own conditions and ranges.
+
+        The request is one that the response may answer (RFC 9111, section 4.3.2). `None` if no response is there.
+
+        >>> cache = Cache(shared=True)
+        >>> fields = {"Cache-Control": "max-age=60", "ETag": '"a"'}
+        >>> cache.store("GET", "/a", {}, 200, fields, b"hello", requested=1000, received=1000)
+        True
+        >>> cache.answer("GET", "/a", {"If-None-Match": '"a"'}, 0, now=1010).kind
+        <CacheAnswerKind.NOT_MODIFIED: 2>
+        >>> cache.answer("GET", "/a", {"Range": "bytes=1-2"}, 0, now=1010).part
+        (1, 2)
+        """
+        asked, where = _request(method, target, request), _library.to_number(place, "place")
+        status, kind, first, last = self._call(
+            _library.calls.cache_answer, *asked, where, _present(now), ranges
+        )
+        _check(status, asked)
+        if status == _library.ABSENT:
+            return None
+        return CacheAnswer(CacheAnswerKind(kind), (first, last) if kind == CacheAnswerKind.PART else None)
+
+    def store(
+        self,
+        method: Text,
+        target: str,
+        request: HeadersLike,
+        status: int,
+        response: HeadersLike,
+        content: bytes,
+        *,
+        requested: Time,
+        received: Optional[Time] = None,
+        complete: bool = True,
+    ) -> bool:
+        """Stores the response to a request, if a cache may (RFC 9111, section 3), and returns whether it did.
+
+        `requested` is when the request was made, `received` when the response came. `complete` says whether all of its
+        content came. Older responses go if there is too little room.
+        """
+        asked, given = _request(method, target, request), Headers(response).section
+        times = (_library.to_seconds(requested, "requested"), _received(received))
+        code = _library.to_number(status, "status", 16)
+        ended, stored = self._call(
+            _library.calls.cache_store, *asked, code, given, bytes(content), *times, complete
+        )
+        _check(ended, asked, given)
+        return stored == 1
+
+    def freshen(
+        self,
+        method: Text,
+        target: str,
+        request: HeadersLike,
+        update: HeadersLike,
+        *,
+        requested: Time,
+        received: Optional[Time] = None,
+    ) -> Freshened:
+        """Updates stored responses by the fields of a 304 to a request (RFC 9111, section 4.3.4)."""
+        asked, given = _request(method, target, request), Headers(update).section
+        times = (_library.to_seconds(requested, "requested"), _received(received))
+        status, outcome, place = self._call(_library.calls.cache_freshen, *asked, given, *times)
+        _check(status, asked, given)
+        return Freshened(FreshenOutcome(outcome), place if outcome >= FreshenOutcome.UPDATED else None)
+
+    def freshen_by_head(
+        self,
+        method: Text,
+        target: str,
+        request: HeadersLike,
+        head: HeadersLike,
+        *,
+        requested: Time,
+        received: Optional[Time] = None,
+    ) -> None:
+        """Updates stored responses to GET by the fields of a 200 to a HEAD (RFC 9111, section 4.3.5)."""
+        asked, given = _request(method, target, request), Headers(head).section
+        times = (_library.to_seconds(requested, "requested"), _received(received))
+        status = self._call(_library.calls.cache_freshen_by_head, *asked, given, *times)
+        _check(status, asked, given)
+
+    def invalidate(self, method: Text, target: str, status: int) -> None:
+        """Removes what is stored for a target, if the response to a request invalidates it (RFC 9111, section 4.4).
+
+        It does if the method isn't safe, and the status is 2xx or 3xx.
+        """
+        verb, code = _library.to_bytes(method, "method"), _library.to_number(status, "status", 16)
+        _check(self._call(_library.calls.cache_invalidate, target.encode(), verb, code))
+
+    def remove(self, target: str) -> None:
+        """Removes what is stored for a target, as one that Location names (RFC 9111, section 4.4)."""
+        _check(self._call(_library.calls.cache_remove, target.encode()))
+
+
+def _request(method: Text, target: str, request: HeadersLike) -> Tuple[bytes, bytes, bytes]:
+    return target.encode(), _library.to_bytes(method, "method"), Headers(request).section
+
+
+def _check(status: int, asked: Tuple[bytes, ...] = (), *sections: bytes) -> None:
+    _library.check(status, lambda: _refused(*asked[2:], *sections))

@@ -1,4 +1,5 @@
-"""Middleware for WSGI (PEP 3333): conditional requests and ranges, and requests from other origins.
+"""Middleware for WSGI (PEP 3333): conditional requests and ranges, and requests from other origins; and an application
+that answers for resources.
 
 >>> from typed_headers import CorsPolicy
 >>> from typed_headers.wsgi import ConditionalRequests, Cors
@@ -19,15 +20,31 @@ b'01234'
 """
 
 import os
+import secrets
+from dataclasses import dataclass, field, replace
+from http import HTTPStatus
 from types import TracebackType
-from typing import Any, Callable, Dict, Iterable, Iterator, List, Optional, Tuple, Type, Union
+from typing import Any, Callable, Dict, Iterable, Iterator, List, Mapping, Optional, Sequence, Tuple, Type, Union
 
-from ._exchange import CONDITIONS, ORIGINS, REASONS, Cutter, Fields, Response, length_of, respond, tagged
+from ._exchange import (
+    CONDITIONS,
+    ORIGINS,
+    REASONS,
+    Cutter,
+    Fields,
+    Response,
+    length_of,
+    multipart,
+    respond,
+    size_of,
+    tagged,
+)
 from .cors import CorsKind, CorsPolicy
 from .errors import HeaderError
 from .headers import Headers
+from .resource import Answer, Representation, Resource, Sends
 
-__all__ = ["ConditionalRequests", "Cors"]
+__all__ = ["ConditionalRequests", "Cors", "Result", "Served", "Serves", "list_alternatives"]
 
 Environ = Dict[str, Any]
 ExcInfo = Union[
@@ -221,3 +238,203 @@ class Cors:
             return start_response(line, answer.apply(fields), *exc_info)
 
         return self.application(environ, start)
+
+
+#: The content of a response: all of it, or its pieces.
+Content = Union[bytes, Iterable[bytes]]
+
+
+@dataclass(frozen=True)
+class Result:
+    """What came of a method that was performed."""
+
+    status: int = 204
+    #: The fields that are the application's. Those that the resource decides are set after them.
+    fields: Sequence[Tuple[str, str]] = ()
+    content: Content = b""
+
+
+@dataclass(frozen=True)
+class Served:
+    """A resource as it is when a request comes, and what it is made of."""
+
+    resource: Resource
+    #: The content of the representation at a place.
+    content: Callable[[int], Content] = lambda place: b""
+    #: What performs each method. GET needs nothing if there are representations.
+    methods: Mapping[str, Callable[[Environ], Result]] = field(default_factory=dict)
+
+
+#: A media type, and content of it.
+Explanation = Tuple[str, bytes]
+
+
+def list_alternatives(answer: Answer, resource: Resource) -> Optional[Explanation]:
+    """For a 406, a line for each representation: its media type, its language and its coding (RFC 9110, 15.5.7)."""
+    if answer.sends is not Sends.ALTERNATIVES:
+        return None
+    parts = ((it.media_type, it.language, it.coding) for it in resource.representations)
+    lines = (" ".join(str(part) for part in it if part is not None) + "\n" for it in parts)
+    return "text/plain", "".join(lines).encode("latin-1")
+
+
+#: The fields of a request by which a resource answers it, beside Content-Type.
+_DECIDING = (
+    "host",
+    "expect",
+    "content-encoding",
+    "accept",
+    "accept-language",
+    "accept-encoding",
+    *CONDITIONS,
+    *ORIGINS,
+)
+_VERSIONS = {"HTTP/0.9": 10, "HTTP/1.0": 10, "HTTP/2": 20, "HTTP/2.0": 20, "HTTP/3": 30, "HTTP/3.0": 30}
+
+
+class Serves:
+    """An application that answers for resources, by the whole answer of each (RFC 9110, sections 7.4 to 15).
+
+    `find` gives the resource of a request, as it is now. The resource answers by itself with 304, 206, 405, 406, 412,
+    415 and all others of `Reason`, and to OPTIONS and preflights; its representations answer GET and HEAD. A method is
+    performed only if nothing stands in its way. `explain` gives content to an answer that sends nothing of the
+    resource; without it, a 406 lists the representations. What `find` and a method raise is the server's to answer.
+
+    >>> from typed_headers import Method, Representation, Resource, State
+    >>> notes = {}
+    >>> def find(environ):
+    ...     text = notes.get(environ["PATH_INFO"])
+    ...     def put(environ):
+    ...         notes[environ["PATH_INFO"]] = environ["wsgi.input"].read(int(environ["CONTENT_LENGTH"]))
+    ...         return Result(201 if text is None else 204)
+    ...     methods = [Method("GET"), Method("PUT", "text/plain", creates=True)]
+    ...     if text is None:
+    ...         return Served(Resource(methods, state=State.ABSENT), methods={"PUT": put})
+    ...     shown = [Representation("text/plain", len(text))]
+    ...     return Served(Resource(methods, shown), lambda place: text, {"PUT": put})
+    >>> application = Serves(find)
+    >>> def ask(method, **environ):
+    ...     seen = []
+    ...     environ = {"REQUEST_METHOD": method, "HTTP_HOST": "a.example", "PATH_INFO": "/1", **environ}
+    ...     content = application(environ, lambda status, fields: seen.append(status))
+    ...     return seen[0], b"".join(content)
+    >>> ask("GET")
+    ('404 Not Found', b'')
+    >>> import io
+    >>> ask("PUT", CONTENT_TYPE="text/plain", CONTENT_LENGTH="4", **{"wsgi.input": io.BytesIO(b"milk")})
+    ('201 Created', b'')
+    >>> ask("GET", HTTP_RANGE="bytes=1-2")
+    ('206 Partial Content', b'il')
+    >>> ask("DELETE")
+    ('405 Method Not Allowed', b'')
+    """
+
+    def __init__(
+        self,
+        find: Callable[[Environ], Served],
+        explain: Callable[[Answer, Resource], Optional[Explanation]] = list_alternatives,
+    ) -> None:
+        self.find, self.explain = find, explain
+
+    def __call__(self, environ: Environ, start_response: StartResponse) -> Iterable[bytes]:
+        method, request = environ["REQUEST_METHOD"], _deciding(environ)
+        if request is None:
+            return _bad_request(start_response)
+        served = self.find(environ)
+        resource = served.resource
+        if "range" in request:
+            # (no client knows it before its own response, so no content can hold it on purpose)
+            resource = replace(resource, boundary=secrets.token_hex(16))
+        try:
+            answer = resource.answer(
+                method,
+                request,
+                target=environ.get("REQUEST_URI") or environ.get("RAW_URI") or "",
+                length=_length_of_content(environ, request),
+                version=_VERSIONS.get(environ.get("SERVER_PROTOCOL", ""), 11),
+            )
+        except HeaderError:
+            return _bad_request(start_response)
+        if answer.sends is Sends.RESULT or (answer.sends is Sends.WHOLE and answer.place is None):
+            result = _perform(served, method, environ)
+            return _start(start_response, method, result.status, answer.apply(result.fields), result.content)
+        status, fields = answer.status or 200, list(answer.fields)
+        if answer.place is None or answer.sends in (Sends.NOTHING, Sends.ALTERNATIVES):
+            return self._explained(start_response, method, status, answer, resource)
+        if method == "HEAD":
+            return _start(start_response, method, status, fields, None)
+        content = served.content(answer.place)
+        if answer.sends is Sends.WHOLE:
+            return _start(start_response, method, status, fields, content)
+        response = _ranges(answer, resource.representations[answer.place], resource.boundary)
+        pieces = [content] if isinstance(content, bytes) else content
+        return _start(start_response, method, status, response.fields, _Parts(response, pieces))
+
+
+    def _explained(
+        self, start_response: StartResponse, method: str, status: int, answer: Answer, resource: Resource
+    ) -> Iterable[bytes]:
+        explanation = None if status in (204, 304) else self.explain(answer, resource)
+        if explanation is None:
+            return _start(start_response, method, status, list(answer.fields), b"")
+        media_type, content = explanation
+        described = [("content-type", media_type), ("content-length", str(len(content)))]
+        fields = [it for it in answer.fields if it[0] not in ("content-type", "content-length")]
+        return _start(start_response, method, status, [*fields, *described], content)
+
+
+def _deciding(environ: Environ) -> Optional[Headers]:
+    request = _request(environ, _DECIDING)
+    if request is None or not environ.get("CONTENT_TYPE"):
+        return request
+    try:
+        return Headers([*request, ("content-type", environ["CONTENT_TYPE"])])
+    except HeaderError:
+        return None
+
+
+def _length_of_content(environ: Environ, request: Headers) -> Optional[int]:
+    """How many bytes the content of a request has, or `None` if that isn't stated."""
+    if environ.get("CONTENT_LENGTH"):
+        return Headers([("content-length", environ["CONTENT_LENGTH"])]).content_length
+    return None if "HTTP_TRANSFER_ENCODING" in environ or environ.get("wsgi.input_terminated") else 0
+
+
+def _perform(served: Served, method: str, environ: Environ) -> Result:
+    performs = served.methods.get(method)
+    if performs is None and method == "HEAD":
+        performs = served.methods.get("GET")
+    if performs is None:
+        raise LookupError(f"the resource has {method}, and nothing performs it")
+    return performs(environ)
+
+
+def _ranges(answer: Answer, shown: Representation, boundary: str) -> Response:
+    """The parts of a 206, and its length if it has several."""
+    fields = list(answer.fields)
+    if len(answer.ranges) == 1:
+        return Response(206, fields, [(b"", answer.ranges[0])])
+    media_type = None if shown.media_type is None else str(shown.media_type)
+    parts, end = multipart(answer.ranges, media_type, shown.length or 0, boundary)
+    return Response(206, [*fields, ("content-length", str(size_of(parts, end)))], parts, end)
+
+
+def _start(
+    start_response: StartResponse, method: str, status: int, fields: Fields, content: Optional[Content]
+) -> Iterable[bytes]:
+    """Sends the head, with the length of content that is bytes, and returns what is sent after it."""
+    has_length = any(name.lower() == "content-length" for name, _ in fields)
+    if isinstance(content, bytes) and not has_length and status >= 200 and status not in (204, 304):
+        fields = [*fields, ("content-length", str(len(content)))]
+    start_response(f"{status} {_phrase(status)}", fields)
+    if content is None or method == "HEAD":
+        _close(content)
+        return []
+    return ([content] if content else []) if isinstance(content, bytes) else content
+
+
+def _phrase(status: int) -> str:
+    try:
+        return HTTPStatus(status).phrase
+    except ValueError:
+        return "Unknown"

@@ -1,3 +1,2 @@
 pub mod DirectiveLemmas
-pub mod RuleLemmas
 pub mod TagLemmas

@@ -27,7 +27,7 @@ use Rattle.headers_c_parts.specs.SectionMap.{IsMapOf}
 use Rattle.headers_c.specs.Tags.{Tells}
 use Rattle.headers_c.specs.declared.cache.Moments.{Moments}
 use Rattle.headers_c_parts.specs.declared.status.Failure.{Failure}
-use Rattle.headers_c_parts.specs.declared.status.Failure.TheVariants.{Refused, Absent}
+use Rattle.headers_c_parts.specs.declared.status.Failure.TheVariants.{Absent}
 
 abbrev pub times_of : Moments → Times
 times_of moments = record { request = moments.request; response = moments.response; now = moments.now }

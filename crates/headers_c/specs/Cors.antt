@@ -14,11 +14,11 @@ use Rattle.headers_c_decisions.specs.Flags.{flag_of}
 use Rattle.headers_c_decisions.specs.FieldLines.{fields_text}
 use Rattle.headers_c_parts.specs.Endings.{TellsAndWrites}
 use Rattle.headers_c_decisions.specs.Methods.{IsMethodOf}
-use Rattle.headers_c.specs.Rules.{IsPolicyAnswer, IsPolicyFor}
+use Rattle.headers_c_decisions.specs.Rules.{IsPolicyAnswer, IsPolicyFor}
 use Rattle.headers_c_parts.specs.SectionMap.{IsMapOf}
 use Rattle.headers_c.specs.declared.cors.CorsFacts.{CorsFacts}
 use Rattle.headers_c.specs.declared.cors.Shared.{Shared}
-use Rattle.headers_c.specs.declared.rules.Rules.{Rules}
+use Rattle.headers_c_decisions.specs.declared.rules.Rules.{Rules}
 use Rattle.headers_c_parts.specs.declared.status.Failure.{Failure}
 
 abbrev pub kind_number : CorsKind → ℕ

@@ -1,10 +1,11 @@
 pub mod Cache
+pub mod CacheStore
 pub mod CacheDirectives
 pub mod Canonical
 pub mod Cors
 pub mod Fields
+pub mod Gateways
 pub mod Handshake
 pub mod Ranges
 pub mod Responses
-pub mod Rules
 pub mod Tags

@@ -1,6 +1,5 @@
 -- Two entity tags, compared.
 use Rattle.std.specs.Prelude.{◌≡◌, ◌⊎◌, ℕ, ◌&&◌, ◌==◌, List, drop, slice_index, Result, Ok, Err, if◌then◌else◌}
-use Rattle.http_header.specs.FieldValue.{FieldValue}
 use Rattle.headers.specs.EntityTag.{TagParts, AreTags}
 use Rattle.headers.specs.HeaderLaws.{ReadsBy}
 use Rattle.headers.specs.Lines.{Line}

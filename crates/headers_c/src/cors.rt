@@ -2,8 +2,7 @@
 ghost use Rattle.std.specs.Prelude.{◌≡◌, IfOk};
 ghost use Rattle.headers_c.specs.Cors.{IsShownAnswer, Shares, SharesBy, WritesShared, kind_number};
 
-use crate::rules::{Rules, read_policy};
-use headers_c_decisions::{fields_text, flag_of, read_method};
+use headers_c_decisions::{Rules, fields_text, flag_of, read_method, read_policy};
 use headers_c_parts::{DONE, Failure, HashKeys, copy_into, read_map};
 use headers_cors_policy::{CorsAnswer, CorsKind, CorsPolicy};
 use std::alloc::{AllocError, Global};

@@ -4,18 +4,20 @@
 
 mod cache;
 mod cache_control;
+mod cache_store;
 mod canonical;
 mod cors;
 mod field;
 mod fields;
 mod formats;
+mod gateway;
 mod giving;
 mod handshake;
 mod media_type;
 mod negotiation;
 mod preconditions;
 mod ranges;
+mod resource;
 mod response;
-mod rules;
 mod selection;
 mod tags;

@@ -43,7 +43,7 @@ pub extern "C" fn typed_headers_respond(
 }
 
 // The status of two rooms.
-fn worse(one: u8, other: u8) -> u8
+pub(crate) fn worse(one: u8, other: u8) -> u8
     ensures { result ≡ worse one other }
 {
     if one == DONE { other } else { one }

@@ -5,8 +5,10 @@ pub mod FieldLines
 pub mod Flags
 pub mod Handshakes
 pub mod Methods
+pub mod Numbers
 pub mod Ratings
 pub mod Responses
+pub mod Rules
 pub mod Selection
 pub mod Star
 pub mod StatusCodes

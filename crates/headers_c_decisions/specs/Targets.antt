@@ -1,6 +1,5 @@
 -- What a server knows of the target of a request, by what a caller hands in.
-use Rattle.std.specs.Prelude.{◌≡◌, ◌⊎◌, ℕ, true, false, List, [], Option, Some, None, Result, Ok, Err}
-use Rattle.std.specs.Prelude.{if◌then◌else◌}
+use Rattle.std.specs.Prelude.{◌≡◌, ◌⊎◌, ℕ, Bool, true, false, List, [], Option, Some, None, Result, Ok, Err}
 use Rattle.http_header.specs.FieldValue.{FieldValue}
 use Rattle.headers.specs.Date.{IsDated}
 use Rattle.headers.specs.HeaderLaws.{ReadsBy}
@@ -9,6 +8,7 @@ use Rattle.headers.specs.Shapes.{only_tag}
 use Rattle.headers_preconditions.specs.declared.resource.Resource.{Resource}
 use Rattle.headers_preconditions.specs.declared.resource.Resource.TheVariants.{Missing, Current}
 use Rattle.headers_c_parts.specs.FieldText.{FieldDecodes, field_lines}
+use Rattle.headers_c_decisions.specs.Numbers.{known}
 use Rattle.headers_c_decisions.specs.declared.target.Target.{Target}
 use Rattle.headers_c_parts.specs.declared.status.Failure.{Failure}
 use Rattle.headers_c_parts.specs.declared.status.Failure.TheVariants.{Refused, Absent}
@@ -24,12 +24,10 @@ IsTagOf text (Ok (Some tag)) = FieldDecodes reads_etag text (Ok tag)
 IsTagOf text (Err Absent) = ⊥
 IsTagOf text (Err failure) = FieldDecodes reads_etag text (Err failure)
 
--- the date of a target, if it is known; one past the year 9999 is refused
-abbrev pub IsDateOf : Target → Result (Option ℕ) Failure → Type 0
-IsDateOf target (Ok date) =
-    date ≡ (if target.has_last_modified then Some target.last_modified else None)
-IsDateOf target (Err failure) =
-    (failure ≡ Refused) × (target.has_last_modified ≡ true) × (¬ (IsDated target.last_modified))
+-- the date of a second, if it is known; one past the year 9999 is refused
+abbrev pub IsDateOf : Bool → ℕ → Result (Option ℕ) Failure → Type 0
+IsDateOf is_known second (Ok date) = date ≡ known is_known second
+IsDateOf is_known second (Err failure) = (failure ≡ Refused) × (is_known ≡ true) × (¬ (IsDated second))
 
 -- what the target is: nothing, or a representation with this tag and this date
 abbrev pub IsResourceOf : List ℕ → Target → Result Resource Failure → Type 0
@@ -37,7 +35,8 @@ IsResourceOf etag target (Ok Missing) = target.exists ≡ false
 IsResourceOf etag target (Ok (Current validators)) =
     (target.exists ≡ true)
     × IsTagOf etag (Ok validators.etag)
-    × IsDateOf target (Ok validators.last_modified)
+    × IsDateOf target.has_last_modified target.last_modified (Ok validators.last_modified)
     × (validators.is_date_strong ≡ target.is_date_strong)
 IsResourceOf etag target (Err failure) =
-    (target.exists ≡ true) × (IsTagOf etag (Err failure) ⊎ IsDateOf target (Err failure))
+    (target.exists ≡ true)
+    × (IsTagOf etag (Err failure) ⊎ IsDateOf target.has_last_modified target.last_modified (Err failure))

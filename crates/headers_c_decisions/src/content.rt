@@ -1,8 +1,8 @@
 //! What a response carries of a representation, as C hands it in.
-ghost use Rattle.headers_c_decisions.specs.Contents.{IsBoundaryOf, IsContentOf};
-ghost use Rattle.std.specs.Prelude.{◌≡◌, if◌then◌else◌, Some, None};
-ghost use Rattle.headers_preconditions.specs.Limits.{usual_limits};
+ghost use Rattle.std.specs.Prelude.{◌≡◌};
+ghost use Rattle.headers_c_decisions.specs.Contents.{IsBoundaryOf, IsContentOf, limits_of};
 
+use crate::numbers::known;
 use crate::texts::optional_value;
 use headers::Refused;
 use headers_c_parts::Failure;
@@ -23,20 +23,11 @@ pub struct ContentParts<'a> {
     pub sends_ranges: bool,
 }
 
-fn length_of(parts: &ContentParts<'_>) -> Option<u64>
-    ensures { result ≡ (if parts.entry.now.has_length then Some parts.entry.now.length else None) }
+/// The usual limits, if ranges are sent.
+pub fn limits_of(sends_ranges: bool) -> Option<RangeLimits>
+    ensures { result ≡ limits_of sends_ranges }
 {
-    if parts.has_length {
-        Some(parts.length)
-    } else {
-        None
-    }
-}
-
-fn limits_of(parts: &ContentParts<'_>) -> Option<RangeLimits>
-    ensures { result ≡ (if parts.entry.now.sends_ranges then Some usual_limits else None) }
-{
-    if parts.sends_ranges {
+    if sends_ranges {
         Some(RangeLimits::usual())
     } else {
         None
@@ -49,14 +40,14 @@ pub(crate) fn content_of(alloc: Global, parts: &ContentParts<'_>) -> Result<Cont
 {
     let media_type = optional_value(alloc, parts.media_type)?;
     Ok(Content {
-        len: length_of(parts),
+        len: known(parts.has_length, parts.length),
         media_type,
-        ranges: limits_of(parts),
+        ranges: limits_of(parts.sends_ranges),
     })
 }
 
 /// The boundary of these bytes (RFC 2046, section 5.1.1).
-pub(crate) fn boundary_of(alloc: Global, text: &[u8]) -> Result<Boundary, Failure>
+pub fn boundary_of(alloc: Global, text: &[u8]) -> Result<Boundary, Failure>
     ensures { IsBoundaryOf text.now result }
 {
     let Ok(text) = str::from_utf8(text) else {

@@ -1,5 +1,5 @@
-//! Decisions for C: preconditions, selections, responses, negotiation and handshakes, by what a
-//! caller hands in.
+//! Decisions for C: preconditions, selections, responses, negotiation, handshakes and rules for other
+//! origins, by what a caller hands in.
 #![tactic(auto)]
 
 mod choice;
@@ -9,8 +9,10 @@ mod field_lines;
 mod flag;
 mod handshake;
 mod method;
+mod numbers;
 mod quality;
 mod response;
+mod rules;
 mod selection;
 mod star;
 mod status_code;
@@ -18,7 +20,7 @@ mod target;
 mod texts;
 
 pub use crate::choice::{choose, look_up_language};
-pub use crate::content::ContentParts;
+pub use crate::content::{ContentParts, boundary_of, limits_of};
 pub use crate::evaluation::evaluate_request;
 pub use crate::field_lines::fields_text;
 pub use crate::flag::flag_of;
@@ -26,9 +28,12 @@ pub use crate::handshake::{
     Answered, HandshakeFacts, answer_handshake, check_response, offer_handshake,
 };
 pub use crate::method::read_method;
+pub use crate::numbers::known;
 pub use crate::quality::{OfferQuality, rate};
-pub use crate::response::{Responded, ResponseFacts, respond_to};
+pub use crate::response::{Responded, ResponseFacts, parts_sent, respond_to};
+pub use crate::rules::{Listed, Rules, read_line, read_policy};
 pub use crate::selection::{BytesRange, Selected, select_ranges};
 pub use crate::star::is_any;
 pub use crate::status_code::read_status;
-pub use crate::target::{Target, read_resource};
+pub use crate::target::{Target, read_date, read_resource};
+pub use crate::texts::{optional_value, values_of};

@@ -99,7 +99,8 @@ fn show(alloc: Global, response: &Response, is_known: bool) -> Result<Responded,
     Ok(Responded { facts, parts, text })
 }
 
-fn parts_sent(alloc: Global, plan: &Plan) -> Result<Vec<BytesRange>, AllocError>
+/// The ranges that a plan sends, if it sends not all.
+pub fn parts_sent(alloc: Global, plan: &Plan) -> Result<Vec<BytesRange>, AllocError>
     ensures { IfOk result (λ parts. parts.items ≡ map range_of (parts_sent plan.now)) }
 {
     match plan {

@@ -37,16 +37,17 @@ fn read_tag(alloc: Global, text: &[u8]) -> Result<Option<ETag>, Failure>
     }
 }
 
-fn read_date(target: &Target) -> Result<Option<LastModified>, Failure>
-    ensures { IsDateOf target.now result }
+/// The date of a second, if it is known.
+pub fn read_date(is_known: bool, second: u64) -> Result<Option<LastModified>, Failure>
+    ensures { IsDateOf is_known second result }
 {
-    if !target.has_last_modified {
+    if !is_known {
         return Ok(None);
     }
-    if target.last_modified >= END_OF_DATES {
+    if second >= END_OF_DATES {
         return Err(Failure::Refused);
     }
-    Ok(Some(LastModified::from_unix_secs(target.last_modified)))
+    Ok(Some(LastModified::from_unix_secs(second)))
 }
 
 /// What is known of a target.
@@ -57,7 +58,7 @@ pub fn read_resource(alloc: Global, etag: &[u8], target: &Target) -> Result<Reso
         return Ok(Resource::Missing);
     }
     let etag = read_tag(alloc, etag)?;
-    let last_modified = read_date(target)?;
+    let last_modified = read_date(target.has_last_modified, target.last_modified)?;
     Ok(Resource::Current(Validators {
         etag,
         last_modified,

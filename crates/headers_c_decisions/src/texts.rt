@@ -9,7 +9,7 @@ use http_header::HeaderValueError;
 use std::alloc::Global;
 
 /// The values of a text, one a line.
-pub(crate) fn values_of(alloc: Global, text: &[u8]) -> Result<Vec<HeaderValue>, Failure>
+pub fn values_of(alloc: Global, text: &[u8]) -> Result<Vec<HeaderValue>, Failure>
     ensures { IsValuesOf text.now result }
 {
     match read_values(alloc, text)? {
@@ -39,7 +39,7 @@ pub(crate) fn request_for<D: Dimension>(alloc: Global, lines: &[u8]) -> Result<H
 }
 
 /// The field line of these bytes, or none if there is no byte.
-pub(crate) fn optional_value(alloc: Global, text: &[u8]) -> Result<Option<HeaderValue>, Failure>
+pub fn optional_value(alloc: Global, text: &[u8]) -> Result<Option<HeaderValue>, Failure>
     ensures { IsOptionalValue text.now result }
 {
     if text.is_empty() {

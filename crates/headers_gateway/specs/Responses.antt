@@ -74,6 +74,18 @@ abbrev pub StatesUnless : Bool → Protocol → LineMap → Framing → Type 0
 StatesUnless true protocol fields framing = framing ≡ Unstated
 StatesUnless false protocol fields framing = States protocol fields framing
 
+-- why the fields are rejected, where they aren't ignored
+abbrev pub RejectsContent : Protocol → List ℕ → ℕ → LineMap → Rejection → Type 0
+RejectsContent protocol method status fields rejection =
+    (states_nothing method status ≡ false) × RejectsFraming protocol fields rejection
+
+-- how the content of a response is delimited (RFC 9112, section 6.3)
+pub record DelimitsContent (protocol : Protocol) (method : List ℕ) (status : ℕ) (fields : LineMap) (content : Content)
+    : Type 0 where
+  pub stated : Framing
+  pub states : StatesUnless (states_nothing method status) protocol fields stated
+  pub content_is : content ≡ content_of method status stated
+
 -- what the fields are made to state to the client: one of HTTP/1.0 doesn't know chunks
 abbrev pub sent_framing : Protocol → Framing → Framing
 sent_framing Http10 Chunked = Unstated
@@ -142,8 +154,7 @@ RejectsResponse gateway response Rejection.InvalidOption =
 RejectsResponse gateway response Rejection.ProtectedOption =
     RejectsOptions gateway response.fields Rejection.ProtectedOption
 RejectsResponse gateway response rejection =
-    (states_nothing response.method response.status ≡ false)
-    × RejectsFraming response.protocol response.fields rejection
+    RejectsContent response.protocol response.method response.status response.fields rejection
 
 abbrev pub IsResponseOutcome : Gateway → ℕ → Response → ResponseOutcome → Type 0
 IsResponseOutcome gateway date response (Forward sent) = IsForwardedResponse gateway date response sent

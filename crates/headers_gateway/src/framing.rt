@@ -39,7 +39,7 @@ enum Coding {
 
 /// What the fields of a message state about its content. What recipients are known to disagree on is
 /// rejected (RFC 9112, sections 6.1 and 6.3).
-pub(crate) fn stated_framing(protocol: Protocol, message: &HeaderMap) -> Result<Framing, Rejection>
+pub fn stated_framing(protocol: Protocol, message: &HeaderMap) -> Result<Framing, Rejection>
     ensures ok { IfOk result (States protocol (lines_at message.now)) }
     ensures err { IfErr result (RejectsFraming protocol (lines_at message.now)) }
 {

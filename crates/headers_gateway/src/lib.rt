@@ -24,7 +24,7 @@ mod via;
 
 pub use crate::expectation::{Expectation, expectation_of, has_known_expectation};
 pub use crate::field_line::FieldLine;
-pub use crate::framing::Framing;
+pub use crate::framing::{Framing, stated_framing};
 pub use crate::gateway::Gateway;
 pub use crate::hop_by_hop::is_hop_by_hop;
 pub use crate::host::has_host;
@@ -32,7 +32,7 @@ pub use crate::protocol::Protocol;
 pub use crate::rejection::Rejection;
 pub use crate::request::{ForwardedRequest, RequestHead, RequestOutcome, forward_request};
 pub use crate::response::{
-    Content, ForwardedResponse, ResponseHead, ResponseOutcome, forward_response,
+    Content, ForwardedResponse, ResponseHead, ResponseOutcome, forward_response, response_content,
 };
 pub use crate::trailers::forward_trailers;
 pub use crate::via::{InvalidPseudonym, Pseudonym};

@@ -1,9 +1,10 @@
 //! What a gateway does with a response.
 ghost use Rattle.std.specs.Prelude.{◌≡◌, IfErr, IfOk, OnErr};
 ghost use Rattle.headers.specs.LineMap.{lines_at};
-ghost use Rattle.headers_gateway.specs.Responses.{IsAcceptedResponse, IsForwardableResponse, IsResponseOutcome};
-ghost use Rattle.headers_gateway.specs.Responses.{RejectsResponse, content_of, date_if_absent, is_interim, is_tunnel};
-ghost use Rattle.headers_gateway.specs.Responses.{has_no_content, response_of, sent_framing, states_nothing};
+ghost use Rattle.headers_gateway.specs.Responses.{DelimitsContent, IsAcceptedResponse, IsForwardableResponse};
+ghost use Rattle.headers_gateway.specs.Responses.{IsResponseOutcome, RejectsContent, RejectsResponse, StatesUnless};
+ghost use Rattle.headers_gateway.specs.Responses.{content_of, date_if_absent, has_no_content, is_interim, is_tunnel};
+ghost use Rattle.headers_gateway.specs.Responses.{response_of, sent_framing, states_nothing};
 
 use crate::field_line::FieldLine;
 use crate::framing::{Framing, stated_framing};
@@ -121,6 +122,37 @@ fn content_of(method: &Method, status: StatusCode, framing: Framing) -> Content
     }
 }
 
+// What the fields state about the content, or nothing where they are ignored.
+fn heeded_framing(
+    protocol: Protocol,
+    method: &Method,
+    status: StatusCode,
+    fields: &HeaderMap,
+) -> Result<Framing, Rejection>
+    ensures ok { IfOk result (StatesUnless (states_nothing method.now status) protocol (lines_at fields.now)) }
+    ensures err { IfErr result (RejectsContent protocol method.now status (lines_at fields.now)) }
+{
+    if states_nothing(method, status) {
+        return Ok(Framing::Unstated);
+    }
+    stated_framing(protocol, fields)
+}
+
+/// How the content of a response is delimited (RFC 9112, section 6.3). The method is that of the
+/// request.
+pub fn response_content(
+    protocol: Protocol,
+    method: &Method,
+    status: StatusCode,
+    fields: &HeaderMap,
+) -> Result<Content, Rejection>
+    ensures ok { IfOk result (DelimitsContent protocol method.now status (lines_at fields.now)) }
+    ensures err { IfErr result (RejectsContent protocol method.now status (lines_at fields.now)) }
+{
+    let framing = heeded_framing(protocol, method, status, fields)?;
+    Ok(content_of(method, status, framing))
+}
+
 // What is stated to the client: one of HTTP/1.0 doesn't know chunks.
 fn sent_framing(client: Protocol, framing: Framing) -> Framing
     ensures { result ≡ sent_framing client framing }
@@ -150,10 +182,12 @@ fn accepted_response(gateway: &Gateway, response: &ResponseHead<'_>) -> Result<F
         return Err(Rejection::SwitchedProtocols);
     }
     check_options(gateway, response.fields)?;
-    if states_nothing(response.method, response.status) {
-        return Ok(Framing::Unstated);
-    }
-    stated_framing(response.protocol, response.fields)
+    heeded_framing(
+        response.protocol,
+        response.method,
+        response.status,
+        response.fields,
+    )
 }
 
 /// What a gateway does with a response that it receives at this date. Runs out of memory only if the

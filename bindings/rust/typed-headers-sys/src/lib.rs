@@ -120,11 +120,204 @@ pub struct CorsFacts {
 }
 
 #[repr(C)]
+#[derive(Clone, Copy, Debug)]
+pub struct Resource {
+    pub hosts: Text,
+    pub methods: Text,
+    pub creating: Text,
+    pub guarded: Text,
+    pub accept: Text,
+    pub accept_encoding: Text,
+    pub location: Text,
+    pub media_types: Text,
+    pub languages: Text,
+    pub codings: Text,
+    pub etags: Text,
+    pub boundary: Text,
+    pub limit: u64,
+    pub state: u16,
+    pub by_media_type: bool,
+    pub by_language: bool,
+    pub by_coding: bool,
+    pub is_strict: bool,
+    pub needs_length: bool,
+    pub has_limit: bool,
+    pub has_cors: bool,
+}
+
+#[repr(C)]
+#[derive(Clone, Copy, Debug, Default)]
+pub struct Representation {
+    pub length: u64,
+    pub last_modified: u64,
+    pub has_length: bool,
+    pub sends_ranges: bool,
+    pub has_last_modified: bool,
+    pub is_date_strong: bool,
+}
+
+#[repr(C)]
+#[derive(Clone, Copy, Debug)]
+pub struct ResourceRequest {
+    pub present: u64,
+    pub length: u64,
+    pub version: u8,
+    pub has_content: bool,
+    pub has_length: bool,
+}
+
+#[repr(C)]
+#[derive(Clone, Copy, Debug, Default, PartialEq, Eq, Hash)]
+pub struct ResourceFacts {
+    pub place: usize,
+    pub status: u16,
+    pub reason: u8,
+    pub sends: u8,
+    pub has_place: u8,
+}
+
+#[repr(C)]
 #[derive(Clone, Copy, Debug, PartialEq, Eq, Hash)]
 pub struct Moments {
     pub request: u64,
     pub response: u64,
     pub now: u64,
+}
+
+#[repr(C)]
+#[derive(Clone, Copy, Debug)]
+pub struct Gateway {
+    pub name: Text,
+    pub protected_fields: Text,
+    pub consumes_credentials: bool,
+}
+
+#[repr(C)]
+#[derive(Clone, Copy, Debug)]
+pub struct Hop {
+    pub client: Text,
+    pub interface_node: Text,
+    pub client_port: u16,
+    pub interface_port: u16,
+    pub server_version: u8,
+    pub is_secure: bool,
+    pub is_trusted: bool,
+    pub writes_forwarded: bool,
+    pub writes_x_forwarded: bool,
+    pub tells_host: bool,
+    pub closes: bool,
+    pub accepts_trailers: bool,
+}
+
+#[repr(C)]
+#[derive(Clone, Copy, Debug, Default, PartialEq, Eq, Hash)]
+pub struct Framing {
+    pub length: u64,
+    pub kind: u8,
+}
+
+#[repr(C)]
+#[derive(Clone, Copy, Debug, Default, PartialEq, Eq, Hash)]
+pub struct RequestOutcome {
+    pub framing: Framing,
+    pub status: u16,
+    pub action: u8,
+    pub reason: u8,
+    pub sends_continue: u8,
+}
+
+#[repr(C)]
+#[derive(Clone, Copy, Debug, Default, PartialEq, Eq, Hash)]
+pub struct ResponseOutcome {
+    pub received: Framing,
+    pub sent: Framing,
+    pub status: u16,
+    pub action: u8,
+    pub reason: u8,
+}
+
+#[repr(C)]
+#[derive(Clone, Copy, Debug, Default, PartialEq, Eq, Hash)]
+pub struct FramingOutcome {
+    pub framing: Framing,
+    pub status: u16,
+    pub reason: u8,
+}
+
+/// A cache. Zero bytes are a closed one.
+#[repr(C)]
+#[derive(Debug)]
+pub struct Cache {
+    pub place: *mut core::ffi::c_void,
+    pub is_open: bool,
+}
+
+/// How much a cache stores, and for whom.
+#[repr(C)]
+#[derive(Clone, Copy, Debug)]
+pub struct CacheOptions {
+    pub variants: usize,
+    pub responses: usize,
+    pub bytes: usize,
+    pub is_shared: bool,
+}
+
+/// A request to a cache.
+#[repr(C)]
+#[derive(Clone, Copy, Debug)]
+pub struct CacheRequest {
+    pub target: Text,
+    pub method: Text,
+    pub section: Text,
+}
+
+/// A response that came from the origin.
+#[repr(C)]
+#[derive(Clone, Copy, Debug)]
+pub struct CacheResponse {
+    pub section: Text,
+    pub content: Text,
+    pub requested: u64,
+    pub received: u64,
+    pub status: u16,
+    pub is_complete: bool,
+}
+
+/// What is told of a stored response.
+#[repr(C)]
+#[derive(Clone, Copy, Debug, Default)]
+pub struct Stored {
+    pub age: u64,
+    pub requested: u64,
+    pub received: u64,
+    pub length: usize,
+    pub status: u16,
+}
+
+/// What a cache does with a request.
+#[repr(C)]
+#[derive(Clone, Copy, Debug, Default)]
+pub struct LookedUp {
+    pub stored: Stored,
+    pub place: usize,
+    pub action: u8,
+}
+
+/// How a stored response answers a client.
+#[repr(C)]
+#[derive(Clone, Copy, Debug, Default)]
+pub struct StoredAnswer {
+    pub first: u64,
+    pub last: u64,
+    pub kind: u8,
+}
+
+/// What a 304 makes of stored responses.
+#[repr(C)]
+#[derive(Clone, Copy, Debug, Default)]
+pub struct Freshened {
+    pub place: usize,
+    pub outcome: u8,
 }
 
 /// A call that reads one number of the lines of a field.
@@ -373,6 +566,27 @@ extern "C" {
         room_length: usize,
         written: *mut usize,
     ) -> u8;
+    pub fn typed_headers_resource_answer(
+        resource: *const Resource,
+        representations: *const Representation,
+        representations_length: usize,
+        rules: *const CorsRules,
+        request: *const ResourceRequest,
+        method: *const u8,
+        method_length: usize,
+        target: *const u8,
+        target_length: usize,
+        section: *const u8,
+        section_length: usize,
+        keys: *const Keys,
+        facts: *mut ResourceFacts,
+        parts: *mut BytesRange,
+        parts_length: usize,
+        parts_written: *mut usize,
+        room: *mut u8,
+        room_length: usize,
+        written: *mut usize,
+    ) -> u8;
     pub fn typed_headers_may_store(
         method: *const u8,
         method_length: usize,
@@ -434,4 +648,119 @@ extern "C" {
         room_length: usize,
         written: *mut usize,
     ) -> u8;
+    pub fn typed_headers_forward_request(
+        gateway: *const Gateway,
+        hop: *const Hop,
+        method: *const u8,
+        method_length: usize,
+        version: u8,
+        authority: *const u8,
+        authority_length: usize,
+        section: *const u8,
+        section_length: usize,
+        keys: *const Keys,
+        outcome: *mut RequestOutcome,
+        room: *mut u8,
+        room_length: usize,
+        written: *mut usize,
+    ) -> u8;
+    pub fn typed_headers_forward_response(
+        gateway: *const Gateway,
+        status: u16,
+        version: u8,
+        section: *const u8,
+        section_length: usize,
+        keys: *const Keys,
+        method: *const u8,
+        method_length: usize,
+        client_version: u8,
+        received: u64,
+        outcome: *mut ResponseOutcome,
+        room: *mut u8,
+        room_length: usize,
+        written: *mut usize,
+    ) -> u8;
+    pub fn typed_headers_framing(
+        method: *const u8,
+        method_length: usize,
+        status: u16,
+        version: u8,
+        section: *const u8,
+        section_length: usize,
+        keys: *const Keys,
+        outcome: *mut FramingOutcome,
+    ) -> u8;
+    pub fn typed_headers_cache_new(cache: *mut Cache, options: *const CacheOptions, keys: *const Keys) -> u8;
+    pub fn typed_headers_cache_free(cache: *mut Cache) -> u8;
+    pub fn typed_headers_cache_lookup(
+        cache: *mut Cache,
+        request: *const CacheRequest,
+        now: u64,
+        guess: u64,
+        facts: *mut LookedUp,
+        room: *mut u8,
+        room_length: usize,
+        written: *mut usize,
+    ) -> u8;
+    pub fn typed_headers_cache_response(
+        cache: *mut Cache,
+        target: *const u8,
+        target_length: usize,
+        place: usize,
+        now: u64,
+        facts: *mut Stored,
+        room: *mut u8,
+        room_length: usize,
+        written: *mut usize,
+    ) -> u8;
+    pub fn typed_headers_cache_content(
+        cache: *mut Cache,
+        target: *const u8,
+        target_length: usize,
+        place: usize,
+        from: usize,
+        room: *mut u8,
+        room_length: usize,
+        written: *mut usize,
+    ) -> u8;
+    pub fn typed_headers_cache_answer(
+        cache: *mut Cache,
+        request: *const CacheRequest,
+        place: usize,
+        now: u64,
+        ranges: bool,
+        facts: *mut StoredAnswer,
+    ) -> u8;
+    pub fn typed_headers_cache_store(
+        cache: *mut Cache,
+        request: *const CacheRequest,
+        response: *const CacheResponse,
+        stored: *mut u8,
+    ) -> u8;
+    pub fn typed_headers_cache_freshen(
+        cache: *mut Cache,
+        request: *const CacheRequest,
+        section: *const u8,
+        section_length: usize,
+        requested: u64,
+        received: u64,
+        facts: *mut Freshened,
+    ) -> u8;
+    pub fn typed_headers_cache_freshen_by_head(
+        cache: *mut Cache,
+        request: *const CacheRequest,
+        section: *const u8,
+        section_length: usize,
+        requested: u64,
+        received: u64,
+    ) -> u8;
+    pub fn typed_headers_cache_invalidate(
+        cache: *mut Cache,
+        target: *const u8,
+        target_length: usize,
+        method: *const u8,
+        method_length: usize,
+        status: u16,
+    ) -> u8;
+    pub fn typed_headers_cache_remove(cache: *mut Cache, target: *const u8, target_length: usize) -> u8;
 }

@@ -1,0 +1,130 @@
+"""The cache: what its class adds to the calls of the library."""
+
+import threading
+import unittest
+from datetime import datetime, timezone
+
+from typed_headers import (
+    Cache,
+    CacheAnswerKind,
+    Decision,
+    FreshenOutcome,
+    HeaderError,
+    InvalidSection,
+    StoredResponse,
+)
+
+FRESH = {"Cache-Control": "max-age=60", "ETag": '"a"'}
+
+
+def filled(body: bytes = b"hello", **limits: int) -> Cache:
+    cache = Cache(shared=True, **limits)
+    cache.store("GET", "/a", {}, 200, FRESH, body, requested=1000, received=1000)
+    return cache
+
+
+class CacheTest(unittest.TestCase):
+    def test_serves_what_is_stored(self) -> None:
+        cache = filled()
+        found = cache.lookup("GET", "/a", {}, now=1010)
+        self.assertEqual(found.decision, Decision.SERVE)
+        self.assertEqual(found.stored, StoredResponse(0, 200, 10, 1000, 1000, 5))
+        self.assertEqual(dict(found.fields)["age"], "10")
+        self.assertEqual(cache.lookup("GET", "/b", {}, now=1010).stored, None)
+
+    def test_takes_times_with_a_zone(self) -> None:
+        cache = filled()
+        now = datetime(1970, 1, 1, 0, 17, 0, tzinfo=timezone.utc)
+        found = cache.lookup("GET", "/a", {}, now=now).stored
+        self.assertEqual(found and found.age, 20)
+
+    def test_asks_the_origin_by_the_stored_validators(self) -> None:
+        found = filled().lookup("GET", "/a", {"If-None-Match": '"b"'}, now=1100)
+        self.assertEqual(found.decision, Decision.REVALIDATE)
+        self.assertEqual(found.fields, (("if-none-match", '"a"'),))
+
+    def test_copies_parts_of_the_content(self) -> None:
+        cache = filled(bytes(range(256)) * 100)
+        self.assertEqual(cache.content("/a", 0), bytes(range(256)) * 100)
+        self.assertEqual(cache.content("/a", 0, 25_598), b"\xfe\xff")
+        self.assertEqual(cache.content("/a", 0, 1, 2), b"\x01\x02")
+        self.assertEqual(cache.content("/a", 0, 30_000), b"")
+        with self.assertRaises(LookupError):
+            cache.content("/a", 1)
+
+    def test_keeps_a_response_that_answers_once(self) -> None:
+        cache = filled()
+        update = {"ETag": '"a"', "Cache-Control": "no-store"}
+        freshened = cache.freshen("GET", "/a", {}, update, requested=1100, received=1100)
+        self.assertEqual(freshened.outcome, FreshenOutcome.UPDATED_ONCE)
+        assert freshened.place is not None
+        self.assertEqual(cache.content("/a", freshened.place), b"hello")
+        self.assertEqual(cache.response("/a", 0), None)
+
+    def test_says_where_a_304_is_about_nothing(self) -> None:
+        freshened = filled().freshen("GET", "/b", {}, {}, requested=1100, received=1100)
+        self.assertEqual((freshened.outcome, freshened.place), (FreshenOutcome.NONE_STORED, None))
+
+    def test_answers_conditions_and_ranges(self) -> None:
+        cache = filled()
+        found = cache.answer("GET", "/a", {"Range": "bytes=-2"}, 0, now=1010)
+        self.assertEqual(found and (found.kind, found.part), (CacheAnswerKind.PART, (3, 4)))
+        self.assertEqual(cache.answer("GET", "/a", {}, 1, now=1010), None)
+
+    def test_removes(self) -> None:
+        cache = filled()
+        cache.invalidate("POST", "/a", 500)
+        self.assertIsNotNone(cache.response("/a", 0))
+        cache.invalidate("POST", "/a", 201)
+        self.assertIsNone(cache.response("/a", 0))
+        cache = filled()
+        cache.remove("/a")
+        self.assertIsNone(cache.response("/a", 0))
+
+    def test_stays_within_its_limits(self) -> None:
+        cache = filled(content=8)
+        self.assertFalse(cache.store("GET", "/b", {}, 200, FRESH, b"too long.", requested=1000, received=1000))
+        self.assertFalse(cache.store("GET", "/b", {}, 200, FRESH, b"half", requested=1000, received=1000, complete=False))
+        self.assertIsNotNone(cache.response("/a", 0))
+        self.assertTrue(cache.store("GET", "/b", {}, 200, FRESH, b"long", requested=1000, received=1000))
+        self.assertIsNone(cache.response("/a", 0))
+
+    def test_says_what_is_wrong(self) -> None:
+        cache = filled()
+        with self.assertRaises(InvalidSection):
+            cache.lookup("GET", "/a", "no field\n")
+        with self.assertRaises(HeaderError):
+            cache.lookup("G T", "/a", {})
+        with self.assertRaises(HeaderError):
+            cache.store("GET", "/a", {}, 99, FRESH, b"", requested=1000)
+        with self.assertRaises(HeaderError):
+            Cache(shared=True, responses=-1)
+
+    def test_is_closed_once(self) -> None:
+        with filled() as cache:
+            pass
+        cache.close()
+        with self.assertRaisesRegex(ValueError, "closed"):
+            cache.lookup("GET", "/a", {})
+
+    def test_is_used_by_several_threads(self) -> None:
+        cache, wrong = Cache(shared=True, responses=8), []
+
+        def work(number: int) -> None:
+            target, content = f"/{number % 4}", b"%d" % (number % 4)
+            for _ in range(200):
+                cache.store("GET", target, {}, 200, FRESH, content, requested=1000, received=1000)
+                found = cache.lookup("GET", target, {}, now=1000)
+                if found.decision != Decision.SERVE:
+                    wrong.append(found)
+
+        threads = [threading.Thread(target=work, args=(number,)) for number in range(8)]
+        for thread in threads:
+            thread.start()
+        for thread in threads:
+            thread.join()
+        self.assertEqual(wrong, [])
+
+
+if __name__ == "__main__":
+    unittest.main()

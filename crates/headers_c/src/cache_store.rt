@@ -1,0 +1,240 @@
+//! A cache: a store of responses behind a handle.
+ghost use Rattle.std.specs.Prelude.{◌≡◌, None};
+ghost use Rattle.headers_c_parts.specs.Endings.{Gives, TellsAndWrites};
+ghost use Rattle.headers_c_store.specs.Answers.{AnswersClient};
+ghost use Rattle.headers_c_store.specs.Handles.{OnOpen, Opens, Reads};
+ghost use Rattle.headers_c_store.specs.Lookups.{LooksUp};
+ghost use Rattle.headers_c_store.specs.Removals.{InvalidatesTarget, Removes};
+ghost use Rattle.headers_c_store.specs.Shown.{CopiesContent, ShowsStored};
+ghost use Rattle.headers_c_store.specs.Storing.{StoresResponse};
+ghost use Rattle.headers_c_store.specs.Validations.{Freshens, FreshensByHead};
+ghost use Rattle.headers_c.specs.CacheStore.{Ends, TellsFlag, ended};
+
+use headers_c_decisions::flag_of;
+use headers_c_parts::{DONE, Failure, HashKeys, copy_into};
+use headers_c_store::{
+    AnswerFacts, Cache, CacheOptions, CacheRequest, CacheResponse, FreshenedFacts, LookupFacts,
+    StoredFacts, answer, close, copy_content, freshen, freshen_by_head, invalidate, look_up, open,
+    remove, show, store,
+};
+use headers_cache_rules::Exchange;
+use std::alloc::Global;
+
+// The status of a call that gives nothing else.
+fn ended(answer: Result<(), Failure>) -> u8
+    ensures { result ≡ ended answer }
+{
+    match answer {
+        Ok(()) => DONE,
+        Err(failure) => failure.status(),
+    }
+}
+
+/// Opens a closed handle, with an empty store. Rejected if the handle is open.
+#[unsafe(no_mangle)]
+pub extern "C" fn typed_headers_cache_new(
+    alloc: Global,
+    cache: &mut Cache,
+    options: &CacheOptions,
+    keys: &HashKeys,
+) -> u8
+    ensures { Ends (Opens options.now keys.now cache.old.held cache.new.held) result }
+{
+    ended(open(alloc, cache, options, keys))
+}
+
+/// Closes a handle, and frees what it has.
+#[unsafe(no_mangle)]
+pub extern "C" fn typed_headers_cache_free(alloc: Global, cache: &mut Cache) -> u8
+    ensures { (result ≡ 0) × (cache.new.held ≡ None) }
+{
+    close(alloc, cache);
+    DONE
+}
+
+/// What a cache does with a request (RFC 9111, section 4).
+#[unsafe(no_mangle)]
+pub extern "C" fn typed_headers_cache_lookup(
+    alloc: Global,
+    cache: &mut Cache,
+    request: &CacheRequest<'_>,
+    now: u64,
+    guess: u64,
+    facts: &mut LookupFacts,
+    room: &mut [u8],
+    written: &mut usize,
+) -> u8
+    ensures { TellsAndWrites (λ looked. looked.facts) (λ looked. looked.text.items)
+        (OnOpen (LooksUp request.entry.now now guess) cache.old.held cache.new.held)
+        facts.old facts.new room.old room.new written.old written.new result }
+{
+    match look_up(alloc, cache, request, now, guess) {
+        Ok(looked) => {
+            *facts = looked.facts;
+            copy_into(looked.text.as_slice(), DONE, room, written)
+        }
+        Err(failure) => failure.status(),
+    }
+}
+
+/// What is told of the response at a place of a target, and its field lines.
+#[unsafe(no_mangle)]
+pub extern "C" fn typed_headers_cache_response(
+    alloc: Global,
+    cache: &mut Cache,
+    target: &[u8],
+    place: usize,
+    now: u64,
+    facts: &mut StoredFacts,
+    room: &mut [u8],
+    written: &mut usize,
+) -> u8
+    ensures { TellsAndWrites (λ shown. shown.facts) (λ shown. shown.text.items)
+        (OnOpen (Reads (ShowsStored target.now place now)) cache.old.held cache.new.held)
+        facts.old facts.new room.old room.new written.old written.new result }
+{
+    match show(alloc, cache, target, place, now) {
+        Ok(shown) => {
+            *facts = shown.facts;
+            copy_into(shown.text.as_slice(), DONE, room, written)
+        }
+        Err(failure) => failure.status(),
+    }
+}
+
+/// The content of the response at a place of a target, from a position on, as much as fits.
+#[unsafe(no_mangle)]
+pub extern "C" fn typed_headers_cache_content(
+    alloc: Global,
+    cache: &mut Cache,
+    target: &[u8],
+    place: usize,
+    from: usize,
+    room: &mut [u8],
+    written: &mut usize,
+) -> u8
+    ensures open { Ends (OnOpen (Reads (λ held answer. CopiesContent target.now place from held
+        room.old room.new written.old written.new answer)) cache.old.held cache.new.held) result }
+    ensures closed { cache.old.held ≡ None → (room.new ≡ room.old) × (written.new ≡ written.old) }
+{
+    ended(copy_content(alloc, cache, target, place, from, room, written))
+}
+
+/// How the stored response at a place answers the conditions and the ranges of a request (RFC 9111,
+/// section 4.3.2).
+#[unsafe(no_mangle)]
+pub extern "C" fn typed_headers_cache_answer(
+    alloc: Global,
+    cache: &mut Cache,
+    request: &CacheRequest<'_>,
+    place: usize,
+    now: u64,
+    ranges: bool,
+    facts: &mut AnswerFacts,
+) -> u8
+    ensures { Gives (OnOpen (Reads (AnswersClient request.entry.now place now ranges)) cache.old.held cache.new.held)
+        facts.old facts.new result }
+{
+    match answer(alloc, cache, request, place, now, ranges) {
+        Ok(answered) => {
+            *facts = answered;
+            DONE
+        }
+        Err(failure) => failure.status(),
+    }
+}
+
+/// Stores the response to a request, if a cache may (RFC 9111, section 3): 1 if it did, 0 if not.
+#[unsafe(no_mangle)]
+pub extern "C" fn typed_headers_cache_store(
+    alloc: Global,
+    cache: &mut Cache,
+    request: &CacheRequest<'_>,
+    response: &CacheResponse<'_>,
+    stored: &mut u8,
+) -> u8
+    ensures { TellsFlag
+        (OnOpen (StoresResponse request.entry.now response.entry.now) cache.old.held cache.new.held)
+        stored.old stored.new result }
+{
+    match store(alloc, cache, request, response) {
+        Ok(is_stored) => {
+            *stored = flag_of(is_stored);
+            DONE
+        }
+        Err(failure) => failure.status(),
+    }
+}
+
+/// Updates stored responses by a 304 (RFC 9111, section 4.3.4).
+#[unsafe(no_mangle)]
+pub extern "C" fn typed_headers_cache_freshen(
+    alloc: Global,
+    cache: &mut Cache,
+    request: &CacheRequest<'_>,
+    section: &[u8],
+    requested: u64,
+    received: u64,
+    facts: &mut FreshenedFacts,
+) -> u8
+    ensures { Gives (OnOpen
+        (Freshens request.entry.now section.now (record { requested = requested; received = received }))
+        cache.old.held cache.new.held) facts.old facts.new result }
+{
+    let exchange = Exchange {
+        requested,
+        received,
+    };
+    match freshen(alloc, cache, request, section, exchange) {
+        Ok(freshened) => {
+            *facts = freshened;
+            DONE
+        }
+        Err(failure) => failure.status(),
+    }
+}
+
+/// Updates stored responses to GET by a 200 to HEAD (RFC 9111, section 4.3.5).
+#[unsafe(no_mangle)]
+pub extern "C" fn typed_headers_cache_freshen_by_head(
+    alloc: Global,
+    cache: &mut Cache,
+    request: &CacheRequest<'_>,
+    section: &[u8],
+    requested: u64,
+    received: u64,
+) -> u8
+    ensures { Ends (OnOpen
+        (FreshensByHead request.entry.now section.now (record { requested = requested; received = received }))
+        cache.old.held cache.new.held) result }
+{
+    let exchange = Exchange {
+        requested,
+        received,
+    };
+    ended(freshen_by_head(alloc, cache, request, section, exchange))
+}
+
+/// Removes what is stored under a target, if the response to a request invalidates that (RFC 9111,
+/// section 4.4).
+#[unsafe(no_mangle)]
+pub extern "C" fn typed_headers_cache_invalidate(
+    alloc: Global,
+    cache: &mut Cache,
+    target: &[u8],
+    method: &[u8],
+    status: u16,
+) -> u8
+    ensures { Ends (OnOpen (λ old new. InvalidatesTarget target.now old new method.now status)
+        cache.old.held cache.new.held) result }
+{
+    ended(invalidate(alloc, cache, target, method, status))
+}
+
+/// Removes what is stored under a target.
+#[unsafe(no_mangle)]
+pub extern "C" fn typed_headers_cache_remove(alloc: Global, cache: &mut Cache, target: &[u8]) -> u8
+    ensures { Ends (OnOpen (Removes target.now) cache.old.held cache.new.held) result }
+{
+    ended(remove(alloc, cache, target))
+}

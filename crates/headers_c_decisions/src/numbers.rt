@@ -1,0 +1,10 @@
+//! Numbers that a caller knows or not.
+ghost use Rattle.std.specs.Prelude.{◌≡◌};
+ghost use Rattle.headers_c_decisions.specs.Numbers.{known};
+
+/// The number, if it is known.
+pub fn known(is_known: bool, number: u64) -> Option<u64>
+    ensures { result ≡ known is_known number }
+{
+    if is_known { Some(number) } else { None }
+}

@@ -1,0 +1,3 @@
+mod NameLemmas
+mod NodeLemmas
+mod RequestLemmas

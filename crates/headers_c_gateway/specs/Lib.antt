@@ -1,0 +1,12 @@
+pub mod Contents
+pub mod Dates
+pub mod Framings
+pub mod Gateways
+pub mod Hops
+pub mod Lines
+pub mod Names
+pub mod Nodes
+pub mod Protocols
+pub mod Reasons
+pub mod Requests
+pub mod Responses

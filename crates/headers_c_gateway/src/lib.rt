@@ -1,0 +1,23 @@
+//! What a gateway forwards, for C: requests on the next connection, responses, and how messages are
+//! delimited, by what a caller hands in.
+#![tactic(auto)]
+
+mod content;
+mod date;
+mod framing;
+mod gateway;
+mod hop;
+mod lines;
+mod names;
+mod node;
+mod protocol;
+mod reason;
+mod request;
+mod response;
+
+pub use crate::content::ContentFacts;
+pub use crate::framing::{FramingFacts, frame_message};
+pub use crate::gateway::GatewayOptions;
+pub use crate::hop::HopOptions;
+pub use crate::request::{RequestFacts, RequestStep, pass_request};
+pub use crate::response::{ResponseFacts, ResponseStep, pass_response};

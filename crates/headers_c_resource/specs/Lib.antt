@@ -1,0 +1,9 @@
+pub mod Answers
+pub mod Lists
+pub mod MethodRules
+pub mod Representations
+pub mod Requests
+pub mod Resources
+pub mod Settled
+pub mod Shown
+pub mod Values

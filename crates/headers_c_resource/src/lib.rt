@@ -1,0 +1,19 @@
+//! The whole answer of a resource for C, by what a caller hands in.
+#![tactic(auto)]
+
+mod answer;
+pub mod laws;
+mod lists;
+mod method_rule;
+mod representation;
+mod request;
+mod resource;
+mod settled;
+mod shown;
+mod values;
+
+pub use crate::answer::{Answered, answer_for};
+pub use crate::representation::RepresentationParts;
+pub use crate::request::RequestParts;
+pub use crate::resource::ResourceParts;
+pub use crate::shown::AnswerFacts;

@@ -1,0 +1,17 @@
+//! Values that may not be empty.
+ghost use Rattle.headers_c_resource.specs.Values.{IsFilledValue};
+
+use headers::HeaderValue;
+use headers_c_decisions::optional_value;
+use headers_c_parts::Failure;
+use std::alloc::Global;
+
+/// The field line of these bytes, of which there is one.
+pub(crate) fn read_filled(alloc: Global, text: &[u8]) -> Result<HeaderValue, Failure>
+    ensures { IsFilledValue text.now result }
+{
+    match optional_value(alloc, text)? {
+        Some(value) => Ok(value),
+        None => Err(Failure::Refused),
+    }
+}

@@ -1,0 +1,29 @@
+use Rattle.std.proofs.Common.{rules, ℕ, List, subst}
+use Rattle.headers.specs.LineMap.{lines_at}
+use Rattle.headers_cache.specs.Changes.{IsRefreshed}
+use Rattle.headers_cache.specs.Kept.{contents_of, policy_of_store}
+use Rattle.headers_c_store.specs.Reading.{asked_by}
+use Rattle.headers_c_store.proofs.validating.freshen_in.Goals as goal
+
+pub returns-in-Ok : goal.returns-in-Ok
+returns-in-Ok c =
+    let fields = c.in_ok-fields.fields in
+    let update = lines_at c.in_ok-update.update in
+    let old = contents_of c.args.held.now.store in
+    let new = contents_of c.freshen.new.self in
+    record {
+      fields = fields;
+      is_request = search rules;
+      update = c.in_ok-update.update;
+      is_update = search rules;
+      answer = c.in-Ok.refreshed;
+      becomes =
+          subst (λ (target : List ℕ). IsRefreshed (policy_of_store c.args.held.now.store) target (asked_by c.args.request.now fields)
+          update c.args.exchange old new c.in-Ok.refreshed) c.in_ok-target.ensures.0
+          (subst (λ (method : List ℕ). IsRefreshed (policy_of_store c.args.held.now.store) c.in_ok-target.target.now
+          (record { method = method; fields = lines_at fields }) update c.args.exchange old new c.in-Ok.refreshed)
+          c.in_ok-method.ensures.1 c.in-Ok.ensures.ok);
+      facts_are = search rules;
+      once = search rules;
+      settings = search rules;
+    }

@@ -1,0 +1,9 @@
+pub mod Answers
+pub mod Handles
+pub mod Lookups
+pub mod Ownership
+pub mod Reading
+pub mod Removals
+pub mod Shown
+pub mod Storing
+pub mod Validations

@@ -1,0 +1,27 @@
+//! A store of responses for C, behind a handle (RFC 9111).
+#![tactic(auto)]
+
+mod answering;
+mod copying;
+mod handle;
+mod held;
+mod lookup;
+mod opening;
+mod raw_box;
+mod reading;
+mod removing;
+mod shown;
+mod storing;
+mod validating;
+
+pub use crate::answering::{AnswerFacts, answer};
+pub use crate::copying::copy_content;
+pub use crate::handle::Cache;
+pub use crate::held::Held;
+pub use crate::lookup::{LookedUp, LookupFacts, look_up};
+pub use crate::opening::{CacheOptions, close, open};
+pub use crate::reading::CacheRequest;
+pub use crate::removing::{invalidate, remove};
+pub use crate::shown::{ONCE, Shown, StoredFacts, show};
+pub use crate::storing::{CacheResponse, store};
+pub use crate::validating::{FreshenedFacts, freshen, freshen_by_head};

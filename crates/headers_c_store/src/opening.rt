@@ -1,0 +1,92 @@
+//! How a handle is opened and closed.
+ghost use Rattle.std.specs.Prelude.{◌≡◌, None, Err, IfOk, IsErr};
+ghost use Rattle.headers_c_parts.specs.declared.status.Failure.TheVariants.{Memory};
+ghost use Rattle.headers_c_store.specs.Handles.{IsNew, Opens, kind_of, limits_of};
+
+use crate::handle::Cache;
+use crate::held::Held;
+use headers_c_parts::{Failure, HashKeys};
+use headers_cache::{Limits, Store};
+use headers_cache_policy::Kind;
+use std::alloc::Global;
+use std::hash::RandomState;
+
+/// How much a cache stores, and for whom.
+#[repr(C)]
+#[derive(Clone, Copy)]
+pub struct CacheOptions {
+    /// How many responses there may be under one target.
+    pub variants: usize,
+    /// How many responses there may be in all.
+    pub responses: usize,
+    /// How many bytes of content there may be in all.
+    pub bytes: usize,
+    /// Whether it serves several users.
+    pub is_shared: bool,
+}
+
+fn kind_of(is_shared: bool) -> Kind
+    ensures { result ≡ kind_of is_shared }
+{
+    if is_shared {
+        Kind::Shared
+    } else {
+        Kind::Private
+    }
+}
+
+fn limits_of(options: &CacheOptions) -> Limits
+    ensures { result ≡ limits_of options.now }
+{
+    Limits {
+        variants: options.variants,
+        responses: options.responses,
+        bytes: options.bytes,
+    }
+}
+
+fn new_held(alloc: Global, options: &CacheOptions, keys: &HashKeys) -> Result<Box<Held>, Failure>
+    ensures new { IfOk result (λ held. IsNew options.now keys.now held.value) }
+    ensures memory { IsErr result → result ≡ Err Memory }
+{
+    // The keys are always given.
+    let Ok(state) = RandomState::new(keys) else {
+        return Err(Failure::Memory);
+    };
+    let store = Store::new(alloc, kind_of(options.is_shared), limits_of(options), state)?;
+    let held = Held {
+        store,
+        keys: *keys,
+        once: None,
+    };
+    match Box::new(alloc, held) {
+        Ok(held) => Ok(held),
+        Err(_) => Err(Failure::Memory),
+    }
+}
+
+/// Opens a closed handle, with an empty store. Names of targets and of fields come from outside: so
+/// the keys should be random. Rejected if the handle is open.
+pub fn open(
+    alloc: Global,
+    cache: &mut Cache,
+    options: &CacheOptions,
+    keys: &HashKeys,
+) -> Result<(), Failure>
+    ensures { Opens options.now keys.now cache.old.held cache.new.held result }
+{
+    if let Some(held) = cache.take(alloc) {
+        cache.put(held);
+        return Err(Failure::Refused);
+    }
+    let held = new_held(alloc, options, keys)?;
+    cache.put(held);
+    Ok(())
+}
+
+/// Closes a handle, and frees what it has.
+pub fn close(alloc: Global, cache: &mut Cache)
+    ensures { cache.new.held ≡ None }
+{
+    drop(cache.take(alloc));
+}
