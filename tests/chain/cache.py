@@ -366,10 +366,7 @@ class Turn:
             if not self.is_answered:
                 self.serve(of_token(responses, found[1]), None)
         else:
-            once = read_stored(found[1:], [])
-            content = self.store.contents[once.token]
-            fields = [it for it in once.fields if it[0] != "content-length"]
-            self.send(once.status, fields, content, str(len(content)))
+            self.serve(read_stored(found[1:], ["whole"]), None)
 
     def keep(self, came: Message, exchange: tuple[int, int]) -> None:
         if self.method not in SAFE and "forgets_to_invalidate" not in self.faults:

@@ -10,8 +10,8 @@ from dataclasses import dataclass, field
 from common.fields import Fields, lines_of, members
 from messages import Message, tokens
 from parts import GATE, Exchange
-from rules import (OF_CONNECTION, SAFE, Use, age, by_name, control_of, end_to_end, is_not_modified, may_be_stored,
-                   may_be_used, part_of, varies)
+from rules import (OF_CONNECTION, SAFE, Use, age, by_name, control_of, end_to_end, is_not_modified, lifetime,
+                   may_be_stored, may_be_used, part_of, varies)
 
 # Fields that a hop changes by rules of their own.
 CHANGED = {"via", "age", "date", "max-forwards", "expect", "host"}
@@ -143,8 +143,9 @@ class Checker:
         kind, texts = self.response_kind(hop, exchange, outs)
         self.kinds[f"{hop.kind}: {kind}"] += 1
         self.add(hop.name, exchange, texts)
-        self.add(hop.name, exchange, (text for out in outs if out.response
-                                      for text in crossing(out.response, exchange.response)))
+        if kind != "own answer":
+            self.add(hop.name, exchange, (text for out in outs if out.response
+                                          for text in crossing(out.response, exchange.response)))
 
     # Requests
 
@@ -274,14 +275,19 @@ class Checker:
                                                 and it.request.method in ("GET", "HEAD") and it.response.status == 200]
             for base in bases:
                 texts = self.stored_problems(hop, exchange, outs, base, last, earlier)
-                found.append((self.stored_kind(exchange, outs, last), texts))
+                found.append((self.stored_kind(hop, exchange, outs, base, last), texts))
                 if not texts:
                     return found
         return found
 
-    def stored_kind(self, exchange: Exchange, outs: list[Exchange], last: Exchange) -> str:
+    def stored_kind(self, hop: Hop, exchange: Exchange, outs: list[Exchange], base: Exchange, last: Exchange) -> str:
         form = {206: ", a part", 304: ", as a 304"}.get(exchange.response.status, "")
-        return ("validated" if last in outs else "stored") + form
+        if last in outs:
+            return f"validated{form}"
+        fields = end_to_end(exchange.response)
+        fresh_for = lifetime(base.response.status, fields, last.received, hop.is_shared)
+        told = (lines_of(fields, "age") or ["0"])[0]
+        return f"{'stale' if told.isdigit() and int(told) >= fresh_for else 'fresh'}{form}"
 
     def stored_problems(self, hop: Hop, exchange: Exchange, outs: list[Exchange], base: Exchange, last: Exchange,
                         earlier: list[Exchange]) -> list[str]:
@@ -402,10 +408,12 @@ def check_ways(ways: list[Way], record: list[Exchange], origin: int) -> tuple[li
 def check_way(way: Way, asked: dict[str, Way], answers: dict[str | None, Exchange],
               at_origin: list[Exchange]) -> tuple[str, list[str]]:
     request, response = way.exchange.request, way.exchange.response
+    # (a cache has conditions of its own)
+    own = {"close", "keep-alive", "te", "upgrade"} | CONDITIONS
     texts = []
     for it in (it for it in at_origin if it.mark == way.exchange.mark):
         texts += [f"{name} reached the origin server" for name in request.options()
-                  if name not in ("close", "keep-alive", "te", "upgrade") and it.request.lines(name)]
+                  if name not in own and it.request.lines(name)]
         names = [entry.split(" ")[1] for entry in via_members(it.request)[len(via_members(request)):]]
         if names != [hop.name for hop in way.hops]:
             texts.append(f"Via of the request is {names}")

@@ -7,16 +7,15 @@ from dataclasses import dataclass, field
 from pathlib import Path
 
 from common.dates import imf_fixdate, old_formats
-from common.fields import Fields
 from messages import Broken, Message, Stream, written
 from parts import World
 
 LIFETIMES = ["max-age=60", "max-age=60", "max-age=600", "max-age=5", "max-age=0", "s-maxage=60",
-             "s-maxage=600, max-age=30", 'max-age="60"', "MAX-AGE=30", "max-age=3600", "", "", "public"]
-EXTRAS = ["public", "must-revalidate", "stale-while-revalidate=60", "stale-if-error=600", "private", "no-cache",
-          "no-store", "proxy-revalidate", "must-understand", "immutable", 'private="x-for"', 'no-cache="set-cookie"',
-          'x="\\", no-store"', 'x="a, private"', "no-store-not", "no-transform", "stale-if-error=30",
-          "no-store, must-understand"]
+             "s-maxage=600, max-age=30", 'max-age="60"', "MAX-AGE=30", "max-age=3600", "max-age=10", "", "", "public"]
+EXTRAS = ["public", "must-revalidate", "stale-while-revalidate=60", "stale-while-revalidate=600",
+          "stale-if-error=600", "stale-if-error=600", "private", "no-cache", "no-store", "proxy-revalidate",
+          "must-understand", "immutable", 'private="x-for"', 'no-cache="set-cookie"', 'x="\\", no-store"',
+          'x="a, private"', "no-store-not", "no-transform", "stale-if-error=30", "no-store, must-understand"]
 VARIES = ["Accept-Language", "accept-language", "X-A", "Accept-Encoding", "Accept", "Cookie", "X-A, Accept-Language",
           "accept-language,,x-a", "*", "Origin", "User-Agent"]
 STATUSES = [500, 502, 503, 503, 504, 404, 410, 403, 429]

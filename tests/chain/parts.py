@@ -14,6 +14,8 @@ from pathlib import Path
 from messages import Broken, Message, Stream
 
 GATE = "gate"
+# Seconds after which a part counts as broken, also on a machine that has other work.
+PATIENCE = 600
 
 
 @dataclass
@@ -68,14 +70,15 @@ class World:
 
     def rest(self) -> None:
         """Waits until nothing is on its way."""
-        for _ in range(2000):
+        end = time.monotonic() + PATIENCE
+        while time.monotonic() < end:
             if not self.busy:
                 return
             time.sleep(0.005)
         raise RuntimeError("a part doesn't come to its end")
 
     def connect(self, port: int) -> Stream:
-        connection = socket.create_connection(("127.0.0.1", port), timeout=20)
+        connection = socket.create_connection(("127.0.0.1", port), timeout=PATIENCE)
         connection.setsockopt(socket.IPPROTO_TCP, socket.TCP_NODELAY, 1)
         self.keep(connection)
         return Stream(connection)
@@ -97,7 +100,7 @@ class World:
             with contextlib.suppress(OSError):
                 while True:
                     connection, _ = listener.accept()
-                    connection.settimeout(20)
+                    connection.settimeout(PATIENCE)
                     connection.setsockopt(socket.IPPROTO_TCP, socket.TCP_NODELAY, 1)
                     self.keep(connection)
                     threading.Thread(target=handle, args=(connection,), daemon=True).start()
@@ -150,11 +153,11 @@ class Process:
     def end(self) -> None:
         with contextlib.suppress(ProcessLookupError):
             os.killpg(self.process.pid, signal.SIGTERM)
-        self.process.wait(15)
 
 
 def await_port(port: int) -> None:
-    for _ in range(200):
+    end = time.monotonic() + PATIENCE
+    while time.monotonic() < end:
         with contextlib.suppress(OSError), socket.create_connection(("127.0.0.1", port), timeout=2):
             return
         time.sleep(0.05)

@@ -11,8 +11,8 @@ from common.fields import Fields
 from messages import Message
 
 HOSTS = ["a.test"] * 12 + ["b.test", "A.TEST"]
-METHODS = ["GET"] * 70 + ["HEAD"] * 8 + ["PUT"] * 7 + ["DELETE"] * 3 + ["OPTIONS"] * 4 + ["PATCH"] * 2 + ["POST"] * 4
-METHODS += ["TRACE", "PURGE"]
+METHODS = ["GET"] * 80 + ["HEAD"] * 9 + ["PUT"] * 4 + ["DELETE", "TRACE", "PURGE"] + ["OPTIONS"] * 4 + ["PATCH"] * 2
+METHODS += ["POST"] * 3
 # Few values, so that requests often agree.
 FIELDS = {"Accept": ["*/*", "*/*", "application/json", "text/html", "text/html, */*;q=0.1", "text/css"],
           "Accept-Encoding": ["gzip", "gzip", "gzip, br", "gzip,br", "br, gzip", "GZIP", "identity", ""],
@@ -29,7 +29,7 @@ FORBIDDEN_OPTIONS = ["Host", "Cookie", "Authorization", "Cache-Control", "x b", 
 RANGES = ["bytes=0-0", "bytes=1-5", "bytes=1-", "bytes=-2", "bytes=5000-", "bytes=0-1,4-", "x=0-1", "bytes=2-1"]
 EXPECTATIONS = ["100-continue", "100-continue", "200-ok"]
 VIAS = ["1.0 outer", "1.1 outer (a, b)", "HTTP/1.1 a, 1.0 b"]
-JUMPS = [0, 0, 0, 0, 1, 1, 5, 5, 10, 30, 59, 60, 61, 300, 3600, 86400]
+JUMPS = [1, 1, 1, 5, 5, 5, 10, 10, 10, 30, 30, 59, 60, 61, 300, 3600]
 
 
 @dataclass
@@ -45,7 +45,7 @@ class Request:
 
     def words(self, port: int, place: Path) -> list[str]:
         """The words of curl that send it."""
-        found = ["-s", "--http1.1", "--path-as-is", "--noproxy", "*", "--max-time", "20", "--expect100-timeout", "0.05",
+        found = ["-s", "--http1.1", "--path-as-is", "--noproxy", "*", "--max-time", "900", "--expect100-timeout", "0.05",
                  "-o", f"{place}.content", "-D", f"{place}.head", "-w", "%{http_code} %{exitcode}\\n"]
         found += ["-I"] if self.method == "HEAD" else ["-X", self.method]
         names = {name.lower() for name, _ in self.fields}
@@ -102,7 +102,7 @@ class Traffic:
     def request(self, client: Client) -> Request:
         draw = self.draw
         self.count += 1
-        method, target = draw.choice(METHODS), draw.choice(self.targets)
+        method, target = draw.choice(METHODS), draw.choice(self.targets[:3] if self.is_likely(0.5) else self.targets)
         if method == "POST" and self.is_notes and self.is_likely(0.8):
             target = "/notes"
         if self.is_likely(0.05):
@@ -110,12 +110,14 @@ class Traffic:
         made = Request(client.number, f"{client.mark}-r{self.count}", method, target, draw.choice(HOSTS), [])
         made.is_absolute = self.is_likely(0.03)
         made.fields = [("X-Mark", made.mark), ("X-Client", client.mark)]
-        if method == "GET" and self.is_likely(0.35) and (earlier := self.made.get(target)):
+        if method == "GET" and self.is_likely(0.5) and (earlier := self.made.get(target)):
             # (as an earlier one of maybe another client, so that a stored response may be its answer)
             made.host, made.is_absolute = "a.test", False
             made.fields += [it for it in earlier.fields if it[0] in FIELDS]
             if self.is_likely(0.3):
                 self.add_conditions(made)
+            if self.is_likely(0.15):
+                made.fields.append(("Cache-Control", draw.choice(ASKED)))
             return made
         self.add_fields(made, client)
         self.made[target] = made
