@@ -1,3 +1,4 @@
 pub mod AnswerLemmas
 pub mod ExchangeLemmas
 pub mod PassLemmas
+pub mod PlanLemmas

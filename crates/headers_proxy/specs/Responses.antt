@@ -1,7 +1,7 @@
 -- Responses on their way through, and when the connections end after one (RFC 9112, sections 9.3 and 9.6).
 use Rattle.std.specs.Prelude.{Bool, true, false, ◌&&◌, not, ◌==◌, List, [], ◌∷◌, ◌++◌, codes}
 use Rattle.std.specs.List.{list_any}
-use Rattle.http1.specs.Fields.{Header}
+use Rattle.http1.specs.Fields.{Header, elements_named, has_option}
 use Rattle.http1.specs.declared.conn.Writing.{Writing}
 use Rattle.http1.specs.declared.conn.Writing.TheVariants as Writes
 use Rattle.http1.specs.declared.server.Server.{Server}
@@ -52,6 +52,10 @@ close_unless false = close_field ∷ []
 -- the fields that are given to `http1` for a final response
 abbrev pub written_fields : Response → ForwardedResponse → List Header
 written_fields response sent = fields_of sent.fields.items ++ close_unless (keeps_origin response sent.content)
+
+-- an option of Connection is `close`, as `http1` reads it
+abbrev pub says_close : List Header → Bool
+says_close fields = has_option (codes "close") (elements_named (codes "connection") fields)
 
 -- a connection on which a response may follow
 abbrev pub is_open_at : Writing → Bool
