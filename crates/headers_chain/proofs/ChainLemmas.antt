@@ -3,6 +3,7 @@ use Rattle.std.proofs.Common.{◌≡◌, ◌≢◌, ◌⊎◌, ℕ, ◌-◌, ◌
 use Rattle.std.proofs.Common.{refl, sym, ◌∙◌, ap, subst, inl, inr, arith}
 use Rattle.std.specs.Prelude.{All, Contains, ◌||◌, bytes_eq, codes}
 use Rattle.std.specs.List.{list_any}
+use Rattle.std.proofs.lemmas.Bool.{cases_Bool}
 use Rattle.headers.specs.LineMap.{fields_of, set_all}
 use Rattle.headers.specs.Lines.{Line}
 use Rattle.headers_cache.specs.Lookups.{freshness_of}
@@ -26,8 +27,8 @@ use Rattle.headers_resource.specs.Answers.{AreSame, IsAnswer}
 use Rattle.headers_resource.specs.Requests.{Request}
 use Rattle.headers_resource.specs.declared.answer.Answer.{Answer}
 use Rattle.headers_resource.specs.declared.resource.Resource.{Resource}
-use Rattle.headers_chain.proofs.StoreLemmas.{StoreLaws, age_is, come, counted, counts, from, plain_alike}
-use Rattle.headers_chain.proofs.StoreLemmas.{quiet, right, stored_as, suits}
+use Rattle.headers_chain.proofs.StoreLemmas.{StoreLaws, age_is, come, content_is, counted, counts, from, lacks}
+use Rattle.headers_chain.proofs.StoreLemmas.{plain_alike, quiet, right, stored_as, suits}
 use Rattle.headers_chain.proofs.SuitLemmas.{MembersSelect, VaryIsSound, suited}
 use Rattle.headers_chain.proofs.WayLemmas.{ReadsNoMore, alike, apart, choose_alike, choose_direct, crosses, differs}
 use Rattle.headers_chain.proofs.WayLemmas.{direct, no_options, same_lines}
@@ -49,6 +50,9 @@ known_by false name e = by (list_any (bytes_eq name) hop_by_hop_fields) e
     by : (b : Bool) → (b || list_any (bytes_eq name) proxy_fields) ≡ false → (b || false) ≡ false
     by true h = h
     by false h = refl
+
+coding_not_carried : (name : List ℕ) → IsCarried name → name ≢ codes "transfer-encoding"
+coding_not_carried name h e = h.not_own 6 [] (omega arith) (sym e)
 
 date_not_carried : (name : List ℕ) → IsCarried name → name ≢ codes "date"
 date_not_carried name h e = h.not_own 2 [] (omega arith) (sym e)
@@ -174,6 +178,27 @@ module _ (reads : ReadsNoMore) where
         (subst (λ (options : List Member). is_hop_by_hop gateway.consumes_credentials options name ≡ true) same hop)
         other
 
+    -- a carried field that isn't behind the gateway isn't before it
+    lacks_behind : (name : List ℕ) → IsCarried name → f.behind.fields name ≡ [] → reply.fields name ≡ []
+    lacks_behind name c none =
+        f.fields name
+        ∙ elim (
+        cases_Bool (is_hop_by_hop gateway.consumes_credentials (connection_options f.response.fields) name)
+        ) [
+          | inl hop ↦ f.forwarded_back.fields.hop_by_hop name hop (coding_not_carried name c)
+          | inr crosses ↦
+              f.forwarded_back.fields.end_to_end name crosses c.not_own ∙ f.response_fields name ∙ none
+        ]
+
+    own_behind : IsOwn f.behind → IsOwn reply
+    own_behind own =
+        record {
+          status =
+              subst (λ (n : ℕ). Contains own_statuses n) (sym (f.status ∙ f.response_status)) own.status;
+          content = f.content ∙ own.content;
+          fields = λ name c. lacks_behind name c (own.fields name c);
+        }
+
     through : IsTold server now f.next f.behind → IsTold server now (sent_directly gateway request) reply
     through t =
         let status : reply.status ≡ f.behind.status = f.status ∙ f.response_status in
@@ -233,6 +258,16 @@ module _ (sound : VaryIsSound) (members : MembersSelect) (law : StoreLaws) (serv
   status_is : reply.status ≡ came.reply.status
   status_is =
       f.status ∙ (come law policy limits origin target host now request reply f).kept.status ∙ came.status
+
+  own_stored : IsOwn came.reply → IsOwn reply
+  own_stored own =
+      record {
+        status = subst (λ (n : ℕ). Contains own_statuses n) (sym status_is) own.status;
+        content = content_is law policy limits origin target host now request reply f ∙ own.content;
+        fields = λ name c.
+            lacks law policy limits origin target host now request reply f name c.not_age (date_not_carried name c)
+            (own.fields name c);
+      }
 
   from_store : now ≤ greatest → IsTold server came.time came.request came.reply → IsTold server now request reply
   from_store fits t =
@@ -324,7 +359,7 @@ module _ (reads : ReadsNoMore) (sound : VaryIsSound) (members : MembersSelect) (
             (told_as server now f.behind (meant hops f.next) f.next same.there t)
             )
         | inr own ↦
-            inr (subst (λ (n : ℕ). Contains own_statuses n) (sym (f.status ∙ f.response_status)) own)
+            inr (own_behind reads server gateway (behind server target host hops) now request reply f own)
       ]
   tells (Stores policy limits ∷ hops) now request reply fits (inl h) = tells hops now request reply fits h
   tells (Stores policy limits ∷ hops) now request reply fits (inr (inr own)) = inr own
@@ -345,8 +380,5 @@ module _ (reads : ReadsNoMore) (sound : VaryIsSound) (members : MembersSelect) (
             )
             )
         | inr own ↦
-            inr (
-            subst (λ (n : ℕ). Contains own_statuses n)
-            (sym (status_is sound members law server steady policy limits origin target host now request reply f)) own
-            )
+            inr (own_stored sound members law server steady policy limits origin target host now request reply f own)
       ]

@@ -298,6 +298,17 @@ module _ (law : StoreLaws) (policy : Policy) (limits : Limits) (origin : Origin)
         come.kept.received,
       )
 
+  -- a field that didn't come isn't in the reply, but for those that a cache writes
+  pub lacks : (name : List ℕ) → name ≢ codes "age" → name ≢ codes "date" → from.reply.fields name ≡ []
+      → reply.fields name ≡ []
+  lacks name not_age not_date none =
+      f.fields name not_age
+      ∙ elim (cases_Bool (is_hop_by_hop true (connection_options (fields_of_stored come.came)) name)) [
+        | inl hop ↦ come.kept.fields.hop_by_hop name hop not_date
+        | inr crosses ↦
+            come.kept.fields.end_to_end name (λ hop. absurd (cc (crosses, hop))) not_date ∙ from.fields name ∙ none
+      ]
+
   -- ---- what a cache never gives away
 
   kept_control : fields_of_stored f.stored (codes "cache-control") ≡ from.reply.fields (codes "cache-control")

@@ -95,9 +95,11 @@ pub record IsForwardedBack (gateway : Gateway) (origin : Origin) (now : ℕ) (re
 abbrev pub own_statuses : List ℕ
 own_statuses = 400 ∷ 417 ∷ 501 ∷ 502 ∷ 504 ∷ 508 ∷ []
 
--- somebody on the way gives the reply by himself
-abbrev pub IsOwn : Reply → Type 0
-IsOwn reply = Contains own_statuses reply.status
+-- somebody on the way gives the reply by himself: it has no content, and no carried field
+pub record IsOwn (reply : Reply) : Type 0 where
+  pub status : Contains own_statuses reply.status
+  pub content : reply.content ≡ []
+  pub fields : (name : List ℕ) → IsCarried name → reply.fields name ≡ []
 
 -- What those behind a list of hops give, the hop nearest to the client first: the last one passes on to the server.
 module _ (server : Server) (target : List ℕ) (host : List Line) where

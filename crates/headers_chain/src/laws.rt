@@ -92,7 +92,7 @@ pub fn stored_answer_is_the_answer()
 /// its request, or what one of them answers by itself. The resource says it now; or it said it at a time
 /// that is no longer ago than Age tells, and a cache on the way found it fresh, or stale in a way that each
 /// directive allows. The status, the content and each field that neither a gateway nor a cache writes are
-/// the server's.
+/// the server's. An answer of their own has no content, and no such field.
 pub fn client_gets_what_the_resource_says()
     ensures { (server : Server) (target : List ℕ) (host : List Line) (hops : List Hop) (now : ℕ) (request : Request)
         (reply : Reply) → IsSteady server → now ≤ greatest → behind server target host hops now request reply
