@@ -152,7 +152,7 @@ class ETag:
         """The entity tag that the only field line of `ETag` is."""
         lines = (line, *more) if more else (line,)
         found = _read_etag(cls, lines)
-        if type(found) is int:
+        if isinstance(found, int):
             raise _library.failed(found, "etag", lines)
         return found
 
