@@ -130,8 +130,9 @@ class Checker:
     def check_hop(self, hop: Hop, exchange: Exchange, outs: list[Exchange]) -> None:
         for out in outs:
             self.add(hop.name, exchange, self.forwarded_request(hop, exchange, out))
-        # (one that was lost with a connection may be sent again: RFC 9112, section 9.3.1)
-        if exchange.request.method not in SAFE and len([it for it in outs if it.response or it.is_first]) > 1:
+        # (one that was lost with a connection may be sent again if its method is idempotent: RFC 9110, section 9.2.2)
+        sent = [it for it in outs if it.response or it.request.method not in ("PUT", "DELETE")]
+        if exchange.request.method not in SAFE and len(sent) > 1:
             self.add(hop.name, exchange, ["an unsafe request is forwarded twice"])
         if exchange.response is None:
             # A server may close a connection that was used, before it reads a request (RFC 9112, section 9.5).
@@ -479,7 +480,9 @@ def stored_earlier(way: Way, source: Exchange, asked: dict[str, Way], at_origin:
     caches = {it.name for it in way.hops if it.kind != GATE}
     for it in at_origin:
         through = asked.get(it.mark)
-        if (through and changes_state(it) and it.order > source.order and it.ended < way.exchange.order
+        # (if a gateway rejected the response, the caches before it don't know that the request succeeded)
+        if (through and changes_state(it) and changes_state(through.exchange)
+                and it.order > source.order and it.ended < way.exchange.order
                 and key_of(it.request) == key_of(request) and caches <= {hop.name for hop in through.hops}):
             return [*texts, f"{it.request.method} of {it.mark} came after it"]
     return texts

@@ -45,8 +45,9 @@ class Request:
 
     def words(self, port: int, place: Path) -> list[str]:
         """The words of curl that send it."""
-        found = ["-s", "--http1.1", "--path-as-is", "--noproxy", "*", "--max-time", "900", "--expect100-timeout", "0.05",
-                 "-o", f"{place}.content", "-D", f"{place}.head", "-w", "%{http_code} %{exitcode}\\n"]
+        found = ["-s", "--http1.1", "--path-as-is", "--noproxy", "*", "--max-time", "900"]
+        found += ["--expect100-timeout", "0.05", "-o", f"{place}.content", "-D", f"{place}.head"]
+        found += ["-w", "%{http_code} %{exitcode}\\n"]
         found += ["-I"] if self.method == "HEAD" else ["-X", self.method]
         names = {name.lower() for name, _ in self.fields}
         for name in ("Accept", "User-Agent", "Content-Type"):
