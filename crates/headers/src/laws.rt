@@ -1,4 +1,4 @@
-//! Laws: functions with an empty body. A proof cites the contract of one by calling it.
+//! Theorems, as functions with an empty body. To cite one in a proof, call it.
 
 pub use headers_caching::{cache_control_survives_cuts, directives_read_back};
 pub use headers_conditional::{

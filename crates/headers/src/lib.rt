@@ -1,4 +1,4 @@
-//! All typed HTTP headers. A user names this crate alone.
+//! All typed HTTP headers. A program depends on this crate alone.
 #![tactic(auto)]
 
 pub mod authorization;

@@ -38,8 +38,8 @@ is_space b = b == space
 abbrev pub after_spaces : List ℕ → List ℕ
 after_spaces s = drop (prefix_len is_space s) s
 
--- what follows the scheme, its space and any further spaces is the base64 of bytes that are UTF-8, whose first colon
--- stands at the place
+-- After the scheme, its space and any further spaces follows the base64 of bytes that are UTF-8, whose first colon is
+-- at the place.
 pub record ReadsBasic (line : Line) (v : UserPass) : Type 0 where
   pub encoded : after_spaces (drop 6 line) ≡ base64 v.bytes
   pub octets : IsBytes v.bytes

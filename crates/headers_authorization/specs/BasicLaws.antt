@@ -1,4 +1,4 @@
--- Basic credentials are lawful.
+-- The laws of Basic credentials.
 use Rattle.std.proofs.Common.{◌≡◌, ℕ, List, drop, Some, refl, sym, ◌∙◌, ap, subst, arith, inl, inr}
 use Rattle.std.proofs.lemmas.Bool.{cases_lt}
 use Rattle.memchr.specs.Find.{IsFirstByte, is_byte}
@@ -33,7 +33,7 @@ basic_once line v w h k =
     let place : v.place ≡ w.place = first_once w.bytes v.place w.place first k.first in
     ap (λ (s : List ℕ). user_pass_at s v.place) bytes ∙ ap (user_pass_at w.bytes) place
 
--- what is written has the scheme
+-- the encoding has the scheme
 pub HasScheme-basic : (v : UserPass) → HasScheme basic_scheme (basic_writes v)
 HasScheme-basic v = record { longer = omega arith; spaced = refl; named = refl }
 

@@ -8,7 +8,7 @@ use Rattle.headers_syntax.specs.Text.{is_text}
 abbrev pub bearer_scheme : List ℕ
 bearer_scheme = codes "Bearer"
 
--- Bearer credentials are seen as the value that they keep
+-- a contract sees Bearer credentials as the value that they store
 abbrev pub SameBearer : FieldValue → FieldValue → Type 0
 SameBearer v w = v.bytes ≡ w.bytes
 
@@ -18,10 +18,10 @@ ReadsBearer line v = IsTrue (is_text line) × (v.bytes ≡ line)
 abbrev pub bearer_writes : FieldValue → Line
 bearer_writes v = v.bytes
 
--- the line of a token
+-- the field line of a token
 abbrev pub bearer_line : List ℕ → Line
 bearer_line token = codes "Bearer " ++ token
 
--- the token of a line: what follows its first seven bytes, without leading white space
+-- the token of a field line: what follows its first seven bytes, without leading white space
 abbrev pub bearer_token : Line → List ℕ
 bearer_token line = trim_start (drop 7 line)

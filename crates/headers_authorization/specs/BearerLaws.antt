@@ -1,4 +1,4 @@
--- Bearer credentials are lawful.
+-- The laws of Bearer credentials.
 use Rattle.std.specs.Prelude.{IsTrue, refl}
 use Rattle.std.proofs.Common.{sym, ◌∙◌, subst}
 use Rattle.headers_syntax.specs.Lines.{Line}

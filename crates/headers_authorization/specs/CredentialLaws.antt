@@ -1,4 +1,4 @@
--- What holds of the credentials of a scheme, and of the headers that keep some.
+-- The laws of the credentials of a scheme, and of the headers that store credentials.
 use Rattle.std.specs.Prelude.{◌≡◌, ℕ, List, [], ◌∷◌, refl}
 use Rattle.std.proofs.Common.{ap, subst}
 use Rattle.headers_syntax.specs.Lines.{Line}
@@ -6,8 +6,8 @@ use Rattle.headers_syntax.specs.HeaderLaws.{HeaderLaws}
 use Rattle.headers_authorization.specs.Scheme.{HasScheme, FirstReads}
 
 module _ {V : Type 0} (scheme : List ℕ) (same : V → V → Type 0) (reads : Line → V → Type 0) (writes : V → Line) where
-  -- `same` is an equivalence that reading and writing respect, and a line reads one value at most.
-  -- What is written of a value that a line of the scheme reads has the scheme, and reads as that value.
+  -- `same` is an equivalence, and decoding and encoding respect it. A field line decodes to at most one value. If a
+  -- field line of the scheme decodes to a value, the encoding of the value has the scheme, and decodes to that value.
   pub record CredentialLaws : Type 0 where
     pub same_refl : (v : V) → same v v
     pub same_sym : (v w : V) → same v w → same w v
@@ -18,7 +18,7 @@ module _ {V : Type 0} (scheme : List ℕ) (same : V → V → Type 0) (reads : L
     pub keeps_scheme : (line : Line) (v : V) → HasScheme scheme line → reads line v → HasScheme scheme (writes v)
     pub reads_back : (line : Line) (v : V) → HasScheme scheme line → reads line v → reads (writes v) v
 
-  -- a header that keeps the credentials of the first line is lawful if they are
+  -- a header that stores the credentials of the first field line has the laws of headers, if they have theirs
   pub first_laws : {H : Type 0} (kept : H → V) → CredentialLaws
       → HeaderLaws (λ (v w : H). same (kept v) (kept w)) (λ lines v. FirstReads scheme reads lines (kept v))
       (λ v. writes (kept v) ∷ [])

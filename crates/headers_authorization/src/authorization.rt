@@ -5,9 +5,10 @@ use headers_core::{AsHeaderValue, Error, Header, Refused};
 use http_header::{AUTHORIZATION, HeaderName, HeaderValue};
 use std::alloc::{AllocError, Global};
 
-/// The credentials of a request to a server: the first line, which is the scheme in any case, a
-/// space, and what the credentials read (RFC 9110, section 11.6.2). Anything else is refused. What
-/// is written is sensitive. Equality goes by the credentials.
+/// The header `Authorization`: the credentials of a request to a server (RFC 9110, section 11.6.2).
+/// The first field line is decoded: the scheme in any case, a space, and the credentials. `decode`
+/// rejects any other value, and may run out of memory. The encoding is marked sensitive. Headers
+/// are compared by their credentials.
 #[derive(Debug, Drop, PartialEq)]
 pub struct Authorization<C>(pub C);
 

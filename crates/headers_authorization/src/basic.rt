@@ -1,4 +1,4 @@
-//! User names and passwords.
+//! Credentials of the scheme `Basic`.
 ghost use Rattle.std.specs.Prelude.{◌≡◌, ◌↔◌, ◌≤◌, length, IfOk};
 ghost use Rattle.std.specs.List.{Contains, prefix_len};
 ghost use Rattle.headers_authorization.specs.Basic.{colon as colon_byte, is_space, user_pass, user_of, password_of};
@@ -14,9 +14,9 @@ use memchr::memchr;
 use std::alloc::{AllocError, Global};
 use std::marker::Model;
 
-/// A user name and a password: after the scheme and any spaces, the base64 of both with a colon
-/// between them, in UTF-8 (RFC 7617, section 2). Equality goes by the bytes and by the place of the
-/// colon.
+/// Credentials of the scheme `Basic`: a user name and a password (RFC 7617, section 2). After the
+/// scheme and any spaces follows the base64 of both, with a colon between them, in UTF-8.
+/// Credentials are compared by these bytes and by the place of the colon.
 #[derive(Debug, Drop)]
 pub struct Basic {
     decoded: String,
@@ -49,21 +49,21 @@ fn leading_spaces(bytes: &[u8]) -> usize
 }
 
 impl Basic {
-    /// The user name: what stands before the colon.
+    /// Returns the user name: what is before the first colon.
     pub fn username(&self) -> &str
         ensures { result.now ≡ user_of self.now }
     {
         &self.decoded.as_str()[..self.colon]
     }
 
-    /// The password: what stands after the colon.
+    /// Returns the password: what is after the first colon.
     pub fn password(&self) -> &str
         ensures { result.now ≡ password_of self.now }
     {
         &self.decoded.as_str()[self.colon + 1..]
     }
 
-    /// A copy of the credentials.
+    /// Copies the credentials. Fails only if an allocation fails.
     pub fn clone(&self, alloc: Global) -> Result<Basic, AllocError>
         ensures { IfOk result (λ copy. copy ≡ self.now) }
     {
@@ -130,8 +130,9 @@ impl Credentials for Basic {
 }
 
 impl Authorization<Basic> {
-    /// Credentials of a user name and a password. A user name with a colon is read back as another
-    /// one: what stands before its first colon.
+    /// Makes the header of a user name and a password (RFC 7617, section 2). Fails only if an
+    /// allocation fails. A user name with a colon decodes to another one: what is before its first
+    /// colon.
     pub fn basic(
         alloc: Global,
         username: &str,
@@ -150,21 +151,21 @@ impl Authorization<Basic> {
         }))
     }
 
-    /// The user name: what stands before the colon.
+    /// Returns the user name: what is before the first colon.
     pub fn username(&self) -> &str
         ensures { result.now ≡ user_of self.now.0 }
     {
         self.0.username()
     }
 
-    /// The password: what stands after the colon.
+    /// Returns the password: what is after the first colon.
     pub fn password(&self) -> &str
         ensures { result.now ≡ password_of self.now.0 }
     {
         self.0.password()
     }
 
-    /// A copy of the header.
+    /// Copies the header. Fails only if an allocation fails.
     pub fn clone(&self, alloc: Global) -> Result<Authorization<Basic>, AllocError>
         ensures { IfOk result (λ copy. copy ≡ self.now) }
     {
@@ -173,7 +174,7 @@ impl Authorization<Basic> {
 }
 
 impl ProxyAuthorization<Basic> {
-    /// A copy of the header.
+    /// Copies the header. Fails only if an allocation fails.
     pub fn clone(&self, alloc: Global) -> Result<ProxyAuthorization<Basic>, AllocError>
         ensures { IfOk result (λ copy. copy ≡ self.now) }
     {

@@ -1,4 +1,4 @@
-//! Bearer tokens.
+//! Credentials of the scheme `Bearer`.
 ghost use Rattle.std.specs.Prelude.{◌≡◌, ◌↔◌, Some, codes, IsTrue, IfOk, OnOk};
 ghost use Rattle.http_header.specs.FieldValue.{IsFieldValue, plain_value};
 ghost use Rattle.headers_syntax.specs.Refusal.{IsInvalid};
@@ -16,8 +16,8 @@ use std::alloc::{AllocError, Global};
 use std::fmt;
 use std::marker::Model;
 
-/// A bearer token: the whole line, which is text, as it came (RFC 6750, section 2.1). Equality goes
-/// by its bytes.
+/// Credentials of the scheme `Bearer`: a token (RFC 6750, section 2.1). The whole field line is
+/// stored, which must be text. Credentials are compared by its bytes.
 #[derive(Debug, Drop, PartialEq)]
 pub struct Bearer {
     line: HeaderValueString,
@@ -39,7 +39,7 @@ impl Model for Bearer {
     ghost inverse = { λ value. record { line = value } };
 }
 
-/// The token has a control character other than tab, so its line is no header value.
+/// The error of a token with a control character other than tab, which no header value may have.
 #[derive(Clone, Copy, Debug, PartialEq, Eq)]
 pub struct InvalidBearerToken;
 
@@ -56,14 +56,15 @@ impl fmt::Display for InvalidBearerToken {
 impl std::error::Error for InvalidBearerToken {}
 
 impl Bearer {
-    /// The token: what follows the scheme and its space, without leading white space.
+    /// Returns the token: what follows the scheme and its space, without leading white space.
     pub fn token(&self) -> &str
         ensures { result.now ≡ bearer_token self.now.bytes }
     {
         self.line.as_str()["Bearer ".len()..].trim_start()
     }
 
-    /// A copy of the credentials, sensitive exactly if the original is.
+    /// Copies the credentials. The copy is sensitive exactly if the original is. Fails only if an
+    /// allocation fails.
     pub fn clone(&self, alloc: Global) -> Result<Bearer, AllocError>
         ensures { IfOk result (λ copy. copy ≡ self.now) }
     {
@@ -107,9 +108,10 @@ impl Credentials for Bearer {
 }
 
 impl Authorization<Bearer> {
-    /// The line `Bearer`, a space and the token. The token may have characters past ASCII, but is
-    /// refused then when the line is read (RFC 9110, section 5.5). A token with a control character
-    /// other than tab is refused here.
+    /// Makes the header of a bearer token (RFC 6750, section 2.1). `Invalid` if the token has a
+    /// control character other than tab, `Memory` if an allocation fails. A token with characters
+    /// outside ASCII is accepted, but its encoding is rejected when it is decoded (RFC 9110,
+    /// section 5.5).
     pub fn bearer(
         alloc: Global,
         token: &str,
@@ -129,14 +131,15 @@ impl Authorization<Bearer> {
         }
     }
 
-    /// The token: what follows the scheme and its space, without leading white space.
+    /// Returns the token: what follows the scheme and its space, without leading white space.
     pub fn token(&self) -> &str
         ensures { result.now ≡ bearer_token self.now.0.bytes }
     {
         self.0.token()
     }
 
-    /// A copy of the header, whose credentials are sensitive exactly if the original's are.
+    /// Copies the header. The copy is sensitive exactly if the original is. Fails only if an
+    /// allocation fails.
     pub fn clone(&self, alloc: Global) -> Result<Authorization<Bearer>, AllocError>
         ensures { IfOk result (λ copy. copy ≡ self.now) }
     {
@@ -145,7 +148,8 @@ impl Authorization<Bearer> {
 }
 
 impl ProxyAuthorization<Bearer> {
-    /// A copy of the header, whose credentials are sensitive exactly if the original's are.
+    /// Copies the header. The copy is sensitive exactly if the original is. Fails only if an
+    /// allocation fails.
     pub fn clone(&self, alloc: Global) -> Result<ProxyAuthorization<Bearer>, AllocError>
         ensures { IfOk result (λ copy. copy ≡ self.now) }
     {

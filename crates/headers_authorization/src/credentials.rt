@@ -10,7 +10,8 @@ use headers_core::{AsHeaderValue, Error, Refused, first};
 use http_header::HeaderValue;
 use std::alloc::{AllocError, Global};
 
-/// The credentials of a scheme: how a line is read, and what is written (RFC 9110, section 11.4).
+/// The credentials of an authentication scheme: how a field line decodes, and how they encode (RFC
+/// 9110, section 11.4).
 pub trait Credentials: Drop {
     // The scheme's name.
     ghost scheme: { List ℕ };
@@ -24,21 +25,22 @@ pub trait Credentials: Drop {
     // The line that is written of a value.
     ghost writes: { Self → Line };
 
-    /// The scheme's name, which begins each line of its credentials.
+    /// The name of the scheme, with which each field line of its credentials begins.
     const SCHEME: &'static str;
 
-    /// The scheme's name, as contracts see it: the value of `SCHEME`.
+    /// Returns the name of the scheme, as contracts see it: the value of `SCHEME`.
     fn scheme_name() -> &'static str
         ensures { result.now ≡ scheme };
 
-    /// The credentials that the line reads, or `None`. The line must begin with the scheme, in any
-    /// case, and a space.
+    /// Decodes the credentials of a field line: `Ok(None)` if it has none. The caller must show
+    /// that the line begins with the scheme, in any case, and a space. Fails only if an allocation
+    /// fails.
     fn decode(alloc: Global, value: &HeaderValue) -> Result<Option<Self>, AllocError>
         requires { HasScheme scheme value.now.bytes }
         ensures { IfOk result (λ read. MatchOption read ((v : Self) → ¬ (reads value.now.bytes v))
             (λ v. reads value.now.bytes v)) };
 
-    /// The line that is written of the credentials.
+    /// Encodes the credentials as a field line. Fails only if an allocation fails.
     fn encode(&self, alloc: Global) -> Result<HeaderValue, AllocError>
         ensures { IfOk result (λ value. value.bytes ≡ writes self.now) };
 

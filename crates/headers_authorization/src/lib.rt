@@ -1,4 +1,4 @@
-//! Headers with credentials: who asks, by the credentials of an authentication scheme.
+//! Headers with the credentials of an authentication scheme (RFC 9110, section 11).
 #![tactic(auto)]
 
 mod authorization;

@@ -6,9 +6,10 @@ use headers_core::{AsHeaderValue, Error, Header, Refused};
 use http_header::{HeaderName, HeaderValue, PROXY_AUTHORIZATION};
 use std::alloc::{AllocError, Global};
 
-/// The credentials of a request to a proxy: the first line, which is the scheme in any case, a
-/// space, and what the credentials read (RFC 9110, section 11.7.2). Anything else is refused. What
-/// is written isn't sensitive, as in the Rust crate. Equality goes by the credentials.
+/// The header `Proxy-Authorization`: the credentials of a request to a proxy (RFC 9110, section
+/// 11.7.2). The first field line is decoded: the scheme in any case, a space, and the credentials.
+/// `decode` rejects any other value, and may run out of memory. The encoding isn't marked
+/// sensitive, as in upstream. Headers are compared by their credentials.
 #[derive(Debug, Drop, PartialEq)]
 pub struct ProxyAuthorization<C>(pub C);
 

@@ -12,8 +12,8 @@ use bytes::Bytes;
 use http_header::HeaderValue;
 use std::alloc::{AllocError, Global};
 
-/// A header value: the prefix, which must be visible ASCII, spaces and tabs, and then the base64 of
-/// the bytes.
+/// Makes a header value of a prefix and the base64 of the bytes (RFC 4648, section 4). The caller
+/// must show that the prefix is visible ASCII, spaces and tabs. Fails only if an allocation fails.
 pub fn base64_value(alloc: Global, prefix: &str, bytes: &[u8]) -> Result<HeaderValue, AllocError>
     requires { IsTrue (is_visible_text prefix.now) }
     ensures { IfOk result (λ value. value ≡ plain_value (prefix.now ++ base64 bytes.now)) }
@@ -26,8 +26,9 @@ pub fn base64_value(alloc: Global, prefix: &str, bytes: &[u8]) -> Result<HeaderV
     Ok(HeaderValue::from_known_valid(Bytes::from_string(text)?))
 }
 
-/// The bytes that the base64 text encodes. `None` if padding is missing, if bits are set after the
-/// last byte, or if another byte stands in the text.
+/// Decodes base64 with padding, in the standard alphabet (RFC 4648, section 4). `Ok(None)` if
+/// padding is missing, if bits after the last byte are set, or if the text has another byte. Fails
+/// only if an allocation fails.
 pub fn read_base64(alloc: Global, text: &[u8]) -> Result<Option<Vec<u8>>, AllocError>
     ensures { IfOk result (λ read. MatchOption read
         ((bytes : List ℕ) → IsBytes bytes → ¬ (text.now ≡ base64 bytes))

@@ -1,4 +1,4 @@
--- The header `cache-control`: flags and numbers, each by the entries of all lines.
+-- The header `cache-control`: flags and numbers, by the entries of all field lines.
 use Rattle.std.specs.Prelude.{◌≡◌, ℕ, ◌*◌, option_map, Bool, false, ◌&&◌, ◌||◌, not, ◌==◌, List, [], ◌∷◌, ◌++◌}
 use Rattle.std.specs.Prelude.{length, filter, Option, Some, None, is_none, codes, decimal, if◌then◌else◌}
 use Rattle.std.specs.List.{AllByRecursion, list_any, last_or, flat_map, before_first, after_first}
@@ -72,7 +72,7 @@ number_in entry = number (without_quotes (after_first is_equals entry))
 abbrev pub is_bad_for : List ℕ → List ℕ → Bool
 is_bad_for directive entry = carries directive entry && is_none (number_in entry)
 
--- an entry is bad if it is bad for some directive with a number
+-- an entry is bad if it is bad for some directive that has a number
 abbrev pub is_bad : List ℕ → Bool
 is_bad entry = list_any (λ row. is_bad_for row.0 entry) number_rows
 
@@ -84,7 +84,7 @@ is_set flag es = list_any (λ entry. same_name entry flag) es
 abbrev pub last_number : List ℕ → List (List ℕ) → Option ℕ
 last_number directive es = option_and_then number_in (last_or None (filter (carries directive) es))
 
--- each row's new value is what the step makes of its old one
+-- the step makes the new value of each directive of its old one
 abbrev pub Steps : {V : Type 0} → (List ℕ → V → V) → List (List ℕ × (Directives → V)) → Directives → Directives → Type 0
 Steps step rows old new = AllByRecursion (λ row. row.1 new ≡ step row.0 (row.1 old)) rows
 
@@ -95,7 +95,7 @@ next_flag entry flag before = before || same_name entry flag
 abbrev pub next_number : List ℕ → List ℕ → Option ℕ → Option ℕ
 next_number entry directive before = if carries directive entry then number_in entry else before
 
--- what entries direct
+-- the directives of a list of entries
 abbrev pub directives : List (List ℕ) → Directives
 directives es =
     record {
@@ -115,28 +115,28 @@ directives es =
       s_max_age = last_number (codes "s-maxage") es;
     }
 
--- no entry is bad, and this is what they direct
+-- no entry is bad, and these are the directives of the entries
 abbrev pub Direct : List (List ℕ) → Directives → Type 0
 Direct es d = (d ≡ directives es) × (list_any is_bad es ≡ false)
 
--- lines direct what their entries do, if no entry is bad
+-- the directives of the field lines' entries, if no entry is bad
 abbrev pub directives_of : List Line → Option Directives
 directives_of lines = if list_any is_bad (entries lines) then None else Some (directives (entries lines))
 
--- a flag that is set is printed as its name
+-- a flag that is set is encoded as its name
 abbrev pub print_flag : List ℕ → Bool → List (List ℕ)
 print_flag flag set = if set then flag ∷ [] else []
 
--- a number that is set is printed in decimal after its name and `=`
+-- a number that is set is encoded in decimal after its name and `=`
 abbrev pub print_number : List ℕ → Option ℕ → List (List ℕ)
 print_number directive None = []
 print_number directive (Some n) = (directive ++ 61 ∷ decimal n) ∷ []
 
--- all directives that are printed
+-- all directives that are encoded
 abbrev pub printed : Directives → List (List ℕ)
 printed d = flat_map (λ row. print_flag row.0 (row.1 d)) flag_rows
     ++ flat_map (λ row. print_number row.0 (row.1 d)) number_rows
 
--- they are joined by a comma and a space; the line is empty if nothing is printed
+-- they are joined by a comma and a space; the field line is empty if no directive is set
 abbrev pub lines_of_directives : Directives → List Line
 lines_of_directives d = merge comma (printed d) ∷ []

@@ -1,4 +1,4 @@
--- Each printed directive directs just itself.
+-- Each encoded directive decodes to itself alone.
 use Rattle.std.proofs.Common.{◌≡◌, ℕ, ◌^◌, ◌<◌, Bool, true, false, not, ◌&&◌, ◌==◌, nat_lt, cond}
 use Rattle.std.proofs.Common.{List, [], ◌∷◌, ◌++◌, length, filter, Option, Some, None, is_none, refl, sym, ◌∙◌}
 use Rattle.std.proofs.Common.{ap, subst, inl, inr, arith, length-append, slice_index_or}
@@ -29,7 +29,7 @@ use Rattle.headers_caching.specs.CacheControl.{flag_rows, number_rows, print_fla
 use Rattle.headers_syntax.proofs.PlainLemmas.{decimal_plain, is_plain, is_piece, unquoted_piece}
 use Rattle.headers_items.proofs.JoinedLemmas.{entries_joined}
 
--- directives are equal if each row is
+-- directives are equal if they agree in each row
 pub same_rows : (a b : Directives) → AllByRecursion (λ row. row.1 a ≡ row.1 b) flag_rows
     → AllByRecursion (λ row. row.1 a ≡ row.1 b) number_rows → a ≡ b
 same_rows a b flags numbers = λ i.
@@ -60,7 +60,7 @@ pub both : {X : Type 0} (P Q R : X → Type 0) → ((x : X) → P x → Q x → 
 both P Q R h [] ps qs = tt
 both P Q R h (x ∷ xs) ps qs = (h x ps.0 qs.0, both P Q R h xs ps.1 qs.1)
 
--- and each row is equal if they are
+-- equal directives agree in each row
 pub rows_same : {V : Type 0} (a b : Directives) → a ≡ b → (rows : List (List ℕ × (Directives → V)))
     → AllByRecursion (λ row. row.1 a ≡ row.1 b) rows
 rows_same a b e = every _ (λ row. ap row.1 e)
@@ -76,7 +76,7 @@ FitRows d rows = AllByRecursion (λ row. FitsOption (row.1 d)) rows
 abbrev pub behind_commas : List (List ℕ) → List ℕ
 behind_commas pieces = flat_map (λ piece. 44 ∷ 32 ∷ piece) pieces
 
--- ---- what a test keeps of what is printed
+-- ---- which of the encoded directives pass a test
 
 -- a number's name is plain, and ends at the first `=`
 abbrev IsNumberName : List ℕ → Type 0
@@ -90,7 +90,7 @@ number_names = (
   ((refl, λ ds. (refl, refl)), ((refl, λ ds. (refl, refl)), ((refl, λ ds. (refl, refl)), tt))),
 )
 
--- what is printed of the rows whose names pass
+-- what is encoded of the rows whose names pass
 abbrev of_rows : {V : Type 0} → (List ℕ → Bool) → (List ℕ → V → List (List ℕ)) → Directives
     → List (List ℕ × (Directives → V)) → List (List ℕ)
 of_rows q print d rows = flat_map (λ row. cond (q row.0) (print row.0 (row.1 d)) []) rows
@@ -118,7 +118,7 @@ number_kept p name None false f h = refl
 number_kept p name (Some n) true f h = rw (h n (f n refl)) refl
 number_kept p name (Some n) false f h = rw (h n (f n refl)) refl
 
--- a test of a number that goes by the number's name
+-- a test of a number that depends on the number's name alone
 abbrev GoesByName : (p q : List ℕ → Bool) → Type 0
 GoesByName p q = (name : List ℕ) (n : ℕ) → IsNumberName name → n < 2 ^ 64 → p (name ++ 61 ∷ decimal n) ≡ q name
 
@@ -133,7 +133,7 @@ filter_printed p q d f h =
     ∙ ap (λ r. r ++ filter p (flat_map (λ row. print_number row.0 (row.1 d)) number_rows)) flags
     ∙ ap (λ r. of_rows p print_flag d flag_rows ++ r) numbers
 
--- ---- what is printed are pieces
+-- ---- what is encoded are pieces
 
 number_piece : GoesByName is_piece (λ name. true)
 number_piece name n is l =
@@ -157,7 +157,7 @@ printed_pieces d f =
 pub flag_names : AllByRecursion (λ row. list_any is_equals (lowercase row.0) ≡ false) flag_rows
 flag_names = (refl, (refl, (refl, (refl, (refl, (refl, (refl, (refl, (refl, (refl, tt))))))))))
 
--- a flag's name has no `=`, and the printed text of a number has one
+-- a flag's name has no `=`, and the encoding of a number has one
 pub no_flag : (flag name ds : List ℕ) → list_any is_equals (lowercase flag) ≡ false
     → same_name (name ++ 61 ∷ ds) flag ≡ false
 no_flag flag name ds h =
@@ -224,7 +224,7 @@ printed_numbers d f =
     number_rows number_names f in
     (found.0 refl, (found.1.0 refl, (found.1.1.0 refl, (found.1.1.1.0 refl, tt))))
 
--- ---- nothing that is printed is bad
+-- ---- no encoded entry is bad
 
 number_good : GoesByName is_bad (λ name. false)
 number_good name n is l =
@@ -240,7 +240,7 @@ printed_good d f =
 
 -- ---- all of it
 
--- what is written of directives whose numbers fit reads as them
+-- the encoding of directives whose numbers fit decodes to them
 pub reads_written : (d : Directives) → FitRows d number_rows → directives_of (lines_of_directives d) ≡ Some d
 reads_written d f =
     let es : entries (lines_of_directives d) ≡ printed d = entries_joined (printed d) (printed_pieces d f) in
@@ -248,7 +248,7 @@ reads_written d f =
     ap (λ xs. cond (list_any is_bad xs) None (Some (directives xs))) es
     ∙ rw (printed_good d f) (ap (λ (x : Directives). Some x) back)
 
--- a number that was read fits
+-- a decoded number fits
 number_fits : (name : List ℕ) (es : List (List ℕ)) → FitsOption (last_number name es)
 number_fits name es n e = by (last_or None (filter (carries name) es)) e
   where
@@ -272,7 +272,7 @@ pub directives_back : (lines : List Line) (d : Directives) → directives_of lin
     → directives_of (lines_of_directives d) ≡ Some d
 directives_back lines d h = reads_written d (read_fits lines d h)
 
--- directives that are written alike are equal
+-- directives with equal encodings are equal
 pub same_by_lines : (v w : Directives) → FitRows v number_rows → FitRows w number_rows
     → lines_of_directives v ≡ lines_of_directives w → v ≡ w
 same_by_lines v w f g e =

@@ -3,11 +3,12 @@
 use headers_core::{NamedField, SecondsHeader};
 use http_header::{AGE, HeaderName};
 
-/// How long a response has been in a cache: the only line, a number of seconds below 2^64 (RFC 9111,
-/// section 5.1).
+/// The header `Age`: the time since a response was generated or validated at its origin, in seconds
+/// below 2^64 (RFC 9111, section 5.1). The only field line is decoded. `decode` rejects any other
+/// value, and no or several lines, and never allocates.
 pub type Age = SecondsHeader<AgeField>;
 
-/// The field of `Age`.
+/// The field name of `Age`.
 #[derive(Clone, Copy, Debug, PartialEq, Eq, PartialOrd, Ord, Hash)]
 pub struct AgeField;
 

@@ -27,13 +27,13 @@ use std::fmt::Write;
 use std::marker::Model;
 use std::time::Duration;
 
-/// Whether a message may be stored, and how it may be used again (RFC 9111, section 5.2, with
-/// `immutable` of RFC 8246).
+/// The header `Cache-Control`: whether a message may be stored, and how it may be reused (RFC 9111,
+/// section 5.2, with `immutable` of RFC 8246).
 ///
-/// All lines that are text are read, entry by entry. A header without lines is the empty value. All
-/// are refused if an entry carries a `max-age`, `max-stale`, `min-fresh` or `s-maxage` that is no
-/// number below 2^64. `proxy-revalidate` is read and written, but no call gets or sets it. Equality
-/// goes by what is written.
+/// All field lines that are text are decoded, entry by entry; without lines the header has no
+/// directives. `decode` rejects the lines if an entry has a `max-age`, `max-stale`, `min-fresh` or
+/// `s-maxage` that is no number below 2^64, and never allocates. `proxy-revalidate` is decoded and
+/// encoded, but no call gets or sets it. Headers are compared by their encoding.
 #[derive(Clone, Debug, PartialEq, Drop)]
 pub struct CacheControl {
     no_cache: bool,
@@ -124,7 +124,7 @@ fn set_number(
 }
 
 impl CacheControl {
-    /// A value without directives.
+    /// Makes a header without directives.
     pub fn new() -> CacheControl
         ensures { result ≡ directives [] }
     {
@@ -146,91 +146,91 @@ impl CacheControl {
         }
     }
 
-    /// Whether `no-cache` is set.
+    /// Returns whether `no-cache` is set.
     pub fn no_cache(&self) -> bool
         ensures { result ≡ self.now.no_cache }
     {
         self.no_cache
     }
 
-    /// Whether `no-store` is set.
+    /// Returns whether `no-store` is set.
     pub fn no_store(&self) -> bool
         ensures { result ≡ self.now.no_store }
     {
         self.no_store
     }
 
-    /// Whether `no-transform` is set.
+    /// Returns whether `no-transform` is set.
     pub fn no_transform(&self) -> bool
         ensures { result ≡ self.now.no_transform }
     {
         self.no_transform
     }
 
-    /// Whether `only-if-cached` is set.
+    /// Returns whether `only-if-cached` is set.
     pub fn only_if_cached(&self) -> bool
         ensures { result ≡ self.now.only_if_cached }
     {
         self.only_if_cached
     }
 
-    /// Whether `public` is set.
+    /// Returns whether `public` is set.
     pub fn public(&self) -> bool
         ensures { result ≡ self.now.public }
     {
         self.public
     }
 
-    /// Whether `private` is set.
+    /// Returns whether `private` is set.
     pub fn private(&self) -> bool
         ensures { result ≡ self.now.private }
     {
         self.private
     }
 
-    /// Whether `immutable` is set.
+    /// Returns whether `immutable` is set.
     pub fn immutable(&self) -> bool
         ensures { result ≡ self.now.immutable }
     {
         self.immutable
     }
 
-    /// Whether `must-revalidate` is set.
+    /// Returns whether `must-revalidate` is set.
     pub fn must_revalidate(&self) -> bool
         ensures { result ≡ self.now.must_revalidate }
     {
         self.must_revalidate
     }
 
-    /// Whether `must-understand` is set.
+    /// Returns whether `must-understand` is set.
     pub fn must_understand(&self) -> bool
         ensures { result ≡ self.now.must_understand }
     {
         self.must_understand
     }
 
-    /// The duration of `max-age`, in whole seconds, if it is set.
+    /// Returns the duration of `max-age`, in whole seconds, if it is set.
     pub fn max_age(&self) -> Option<Duration>
         ensures { GivesSeconds result self.now.max_age }
     {
         self.max_age.map(Duration::from_secs)
     }
 
-    /// The duration of `max-stale`, in whole seconds, if it is set.
+    /// Returns the duration of `max-stale`, in whole seconds, if it is set.
     pub fn max_stale(&self) -> Option<Duration>
         ensures { GivesSeconds result self.now.max_stale }
     {
         self.max_stale.map(Duration::from_secs)
     }
 
-    /// The duration of `min-fresh`, in whole seconds, if it is set.
+    /// Returns the duration of `min-fresh`, in whole seconds, if it is set.
     pub fn min_fresh(&self) -> Option<Duration>
         ensures { GivesSeconds result self.now.min_fresh }
     {
         self.min_fresh.map(Duration::from_secs)
     }
 
-    /// The duration of `s-maxage`, in whole seconds, if it is set.
+    /// Returns the duration of `s-maxage`, in whole seconds, if it is set.
     pub fn s_max_age(&self) -> Option<Duration>
         ensures { GivesSeconds result self.now.s_max_age }
     {
@@ -309,7 +309,7 @@ impl CacheControl {
         self
     }
 
-    /// Sets `max-age`, in whole seconds. An old one is replaced.
+    /// Sets `max-age` to a duration in whole seconds, and replaces an earlier one.
     pub fn with_max_age(mut self, dur: Duration) -> CacheControl
         requires { IsWholeSeconds dur }
         ensures { result ≡ record self { max_age = Some (as_nanos dur / 1_000_000_000) } }
@@ -318,7 +318,7 @@ impl CacheControl {
         self
     }
 
-    /// Sets `max-stale`, in whole seconds. An old one is replaced.
+    /// Sets `max-stale` to a duration in whole seconds, and replaces an earlier one.
     pub fn with_max_stale(mut self, dur: Duration) -> CacheControl
         requires { IsWholeSeconds dur }
         ensures { result ≡ record self { max_stale = Some (as_nanos dur / 1_000_000_000) } }
@@ -327,7 +327,7 @@ impl CacheControl {
         self
     }
 
-    /// Sets `min-fresh`, in whole seconds. An old one is replaced.
+    /// Sets `min-fresh` to a duration in whole seconds, and replaces an earlier one.
     pub fn with_min_fresh(mut self, dur: Duration) -> CacheControl
         requires { IsWholeSeconds dur }
         ensures { result ≡ record self { min_fresh = Some (as_nanos dur / 1_000_000_000) } }
@@ -336,7 +336,7 @@ impl CacheControl {
         self
     }
 
-    /// Sets `s-maxage`, in whole seconds. An old one is replaced.
+    /// Sets `s-maxage` to a duration in whole seconds, and replaces an earlier one.
     pub fn with_s_max_age(mut self, dur: Duration) -> CacheControl
         requires { IsWholeSeconds dur }
         ensures { result ≡ record self { s_max_age = Some (as_nanos dur / 1_000_000_000) } }
@@ -443,7 +443,7 @@ impl CacheControl {
     }
 }
 
-/// Whether two values are equal: exactly if the bytes that `encode` writes of them are.
+/// Compares two headers: they are equal exactly if their encodings are equal, byte for byte.
 pub fn equal_by_encoding(a: &CacheControl, b: &CacheControl) -> bool
     ensures equal { IsTrue result ↔ a.now ≡ b.now }
     ensures encoded { IsTrue result ↔ written_by cache_grammar a.now ≡ written_by cache_grammar b.now }
@@ -453,7 +453,7 @@ pub fn equal_by_encoding(a: &CacheControl, b: &CacheControl) -> bool
     a == b
 }
 
-/// Every value is written as a line that reads as it.
+/// Theorem: every value of `CacheControl` survives a round trip.
 #[tactic(auto, using(crate::specs::CacheControlLaws::reads_written))]
 pub fn directives_read_back(header: &CacheControl)
     ensures { ReadsBy cache_grammar (written_by cache_grammar header.now) header.now }
@@ -529,7 +529,7 @@ impl Header for CacheControl {
     }
 }
 
-/// Joining or splitting the lines of a field keeps what they decode to: the same value, or a refusal.
+/// Theorem: joining or splitting field lines changes neither the decoded value nor a rejection.
 pub fn cache_control_survives_cuts()
     ensures { SurvivesCuts comma (ReadsBy cache_grammar) }
 {}

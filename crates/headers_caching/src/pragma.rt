@@ -7,8 +7,9 @@ use http_header::{HeaderName, HeaderValue, PRAGMA};
 use std::alloc::{AllocError, Global};
 use std::marker::Model;
 
-/// A directive to the caches of HTTP/1.0: the first line, whatever it is, as it came (RFC 9111,
-/// section 5.4). Equality goes by the bytes.
+/// The header `Pragma`: a directive to the caches of HTTP/1.0 (RFC 9111, section 5.4). The first
+/// field line is stored, whatever it is. `decode` rejects only a field without a line, and may run
+/// out of memory. Headers are compared by their bytes.
 #[derive(Debug, Drop, PartialEq)]
 pub struct Pragma {
     value: HeaderValue,
@@ -25,21 +26,22 @@ impl Model for Pragma {
 }
 
 impl Pragma {
-    /// The directive `no-cache`.
+    /// Makes the header with the directive `no-cache`.
     pub fn no_cache() -> Pragma
         ensures { result ≡ plain_value (codes "no-cache") }
     {
         Pragma::from_form(HeaderValue::from_static("no-cache"))
     }
 
-    /// Whether the whole line is `no-cache`, byte for byte.
+    /// Returns whether the whole field line is `no-cache`, byte for byte.
     pub fn is_no_cache(&self) -> bool
         ensures { IsTrue result ↔ (self.now.bytes ≡ codes "no-cache") }
     {
         self.value.as_bytes() == b"no-cache".as_slice()
     }
 
-    /// A copy of the value, sensitive exactly if the original is.
+    /// Copies the header. The copy is sensitive exactly if the original is. Fails only if an
+    /// allocation fails.
     pub fn clone(&self, _alloc: Global) -> Result<Pragma, AllocError>
         ensures { IfOk result (λ copy. copy ≡ self.now) }
     {

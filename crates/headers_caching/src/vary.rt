@@ -13,8 +13,9 @@ use http_header::{HeaderName, HeaderValue, VARY};
 use std::alloc::{AllocError, Global};
 use std::marker::Model;
 
-/// The request fields by which a response was chosen (RFC 9110, section 12.5.5). All lines are
-/// read, joined by a comma and a space, and never refused. Equality goes by the joined bytes.
+/// The header `Vary`: the request fields that selected the response (RFC 9110, section 12.5.5). All
+/// field lines are joined by a comma and a space, and none are rejected: `decode` fails only if an
+/// allocation fails. Headers are compared by the joined bytes.
 #[derive(Debug, PartialEq, Drop)]
 pub struct Vary {
     names: FlatCsv<Comma>,
@@ -29,21 +30,22 @@ impl Model for Vary {
 }
 
 impl Vary {
-    /// `*`: the response was chosen by more than request fields.
+    /// Makes the header `*`: more than request fields selected the response.
     pub fn any() -> Vary
         ensures { result ≡ codes "*" }
     {
         Vary::from_form(FlatCsv::from_word("*"))
     }
 
-    /// One name.
+    /// Makes the header of one field name. Fails only if an allocation fails.
     pub fn from_name(_alloc: Global, name: HeaderName) -> Result<Vary, AllocError>
         ensures { IsOkAnd result (λ vary. vary ≡ name) }
     {
         Ok(Vary::from_form(FlatCsv::from_value(HeaderValue::from_name(name))))
     }
 
-    /// Joins the names of an iterator by a comma and a space. Its size hint isn't read.
+    /// Joins the field names of an iterator by a comma and a space. Fails only if an allocation
+    /// fails. The size hint isn't used.
     pub fn from_iter<I: Iterator<Item = HeaderName> + Drop>(
         alloc: Global,
         names: I,
@@ -55,7 +57,7 @@ impl Vary {
         Ok(Vary::from_form(FlatCsv::from_names(alloc, names)?))
     }
 
-    /// Whether some item is `*`.
+    /// Returns whether some item is `*`.
     pub fn is_any(&self) -> bool
         ensures answer { IsTrue result ↔ Contains (items comma self.now) (codes "*") }
         ensures cuts { SurvivesCuts comma
@@ -65,7 +67,8 @@ impl Vary {
         self.names.iter().any(|item| item == "*")
     }
 
-    /// The items, as slices of the value. A value that isn't text has none.
+    /// Starts an iterator over the items, which are slices of the value. A value that isn't text
+    /// has no items.
     pub fn iter_strs(&self) -> Items<'_, Comma>
         ensures items { items_left result ≡ items comma self.now }
         ensures fresh { result ≡ walk_over comma self.now }
@@ -78,7 +81,7 @@ impl Vary {
         self.names.iter()
     }
 
-    /// A copy of the value.
+    /// Copies the header. Fails only if an allocation fails.
     pub fn clone(&self, alloc: Global) -> Result<Vary, AllocError>
         ensures { IfOk result (λ copy. copy ≡ self.now) }
     {

@@ -1,11 +1,11 @@
--- Entity tags that are read from texts.
+-- Entity tags in texts.
 use Rattle.std.specs.Prelude.{◌≡◌, ⊤, List, ℕ, Result, Ok, Err}
 use Rattle.http_header.specs.FieldValue.{FieldValue, IsFieldValue, plain_value}
 use Rattle.headers_syntax.specs.EntityTag.{IsSomeTag}
 use Rattle.headers_syntax.specs.declared.error.Refused.{Refused}
 use Rattle.headers_syntax.specs.declared.error.Refused.TheVariants.{Invalid, Memory}
 
--- what a text reads as: itself, if it is a header value and an entity tag, and `Invalid` only if it isn't both
+-- the text parses as itself if it is a header value and an entity tag, and is `Invalid` only if it isn't both
 abbrev pub ReadsText : {E : Type 0} → List ℕ → Result FieldValue (Refused E) → Type 0
 ReadsText text (Ok value) = IsFieldValue text × IsSomeTag text × (value ≡ plain_value text)
 ReadsText text (Err (Invalid e)) = ¬ (IsFieldValue text × IsSomeTag text)

@@ -4,6 +4,6 @@ use Rattle.headers_syntax.specs.EntityTag.{StronglyEqual}
 use Rattle.headers_core.specs.EntityTagRange.{Matches}
 use Rattle.headers_core.specs.declared.entity_tag_range.EntityTagRange.{EntityTagRange}
 
--- the condition holds of a tag: it is any, or some item is a tag that is strongly equal
+-- the condition passes for a tag: it is `*`, or some item is a tag that is strongly equal
 abbrev pub MatchPasses : EntityTagRange → List ℕ → Type 0
 MatchPasses = Matches StronglyEqual

@@ -4,6 +4,6 @@ use Rattle.headers_syntax.specs.EntityTag.{WeaklyEqual}
 use Rattle.headers_core.specs.EntityTagRange.{Matches}
 use Rattle.headers_core.specs.declared.entity_tag_range.EntityTagRange.{EntityTagRange}
 
--- the condition holds of a tag: it isn't any, and no item is a tag that is weakly equal
+-- the condition passes for a tag: it isn't `*`, and no item is a tag that is weakly equal
 abbrev pub NoneMatchPasses : EntityTagRange → List ℕ → Type 0
 NoneMatchPasses tags tag = ¬ (Matches WeaklyEqual tags tag)

@@ -27,7 +27,7 @@ read_back line false None v is shows e = absurd (cc e)
 validator_back : ReadsBackLine validator validator_line
 validator_back line v e = read_back line (is_tag line) (date line) v refl refl e
 
--- a tag and a date that was built are read back
+-- a tag and a date that were built survive a round trip
 pub tag_back : (value : FieldValue) → is_tag value.bytes ≡ true → validator value.bytes ≡ Some (unmarked (Tag value))
 tag_back value tag = rw tag refl
 

@@ -11,8 +11,9 @@ use std::alloc::{AllocError, Global};
 use std::fmt;
 use std::marker::Model;
 
-/// The entity tag of the representation that a response carries: the only line, which is refused if
-/// it is no entity tag (RFC 9110, section 8.8.3). Equality goes by the bytes.
+/// The header `ETag`: the entity tag of the selected representation (RFC 9110, section 8.8.3). The
+/// only field line is decoded. `decode` rejects a value that is no entity tag, and no or several
+/// lines, and may run out of memory. Headers are compared by their bytes.
 #[derive(Debug, Drop, PartialEq, Eq)]
 pub struct ETag {
     tag: EntityTag,
@@ -26,7 +27,7 @@ impl Model for ETag {
     ghost inverse = { λ value. record { tag = value } };
 }
 
-/// The text is no header value or no entity tag.
+/// The error of a text that is no header value or no entity tag.
 #[derive(Clone, Copy, Debug, PartialEq, Eq)]
 pub struct InvalidETag;
 
@@ -43,8 +44,8 @@ impl fmt::Display for InvalidETag {
 impl std::error::Error for InvalidETag {}
 
 impl ETag {
-    /// The tag in a text, which may have characters past ASCII. `InvalidETag` if the text is no
-    /// header value or no entity tag.
+    /// Parses a text as an entity tag, whose opaque part may have characters outside ASCII.
+    /// `Invalid` if the text is no header value or no entity tag, `Memory` if an allocation fails.
     pub fn from_str(alloc: Global, text: &str) -> Result<ETag, Refused<InvalidETag>>
         ensures text { ReadsText text.now result }
         ensures no_value { ¬ (IsFieldValue text.now) → IsInvalid result }
@@ -62,14 +63,14 @@ impl ETag {
         }
     }
 
-    /// Whether the tag is weak: `W/` stands before its quotes.
+    /// Returns whether the entity tag is weak, so whether it begins with `W/`.
     pub fn is_weak(&self) -> bool
         ensures { (opaque : List ℕ) × IsTag self.now.bytes (record { is_weak = result; opaque = opaque }) }
     {
         self.tag.view().is_weak()
     }
 
-    /// A copy of the tag.
+    /// Copies the header. Fails only if an allocation fails.
     pub fn clone(&self, alloc: Global) -> Result<ETag, AllocError>
         ensures { IfOk result (λ etag. etag ≡ self.now) }
     {
@@ -77,14 +78,14 @@ impl ETag {
     }
 }
 
-/// The entity tag that a header carries.
+/// Returns the entity tag of the header.
 pub fn tag_of(etag: &ETag) -> &EntityTag
     ensures { result.now ≡ etag.now }
 {
     &etag.tag
 }
 
-/// The entity tag that a header carries, moved out of it.
+/// Returns the entity tag of the header, without copying it.
 pub fn into_tag(etag: ETag) -> EntityTag
     ensures { result ≡ etag }
 {

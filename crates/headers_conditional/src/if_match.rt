@@ -14,15 +14,15 @@ use crate::tag_condition::TagCondition;
 use headers_core::{FormHeader, NamedField};
 use http_header::{HeaderName, IF_MATCH};
 
-/// A request is to be served only if the target has one of these entity tags (RFC 9110, section
-/// 13.1.1).
+/// The header `If-Match`: a request is to be performed only if the target has one of these entity
+/// tags (RFC 9110, section 13.1.1).
 ///
-/// All lines are read, joined by a comma and a space, and never refused. `*` alone is any tag.
-/// Otherwise the items that are entity tags count, and other items are ignored. Equality goes by
-/// what is written.
+/// All field lines are joined by a comma and a space, and none are rejected: `decode` fails only if
+/// an allocation fails. `*` alone is any tag. In a list, items that are no entity tag are ignored.
+/// Headers are compared by their encoding.
 pub type IfMatch = TagCondition<IfMatchField>;
 
-/// The field of `IfMatch`.
+/// The field name of `IfMatch`.
 #[derive(Debug, PartialEq)]
 pub struct IfMatchField;
 
@@ -35,7 +35,8 @@ impl NamedField for IfMatchField {
 }
 
 impl TagCondition<IfMatchField> {
-    /// Whether it is any, or some item is an entity tag that is strongly equal to this one.
+    /// Returns whether the condition is `*`, or has an entity tag that is strongly equal to this
+    /// one.
     pub fn precondition_passes(&self, etag: &ETag) -> bool
         ensures answer { IsTrue result ↔ MatchPasses self.now etag.now.bytes }
         ensures cuts { SurvivesCuts comma
@@ -47,9 +48,9 @@ impl TagCondition<IfMatchField> {
     }
 }
 
-/// A condition that is made from a tag that is text passes exactly for the tags that are strongly
-/// equal, and so for that tag exactly if it isn't weak. If the tag has a byte past ASCII, the
-/// condition passes for no tag.
+/// Theorem: which tags pass an `If-Match` that is made of one entity tag. If the entity tag is
+/// ASCII text, exactly the strongly equal tags pass; so the tag itself passes exactly if it isn't
+/// weak. If it has a byte outside ASCII, no tag passes.
 pub fn if_match_of_own_tag()
     ensures text { (bytes : List ℕ) (parts : TagParts) → IsTag bytes parts → is_text bytes ≡ true
         → (MatchPasses (Tags bytes) bytes ↔ (parts.is_weak ≡ false)) }

@@ -6,8 +6,10 @@ use headers_core::{Date1, FormHeader};
 use http_header::{HeaderName, IF_MODIFIED_SINCE};
 use std::marker::Model;
 
-/// A resource is wanted only if it has changed since: the only line, a date from 1970 to 9999 in
-/// one of the three formats (RFC 9110, section 13.1.3).
+/// The header `If-Modified-Since`: a representation is wanted only if it was modified after this
+/// date (RFC 9110, section 13.1.3). The only field line is decoded, a date from 1970 to 9999 in one
+/// of the three date formats. `decode` rejects any other value, and no or several lines, and never
+/// allocates.
 #[derive(Clone, Copy, Debug, PartialEq, Eq, PartialOrd, Ord, Hash)]
 pub struct IfModifiedSince {
     date: Date1,
@@ -22,7 +24,8 @@ impl Model for IfModifiedSince {
 }
 
 impl IfModifiedSince {
-    /// The date this many seconds after the start of 1970. It must lie before the year 10000.
+    /// Makes a header of the date this many seconds after the start of 1970. The caller must show
+    /// that it is before the year 10000.
     pub fn from_unix_secs(secs: u64) -> IfModifiedSince
         requires { IsDated secs }
         ensures { result ≡ secs }
@@ -30,7 +33,7 @@ impl IfModifiedSince {
         IfModifiedSince::from_form(Date1::from_unix_secs(secs))
     }
 
-    /// The seconds since the start of 1970.
+    /// Returns the date in seconds since the start of 1970.
     pub fn unix_secs(&self) -> u64
         ensures value { result ≡ self.now }
         ensures bound { IsDated result }
@@ -38,7 +41,7 @@ impl IfModifiedSince {
         self.date.unix_secs()
     }
 
-    /// Whether a change this many seconds after the start of 1970 is later than the date.
+    /// Returns whether this modification time, in seconds since 1970, is later than the date.
     pub fn is_modified(&self, last_modified: u64) -> bool
         ensures { IsTrue result ↔ (self.now < last_modified) }
     {

@@ -14,15 +14,15 @@ use crate::tag_condition::TagCondition;
 use headers_core::{FormHeader, NamedField};
 use http_header::{HeaderName, IF_NONE_MATCH};
 
-/// A request is to be served only if the target has none of these entity tags (RFC 9110, section
-/// 13.1.2).
+/// The header `If-None-Match`: a request is to be performed only if the target has none of these
+/// entity tags (RFC 9110, section 13.1.2).
 ///
-/// All lines are read, joined by a comma and a space, and never refused. `*` alone is any tag.
-/// Otherwise the items that are entity tags count, and other items are ignored. Equality goes by
-/// what is written.
+/// All field lines are joined by a comma and a space, and none are rejected: `decode` fails only if
+/// an allocation fails. `*` alone is any tag. In a list, items that are no entity tag are ignored.
+/// Headers are compared by their encoding.
 pub type IfNoneMatch = TagCondition<IfNoneMatchField>;
 
-/// The field of `IfNoneMatch`.
+/// The field name of `IfNoneMatch`.
 #[derive(Debug, PartialEq)]
 pub struct IfNoneMatchField;
 
@@ -35,7 +35,8 @@ impl NamedField for IfNoneMatchField {
 }
 
 impl TagCondition<IfNoneMatchField> {
-    /// Whether it isn't any, and no item is an entity tag that is weakly equal to this one.
+    /// Returns whether the condition isn't `*`, and has no entity tag that is weakly equal to this
+    /// one.
     pub fn precondition_passes(&self, etag: &ETag) -> bool
         ensures answer { IsTrue result ↔ NoneMatchPasses self.now etag.now.bytes }
         ensures cuts { SurvivesCuts comma
@@ -47,9 +48,9 @@ impl TagCondition<IfNoneMatchField> {
     }
 }
 
-/// A condition that is made from a tag that is text passes exactly for the tags that aren't weakly
-/// equal, and so never for that tag. If the tag has a byte past ASCII, the condition passes for
-/// every tag.
+/// Theorem: which tags pass an `If-None-Match` that is made of one entity tag. If the entity tag is
+/// ASCII text, exactly the tags pass that aren't weakly equal; so the tag itself never passes. If
+/// it has a byte outside ASCII, every tag passes.
 pub fn if_none_match_of_own_tag()
     ensures text { (bytes : List ℕ) (parts : TagParts) → IsTag bytes parts → is_text bytes ≡ true
         → ¬ (NoneMatchPasses (Tags bytes) bytes) }

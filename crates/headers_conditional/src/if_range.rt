@@ -18,9 +18,10 @@ use http_header::{HeaderName, HeaderValue, IF_RANGE};
 use std::alloc::{AllocError, Global};
 use std::marker::Model;
 
-/// Ranges are wanted only of the representation with this tag or date, else all of the current one
-/// (RFC 9110, section 13.1.5). The first line is read: an entity tag, or else a date from 1970 to
-/// 9999. Anything else is refused. Equality goes by the tag's bytes or the date.
+/// The header `If-Range`: ranges are wanted only if this tag or date is that of the representation,
+/// else all of it (RFC 9110, section 13.1.5). The first field line is decoded: an entity tag, or
+/// else a date from 1970 to 9999. `decode` rejects any other value, and may run out of memory.
+/// Headers are compared by the bytes of the tag, or by the date.
 #[derive(Debug, Drop, PartialEq)]
 pub struct IfRange {
     named: Named,
@@ -47,7 +48,7 @@ impl Model for IfRange {
 }
 
 impl IfRange {
-    /// Names the representation with this tag.
+    /// Makes a header of an entity tag.
     pub fn etag(tag: ETag) -> IfRange
         ensures { result ≡ Tag tag }
     {
@@ -56,8 +57,8 @@ impl IfRange {
         }
     }
 
-    /// Names the representation that was last modified this many seconds after the start of 1970.
-    /// The date must lie before the year 10000.
+    /// Makes a header of a modification time, in seconds since 1970. The caller must show that it
+    /// is before the year 10000.
     pub fn date(secs: u64) -> IfRange
         requires { IsDated secs }
         ensures { result ≡ Second secs }
@@ -67,9 +68,9 @@ impl IfRange {
         }
     }
 
-    /// Whether a representation with this tag and this time is the one that is named. If a tag is
-    /// named: the two are strongly equal. If a date is named: it is exactly that time, which must
-    /// be a strong validator (section 8.8.2.2); else the caller gives no time.
+    /// Returns whether a representation with this entity tag and modification time matches. A tag
+    /// matches a strongly equal tag. A date matches exactly that time, which must be a strong
+    /// validator (RFC 9110, section 8.8.2.2); if it is none, the caller passes no time.
     pub fn matches(&self, etag: Option<&ETag>, last_modified: Option<&LastModified>) -> bool
         ensures { MatchBool result (ValidatorMatches self.now etag.entry last_modified.entry)
             (¬ (ValidatorMatches self.now etag.entry last_modified.entry)) }
@@ -86,7 +87,8 @@ impl IfRange {
         }
     }
 
-    /// A copy of the tag that is named, or `None` if a date is.
+    /// Copies the entity tag: `Ok(None)` if the header has a date. Fails only if an allocation
+    /// fails.
     pub fn named_tag(&self, alloc: Global) -> Result<Option<ETag>, AllocError>
         ensures { IfOk result (λ tag. tag ≡ named_tag self.now) }
     {
@@ -96,7 +98,7 @@ impl IfRange {
         }
     }
 
-    /// The second after the start of 1970 that is named, or `None` if a tag is.
+    /// Returns the date in seconds since 1970, or `None` if the header has an entity tag.
     pub fn named_date(&self) -> Option<u64>
         ensures { result ≡ named_second self.now }
     {
@@ -106,9 +108,9 @@ impl IfRange {
         }
     }
 
-    /// Whether a representation with this tag and this time differs from the one that is named. If
-    /// a date is named: the time is absent or later. If a tag is named: the tag is absent, or the
-    /// two aren't strongly equal.
+    /// Returns whether a representation with this entity tag and modification time has changed. By
+    /// a date: the time is absent or later. By a tag: the tag is absent, or the two aren't strongly
+    /// equal.
     pub fn is_modified(&self, etag: Option<&ETag>, last_modified: Option<&LastModified>) -> bool
         ensures { IsTrue result ↔ IsModified self.now etag.entry last_modified.entry }
     {
@@ -124,7 +126,7 @@ impl IfRange {
         }
     }
 
-    /// A copy of the value.
+    /// Copies the header. Fails only if an allocation fails.
     pub fn clone(&self, alloc: Global) -> Result<IfRange, AllocError>
         ensures { IfOk result (λ copy. copy ≡ self.now) }
     {
@@ -193,8 +195,7 @@ impl Header for IfRange {
     }
 }
 
-/// Each tag that is an entity tag, and each date whose text reads as it, is written as a line that
-/// reads as it.
+/// Theorem: every entity tag, and every date, survives a round trip.
 #[tactic(auto, using(crate::specs::IfRangeLaws::tag_back, crate::specs::IfRangeLaws::second_back))]
 pub fn if_range_reads_back()
     ensures tag { (value : FieldValue) → is_tag value.bytes ≡ true

@@ -1,4 +1,4 @@
-//! Validators and conditional requests (RFC 9110, sections 8.8 and 13.1).
+//! Headers of validators and conditional requests (RFC 9110, sections 8.8 and 13.1).
 #![tactic(auto)]
 
 mod etag;

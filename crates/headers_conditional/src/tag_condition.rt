@@ -1,4 +1,4 @@
-//! Conditions on the entity tags that a target has.
+//! Conditions on the entity tags of the target.
 ghost use Rattle.std.specs.Prelude.{◌≡◌, ◌↔◌, List, IsTrue, IfOk};
 ghost use Rattle.headers_syntax.specs.HeaderLaws.{ReadsBy};
 ghost use Rattle.headers_syntax.specs.Lines.{Line};
@@ -13,9 +13,10 @@ use http_header::HeaderName;
 use std::alloc::{AllocError, Global};
 use std::marker::{Model, PhantomData};
 
-/// The entity tags that a condition names. All lines are read, joined by a comma and a space, and
-/// never refused. `*` alone is any tag. Otherwise the items that are entity tags count, and other
-/// items are ignored. Equality goes by what is written.
+/// A condition on entity tags: `*`, or a list of tags (RFC 9110, sections 13.1.1 and 13.1.2). All
+/// field lines are joined by a comma and a space, and none are rejected: `decode` fails only if an
+/// allocation fails. In a list, items that are no entity tag are ignored. Conditions are compared
+/// by their encoding.
 #[derive(Debug, Drop, PartialEq)]
 pub struct TagCondition<N: NamedField> {
     tags: EntityTagRange,
@@ -33,21 +34,21 @@ impl<N: NamedField> Model for TagCondition<N> {
 }
 
 impl<N: NamedField> TagCondition<N> {
-    /// `*`, which is any tag.
+    /// Makes the condition `*`, which is any entity tag.
     pub fn any() -> TagCondition<N>
         ensures { result ≡ Any }
     {
         TagCondition::from_form(EntityTagRange::Any)
     }
 
-    /// Whether it is `*`.
+    /// Returns whether the condition is `*`.
     pub fn is_any(&self) -> bool
         ensures { IsTrue result ↔ (self.now ≡ Any) }
     {
         self.tags == EntityTagRange::Any
     }
 
-    /// A copy of the condition.
+    /// Copies the condition. Fails only if an allocation fails.
     pub fn clone(&self, alloc: Global) -> Result<TagCondition<N>, AllocError>
         ensures { IfOk result (λ copy. copy ≡ self.now) }
     {
@@ -88,7 +89,7 @@ impl<N: NamedField> FormHeader for TagCondition<N> {
     }
 }
 
-/// A condition on tags reads every list of lines, so `decode` never answers `Invalid`.
+/// Theorem: every list of field lines decodes to a condition on entity tags; never to `Invalid`.
 pub fn tag_conditions_read_all()
     ensures { (lines : List Line) → ReadsBy tags_grammar lines (range_of (merge comma lines)) }
 {}

@@ -2,6 +2,6 @@
 use Rattle.std.specs.Prelude.{ℕ, List, Any}
 use Rattle.headers_syntax.specs.AsciiCase.{SameButForCase}
 
--- some item is the option, but for the case of ASCII letters
+-- some item is the option, ignoring the case of ASCII letters
 abbrev pub HasOption : List (List ℕ) → List ℕ → Type 0
 HasOption items option = Any (λ item. SameButForCase item option) items

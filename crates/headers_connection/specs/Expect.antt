@@ -1,4 +1,4 @@
--- The header `expect`: its only line is `100-continue`.
+-- The header `expect`: its only field line is `100-continue`.
 use Rattle.std.specs.Prelude.{codes}
 use Rattle.headers_syntax.specs.Lines.{Line}
 use Rattle.headers_syntax.specs.HeaderLaws.{Grammar}

@@ -12,8 +12,9 @@ use http_header::{CONNECTION, HeaderName};
 use std::alloc::{AllocError, Global};
 use std::marker::Model;
 
-/// The options that the sender wants for this connection (RFC 9110, section 7.6.1). All lines are
-/// read, joined by a comma and a space, and never refused.
+/// The header `Connection`: the options that the sender wants for this connection (RFC 9110,
+/// section 7.6.1). All field lines are joined by a comma and a space, and none are rejected:
+/// `decode` fails only if an allocation fails.
 #[derive(Debug, Drop)]
 pub struct Connection {
     options: FlatCsv<Comma>,
@@ -39,12 +40,12 @@ mod sealed {
     impl Sealed for HeaderName {}
 }
 
-/// The name of a connection option: a text, or the name of a field. No other type can be one.
+/// The name of a connection option: a text, or a field name. No other type can be one.
 pub trait AsConnectionOption: sealed::Sealed {
     // The text.
     ghost option: { Self → List ℕ };
 
-    /// The text.
+    /// Returns the name of the connection option as text.
     fn as_connection_option(&self) -> &str
         ensures { result.now ≡ option self.now };
 }
@@ -74,28 +75,29 @@ impl AsConnectionOption for HeaderName {
 }
 
 impl Connection {
-    /// The connection is closed after the response.
+    /// Makes the header `close`: the connection is closed after the response.
     pub fn close() -> Connection
         ensures { result ≡ codes "close" }
     {
         Connection::from_form(FlatCsv::from_word("close"))
     }
 
-    /// The connection is kept open.
+    /// Makes the header `keep-alive`: the connection stays open.
     pub fn keep_alive() -> Connection
         ensures { result ≡ codes "keep-alive" }
     {
         Connection::from_form(FlatCsv::from_word("keep-alive"))
     }
 
-    /// The message has an Upgrade field (RFC 9110, section 7.8).
+    /// Makes the header `upgrade`: the message has an Upgrade field (RFC 9110, section 7.8).
     pub fn upgrade() -> Connection
         ensures { result ≡ codes "upgrade" }
     {
         Connection::from_form(FlatCsv::from_word("upgrade"))
     }
 
-    /// Joins the names of an iterator by a comma and a space. Its size hint isn't read.
+    /// Joins the field names of an iterator by a comma and a space. Fails only if an allocation
+    /// fails. The size hint isn't used.
     pub fn from_iter<I: Iterator<Item = HeaderName> + Drop>(
         alloc: Global,
         names: I,
@@ -107,7 +109,8 @@ impl Connection {
         Ok(Connection::from_form(FlatCsv::from_names(alloc, names)?))
     }
 
-    /// Whether some item is the option, ignoring the case of ASCII letters (RFC 9110, section 7.6.1).
+    /// Returns whether some item is the option, ignoring the case of ASCII letters (RFC 9110,
+    /// section 7.6.1).
     pub fn contains<T: AsConnectionOption>(&self, option: T) -> bool
         ensures answer { IsTrue result ↔ HasOption (items comma self.now) (T.option option) }
         ensures cuts { SurvivesCuts comma
@@ -121,7 +124,7 @@ impl Connection {
             .any(|item| same_but_for_case(item, option))
     }
 
-    /// A copy of the value.
+    /// Copies the header. Fails only if an allocation fails.
     pub fn clone(&self, alloc: Global) -> Result<Connection, AllocError>
         ensures { IfOk result (λ copy. copy ≡ self.now) }
     {

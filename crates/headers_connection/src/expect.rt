@@ -4,15 +4,16 @@ use headers_core::{AsHeaderValue, Error, Header, Refused, only_word};
 use http_header::{EXPECT, HeaderName, HeaderValue};
 use std::alloc::{AllocError, Global};
 
-/// What a request expects of the server: the only line, which is `100-continue`; anything else is
-/// refused (RFC 9110, section 10.1.1).
+/// The header `Expect`: the client expects a response before it sends the content (RFC 9110,
+/// section 10.1.1). The only field line is `100-continue`. `decode` rejects any other value, and no
+/// or several lines, and never allocates.
 #[derive(Clone, Debug, Drop, PartialEq)]
 pub struct Expect {
     _priv: (),
 }
 
 impl Expect {
-    /// The client waits for an interim response before it sends the content.
+    /// `100-continue`: the client waits for an interim response before it sends the content.
     pub const CONTINUE: Expect = Expect { _priv: () };
 }
 

@@ -7,8 +7,9 @@ use http_header::{HeaderName, TE};
 use std::alloc::{AllocError, Global};
 use std::marker::Model;
 
-/// The transfer codings that a client accepts (RFC 9110, section 10.1.4). All lines are read,
-/// joined by a comma and a space, and never refused. Equality goes by the joined bytes.
+/// The header `TE`: the transfer codings that a client accepts (RFC 9110, section 10.1.4). All
+/// field lines are joined by a comma and a space, and none are rejected: `decode` fails only if an
+/// allocation fails. Headers are compared by the joined bytes.
 #[derive(Debug, PartialEq, Drop)]
 pub struct Te {
     codings: FlatCsv<Comma>,
@@ -23,14 +24,14 @@ impl Model for Te {
 }
 
 impl Te {
-    /// The client accepts trailers.
+    /// Makes the header `trailers`: the client accepts trailer fields.
     pub fn trailers() -> Te
         ensures { result ≡ codes "trailers" }
     {
         Te::from_form(FlatCsv::from_word("trailers"))
     }
 
-    /// A copy of the value.
+    /// Copies the header. Fails only if an allocation fails.
     pub fn clone(&self, alloc: Global) -> Result<Te, AllocError>
         ensures { IfOk result (λ copy. copy ≡ self.now) }
     {

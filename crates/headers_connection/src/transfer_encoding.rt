@@ -13,8 +13,9 @@ use memchr::memrchr;
 use std::alloc::{AllocError, Global};
 use std::marker::Model;
 
-/// The transfer codings that were applied to the content to form the message body, in order (RFC
-/// 9112, section 6.1). All lines are read, joined by a comma and a space, and never refused.
+/// The header `Transfer-Encoding`: the transfer codings that form the message body, in order (RFC
+/// 9112, section 6.1). All field lines are joined by a comma and a space, and none are rejected:
+/// `decode` fails only if an allocation fails.
 #[derive(Debug, Drop)]
 pub struct TransferEncoding {
     codings: FlatCsv<Comma>,
@@ -46,15 +47,15 @@ fn ends_in_chunked(text: &str) -> bool
 }
 
 impl TransferEncoding {
-    /// The chunked coding.
+    /// Makes the header `chunked`.
     pub fn chunked() -> TransferEncoding
         ensures { result ≡ codes "chunked" }
     {
         TransferEncoding::from_form(FlatCsv::from_word("chunked"))
     }
 
-    /// Whether the list ends in `chunked`: the last item, or what follows its last comma if it has
-    /// one, is that word when trimmed. A value that isn't text isn't chunked.
+    /// Returns whether the list ends in `chunked`. The last item, or what follows its last comma if
+    /// it has one, is that word when trimmed. A value that isn't text isn't chunked.
     pub fn is_chunked(&self) -> bool
         ensures answer { IsTrue result ↔ IsChunked (items comma self.now) }
         ensures cuts { SurvivesCuts comma
@@ -64,7 +65,7 @@ impl TransferEncoding {
         self.codings.as_text().is_some_and(ends_in_chunked)
     }
 
-    /// A copy of the value.
+    /// Copies the header. Fails only if an allocation fails.
     pub fn clone(&self, alloc: Global) -> Result<TransferEncoding, AllocError>
         ensures { IfOk result (λ copy. copy ≡ self.now) }
     {

@@ -7,8 +7,9 @@ use http_header::{HeaderName, HeaderValue, UPGRADE};
 use std::alloc::{AllocError, Global};
 use std::marker::Model;
 
-/// The protocols to change to: the first line, whatever it is, as it came (RFC 9110, section 7.8).
-/// Equality goes by the bytes.
+/// The header `Upgrade`: the protocols to which the sender wants to change (RFC 9110, section 7.8).
+/// The first field line is stored, whatever it is. `decode` rejects only a field without a line,
+/// and may run out of memory. Headers are compared by their bytes.
 #[derive(Debug, Drop, PartialEq)]
 pub struct Upgrade {
     value: HeaderValue,
@@ -25,14 +26,15 @@ impl Model for Upgrade {
 }
 
 impl Upgrade {
-    /// The protocol `websocket`.
+    /// Makes the header `websocket`.
     pub fn websocket() -> Upgrade
         ensures { result ≡ plain_value (codes "websocket") }
     {
         Upgrade::from_form(HeaderValue::from_static("websocket"))
     }
 
-    /// A copy of the value, sensitive exactly if the original is.
+    /// Copies the header. The copy is sensitive exactly if the original is. Fails only if an
+    /// allocation fails.
     pub fn clone(&self, _alloc: Global) -> Result<Upgrade, AllocError>
         ensures { IfOk result (λ copy. copy ≡ self.now) }
     {

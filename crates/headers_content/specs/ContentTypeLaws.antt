@@ -1,4 +1,4 @@
--- What holds of the header `content-type`.
+-- The laws of the header `content-type`.
 use Rattle.std.proofs.Common.{◌≡◌, ℕ, List, [], ◌∷◌, refl, sym, ◌∙◌, ap, subst}
 use Rattle.headers_syntax.specs.HeaderLaws.{HeaderLaws}
 use Rattle.headers_syntax.specs.Lines.{Line}

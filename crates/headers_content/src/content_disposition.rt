@@ -10,10 +10,12 @@ use http_header::{CONTENT_DISPOSITION, HeaderName, HeaderValue};
 use std::alloc::{AllocError, Global};
 use std::marker::Model;
 
-/// How content is to be shown: the first line, whatever it is, as it came (RFC 6266, section 4).
+/// The header `Content-Disposition`: how a recipient is to present the content (RFC 6266, section
+/// 4).
 ///
-/// Its disposition is what stands before the first semicolon, compared byte for byte. A line that
-/// isn't text has none.
+/// The first field line is stored, whatever it is. `decode` rejects only a field without a line,
+/// and may run out of memory. The disposition is what is before the first semicolon, compared byte
+/// for byte; a line that isn't text has none.
 #[derive(Debug, Drop)]
 pub struct ContentDisposition {
     value: HeaderValue,
@@ -28,28 +30,28 @@ impl Model for ContentDisposition {
 }
 
 impl ContentDisposition {
-    /// The line `inline`.
+    /// Makes the header `inline`.
     pub fn inline() -> ContentDisposition
         ensures { result ≡ plain_value (codes "inline") }
     {
         ContentDisposition::from_form(HeaderValue::from_static("inline"))
     }
 
-    /// Whether the disposition is `inline`: the content is to be shown in place.
+    /// Returns whether the disposition is `inline`: the content is to be shown in place.
     pub fn is_inline(&self) -> bool
         ensures { IsTrue result ↔ (disposition_of self.now.bytes ≡ Some (codes "inline")) }
     {
         self.has_disposition("inline")
     }
 
-    /// Whether the disposition is `attachment`: the content is to be saved.
+    /// Returns whether the disposition is `attachment`: the content is to be saved.
     pub fn is_attachment(&self) -> bool
         ensures { IsTrue result ↔ (disposition_of self.now.bytes ≡ Some (codes "attachment")) }
     {
         self.has_disposition("attachment")
     }
 
-    /// Whether the disposition is `form-data`: the content is a part of a form (RFC 7578).
+    /// Returns whether the disposition is `form-data`: the content is a part of a form (RFC 7578).
     pub fn is_form_data(&self) -> bool
         ensures { IsTrue result ↔ (disposition_of self.now.bytes ≡ Some (codes "form-data")) }
     {
@@ -62,7 +64,8 @@ impl ContentDisposition {
         read_text(&self.value).is_some_and(|text| before_semicolon(text) == word)
     }
 
-    /// A copy of the value, sensitive exactly if the original is.
+    /// Copies the header. The copy is sensitive exactly if the original is. Fails only if an
+    /// allocation fails.
     pub fn clone(&self, _alloc: Global) -> Result<ContentDisposition, AllocError>
         ensures { IfOk result (λ copy. copy ≡ self.now) }
     {

@@ -9,8 +9,9 @@ use http_header::{CONTENT_ENCODING, HeaderName};
 use std::alloc::{AllocError, Global};
 use std::marker::Model;
 
-/// The codings that were applied to the content, in order (RFC 9110, section 8.4). All lines are
-/// read, joined by a comma and a space, and never refused.
+/// The header `Content-Encoding`: the codings that were applied to the content, in order (RFC 9110,
+/// section 8.4). All field lines are joined by a comma and a space, and none are rejected: `decode`
+/// fails only if an allocation fails.
 #[derive(Debug, Drop)]
 pub struct ContentEncoding {
     codings: FlatCsv<Comma>,
@@ -25,28 +26,28 @@ impl Model for ContentEncoding {
 }
 
 impl ContentEncoding {
-    /// The gzip coding.
+    /// Makes the header `gzip`.
     pub fn gzip() -> ContentEncoding
         ensures { result ≡ codes "gzip" }
     {
         ContentEncoding::from_form(FlatCsv::from_word("gzip"))
     }
 
-    /// The Brotli coding.
+    /// Makes the header `br`, which is Brotli.
     pub fn brotli() -> ContentEncoding
         ensures { result ≡ codes "br" }
     {
         ContentEncoding::from_form(FlatCsv::from_word("br"))
     }
 
-    /// The Zstandard coding.
+    /// Makes the header `zstd`, which is Zstandard.
     pub fn zstd() -> ContentEncoding
         ensures { result ≡ codes "zstd" }
     {
         ContentEncoding::from_form(FlatCsv::from_word("zstd"))
     }
 
-    /// Whether some item is the coding, compared with case.
+    /// Returns whether some item is the coding, byte for byte.
     pub fn contains(&self, coding: &str) -> bool
         ensures answer { IsTrue result ↔ Contains (items comma self.now) coding.now }
         ensures cuts { SurvivesCuts comma
@@ -56,7 +57,7 @@ impl ContentEncoding {
         self.codings.iter().any(|item| item == coding)
     }
 
-    /// A copy of the value.
+    /// Copies the header. Fails only if an allocation fails.
     pub fn clone(&self, alloc: Global) -> Result<ContentEncoding, AllocError>
         ensures { IfOk result (λ copy. copy ≡ self.now) }
     {

@@ -4,8 +4,9 @@ use headers_core::{AsHeaderValue, Error, Header, Refused, read_number};
 use http_header::{CONTENT_LENGTH, HeaderName, HeaderValue};
 use std::alloc::{AllocError, Global};
 
-/// The length of the content in bytes, below 2^64: all lines, each of which is the same number;
-/// anything else is refused (RFC 9110, section 8.6).
+/// The header `Content-Length`: the length of the content in bytes, below 2^64 (RFC 9110, section
+/// 8.6). All field lines are decoded, and must be the same number. `decode` rejects any other
+/// lines, and never allocates.
 #[derive(Clone, Copy, Debug, PartialEq)]
 pub struct ContentLength(pub u64);
 

@@ -3,11 +3,12 @@
 use headers_core::{NamedField, ValueHeader};
 use http_header::{CONTENT_LOCATION, HeaderName};
 
-/// Where the resource of a message's content is: the first line, whatever it is, as it came
-/// (RFC 9110, section 8.7). Equality goes by the bytes.
+/// The header `Content-Location`: where the content of the message can be found (RFC 9110, section
+/// 8.7). The first field line is stored, whatever it is. `decode` rejects only a field without a
+/// line, and may run out of memory. Headers are compared by their bytes.
 pub type ContentLocation = ValueHeader<ContentLocationField>;
 
-/// The field of `ContentLocation`.
+/// The field name of `ContentLocation`.
 #[derive(Debug, PartialEq)]
 pub struct ContentLocationField;
 

@@ -11,8 +11,9 @@ use std::alloc::{AllocError, Global};
 use std::fmt;
 use std::marker::Model;
 
-/// The media type of the content: the first line, which is refused if it is no media type (RFC
-/// 9110, section 8.3). It is written in canonical form. Equality goes by that form.
+/// The header `Content-Type`: the media type of the content (RFC 9110, section 8.3). The first
+/// field line is decoded, and its canonical text is the encoding. `decode` rejects a value that is
+/// no media type, and may run out of memory. Headers are compared by the canonical text.
 #[derive(Debug, Drop, PartialEq)]
 pub struct ContentType {
     mime: Mime,
@@ -29,70 +30,71 @@ impl Model for ContentType {
 }
 
 impl ContentType {
-    /// `application/json`.
+    /// Makes the header `application/json`.
     pub fn json() -> ContentType
         ensures { result ≡ codes "application/json" }
     {
         ContentType::from(Mime::APPLICATION_JSON)
     }
 
-    /// `text/plain`.
+    /// Makes the header `text/plain`.
     pub fn text() -> ContentType
         ensures { result ≡ codes "text/plain" }
     {
         ContentType::from(Mime::TEXT_PLAIN)
     }
 
-    /// `text/plain; charset=utf-8`.
+    /// Makes the header `text/plain; charset=utf-8`.
     pub fn text_utf8() -> ContentType
         ensures { result ≡ codes "text/plain; charset=utf-8" }
     {
         ContentType::from(Mime::TEXT_PLAIN_UTF_8)
     }
 
-    /// `text/html`.
+    /// Makes the header `text/html`.
     pub fn html() -> ContentType
         ensures { result ≡ codes "text/html" }
     {
         ContentType::from(Mime::TEXT_HTML)
     }
 
-    /// `text/xml`.
+    /// Makes the header `text/xml`.
     pub fn xml() -> ContentType
         ensures { result ≡ codes "text/xml" }
     {
         ContentType::from(Mime::TEXT_XML)
     }
 
-    /// `application/x-www-form-urlencoded`.
+    /// Makes the header `application/x-www-form-urlencoded`.
     pub fn form_url_encoded() -> ContentType
         ensures { result ≡ codes "application/x-www-form-urlencoded" }
     {
         ContentType::from(Mime::APPLICATION_WWW_FORM_URLENCODED)
     }
 
-    /// `image/jpeg`.
+    /// Makes the header `image/jpeg`.
     pub fn jpeg() -> ContentType
         ensures { result ≡ codes "image/jpeg" }
     {
         ContentType::from(Mime::IMAGE_JPEG)
     }
 
-    /// `image/png`.
+    /// Makes the header `image/png`.
     pub fn png() -> ContentType
         ensures { result ≡ codes "image/png" }
     {
         ContentType::from(Mime::IMAGE_PNG)
     }
 
-    /// `application/octet-stream`.
+    /// Makes the header `application/octet-stream`.
     pub fn octet_stream() -> ContentType
         ensures { result ≡ codes "application/octet-stream" }
     {
         ContentType::from(Mime::APPLICATION_OCTET_STREAM)
     }
 
-    /// Reads a media type. `Invalid` if the text is none.
+    /// Parses a media type. `Invalid` if the text is no media type, `Memory` if an allocation
+    /// fails.
     pub fn from_str(alloc: Global, text: &str) -> Result<ContentType, Refused<Error>>
         ensures { ReadsMime text.now result }
     {
@@ -102,7 +104,7 @@ impl ContentType {
         }
     }
 
-    /// A copy of the media type.
+    /// Copies the header. Fails only if an allocation fails.
     pub fn clone(&self, alloc: Global) -> Result<ContentType, AllocError>
         ensures { IfOk result (λ copy. copy ≡ self.now) }
     {
@@ -179,7 +181,7 @@ impl Header for ContentType {
     }
 }
 
-/// Every value is written as a line that reads as it.
+/// Theorem: every value of `ContentType` survives a round trip.
 pub fn content_type_reads_back(header: &ContentType)
     ensures { ReadsType (type_line header.now) header.now }
 {

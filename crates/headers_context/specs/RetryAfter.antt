@@ -1,4 +1,4 @@
--- The header `retry-after`: the first line is a number of seconds or a date.
+-- The header `retry-after`: the first field line is a number of seconds or a date.
 use Rattle.headers_syntax.specs.Lines.{first_line}
 use Rattle.headers_syntax.specs.HeaderLaws.{Grammar}
 use Rattle.headers_syntax.specs.Shapes.{one_line}

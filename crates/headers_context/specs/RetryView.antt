@@ -1,4 +1,4 @@
--- What a contract sees of a `RetryAfter`.
+-- A `RetryAfter` as a contract sees it.
 use Rattle.std.specs.Prelude.{◌≡◌, refl}
 use Rattle.headers_context.specs.RetryTime.{RetryTime, Delay, Until}
 use Rattle.headers_context.specs.declared.retry_after.After.{After}

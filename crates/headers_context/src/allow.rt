@@ -5,14 +5,14 @@ use headers_names::{ListField, ListHeader};
 use http::Method;
 use http_header::{ALLOW, HeaderName};
 
-/// The methods that a resource supports (RFC 9110, section 10.2.1). `iter` gives the items that are
-/// methods.
+/// The header `Allow`: the methods that a resource supports (RFC 9110, section 10.2.1).
 ///
-/// All lines are read, joined by a comma and a space, and never refused. Equality goes by the
+/// All field lines are joined by a comma and a space, and none are rejected: `decode` fails only if
+/// an allocation fails. `iter` yields the items that are methods. Headers are compared by the
 /// joined bytes.
 pub type Allow = ListHeader<AllowField>;
 
-/// The field of `Allow`.
+/// The field name of `Allow`.
 #[derive(Debug, PartialEq)]
 pub struct AllowField;
 

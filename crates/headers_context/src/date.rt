@@ -3,11 +3,12 @@
 use headers_core::{DateHeader, NamedField};
 use http_header::{DATE, HeaderName};
 
-/// When a message was made: the only line, a date from 1970 to 9999 in one of the three formats
-/// (RFC 9110, section 6.6.1).
+/// The header `Date`: when the message was originated, a date from 1970 to 9999 (RFC 9110, section
+/// 6.6.1). The only field line is decoded, in one of the three date formats. `decode` rejects any
+/// other value, and no or several lines, and never allocates.
 pub type Date = DateHeader<DateField>;
 
-/// The field of `Date`.
+/// The field name of `Date`.
 #[derive(Clone, Copy, Debug, PartialEq, Eq, PartialOrd, Ord, Hash)]
 pub struct DateField;
 

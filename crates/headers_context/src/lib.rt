@@ -1,4 +1,4 @@
-//! The context of a message (RFC 9110, sections 6.6.1, 10.1 and 10.2).
+//! Headers of the context of a message (RFC 9110, sections 6.6.1, 10.1 and 10.2).
 #![tactic(auto)]
 
 mod allow;

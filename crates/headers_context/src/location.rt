@@ -3,11 +3,12 @@
 use headers_core::{NamedField, ValueHeader};
 use http_header::{HeaderName, LOCATION};
 
-/// Where a resource was made, or where to look for it: the first line, whatever it is, as it came
-/// (RFC 9110, section 10.2.2). Equality goes by the bytes.
+/// The header `Location`: the URI of a created resource, or of a redirection (RFC 9110, section
+/// 10.2.2). The first field line is stored, whatever it is. `decode` rejects only a field without a
+/// line, and may run out of memory. Headers are compared by their bytes.
 pub type Location = ValueHeader<LocationField>;
 
-/// The field of `Location`.
+/// The field name of `Location`.
 #[derive(Debug, PartialEq)]
 pub struct LocationField;
 

@@ -6,11 +6,12 @@ use headers_core::NamedField;
 use http_header::{HeaderName, REFERER};
 use std::fmt;
 
-/// The resource from which the target of the request was taken: the only line, which is refused if
-/// it isn't text (RFC 9110, section 10.1.3). Equality goes by the bytes.
+/// The header `Referer`: the resource from which the request's target was obtained (RFC 9110,
+/// section 10.1.3). The only field line is stored. `decode` rejects a line that isn't text, and no
+/// or several lines, and may run out of memory. Headers are compared by their bytes.
 pub type Referer = TextHeader<RefererField>;
 
-/// The field of `Referer`.
+/// The field name of `Referer`.
 #[derive(Debug, PartialEq)]
 pub struct RefererField;
 
@@ -24,7 +25,7 @@ impl TextField for RefererField {
     type Invalid = InvalidReferer;
 }
 
-/// The text has a control character other than tab, so it is no header value.
+/// The error of a text with a control character other than tab, which no header value may have.
 #[derive(Clone, Copy, Debug, Default, PartialEq, Eq)]
 pub struct InvalidReferer;
 

@@ -11,9 +11,9 @@ use std::alloc::{AllocError, Global};
 use std::marker::Model;
 use std::time::Duration;
 
-/// When to ask again: the first line, a delay in seconds below 2^64 or else a date from 1970 to
-/// 9999; anything else is refused (RFC 9110, section 10.2.3). Equality goes by the delay or the
-/// date.
+/// The header `Retry-After`: when to send the request again (RFC 9110, section 10.2.3). The first
+/// field line is decoded: a delay in seconds below 2^64, or else a date from 1970 to 9999. `decode`
+/// rejects any other value, and never allocates. Headers are compared by the delay or the date.
 #[derive(Clone, Debug, Drop, PartialEq, Eq)]
 pub struct RetryAfter {
     after: After,
@@ -40,7 +40,8 @@ impl Model for RetryAfter {
 }
 
 impl RetryAfter {
-    /// From the date this many seconds after the start of 1970. It must lie before the year 10000.
+    /// Makes a header of the date this many seconds after the start of 1970. The caller must show
+    /// that it is before the year 10000.
     pub fn date(secs: u64) -> RetryAfter
         requires { IsDated secs }
         ensures { result ≡ Until secs }
@@ -50,7 +51,7 @@ impl RetryAfter {
         }
     }
 
-    /// After this delay, which must be whole seconds.
+    /// Makes a header of a delay. The caller must show that it has no part of a second.
     pub fn delay(duration: Duration) -> RetryAfter
         requires { IsWholeSeconds duration }
         ensures { IsDelay duration result }

@@ -6,11 +6,12 @@ use headers_core::NamedField;
 use http_header::{HeaderName, SERVER};
 use std::fmt;
 
-/// The software that answers: the only line, which is refused if it isn't text (RFC 9110, section
-/// 10.2.4). Equality, order and hash go by its bytes.
+/// The header `Server`: the software of the origin server (RFC 9110, section 10.2.4). The only
+/// field line is stored. `decode` rejects a line that isn't text, and no or several lines, and may
+/// run out of memory. Headers are compared, ordered and hashed by their bytes.
 pub type Server = TextHeader<ServerField>;
 
-/// The field of `Server`.
+/// The field name of `Server`.
 #[derive(Debug, PartialEq, Eq, PartialOrd, Ord, Hash)]
 pub struct ServerField;
 
@@ -24,7 +25,7 @@ impl TextField for ServerField {
     type Invalid = InvalidServer;
 }
 
-/// The text has a control character other than tab, so it is no header value.
+/// The error of a text with a control character other than tab, which no header value may have.
 #[derive(Clone, Copy, Debug, Default, PartialEq, Eq)]
 pub struct InvalidServer;
 

@@ -1,4 +1,4 @@
-//! Headers that are one line of text.
+//! Headers that are one field line of text.
 ghost use Rattle.std.specs.Prelude.{◌≡◌, ◌↔◌, Some, IsTrue, IfOk};
 ghost use Rattle.std.specs.Fmt.{padded};
 ghost use Rattle.http_header.specs.FieldValue.{IsFieldValue, plain_value};
@@ -11,14 +11,15 @@ use std::alloc::{AllocError, Global};
 use std::fmt;
 use std::marker::{Model, PhantomData};
 
-/// The field of a header that is text.
+/// The field name of a header that is text, and the error of its constructor.
 pub trait TextField: NamedField {
-    /// The error with which `from_str` refuses a text.
+    /// The error with which `from_str` rejects a text.
     type Invalid: Default;
 }
 
-/// The only line of a field, which is refused if it isn't text. Equality, order and hash go by the
-/// bytes.
+/// A header whose only field line is text: visible ASCII, spaces and tabs. `decode` rejects any
+/// other line, and no or several lines, and may run out of memory. Headers are compared, ordered
+/// and hashed by their bytes.
 #[derive(Debug, Drop, PartialEq, Eq, PartialOrd, Ord, Hash)]
 pub struct TextHeader<N: TextField> {
     text: HeaderValueString,
@@ -38,7 +39,8 @@ impl<N: TextField> Model for TextHeader<N> {
 }
 
 impl<N: TextField> TextHeader<N> {
-    /// The header of a static text, which must be visible ASCII, spaces and tabs.
+    /// Makes a header of a static text, without copying it. The caller must show that the text is
+    /// visible ASCII, spaces and tabs.
     pub fn from_static(text: &'static str) -> TextHeader<N>
         requires { IsTrue (is_text text.now) }
         ensures { result ≡ plain_value text.now }
@@ -46,8 +48,9 @@ impl<N: TextField> TextHeader<N> {
         TextHeader::from_form(HeaderValueString::from_static(text))
     }
 
-    /// The header of a text, which may have characters past ASCII. A text with a control character
-    /// other than tab is refused (RFC 9110, section 5.5).
+    /// Makes a header of a copy of the text, which may have characters outside ASCII. `Invalid` if
+    /// the text has a control character other than tab (RFC 9110, section 5.5), `Memory` if an
+    /// allocation fails.
     pub fn from_str(alloc: Global, text: &str) -> Result<TextHeader<N>, Refused<N::Invalid>>
         ensures ok { IfOk result (λ header. header ≡ plain_value text.now) }
         ensures valid { IfOk result (λ _. IsFieldValue text.now) }
@@ -60,14 +63,15 @@ impl<N: TextField> TextHeader<N> {
         }
     }
 
-    /// The text.
+    /// Returns the text of the header.
     pub fn as_str(&self) -> &str
         ensures { result.now ≡ self.now.bytes }
     {
         self.text.as_str()
     }
 
-    /// A copy of the value, sensitive exactly if the original is.
+    /// Copies the header. The copy is sensitive exactly if the original is. Fails only if an
+    /// allocation fails.
     pub fn clone(&self, alloc: Global) -> Result<TextHeader<N>, AllocError>
         ensures { IfOk result (λ copy. copy ≡ self.now) }
     {

@@ -6,11 +6,12 @@ use headers_core::NamedField;
 use http_header::{HeaderName, USER_AGENT};
 use std::fmt;
 
-/// The software that asks: the only line, which is refused if it isn't text (RFC 9110, section
-/// 10.1.5). Equality, order and hash go by its bytes.
+/// The header `User-Agent`: the software that sends the request (RFC 9110, section 10.1.5). The
+/// only field line is stored. `decode` rejects a line that isn't text, and no or several lines, and
+/// may run out of memory. Headers are compared, ordered and hashed by their bytes.
 pub type UserAgent = TextHeader<UserAgentField>;
 
-/// The field of `UserAgent`.
+/// The field name of `UserAgent`.
 #[derive(Debug, PartialEq, Eq, PartialOrd, Ord, Hash)]
 pub struct UserAgentField;
 
@@ -24,7 +25,7 @@ impl TextField for UserAgentField {
     type Invalid = InvalidUserAgent;
 }
 
-/// The text has a control character other than tab, so it is no header value.
+/// The error of a text with a control character other than tab, which no header value may have.
 #[derive(Clone, Copy, Debug, Default, PartialEq, Eq)]
 pub struct InvalidUserAgent;
 

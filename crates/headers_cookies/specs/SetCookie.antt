@@ -1,4 +1,4 @@
--- The header `set-cookie`: all its lines in order, of which there is at least one.
+-- The header `set-cookie`: all its field lines in order, of which there is at least one.
 use Rattle.std.specs.Prelude.{List}
 use Rattle.headers_syntax.specs.Lines.{Line, lines_of}
 use Rattle.headers_syntax.specs.HeaderLaws.{Grammar}

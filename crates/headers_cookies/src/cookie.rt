@@ -11,8 +11,9 @@ use http_header::{COOKIE, HeaderName};
 use std::alloc::{AllocError, Global};
 use std::marker::Model;
 
-/// The cookies that a user agent sends back (RFC 6265, section 4.2). All lines are read, joined by
-/// a semicolon and a space, and never refused.
+/// The header `Cookie`: the cookies that a user agent sends to a server (RFC 6265, section 4.2).
+/// All field lines are joined by a semicolon and a space, and none are rejected: `decode` fails
+/// only if an allocation fails.
 #[derive(Debug, Drop)]
 pub struct Cookie {
     pairs: FlatCsv<SemiColon>,
@@ -27,8 +28,8 @@ impl Model for Cookie {
 }
 
 impl Cookie {
-    /// The names and values of the items, in order. An item without `=` has none, and so has a
-    /// value that isn't text.
+    /// Starts an iterator over the names and values of the cookies, in order. An item without `=`
+    /// is skipped, and a value that isn't text has no cookies.
     pub fn iter(&self) -> Pairs<'_>
         ensures pairs { pairs_left result ≡ pairs (items semicolon self.now) }
         ensures fresh { result ≡ walk_over semicolon self.now }
@@ -42,7 +43,8 @@ impl Cookie {
         Pairs::new(&self.pairs)
     }
 
-    /// The value of the first pair with this name, if there is one. Names are compared with case.
+    /// Returns the value of the first cookie with this name, compared byte for byte. `None` if
+    /// there is none.
     pub fn get(&self, name: &str) -> Option<&str>
         ensures answer { option_map (λ value. value.now) result
             ≡ first_value name.now (pairs (items semicolon self.now)) }
@@ -59,7 +61,7 @@ impl Cookie {
         None
     }
 
-    /// The number of pairs.
+    /// Returns the number of cookies: of items with an `=`.
     pub fn len(&self) -> usize
         ensures answer { result ≡ length (pairs (items semicolon self.now)) }
         ensures cuts { SurvivesCuts semicolon
@@ -69,7 +71,7 @@ impl Cookie {
         self.iter().count()
     }
 
-    /// A copy of the value.
+    /// Copies the header. Fails only if an allocation fails.
     pub fn clone(&self, alloc: Global) -> Result<Cookie, AllocError>
         ensures { IfOk result (λ copy. copy ≡ self.now) }
     {

@@ -1,4 +1,4 @@
-//! Cookies (RFC 6265).
+//! Headers of cookies (RFC 6265).
 #![tactic(auto)]
 
 mod cookie;

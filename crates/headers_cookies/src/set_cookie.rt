@@ -6,8 +6,9 @@ use http_header::{HeaderName, HeaderValue, SET_COOKIE};
 use std::alloc::{AllocError, Global};
 use std::marker::Model;
 
-/// The cookies to keep, one a line: all lines, whatever they are, as they came (RFC 6265, section
-/// 4.1). A header without lines is refused. Lines are never joined or cut.
+/// The header `Set-Cookie`: the cookies that a user agent is to store, one a field line (RFC 6265,
+/// section 4.1). All field lines are stored, whatever they are, and never joined or cut. `decode`
+/// rejects only a field without a line, and may run out of memory.
 #[derive(Debug, Drop)]
 pub struct SetCookie {
     lines: Vec<HeaderValue>,
@@ -26,7 +27,8 @@ impl Model for SetCookie {
 }
 
 impl SetCookie {
-    /// A copy of the lines, each sensitive exactly if the original is.
+    /// Copies the header. Each line is sensitive exactly if the original is. Fails only if an
+    /// allocation fails.
     pub fn clone(&self, alloc: Global) -> Result<SetCookie, AllocError>
         ensures { IfOk result (λ copy. copy ≡ self.now) }
     {

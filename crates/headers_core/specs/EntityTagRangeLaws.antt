@@ -1,4 +1,4 @@
--- What is written of a range reads as that range.
+-- Round trip: the encoding of a range decodes to that range.
 use Rattle.std.proofs.Common.{◌≡◌, ◌≢◌, ◌↔◌, ℕ, List, Some, refl, ap, inl, inr, ◌∙◌, sym}
 use Rattle.std.specs.Prelude.{bytes_eq}
 use Rattle.std.proofs.lemmas.Bool.{cases_Bool}
@@ -18,7 +18,7 @@ range_back lines tags e =
     let some : range_of (merge comma lines) ≡ tags = cc e in
     rw (← some) (ap (λ (r : EntityTagRange). Some r) (range_of-text (merge comma lines)))
 
--- of the ranges that can be built, those that aren't a list of the one byte `*`
+-- of the ranges that can be built, all survive a round trip but a list of the one byte `*`
 pub built_back : (range : EntityTagRange)
     → ReadsBy tags_grammar (written_by tags_grammar range) range ↔ range ≢ Tags star
 built_back Any = (λ h e. absurd (cc e), λ h. refl)

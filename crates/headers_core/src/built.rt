@@ -1,4 +1,4 @@
-//! Which values that were not read from lines, as those that a constructor makes, read back.
+//! Theorems: which values that a constructor made survive a round trip.
 ghost use Rattle.std.specs.Prelude.{◌↔◌, List, IsTrue};
 ghost use Rattle.headers_syntax.specs.EntityTag.{is_tag};
 ghost use Rattle.headers_syntax.specs.Lines.{Line};
@@ -14,24 +14,24 @@ use headers_items::{FlatCsv, Separator};
 use headers_syntax::{EntityTag, HeaderValueString};
 use http_header::HeaderValue;
 
-/// For a header that keeps the first line: every value.
+/// Theorem: every value of a header that stores the first field line survives a round trip.
 pub fn lines_read_back<H: FormHeader<Form = HeaderValue>>()
     ensures { (header : H) → ⟦<H as Header>⟧.reads (⟦<H as Header>⟧.writes header) header }
 {}
 
-/// For a header that merges its lines: every list.
+/// Theorem: every list of a header that joins its field lines survives a round trip.
 pub fn lists_read_back<S: Separator>()
     ensures { (list : Line) → ReadsBy ⟦<FlatCsv<S> as FieldForm>⟧.grammar
         (written_by ⟦<FlatCsv<S> as FieldForm>⟧.grammar list) list }
 {}
 
-/// For a header that merges its lines: every list of lines is read, so `decode` never answers
-/// `Invalid`.
+/// Theorem: every list of field lines decodes if a header joins its lines; never to `Invalid`.
 pub fn lists_read_all<S: Separator>()
     ensures { (lines : List Line) → ReadsBy ⟦<FlatCsv<S> as FieldForm>⟧.grammar lines (merge S.BYTE lines) }
 {}
 
-/// For a header that is one word: that word, whether the only line is read or the first.
+/// Theorem: the word of a header that is one word survives a round trip. This holds for headers
+/// that decode the only field line, and for those that decode the first.
 pub fn words_read_back()
     ensures only { (word : Line) → let grammar = only_word word (λ (kept : Line). kept) in
         ReadsBy grammar (written_by grammar word) word }
@@ -39,13 +39,15 @@ pub fn words_read_back()
         ReadsBy grammar (written_by grammar word) word }
 {}
 
-/// For a header that keeps a text: exactly the values whose bytes are text.
+/// Theorem: of a header that stores text, exactly the values whose bytes are text survive a round
+/// trip.
 pub fn texts_read_back<H: FormHeader<Form = HeaderValueString>>()
     ensures { (header : H) → ⟦<H as Header>⟧.reads (⟦<H as Header>⟧.writes header) header
         ↔ IsTrue (is_text (H.form header).bytes) }
 {}
 
-/// For a header that keeps an entity tag: exactly the values whose bytes are an entity tag.
+/// Theorem: of a header that stores an entity tag, exactly the values whose bytes are an entity tag
+/// survive a round trip.
 pub fn tags_read_back<H: FormHeader<Form = EntityTag>>()
     ensures { (header : H) → ⟦<H as Header>⟧.reads (⟦<H as Header>⟧.writes header) header
         ↔ IsTrue (is_tag (H.form header).bytes) }

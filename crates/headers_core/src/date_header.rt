@@ -8,8 +8,10 @@ use headers_syntax::Date1;
 use http_header::HeaderName;
 use std::marker::{Model, PhantomData};
 
-/// The only line of a field: a date from 1970 to 9999 in one of the three formats (RFC 9110,
-/// section 5.6.7). Equality, order and hash go by the second.
+/// A header whose only field line is a date from 1970 to 9999 (RFC 9110, section 5.6.7). It decodes
+/// the three date formats and encodes IMF-fixdate. `decode` rejects no or several field lines and
+/// any other value, and never allocates. Headers are compared, ordered and hashed by the date, in
+/// whole seconds.
 #[derive(Clone, Copy, Debug, Drop, PartialEq, Eq, PartialOrd, Ord, Hash)]
 pub struct DateHeader<N: NamedField> {
     date: Date1,
@@ -27,7 +29,8 @@ impl<N: NamedField> Model for DateHeader<N> {
 }
 
 impl<N: NamedField> DateHeader<N> {
-    /// The date this many seconds after the start of 1970. It must lie before the year 10000.
+    /// Makes a header of the date this many seconds after the start of 1970. The caller must show
+    /// that it is before the year 10000.
     pub fn from_unix_secs(secs: u64) -> DateHeader<N>
         requires { IsDated secs }
         ensures { result ≡ secs }
@@ -35,7 +38,7 @@ impl<N: NamedField> DateHeader<N> {
         DateHeader::from_form(Date1::from_unix_secs(secs))
     }
 
-    /// The seconds since the start of 1970.
+    /// Returns the date in seconds since the start of 1970.
     pub fn unix_secs(&self) -> u64
         ensures value { result ≡ self.now }
         ensures bound { IsDated result }

@@ -1,4 +1,4 @@
-//! The entity tags that a condition names, or any.
+//! The entity tags in a condition, or `*`.
 ghost use Rattle.std.specs.Prelude.{◌≡◌, ◌≢◌, ◌↔◌, IsTrue, IfOk};
 ghost use Rattle.std.specs.Iterator.{IsFinite};
 ghost use Rattle.headers_syntax.specs.OfLines.{OfLines};
@@ -16,12 +16,12 @@ use headers_syntax::{AsHeaderValue, EntityTag, Error, Refused};
 use http_header::HeaderValue;
 use std::alloc::{AllocError, Global};
 
-/// The entity tags that a condition names, or any (RFC 9110, sections 13.1.1 and 13.1.2).
+/// The entity tags in a condition, or `*` for any tag (RFC 9110, sections 13.1.1 and 13.1.2).
 #[derive(Debug, Drop, PartialEq)]
 pub enum EntityTagRange {
-    /// Any tag.
+    /// `*`: any entity tag.
     Any,
-    /// The tags among the items; other items are ignored.
+    /// The entity tags in a list; items that are no entity tag are ignored.
     Tags(FlatCsv<Comma>),
 }
 
@@ -40,8 +40,8 @@ fn is_weakly_equal(item: &str, tag: &EntityTag) -> bool
 }
 
 impl EntityTagRange {
-    /// Joins the lines by a comma and a space. It is any if that gives the one byte `*`, else the
-    /// tags among the items.
+    /// Joins field lines by a comma and a space: `Any` if the result is `*`, else the tags in the
+    /// list. Fails only if an allocation fails.
     pub fn from_lines<I: Iterator>(
         alloc: Global,
         lines: &mut I,
@@ -61,7 +61,8 @@ impl EntityTagRange {
         }
     }
 
-    /// What is written: `*`, or the joined lines.
+    /// Encodes the range as a header value: `*`, or the joined list. Fails only if an allocation
+    /// fails.
     pub fn to_value(&self, alloc: Global) -> Result<HeaderValue, AllocError>
         ensures { IfOk result (λ value. value.bytes ≡ range_text self.now) }
     {
@@ -71,7 +72,7 @@ impl EntityTagRange {
         }
     }
 
-    /// A copy of the range.
+    /// Copies the range. Fails only if an allocation fails.
     pub fn clone(&self, alloc: Global) -> Result<EntityTagRange, AllocError>
         ensures { IfOk result (λ range. range ≡ self.now) }
     {
@@ -81,7 +82,7 @@ impl EntityTagRange {
         }
     }
 
-    /// Whether it is any, or some item is a tag that is strongly equal.
+    /// Returns whether the range is `*`, or has a tag that is strongly equal to this tag.
     pub fn matches_strong(&self, tag: &EntityTag) -> bool
         ensures { IsTrue result ↔ Matches StronglyEqual self.now tag.now.bytes }
     {
@@ -91,7 +92,7 @@ impl EntityTagRange {
         }
     }
 
-    /// Whether it is any, or some item is a tag that is weakly equal.
+    /// Returns whether the range is `*`, or has a tag that is weakly equal to this tag.
     pub fn matches_weak(&self, tag: &EntityTag) -> bool
         ensures { IsTrue result ↔ Matches WeaklyEqual self.now tag.now.bytes }
     {
@@ -130,7 +131,7 @@ impl FieldForm for EntityTagRange {
     }
 }
 
-/// A range is written as a line that reads as it, unless it is a list of the one byte `*`.
+/// Theorem: every range survives a round trip, unless it is a list whose only byte is `*`.
 #[tactic(auto, using(crate::specs::EntityTagRangeLaws::built_back))]
 pub fn tag_ranges_read_back()
     ensures { (range : Range) → ReadsBy tags_grammar (written_by tags_grammar range) range ↔ range ≢ Tags star }

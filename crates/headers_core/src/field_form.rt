@@ -1,4 +1,4 @@
-//! What headers keep of the lines of a field.
+//! Encoding shapes: what headers store of the field lines.
 ghost use Rattle.std.specs.Prelude.{◌≡◌, Bool, IsTrue, OnOk, OnErr};
 ghost use Rattle.std.specs.Iterator.{IsFinite};
 ghost use Rattle.headers_syntax.specs.Lines.{Appends};
@@ -11,7 +11,8 @@ use headers_syntax::{AsHeaderValue, Error, Refused};
 use http_header::HeaderValue;
 use std::alloc::{AllocError, Global};
 
-/// What is kept of the lines of a field, whatever its name: how it is read and how it is written.
+/// An encoding shape: what a header of any name stores of its field lines, and how it decodes and
+/// encodes.
 pub trait FieldForm: Drop {
     // Whether `read_lines` never runs out of memory.
     ghost free: { Bool };
@@ -22,8 +23,7 @@ pub trait FieldForm: Drop {
     // Which value the lines of a field read, if any, and which lines are written of a value.
     ghost grammar: { Grammar Self Kept };
 
-    /// The value that the lines read: `Invalid` if they read none, `Memory` if the allocator had no
-    /// memory.
+    /// Decodes the field lines: `Invalid` if they encode no value, `Memory` if an allocation fails.
     fn read_lines<I: Iterator>(alloc: Global, lines: &mut I) -> Result<Self, Refused<Error>>
     where
         I::Item: AsHeaderValue,
@@ -33,8 +33,8 @@ pub trait FieldForm: Drop {
             (λ ls. DecodesTo (ReadsBy grammar) ls result) }
         ensures memory { IsTrue free → NeverMemory result };
 
-    /// Appends the lines that are written of the value. If the call is refused, the list is as it
-    /// was.
+    /// Appends the field lines that encode the value. If an allocation fails, the list is
+    /// unchanged.
     fn write_lines(&self, alloc: Global, values: &mut Vec<HeaderValue>) -> Result<(), AllocError>
         ensures ok { OnOk result (Appends values.old.items values.new.items (written_by grammar self.now)) }
         ensures err { OnErr result (values.new.items ≡ values.old.items) };

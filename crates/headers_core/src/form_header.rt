@@ -1,4 +1,4 @@
-//! Headers that are one form under a name.
+//! Headers that are one encoding shape with a field name.
 ghost use Rattle.std.specs.Prelude.{◌≡◌, List, ℕ};
 
 use crate::field_form::FieldForm;
@@ -7,25 +7,25 @@ use headers_syntax::{AsHeaderValue, Error, Refused};
 use http_header::{HeaderName, HeaderValue};
 use std::alloc::{AllocError, Global};
 
-/// A header that keeps one form under a name. Every such type is a `Header`.
+/// A header that is one encoding shape with a field name. Every such type is a `Header`.
 pub trait FormHeader: Drop {
-    /// What it keeps.
+    /// The encoding shape that the header stores.
     type Form: FieldForm;
 
     // The name of its field, in lower case.
     ghost NAME: { List ℕ };
 
-    /// The name of its field.
+    /// The field name of the header.
     const NAME: HeaderName;
 
     // What a value keeps.
     ghost form: { Self → Self.Form };
 
-    /// The header that keeps this.
+    /// Makes the header of its encoding shape.
     fn from_form(kept: Self::Form) -> Self
         ensures { form result ≡ kept };
 
-    /// What it keeps.
+    /// Returns the encoding shape that the header stores.
     fn as_form(&self) -> &Self::Form
         ensures { result.now ≡ form self.now };
 }

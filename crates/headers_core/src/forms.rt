@@ -1,4 +1,4 @@
-//! The forms that headers keep.
+//! The encoding shapes that headers share.
 
 mod date;
 mod entity_tag;

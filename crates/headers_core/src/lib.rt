@@ -1,5 +1,5 @@
-//! What every typed header is built on: the trait `Header` and the encoding shapes that headers
-//! share. It exports field syntax, list items and media types as well.
+//! The trait `Header`, and the encoding shapes that headers share. Exports field syntax, list items
+//! and media types as well.
 #![tactic(auto)]
 
 mod built;

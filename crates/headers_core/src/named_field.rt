@@ -3,11 +3,11 @@ ghost use Rattle.std.specs.Prelude.{List, ℕ};
 
 use http_header::HeaderName;
 
-/// The name of a field as a type. It tells apart headers that are otherwise alike.
+/// A field name as a type. It tells apart headers that are otherwise the same type.
 pub trait NamedField {
     // The name, in lower case.
     ghost NAME: { List ℕ };
 
-    /// The name.
+    /// The field name.
     const NAME: HeaderName;
 }

@@ -1,4 +1,4 @@
-//! Headers that are one number of seconds.
+//! Headers that are a number of seconds.
 ghost use Rattle.std.specs.Prelude.{◌≡◌};
 ghost use Rattle.headers_syntax.specs.Durations.{IsWholeSeconds, LastsSeconds};
 
@@ -9,8 +9,9 @@ use http_header::HeaderName;
 use std::marker::{Model, PhantomData};
 use std::time::Duration;
 
-/// The only line of a field: a number of seconds below 2^64 (RFC 9111, section 1.2.2). Equality,
-/// order and hash go by the number.
+/// A header whose only field line is a number of seconds below 2^64 (RFC 9111, section 1.2.2).
+/// `decode` rejects no or several field lines and any other value, and never allocates. Headers are
+/// compared, ordered and hashed by the number.
 #[derive(Clone, Copy, Debug, Drop, PartialEq, Eq, PartialOrd, Ord, Hash)]
 pub struct SecondsHeader<N: NamedField> {
     seconds: Seconds,
@@ -28,21 +29,21 @@ impl<N: NamedField> Model for SecondsHeader<N> {
 }
 
 impl<N: NamedField> SecondsHeader<N> {
-    /// This many seconds.
+    /// Makes a header of this many seconds.
     pub fn from_secs(seconds: u64) -> SecondsHeader<N>
         ensures { result ≡ seconds }
     {
         SecondsHeader::from_form(Seconds::from_secs(seconds))
     }
 
-    /// The number of seconds.
+    /// Returns the number of seconds.
     pub fn as_secs(&self) -> u64
         ensures { result ≡ self.now }
     {
         self.seconds.as_u64()
     }
 
-    /// The seconds of a duration of whole seconds.
+    /// Converts a duration to a header. The caller must show that it has no part of a second.
     pub fn from_duration(duration: Duration) -> SecondsHeader<N>
         requires { IsWholeSeconds duration }
         ensures { LastsSeconds duration result }

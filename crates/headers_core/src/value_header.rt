@@ -7,7 +7,8 @@ use http_header::{HeaderName, HeaderValue};
 use std::alloc::{AllocError, Global};
 use std::marker::{Model, PhantomData};
 
-/// The first line of a field, whatever it is, as it came. Equality goes by the bytes.
+/// A header that stores the first field line, whatever it is, and encodes to it. `decode` rejects
+/// only a field without a line. Headers are compared by their bytes.
 #[derive(Debug, Drop, PartialEq)]
 pub struct ValueHeader<N: NamedField> {
     value: HeaderValue,
@@ -27,7 +28,8 @@ impl<N: NamedField> Model for ValueHeader<N> {
 }
 
 impl<N: NamedField> ValueHeader<N> {
-    /// A copy of the value, sensitive exactly if the original is.
+    /// Copies the header. The copy is sensitive exactly if the original is. Fails only if an
+    /// allocation fails.
     pub fn clone(&self, _alloc: Global) -> Result<ValueHeader<N>, AllocError>
         ensures { IfOk result (λ copy. copy ≡ self.now) }
     {

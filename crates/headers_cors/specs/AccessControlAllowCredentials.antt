@@ -1,4 +1,4 @@
--- The header `access-control-allow-credentials`: its first line is `true`.
+-- The header `access-control-allow-credentials`: its first field line is `true`.
 use Rattle.std.specs.Prelude.{codes}
 use Rattle.headers_syntax.specs.Lines.{Line}
 use Rattle.headers_syntax.specs.HeaderLaws.{Grammar}

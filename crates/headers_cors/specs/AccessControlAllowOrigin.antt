@@ -21,11 +21,11 @@ abbrev pub kind_text : OriginOrAny → List ℕ
 kind_text (One origin) = origin_text origin
 kind_text Any = codes "*"
 
--- what is written of it
+-- the encoding of the header
 abbrev pub allowed_text : AccessControlAllowOrigin → List ℕ
 allowed_text header = kind_text header.kind
 
--- the only line is `*` or an origin
+-- the only field line is `*` or an origin
 abbrev pub allow_origin_reads : List Line → AccessControlAllowOrigin → Type 0
 allow_origin_reads = ReadsLine only_line IsAllowedLine
 
@@ -36,7 +36,7 @@ abbrev pub kind_origin : OriginOrAny → Option Origin
 kind_origin (One origin) = Some origin
 kind_origin Any = None
 
--- the origin, if it is not any
+-- the origin, if not any origin is allowed
 abbrev pub allowed_origin : AccessControlAllowOrigin → Option Origin
 allowed_origin header = kind_origin header.kind
 
@@ -44,6 +44,6 @@ abbrev pub IsKindText : List ℕ → OriginOrAny → Type 0
 IsKindText text (One origin) = IsOriginText text origin
 IsKindText text Any = ⊥
 
--- a text that is a header value, and an origin as a line; `*` is no origin
+-- the text is a header value, and an origin as in a field line; `*` is no origin
 abbrev pub IsAllowedText : List ℕ → AccessControlAllowOrigin → Type 0
 IsAllowedText text header = IsKindText text header.kind

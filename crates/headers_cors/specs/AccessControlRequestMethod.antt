@@ -9,11 +9,11 @@ use Rattle.headers_cors.specs.declared.access_control_request_method.AccessContr
 abbrev pub method_bytes : declared.AccessControlRequestMethod → List ℕ
 method_bytes header = header.method
 
--- a method (RFC 9110, section 9.1), kept as it is
+-- a method (RFC 9110, section 9.1), stored as it is
 abbrev pub IsMethodLine : Line → declared.AccessControlRequestMethod → Type 0
 IsMethodLine line header = IsToken line × (method_bytes header ≡ line)
 
--- the first line is a method, and so is what is written
+-- the first field line is a method, and so is the encoding
 abbrev pub request_method_reads : List Line → declared.AccessControlRequestMethod → Type 0
 request_method_reads = ReadsLine first_line IsMethodLine
 

@@ -4,8 +4,9 @@ use headers_core::{AsHeaderValue, Error, Header, Refused, first_word};
 use http_header::{ACCESS_CONTROL_ALLOW_CREDENTIALS, HeaderName, HeaderValue};
 use std::alloc::{AllocError, Global};
 
-/// The response may be read even if its request had credentials: the first line, which is `true`;
-/// anything else is refused (Fetch standard, section 3.3.3).
+/// The header `Access-Control-Allow-Credentials`: a script may read the response to a request with
+/// credentials (Fetch standard, section 3.3.3). The first field line is `true`. `decode` rejects
+/// any other value, and never allocates.
 #[derive(Clone, Debug, Drop, PartialEq, Eq)]
 pub struct AccessControlAllowCredentials;
 

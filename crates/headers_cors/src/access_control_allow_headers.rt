@@ -12,10 +12,11 @@ use http_header::{ACCESS_CONTROL_ALLOW_HEADERS, HeaderName};
 use std::alloc::{AllocError, Global};
 use std::marker::Model;
 
-/// The field names that a cross-origin request may carry (W3C CORS, section 5.6).
+/// The header `Access-Control-Allow-Headers`: the field names that a cross-origin request may have
+/// (W3C CORS, section 5.6).
 ///
-/// All lines are read, joined by a comma and a space, and never refused. Equality goes by the
-/// joined bytes.
+/// All field lines are joined by a comma and a space, and none are rejected: `decode` fails only if
+/// an allocation fails. Headers are compared by the joined bytes.
 #[derive(Debug, PartialEq, Drop)]
 pub struct AccessControlAllowHeaders {
     names: FlatCsv<Comma>,
@@ -32,8 +33,8 @@ impl Model for AccessControlAllowHeaders {
 }
 
 impl AccessControlAllowHeaders {
-    /// Joins the names of an iterator by a comma and a space. Its size hint isn't read. `iter`
-    /// gives them back.
+    /// Joins the field names of an iterator by a comma and a space. Fails only if an allocation
+    /// fails. The size hint isn't used. `iter` yields the same names again.
     pub fn from_iter<I: Iterator<Item = HeaderName> + Drop>(
         alloc: Global,
         names: I,
@@ -47,7 +48,7 @@ impl AccessControlAllowHeaders {
         })
     }
 
-    /// The field names, up to the first item that isn't one.
+    /// Starts an iterator over the field names, up to the first item that isn't a field name.
     pub fn iter(&self, alloc: Global) -> Names<'_>
         ensures answer { result ≡ names (items comma self.now) }
         ensures cuts { SurvivesCuts comma (λ lines left. left ≡ names (items comma (merge comma lines))) }
@@ -56,7 +57,7 @@ impl AccessControlAllowHeaders {
         Names::new(alloc, &self.names)
     }
 
-    /// A copy of the value.
+    /// Copies the header. Fails only if an allocation fails.
     pub fn clone(&self, alloc: Global) -> Result<AccessControlAllowHeaders, AllocError>
         ensures { IfOk result (λ copy. copy ≡ self.now) }
     {

@@ -5,14 +5,15 @@ use headers_names::{ListField, ListHeader};
 use http::Method;
 use http_header::{ACCESS_CONTROL_ALLOW_METHODS, HeaderName};
 
-/// The methods that a cross-origin request may use (W3C CORS, section 5.5). `iter` gives the items
-/// that are methods.
+/// The header `Access-Control-Allow-Methods`: the methods that a cross-origin request may use (W3C
+/// CORS, section 5.5).
 ///
-/// All lines are read, joined by a comma and a space, and never refused. Equality goes by the
+/// All field lines are joined by a comma and a space, and none are rejected: `decode` fails only if
+/// an allocation fails. `iter` yields the items that are methods. Headers are compared by the
 /// joined bytes.
 pub type AccessControlAllowMethods = ListHeader<AccessControlAllowMethodsField>;
 
-/// The field of `AccessControlAllowMethods`.
+/// The field name of `AccessControlAllowMethods`.
 #[derive(Debug, PartialEq)]
 pub struct AccessControlAllowMethodsField;
 

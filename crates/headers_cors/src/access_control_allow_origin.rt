@@ -13,10 +13,12 @@ use headers_hosts::{Origin, line_of_origin, origin_of_line, origin_of_text};
 use http_header::{ACCESS_CONTROL_ALLOW_ORIGIN, HeaderName, HeaderValue};
 use std::alloc::{AllocError, Global};
 
-/// The origin that may read a response (W3C CORS, section 5.1).
+/// The header `Access-Control-Allow-Origin`: the origin whose scripts may read the response (W3C
+/// CORS, section 5.1).
 ///
-/// The only line is read: `*` is any origin; otherwise the line must be an origin, as `Origin`
-/// reads it, or is refused. Equality and hash are those of the origin.
+/// The only field line is decoded: `*` for any origin, or an origin, as `Origin` decodes it.
+/// `decode` rejects any other value, and no or several lines, and may run out of memory. Headers
+/// are compared and hashed by the origin.
 #[derive(Debug, PartialEq, Eq, Hash, Drop)]
 pub struct AccessControlAllowOrigin {
     kind: OriginOrAny,
@@ -29,17 +31,17 @@ enum OriginOrAny {
 }
 
 impl AccessControlAllowOrigin {
-    /// `*`: any origin.
+    /// The header `*`, which allows any origin.
     pub const ANY: AccessControlAllowOrigin = AccessControlAllowOrigin {
         kind: OriginOrAny::Any,
     };
 
-    /// `null`.
+    /// The header `null`, which allows the origin `null`.
     pub const NULL: AccessControlAllowOrigin = AccessControlAllowOrigin {
         kind: OriginOrAny::One(Origin::NULL),
     };
 
-    /// The origin, or `None` for any.
+    /// Returns the origin, or `None` if any origin is allowed.
     pub fn origin(&self) -> Option<&Origin>
         ensures { option_copied result ≡ allowed_origin self.now }
     {
@@ -49,8 +51,8 @@ impl AccessControlAllowOrigin {
         }
     }
 
-    /// Reads an origin from a text, as from a line. `*` is refused, and so is a text that is no
-    /// header value.
+    /// Parses a text as an origin, like a field line. `Invalid` if the text is `*`, no header value
+    /// or no origin, `Memory` if an allocation fails.
     pub fn try_from_str(
         alloc: Global,
         text: &str,
@@ -65,7 +67,7 @@ impl AccessControlAllowOrigin {
         }
     }
 
-    /// A copy of the value.
+    /// Copies the header. Fails only if an allocation fails.
     pub fn clone(&self, alloc: Global) -> Result<AccessControlAllowOrigin, AllocError>
         ensures { IfOk result (λ copy. copy ≡ self.now) }
     {
@@ -100,7 +102,7 @@ impl AccessControlAllowOrigin {
     }
 }
 
-/// Any origin, and each origin that some line reads as, is written as a line that reads as it.
+/// Theorem: `*`, and each origin that some field line decodes to, survives a round trip.
 pub fn allow_origin_of_own_text()
     ensures any { (header : declared.AccessControlAllowOrigin) → allowed_origin header ≡ None
         → allow_origin_reads (allow_origin_writes header) header }

@@ -4,13 +4,14 @@ use headers_core::NamedField;
 use headers_names::{ListField, ListHeader};
 use http_header::{ACCESS_CONTROL_EXPOSE_HEADERS, HeaderName};
 
-/// The field names of a response that a script may read (W3C CORS, section 5.3). `iter` gives the
-/// items that are field names.
+/// The header `Access-Control-Expose-Headers`: the response fields that a script may read (W3C
+/// CORS, section 5.3).
 ///
-/// All lines are read, joined by a comma and a space, and never refused.
+/// All field lines are joined by a comma and a space, and none are rejected: `decode` fails only if
+/// an allocation fails. `iter` yields the items that are field names.
 pub type AccessControlExposeHeaders = ListHeader<AccessControlExposeHeadersField>;
 
-/// The field of `AccessControlExposeHeaders`.
+/// The field name of `AccessControlExposeHeaders`.
 #[derive(Debug)]
 pub struct AccessControlExposeHeadersField;
 

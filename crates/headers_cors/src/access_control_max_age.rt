@@ -3,11 +3,12 @@
 use headers_core::{NamedField, SecondsHeader};
 use http_header::{ACCESS_CONTROL_MAX_AGE, HeaderName};
 
-/// How long the answer to a preflight request may be cached: the only line, a number of seconds below
-/// 2^64 (Fetch standard, section 3.3.3).
+/// The header `Access-Control-Max-Age`: how long a preflight response may be cached, in seconds
+/// below 2^64 (Fetch standard, section 3.3.3). The only field line is decoded. `decode` rejects any
+/// other value, and no or several lines, and never allocates.
 pub type AccessControlMaxAge = SecondsHeader<AccessControlMaxAgeField>;
 
-/// The field of `AccessControlMaxAge`.
+/// The field name of `AccessControlMaxAge`.
 #[derive(Clone, Debug, Drop, PartialEq, Eq, PartialOrd, Ord, Hash)]
 pub struct AccessControlMaxAgeField;
 

@@ -4,13 +4,14 @@ use headers_core::NamedField;
 use headers_names::{ListField, ListHeader};
 use http_header::{ACCESS_CONTROL_REQUEST_HEADERS, HeaderName};
 
-/// The field names that the request to come will carry (W3C CORS, section 5.9). `iter` gives the
-/// items that are field names.
+/// The header `Access-Control-Request-Headers`: the field names that the actual request will have
+/// (W3C CORS, section 5.9).
 ///
-/// All lines are read, joined by a comma and a space, and never refused.
+/// All field lines are joined by a comma and a space, and none are rejected: `decode` fails only if
+/// an allocation fails. `iter` yields the items that are field names.
 pub type AccessControlRequestHeaders = ListHeader<AccessControlRequestHeadersField>;
 
-/// The field of `AccessControlRequestHeaders`.
+/// The field name of `AccessControlRequestHeaders`.
 #[derive(Debug)]
 pub struct AccessControlRequestHeadersField;
 

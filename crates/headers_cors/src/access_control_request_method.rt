@@ -10,17 +10,18 @@ use http::method::MethodError;
 use http_header::{ACCESS_CONTROL_REQUEST_METHOD, HeaderName, HeaderValue, HeaderValueError};
 use std::alloc::{AllocError, Global};
 
-/// The method of the request to come (W3C CORS, section 5.8).
+/// The header `Access-Control-Request-Method`: the method of the actual request (W3C CORS, section
+/// 5.8).
 ///
-/// The first line is read, and refused if it is no method (RFC 9110, section 9.1). Equality and
-/// hash go by its bytes.
+/// The first field line is decoded. `decode` rejects a value that is no method (RFC 9110, section
+/// 9.1), and may run out of memory. Headers are compared and hashed by their bytes.
 #[derive(Debug, PartialEq, Eq, Hash, Drop)]
 pub struct AccessControlRequestMethod {
     method: Method,
 }
 
 impl AccessControlRequestMethod {
-    /// A copy of the method.
+    /// Copies the header. Fails only if an allocation fails.
     pub fn clone(&self, _alloc: Global) -> Result<AccessControlRequestMethod, AllocError>
         ensures { IfOk result (λ copy. copy ≡ self.now) }
     {
@@ -53,7 +54,7 @@ impl AccessControlRequestMethod {
     }
 }
 
-/// A method is written as a line that reads as it.
+/// Theorem: every value of `AccessControlRequestMethod` survives a round trip.
 pub fn request_methods_read_back(header: &AccessControlRequestMethod)
     ensures { request_method_reads (request_method_writes header.now) header.now }
 {

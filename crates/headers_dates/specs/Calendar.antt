@@ -34,8 +34,9 @@ IsDateTime d = (d.year ≤ 9999) × IsInRange 1 12 d.month × IsInRange 1 (days_
 abbrev pub in_year : DateTime → ℕ → DateTime
 in_year d year = record d { year = year }
 
--- Which year two digits stand for: the date isn't more than fifty years in the future, and in the next year with these
--- digits it would be. A date is, if the same day and time fifty years earlier is still to come. `now` counts from 1970.
+-- Which year two digits mean: the date isn't more than fifty years in the future, and in the next year with these
+-- digits it would be. A date is more than fifty years in the future if the same day and time fifty years earlier is
+-- still to come. `now` counts from 1970.
 abbrev pub IsNear : ℕ → DateTime → Type 0
 IsNear now d =
     (seconds (in_year d (d.year - 50)) ≤ unix_epoch + now) × (unix_epoch + now < seconds (in_year d (d.year + 50)))

@@ -1,4 +1,4 @@
--- What the private functions compute. The theorems of the crate show that it reads the three forms and nothing else.
+-- What the private functions compute. The theorems of the crate show that it parses the three formats, and no other.
 use Rattle.std.specs.Prelude.{ℕ, zero, suc, ◌+◌, ◌*◌, ◌-◌, ◌&&◌, Bool, List, slice_index, length, codes, bytes_eq}
 use Rattle.std.specs.Prelude.{Option, Some, None, option_and_then, ◌==◌, nat_lt, nat_le, if◌then◌else◌}
 use Rattle.httpdate.specs.Calendar.{days_in_month}
@@ -92,14 +92,14 @@ read_asctime_date text = do
       })
       else None
 
--- a date in one of the three forms, after the name of its day
+-- a date in one of the three formats, after the name of its day
 unfoldable pub read_form : ℕ → ℕ → List ℕ → Option DateTime
 read_form now named text =
     if slice_index text 0 == comma then read_imf_fixdate text
     else (if slice_index text 0 == space then read_asctime_date text
     else (read_tag (day_name_rest named) text >>= read_rfc850_date >>= (λ d. in_near_century now d 81 19)))
 
--- the date in one of the three forms that the text shows, if the calendar has it and the day's name is right
+-- the date in one of the three formats that the text shows, if the calendar has it and the day's name is right
 unfoldable pub date_time : ℕ → List ℕ → Option DateTime
 date_time now text = do
   named ← read_name day_name 7 text

@@ -1,4 +1,4 @@
--- The three forms of a date (RFC 9110, section 5.6.7), each with the name of the day's weekday.
+-- The three formats of a date (RFC 9110, section 5.6.7), each with the name of the day's weekday.
 use Rattle.std.specs.Prelude.{ℕ, ◌%◌, List, ◌++◌, codes}
 use Rattle.httpdate.specs.Text.{day_name, day_name_rest, month_name, two_digits, four_digits}
 use Rattle.headers_dates.specs.declared.date_time.DateTime.{DateTime}
@@ -15,13 +15,13 @@ imf_fixdate d =
     day_name (weekday d) ++ codes ", " ++ two_digits d.day ++ codes " " ++ month_name d.month ++ codes " "
     ++ four_digits d.year ++ codes " " ++ time_of_day d ++ codes " GMT"
 
--- RFC 850's form, with the last two digits of the year: `Sunday, 06-Nov-94 08:49:37 GMT`
+-- the RFC 850 format, with the last two digits of the year: `Sunday, 06-Nov-94 08:49:37 GMT`
 unfoldable pub rfc850_date : DateTime → List ℕ
 rfc850_date d =
     day_name (weekday d) ++ day_name_rest (weekday d) ++ codes ", " ++ two_digits d.day ++ codes "-"
     ++ month_name d.month ++ codes "-" ++ two_digits (d.year % 100) ++ codes " " ++ time_of_day d ++ codes " GMT"
 
--- asctime's form, with the text of the day given: `Sun Nov  6 08:49:37 1994`
+-- the asctime format, with the text of the day given: `Sun Nov  6 08:49:37 1994`
 unfoldable pub asctime_date : List ℕ → DateTime → List ℕ
 asctime_date day d =
     day_name (weekday d) ++ codes " " ++ month_name d.month ++ codes " " ++ day ++ codes " " ++ time_of_day d

@@ -4,18 +4,24 @@ ghost use Rattle.std.specs.Int.{IsInRange};
 ghost use Rattle.httpdate.specs.Calendar as Calendar;
 ghost use Rattle.headers_dates.specs.Calendar.{days_before_year};
 
-/// A day and a time of day, as a text shows them: the calendar and the clock may not have them.
+/// A day and a time of day as a text shows them. The calendar or the clock may not have them.
 #[derive(Clone, Copy)]
 pub struct DateTime {
+    /// The year, from 0 on.
     pub year: u16,
+    /// The month; January is 1.
     pub month: u8,
+    /// The day of the month, from 1 on.
     pub day: u8,
+    /// The hour.
     pub hour: u8,
+    /// The minute.
     pub minute: u8,
+    /// The second; 60 is a leap second.
     pub second: u8,
 }
 
-/// The seconds from the start of the year 0 to that of 1970.
+/// The number of seconds from the start of the year 0 to the start of 1970.
 pub const UNIX_EPOCH: u64 = 62_167_219_200;
 
 fn is_leap_year(year: u16) -> bool
@@ -62,7 +68,8 @@ impl DateTime {
     ghost use Rattle.headers_dates.specs.Calendar.{IsDateTime, day_number, weekday, seconds, in_year};
     ghost use Rattle.headers_dates.specs.Reader.{in_near_century, is_near};
 
-    /// Whether the calendar has the day and the clock has the time, where each minute has a second 60.
+    /// Returns whether the calendar has the day, and the clock has the time. Each minute has a
+    /// second 60.
     pub fn is_valid(&self) -> bool
         ensures { IsTrue result ↔ IsDateTime self.now }
     {
@@ -86,7 +93,7 @@ impl DateTime {
             + self.day.saturating_sub(1) as u32
     }
 
-    /// The day of the week: 1 is Monday, 7 is Sunday.
+    /// Returns the day of the week: 1 is Monday, 7 is Sunday.
     #[tactic(auto, unfolding(crate::specs::Calendar::weekday))]
     pub fn weekday(&self) -> u8
         requires { IsInRange 1 12 self.now.month }
@@ -95,7 +102,7 @@ impl DateTime {
         ((self.day_number() + 5) % 7 + 1) as u8
     }
 
-    /// The seconds since the start of the year 0.
+    /// Returns the seconds since the start of the year 0.
     #[tactic(auto, unfolding(crate::specs::Calendar::seconds))]
     pub fn seconds(&self) -> u64
         requires { IsInRange 1 12 self.now.month }
@@ -127,7 +134,8 @@ impl DateTime {
         earlier.seconds() <= now && now < later.seconds()
     }
 
-    /// The date in the century in which it is within fifty years of `now`, if that is before the year 10000.
+    /// Returns the date in the century in which it is within fifty years of `now`, in seconds since
+    /// 1970. `None` if that is after the year 9999.
     pub fn in_near_century(self, now: u64) -> Option<DateTime>
         requires year { self.year < 100 }
         requires month { IsInRange 1 12 self.month }

@@ -1,5 +1,5 @@
-//! HTTP-date by RFC 9110, section 5.6.7. Unlike the types of `headers`, which read dates as `httpdate` does, it has the
-//! years before 1970 and leap seconds, and the present decides which year two digits stand for.
+//! HTTP-date by RFC 9110, section 5.6.7, with the years before 1970 and leap seconds. The types of
+//! `headers` parse dates as `httpdate` does. Here, the present decides which year two digits mean.
 #![tactic(auto)]
 
 mod date_time;

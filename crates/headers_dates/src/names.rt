@@ -3,7 +3,7 @@ ghost use Rattle.std.specs.Prelude.{◌≡◌};
 ghost use Rattle.std.specs.Int.{IsInRange};
 ghost use Rattle.httpdate.specs.Text as Text;
 
-/// The first three letters of a day's name.
+/// Returns the first three letters of a day's name; Monday is 1.
 pub fn day_name(weekday: u8) -> &'static [u8; 3]
     requires { IsInRange 1 7 weekday }
     ensures { result.now ≡ Text.day_name weekday }
@@ -19,7 +19,7 @@ pub fn day_name(weekday: u8) -> &'static [u8; 3]
     }
 }
 
-/// What a day's name has after its first three letters.
+/// Returns what a day's name has after its first three letters; Monday is 1.
 pub fn day_name_rest(weekday: u8) -> &'static [u8]
     requires { IsInRange 1 7 weekday }
     ensures { result.now ≡ Text.day_name_rest weekday }
@@ -33,7 +33,7 @@ pub fn day_name_rest(weekday: u8) -> &'static [u8]
     }
 }
 
-/// The first three letters of a month's name.
+/// Returns the first three letters of a month's name; January is 1.
 pub fn month_name(month: u8) -> &'static [u8; 3]
     requires { IsInRange 1 12 month }
     ensures { result.now ≡ Text.month_name month }

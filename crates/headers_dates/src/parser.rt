@@ -1,4 +1,5 @@
-//! The three forms of a date. A function that returns the rest of the text reads the front of it.
+//! The three formats of a date. A function that returns the rest of the text parses the front of
+//! it.
 ghost use Rattle.std.specs.Prelude.{◌≡◌, ◌<◌, IfSome, option_copied};
 ghost use Rattle.std.specs.Int.{IsInRange};
 ghost use Rattle.httpdate.specs.Text as Text;
@@ -107,7 +108,7 @@ fn read_time_in_gmt(text: &[u8]) -> Option<(u8, u8, u8)>
     }
 }
 
-// `, 06 Nov 1994 08:49:37 GMT`, after `Sun`
+/// Parses an IMF-fixdate without its day name, as `, 06 Nov 1994 08:49:37 GMT`. `None` for any other text.
 #[tactic(auto, unfolding(crate::specs::Reader::read_imf_fixdate))]
 pub fn read_imf_fixdate(text: &[u8]) -> Option<DateTime>
     ensures value { result ≡ Dates.read_imf_fixdate text.now }
@@ -126,7 +127,8 @@ pub fn read_imf_fixdate(text: &[u8]) -> Option<DateTime>
     })
 }
 
-// `, 06-Nov-94 08:49:37 GMT`, after `Sunday`: with a year below 100
+/// Parses an RFC 850 date without its day name, as `, 06-Nov-94 08:49:37 GMT`. The year is below 100.
+/// `None` for any other text.
 #[tactic(auto, unfolding(crate::specs::Reader::read_rfc850_date))]
 pub fn read_rfc850_date(text: &[u8]) -> Option<DateTime>
     ensures value { result ≡ Dates.read_rfc850_date text.now }
@@ -145,7 +147,7 @@ pub fn read_rfc850_date(text: &[u8]) -> Option<DateTime>
     })
 }
 
-// ` Nov  6 08:49:37 1994`, after `Sun`
+/// Parses an asctime date without its day name, as ` Nov  6 08:49:37 1994`. `None` for any other text.
 #[tactic(auto, unfolding(crate::specs::Reader::read_asctime_date))]
 pub fn read_asctime_date(text: &[u8]) -> Option<DateTime>
     ensures value { result ≡ Dates.read_asctime_date text.now }
@@ -182,8 +184,9 @@ fn read_form(weekday: u8, text: &[u8], now: u64) -> Option<DateTime>
     }
 }
 
-/// The date that the text shows in one of the three forms. `None` if it shows none, if the calendar or the clock
-/// doesn't have it, or if the day has another name.
+/// Parses a text as a date in one of the three formats. `None` for any other text, for a date that
+/// the calendar or the clock doesn't have, and if the day has another name. `now` is the present,
+/// in seconds since 1970.
 #[tactic(auto, unfolding(crate::specs::Reader::date_time))]
 pub fn read_date_time(text: &[u8], now: u64) -> Option<DateTime>
     ensures value { result ≡ Dates.date_time now text.now }

@@ -7,8 +7,8 @@ use crate::date_time::UNIX_EPOCH;
 use crate::parser::read_date_time;
 use std::marker::Model;
 
-/// A time in whole seconds, from the start of the year 0 on, as an HTTP-date denotes one (RFC 9110, section 5.6.7). Its
-/// methods take other times in seconds since 1970.
+/// A time in whole seconds since the start of the year 0, as an HTTP-date denotes one (RFC 9110,
+/// section 5.6.7). Its methods take other times in seconds since 1970.
 #[derive(Clone, Copy, Debug, PartialEq, Eq, PartialOrd, Ord)]
 pub struct Timestamp {
     // Since the start of the year 0.
@@ -26,7 +26,8 @@ impl Model for Timestamp {
 }
 
 impl Timestamp {
-    /// The time so many seconds after the start of 1970, or the last time that a `Timestamp` holds if that is earlier.
+    /// Makes the time this many seconds after the start of 1970, or the last time that a
+    /// `Timestamp` can be if that is earlier.
     pub fn from_unix_seconds(seconds: u64) -> Timestamp
         ensures { result ≡ min (unix_epoch + seconds) (2 ^ 64 - 1) }
     {
@@ -35,14 +36,14 @@ impl Timestamp {
         }
     }
 
-    /// The seconds since the start of 1970. `None` if the timestamp is before it.
+    /// Returns the seconds since the start of 1970. `None` if the time is before 1970.
     pub fn unix_seconds(&self) -> Option<u64>
         ensures { MatchOption result (self.now < unix_epoch) (λ seconds. unix_epoch + seconds ≡ self.now) }
     {
         self.seconds.checked_sub(UNIX_EPOCH)
     }
 
-    /// Whether the timestamp is before the time so many seconds after the start of 1970.
+    /// Returns whether the time is before another one, in seconds since 1970.
     pub fn is_before(&self, seconds: u64) -> bool
         ensures { IsTrue result ↔ (self.now < unix_epoch + seconds) }
     {
@@ -52,7 +53,7 @@ impl Timestamp {
         }
     }
 
-    /// Whether the timestamp is after the time so many seconds after the start of 1970.
+    /// Returns whether the time is after another one, in seconds since 1970.
     pub fn is_after(&self, seconds: u64) -> bool
         ensures { IsTrue result ↔ (unix_epoch + seconds < self.now) }
     {
@@ -62,8 +63,8 @@ impl Timestamp {
         }
     }
 
-    /// The seconds from the timestamp to `now`, which counts from 1970: 0 if the timestamp is after `now`, and at most
-    /// `u64::MAX`.
+    /// Returns the seconds from this time to `now`, in seconds since 1970. 0 if this time is after
+    /// `now`, and at most `u64::MAX`.
     pub fn age_at(&self, now: u64) -> u64
         ensures { result ≡ min (unix_epoch + now - self.now) (2 ^ 64 - 1) }
     {
@@ -74,14 +75,15 @@ impl Timestamp {
         }
     }
 
-    /// The seconds from `now`, which counts from 1970, to the timestamp: 0 if the timestamp is before `now`.
+    /// Returns the seconds from `now`, in seconds since 1970, to this time. 0 if this time is
+    /// before `now`.
     pub fn remaining_at(&self, now: u64) -> u64
         ensures { result ≡ self.now - (unix_epoch + now) }
     {
         self.seconds.saturating_sub(UNIX_EPOCH.saturating_add(now))
     }
 
-    /// The seconds from the other timestamp to this one: 0 if this one is before the other.
+    /// Returns the seconds from an earlier time to this one. 0 if the other time is later.
     pub fn seconds_after(&self, earlier: Timestamp) -> u64
         ensures { result ≡ self.now - earlier }
     {
@@ -89,15 +91,17 @@ impl Timestamp {
     }
 }
 
-/// The second that an HTTP-date denotes (RFC 9110, section 5.6.7). `None` if the text isn't an IMF-fixdate, an RFC 850
-/// date or an asctime date with nothing before or after it; if the calendar doesn't have the day, or the day has
-/// another name; or if the clock doesn't have the time. A second 60 is the one after second 59.
+/// Parses an HTTP-date to the time that it denotes (RFC 9110, section 5.6.7). `None` if the text
+/// isn't an IMF-fixdate, an RFC 850 date or an asctime date with nothing before or after it; if the
+/// calendar doesn't have the day, or the day has another name; or if the clock doesn't have the
+/// time. A second 60 is the one after second 59.
 ///
-/// `now` is the present, in seconds since 1970. It only decides which year the two digits of an RFC 850 date stand for:
-/// the last year with these digits in which the date isn't more than 50 years after `now`. So `01-Jan-71` is 2071 in
-/// 2026, and `01-Jan-01` is 2101 in 2099. "More than 50 years" is by the calendar: the same day and time 50 years
-/// earlier is after `now`, where 29 February counts as 1 March in a year without it. curl and Python's `email.utils`
-/// fix the hundred years instead, at 1971 and at 1969.
+/// `now` is the present, in seconds since 1970. It only decides which year the two digits of an RFC
+/// 850 date mean: the last year with these digits in which the date isn't more than 50 years after
+/// `now`. So `01-Jan-71` is 2071 in 2026, and `01-Jan-01` is 2101 in 2099. "More than 50 years" is
+/// by the calendar: the same day and time 50 years earlier is after `now`, where 29 February counts
+/// as 1 March in a year without it. curl and Python's `email.utils` use fixed centuries instead,
+/// from 1971 and from 1969.
 #[tactic(auto, unfolding(crate::specs::Date::timestamp))]
 pub fn read_date(text: &[u8], now: u64) -> Option<Timestamp>
     ensures value { result ≡ timestamp now text.now }

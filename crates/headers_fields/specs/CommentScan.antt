@@ -7,12 +7,12 @@ use Rattle.headers_fields.specs.declared.comments.Nesting.{Nesting}
 use Rattle.headers_fields.specs.declared.comments.Progress.{Progress}
 use Rattle.headers_fields.specs.declared.comments.Progress.TheVariants.{Within, Closed, Never}
 
--- what the parenthesis that closes the innermost comment leads to
+-- what follows the parenthesis that closes the innermost comment
 abbrev pub closing : ℕ → Progress
 closing zero = Closed
 closing (suc outer) = Within (record { outer = outer; is_escaped = false })
 
--- what a byte outside quoted-pairs leads to
+-- what follows a byte outside quoted-pairs
 abbrev pub after_plain : ℕ → ℕ → Progress
 after_plain outer b =
     if b == backslash then Within (record { outer = outer; is_escaped = true })
@@ -23,11 +23,11 @@ abbrev pub after_any : ℕ → Bool → ℕ → Progress
 after_any outer true b = Within (record { outer = outer; is_escaped = false })
 after_any outer false b = after_plain outer b
 
--- what a byte of a comment leads to
+-- what follows a byte of a comment
 abbrev pub after : Nesting → ℕ → Progress
 after n b = if is_value_byte b then after_any n.outer n.is_escaped b else Never
 
--- what the progress makes of the bytes that follow, if `within` tells it for the comments that are open
+-- what remains of the next bytes after this progress, where `within` says it for the open comments
 abbrev pub lead : Progress → List ℕ → (Nesting → Option (List ℕ)) → Option (List ℕ)
 lead (Within n) s within = within n
 lead Closed s within = Some s

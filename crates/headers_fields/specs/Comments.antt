@@ -40,6 +40,6 @@ pub record HasComment (text rest : List ℕ) : Type 0 where
   pub valid : is_content content ≡ true
   pub written : text ≡ open_paren ∷ (content_text content ++ close_paren ∷ rest)
 
--- a text begins with one comment at most
+-- a text begins with at most one comment
 abbrev pub CommentsParseOneWay : Type 0
 CommentsParseOneWay = (text rest other : List ℕ) → HasComment text rest → HasComment text other → rest ≡ other

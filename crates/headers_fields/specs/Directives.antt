@@ -1,4 +1,4 @@
--- Directives and parameters: a name, and maybe a value (RFC 9111, section 5.2; RFC 9110, section 5.6.6).
+-- Directives and parameters: a name, and perhaps a value (RFC 9111, section 5.2; RFC 9110, section 5.6.6).
 use Rattle.std.specs.Prelude.{◌≡◌, ℕ, ◌-◌, Bool, true, false, ◌&&◌, List, [], ◌∷◌, ◌++◌, length, take, drop, map, find}
 use Rattle.std.specs.Prelude.{Option, None, Some, option_map, bytes_eq, if◌then◌else◌}
 use Rattle.std.specs.List.{list_all, prefix_len}
@@ -23,7 +23,7 @@ pub record DirectiveParts : Type 0 where
   pub name : List ℕ
   pub argument : Option ValueParts
 
--- what stands behind the name
+-- the text after the name
 abbrev pub argument_text : Option ValueParts → List ℕ
 argument_text None = []
 argument_text (Some v) = equals ∷ value_text v
@@ -60,18 +60,18 @@ parts_at text =
       argument = argument_at (drop (prefix_len is_token_byte text) text);
     }
 
--- the directive that a text is, if it is one: then it is written as these parts are
+-- the directive that a text is, if it is one: then the text is that of these parts
 unfoldable pub directive_in : List ℕ → Option DirectiveParts
 directive_in text =
     if is_directive (parts_at text) && bytes_eq text (directive_text (parts_at text)) then Some (parts_at text)
     else None
 
--- the text behind a name is that argument
+-- the text after a name is that argument
 pub record IsArgument (text : List ℕ) (a : Option ValueParts) : Type 0 where
   pub valid : is_argument a ≡ true
   pub written : text ≡ argument_text a
 
--- what a `Directive` shows
+-- the parts of a `Directive`
 abbrev pub directive_parts : Directive → DirectiveParts
 directive_parts d = record { name = d.name.now; argument = option_map value_parts d.argument }
 

@@ -23,9 +23,9 @@ semicolon = 59
 abbrev pub space : ℕ
 space = 32
 
--- One octet between two quotes, as it is written. A quoted-string (section 5.6.4) has qdtext, which is any byte of a
--- field but a quote and a backslash, and quoted-pairs, a backslash before any byte of a field. An opaque-tag (section
--- 8.8.3) has no quoted-pairs, and a backslash in it is a byte as any other.
+-- One octet between two quotes, as it is in the text. A quoted-string (section 5.6.4) has qdtext, which is any byte of
+-- a field but a quote and a backslash, and quoted-pairs, a backslash before any byte of a field. An opaque-tag (section
+-- 8.8.3) has no quoted-pairs, and a backslash in it is a byte like any other.
 pub data Octet : Type 0 where
   Plain : ℕ → Octet
   Pair : ℕ → Octet
@@ -60,7 +60,7 @@ abbrev pub part_text : Part → List ℕ
 part_text (Byte b) = b ∷ []
 part_text (Quoted octets) = quote ∷ (flat_map octet_text octets ++ quote ∷ [])
 
--- an element of a list, with the blanks about it; it may be empty
+-- an element of a list, with the blanks around it; it may be empty
 abbrev pub Element : Type 0
 Element = List Part
 

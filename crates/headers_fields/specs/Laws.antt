@@ -1,4 +1,4 @@
--- What follows from the definitions alone.
+-- Theorems about the definitions alone.
 use Rattle.std.specs.Prelude.{◌≡◌, ℕ, Bool, true, false, List, [], ◌∷◌, ◌++◌, map}
 use Rattle.std.specs.List.{flat_map, list_all}
 use Rattle.http_header.specs.Token.{is_value_byte}
@@ -12,7 +12,7 @@ use Rattle.headers_fields.specs.Values.{is_quoted_text, octets_from}
 use Rattle.headers_fields.specs.Directives.{DirectiveParts, IsDirective, AreDirectives, IsClearOf}
 use Rattle.headers_fields.specs.declared.scan.State.TheVariants.{Outside}
 
--- A list by the grammar is well formed, and it's cut in its elements, whichever they are: so it has no other elements.
+-- A list by the grammar is well formed, and is cut into its elements, whichever they are. So it has no others.
 abbrev pub ParsesOneWay : Type 0
 ParsesOneWay = (separator : ℕ) (pairs : Bool) (first : Element) (others : List Element) → IsSeparator separator
     → list_all (is_element separator pairs) (first ∷ others) ≡ true
@@ -25,7 +25,8 @@ abbrev pub HasAReading : Type 0
 HasAReading = (separator : ℕ) (pairs : Bool) (s : List ℕ) → list_all is_value_byte s ≡ true
     → closes pairs Outside s ≡ true → IsList separator pairs s
 
--- whatever follows a well formed line, it has its members, and what follows has those that it has by itself
+-- whatever follows a well formed line, the line has its members, and what follows it has the members that it has by
+-- itself
 abbrev pub KeepsMembersBefore : Type 0
 KeepsMembersBefore = (pairs : Bool) (line rest : Line) → closes pairs Outside line ≡ true
     → (closes pairs Outside (line ++ comma ∷ space ∷ rest) ≡ closes pairs Outside rest)
@@ -57,7 +58,7 @@ WellFormedIsWhole = (pairs : Bool) (line : Line) → list_all is_whole (members 
 abbrev pub WholeMembersAreWellFormed : Type 0
 WholeMembersAreWellFormed = (pairs : Bool) (line : Line) → list_all (closes_member pairs) (members pairs line) ≡ true
 
--- and what stands between the separators of a text is whole exactly if the text is well formed, whichever they are
+-- what is between the separators of a text is whole exactly if the text is well formed
 abbrev pub PartsAreWhole : Type 0
 PartsAreWhole = (separator : ℕ) (pairs : Bool) (s : List ℕ) → IsSeparator separator
     → list_all is_whole (pieces separator pairs Outside s) ≡ closes pairs Outside s
@@ -67,18 +68,18 @@ abbrev pub WellFormedFieldIsWhole : Type 0
 WellFormedFieldIsWhole = (pairs : Bool) (lines : List Line)
     → list_all is_whole (field_members pairs lines) ≡ list_all (closes pairs Outside) lines
 
--- Octets that a quoted-string may have are parsed as such, and mean what each of them means (section 5.6.4).
+-- Octets that a quoted-string may have are parsed as such, and each means what it means (section 5.6.4).
 abbrev pub QuotedTextsParse : Type 0
 QuotedTextsParse = (octets : List Octet) → list_all (is_octet true) octets ≡ true
     → (is_quoted_text false (flat_map octet_text octets) ≡ true)
     × (octets_from false (flat_map octet_text octets) ≡ map octet_value octets)
 
--- and nothing else is
+-- and no other text is
 abbrev pub QuotedTextsAreOctets : Type 0
 QuotedTextsAreOctets = (s : List ℕ) → is_quoted_text false s ≡ true
     → (octets : List Octet) × (list_all (is_octet true) octets ≡ true) × (s ≡ flat_map octet_text octets)
 
--- a text is one directive only, and a field has one list of directives only
+-- a text is at most one directive, and a field has at most one list of directives
 pub record DirectivesParseOneWay : Type 0 where
   pub one : (text : List ℕ) (d e : DirectiveParts) → IsDirective text d → IsDirective text e → d ≡ e
   pub all : (lines : List Line) (ds es : List DirectiveParts) → AreDirectives lines ds → AreDirectives lines es
@@ -90,7 +91,7 @@ JoinKeepsDirectives = (lines : List Line) (ds : List DirectiveParts) → list_al
     → (AreDirectives (combined lines ∷ []) ds → AreDirectives lines ds)
     × (AreDirectives lines ds → AreDirectives (combined lines ∷ []) ds)
 
--- a field with a line that isn't well formed is clear of no directive, whatever else it has
+-- a field with a line that isn't well formed certainly lacks no directive, whatever else it has
 abbrev pub MalformedIsClearOfNone : Type 0
 MalformedIsClearOfNone = (lines : List Line) (name : List ℕ) → list_all is_well_formed lines ≡ false
     → IsClearOf lines name → ⊥

@@ -1,4 +1,4 @@
--- The members of a field, and what a contract sees of an iterator over them.
+-- The members of a field, and the state of an iterator over them as a contract sees it.
 use Rattle.std.specs.Prelude.{ℕ, Bool, true, false, List, [], ◌∷◌, ◌++◌, length, map, filter, not, ◌==◌}
 use Rattle.std.specs.Prelude.{Result, Ok, Err, if◌then◌else◌}
 use Rattle.std.specs.List.{flat_map}
@@ -11,12 +11,12 @@ use Rattle.headers_fields.specs.Scan.{Member, closes, pieces}
 use Rattle.headers_fields.specs.Scan.Member.{Whole, Malformed}
 use Rattle.headers_fields.specs.declared.scan.State.TheVariants.{Outside}
 
--- without the blanks about it
+-- the member without the blanks around it
 abbrev pub trimmed : Member → Member
 trimmed (Whole s) = Whole (trim s)
 trimmed Malformed = Malformed
 
--- what isn't empty
+-- the piece isn't empty
 abbrev pub is_member : Member → Bool
 is_member (Whole s) = not (length s == 0)
 is_member Malformed = true
@@ -34,11 +34,11 @@ closes_member pairs Malformed = true
 abbrev pub members_of : List Member → List Member
 members_of ps = filter is_member (map trimmed ps)
 
--- the members of a field line; of a line of entity tags without quoted-pairs (section 8.8.3)
+-- the members of a field line; if `pairs` is false, of a line of entity tags without quoted-pairs (section 8.8.3)
 abbrev pub members : Bool → Line → List Member
 members pairs line = members_of (pieces comma pairs Outside line)
 
--- the members of all lines of a field, each line read by itself
+-- the members of all lines of a field, each line parsed by itself
 abbrev pub field_members : Bool → List Line → List Member
 field_members pairs lines = flat_map (members pairs) lines
 
@@ -52,7 +52,7 @@ combined [] = []
 combined (line ∷ []) = line
 combined (line ∷ other ∷ lines) = line ++ comma ∷ space ∷ combined (other ∷ lines)
 
--- what an iterator's item shows
+-- the member of an iterator's item
 abbrev pub member_of : {E : Type 0} → Result (Bor (List ℕ)) E → Member
 member_of (Ok text) = Whole text.now
 member_of (Err _) = Malformed
@@ -70,7 +70,7 @@ pieces_left s = if s.is_done then [] else pieces s.separator s.pairs Outside s.r
 abbrev pub members_left : MembersState → List Member
 members_left s = members_of (pieces_left s)
 
--- the iterator over the line in hand, and the values that follow
+-- the iterator over the current line, and the values that follow
 pub record FieldState : Type 0 where
   pub line : MembersState
   pub values : List FieldValue

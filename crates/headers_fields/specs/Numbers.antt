@@ -10,11 +10,11 @@ abbrev pub is_number : List ℕ → Bool
 is_number [] = false
 is_number (b ∷ s) = all_ascii_digits (b ∷ s)
 
--- the number that digits write, or the greatest, if it's greater
+-- the number that digits denote, or the greatest if it is greater
 abbrev pub number_within : ℕ → List ℕ → Option ℕ
 number_within greatest s = if is_number s then Some (min (decimal_value s) greatest) else None
 
--- the number with one more digit, or the greatest, if it's greater
+-- the number with one more digit, or the greatest if it is greater
 abbrev pub with_digit : ℕ → Option ℕ → ℕ → Option ℕ
 with_digit greatest number b =
     if is_ascii_digit b then Some (min (unwrap_or number 0 * 10 + (b - 48)) greatest) else None

@@ -28,12 +28,12 @@ state_after pairs Escaped b = Inside
 abbrev pub is_cut : ℕ → State → ℕ → Bool
 is_cut separator state b = b == separator && is_outside state
 
--- read from that state on, each quote has its end
+-- scanned from that state on, each quote has its end
 unfoldable pub closes : Bool → State → List ℕ → Bool
 closes pairs state [] = is_outside state
 closes pairs state (b ∷ s) = closes pairs (state_after pairs state b) s
 
--- what the end of a text makes of what stands before it
+-- the member that the end of a text makes of what is before it
 abbrev pub last_member : State → Member
 last_member state = if is_outside state then Whole [] else Malformed
 
@@ -47,14 +47,14 @@ unfoldable pub push : ℕ → List Member → List Member
 push b [] = []
 push b (m ∷ ms) = with_byte b m ∷ ms
 
--- s, read from that state on, cut at each separator outside quotes; the separators are left out
+-- s, scanned from that state on, cut at each separator outside quotes; the separators are left out
 unfoldable pub pieces : ℕ → Bool → State → List ℕ → List Member
 pieces separator pairs state [] = last_member state ∷ []
 pieces separator pairs state (b ∷ s) =
     if is_cut separator state b then Whole [] ∷ pieces separator pairs Outside s
     else push b (pieces separator pairs (state_after pairs state b) s)
 
--- how an element ends with its text, in that state
+-- how an element ends if its text ends in that state
 abbrev pub end_of : State → End
 end_of state = if is_outside state then Closed else Open
 

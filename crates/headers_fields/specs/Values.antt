@@ -17,27 +17,27 @@ is_token s = not (length s == 0) && list_all is_token_byte s
 abbrev pub is_qdtext : ℕ → Bool
 is_qdtext b = is_octet true (Plain b)
 
--- whether the byte behind this one is just behind a backslash, if this one may stand here; the flag says whether this
--- one is
+-- whether the next byte is escaped, so whether it follows the backslash of a quoted-pair; none if this byte is not
+-- allowed here. The flag says whether this byte is escaped.
 abbrev pub escape_after : Bool → ℕ → Option Bool
 escape_after false b = if b == backslash then Some true else (if is_qdtext b then Some false else None)
 escape_after true b = if is_value_byte b then Some false else None
 
--- the text is qdtext and quoted-pairs; if the flag is set, it begins just behind a backslash
+-- the text is qdtext and quoted-pairs; if the flag is set, its first byte is escaped
 unfoldable pub is_quoted_text : Bool → List ℕ → Bool
 is_quoted_text escaped [] = not escaped
 is_quoted_text escaped (b ∷ s) = option_map_or (λ next. is_quoted_text next s) (escape_after escaped b) false
 
--- a backslash that isn't just behind one
+-- a backslash that isn't escaped
 abbrev pub is_skipped : Bool → ℕ → Bool
 is_skipped escaped b = not escaped && b == backslash
 
--- the octets that are meant, each quoted-pair as the octet behind its backslash; the flag as above
+-- the octets that are meant, each quoted-pair as the octet after its backslash; the flag as above
 unfoldable pub octets_from : Bool → List ℕ → List ℕ
 octets_from escaped [] = []
 octets_from escaped (b ∷ s) = if is_skipped escaped b then octets_from true s else b ∷ octets_from false s
 
--- a value in one of its two forms: a token, or what stands between the quotes of a quoted-string
+-- a value in one of its two forms: a token, or what is between the quotes of a quoted-string
 pub data ValueParts : Type 0 where
   TokenText : List ℕ → ValueParts
   QuotedText : List ℕ → ValueParts
@@ -47,7 +47,7 @@ abbrev pub is_value : ValueParts → Bool
 is_value (TokenText s) = is_token s
 is_value (QuotedText s) = is_quoted_text false s
 
--- as it stands in a field
+-- the value as it is in a field line
 abbrev pub value_text : ValueParts → List ℕ
 value_text (TokenText s) = s
 value_text (QuotedText s) = quote ∷ (s ++ quote ∷ [])
@@ -62,7 +62,7 @@ pub record IsValue (text : List ℕ) (v : ValueParts) : Type 0 where
   pub valid : is_value v ≡ true
   pub written : text ≡ value_text v
 
--- what a `Value` shows
+-- the parts of a `Value`
 abbrev pub value_parts : Value → ValueParts
 value_parts (Token s) = TokenText s.now
 value_parts (Quoted s) = QuotedText s.now
@@ -72,8 +72,8 @@ pub record OctetsState : Type 0 where
   pub rest : List ℕ
   pub is_quoted : Bool
 
--- the octets of a text, which has quoted-pairs if the second flag is set, and then begins behind a backslash if the
--- first one is
+-- the octets of a text. If the second flag is set, the text has quoted-pairs, and if the first flag is set as well, its
+-- first byte is escaped.
 abbrev pub octets_after : Bool → Bool → List ℕ → List ℕ
 octets_after escaped is_quoted s = if is_quoted then octets_from escaped s else s
 

@@ -4,7 +4,7 @@ use Rattle.std.specs.Prelude.{Option, None, Some, if◌then◌else◌}
 use Rattle.std.specs.Str.{all_ascii_digits}
 use Rattle.headers_syntax.specs.Number.{decimal_value}
 
--- 0*3DIGIT behind a point, in thousandths
+-- 0*3DIGIT after a point, in thousandths
 abbrev pub thousandths : List ℕ → Option ℕ
 thousandths digits =
     if nat_le (length digits) 3 && all_ascii_digits digits
@@ -16,7 +16,7 @@ abbrev pub fraction : List ℕ → Option ℕ
 fraction [] = Some 0
 fraction (b ∷ digits) = if b == 46 then thousandths digits else None
 
--- a thousand, if the fraction behind the digit 1 has no digit but 0
+-- a thousand, if the fraction after the digit 1 has no digit but 0
 abbrev pub one : Option ℕ → Option ℕ
 one None = None
 one (Some n) = if n == 0 then Some 1000 else None

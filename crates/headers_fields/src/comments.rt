@@ -8,7 +8,7 @@ ghost use Rattle.headers_fields.specs.declared.comments.Progress.TheVariants.{Wi
 use crate::error::Malformed;
 use crate::values::is_value_byte;
 
-/// Where a byte of a comment is.
+/// The place of a byte in a comment.
 #[derive(Clone, Copy)]
 pub(crate) struct Nesting {
     /// The number of open comments around the innermost one.
@@ -17,7 +17,7 @@ pub(crate) struct Nesting {
     pub(crate) is_escaped: bool,
 }
 
-/// What a byte of a comment leads to.
+/// What follows a byte of a comment.
 #[derive(Clone, Copy)]
 pub(crate) enum Progress {
     /// The next byte is in the comment.
@@ -71,10 +71,11 @@ fn after(nesting: Nesting, byte: u8) -> Progress
     }
 }
 
-/// What follows the comment that a text begins with. It is malformed if the text begins with none.
+/// Skips the comment at the front of a text, and returns what follows it (RFC 9110, section 5.6.5).
+/// `Malformed` if the text doesn't begin with a comment.
 ///
-/// A comment stands between parentheses, may have comments in it, and quoted-pairs, in which a
-/// parenthesis counts for nothing.
+/// A comment is between parentheses. It may have comments and quoted-pairs in it; a parenthesis in
+/// a quoted-pair neither opens nor closes a comment.
 pub fn skip_comment(text: &[u8]) -> Result<&[u8], Malformed>
     ensures { MatchResult result (λ rest. HasComment text.now rest.now)
         (λ _. (rest : List ℕ) → HasComment text.now rest → ⊥) }

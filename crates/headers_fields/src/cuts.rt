@@ -4,7 +4,8 @@ ghost use Rattle.headers_fields.specs.Cuts.{cut};
 
 use memchr::memchr;
 
-/// What stands before the first such byte of a text, and behind it, if there is one.
+/// Cuts a text at the first place of a byte: what is before it, and what follows it. `None` if the
+/// text doesn't have the byte.
 pub fn cut(at: u8, text: &[u8]) -> Option<(&[u8], &[u8])>
     ensures { option_map (λ sides. (sides.0.now, sides.1.now)) result ≡ cut at text.now }
 {

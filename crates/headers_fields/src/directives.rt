@@ -1,4 +1,4 @@
-//! Directives: a name and maybe a value (RFC 9111, section 5.2).
+//! Directives: a name, and perhaps a value (RFC 9111, section 5.2).
 ghost use Rattle.std.specs.Prelude.{◌≡◌, ◌≤◌, length, MatchResult, Option, option_map};
 ghost use Rattle.std.specs.List.{prefix_len};
 ghost use Rattle.http_header.specs.Token.{is_token_byte};
@@ -10,14 +10,16 @@ use crate::error::Malformed;
 use crate::values::{Value, read_value};
 use http_header::is_token_char;
 
-/// A name and maybe a value: `token [ "=" ( token / quoted-string ) ]`.
+/// A directive: a name, and perhaps a value: `token [ "=" ( token / quoted-string ) ]`.
 ///
-/// Cache-Control has such directives (RFC 9111, section 5.2), and so are the parameters of a
-/// WebSocket extension (RFC 6455, section 9.1). One that has an argument is a parameter (RFC 9110,
+/// Cache-Control has such directives (RFC 9111, section 5.2), and a WebSocket extension such
+/// parameters (RFC 6455, section 9.1). A directive with an argument is a parameter (RFC 9110,
 /// section 5.6.6).
 #[derive(Clone, Copy, Debug)]
 pub struct Directive<'a> {
+    /// The name, as in the field line.
     pub name: &'a [u8],
+    /// The value after the `=`, if there is one.
     pub argument: Option<Value<'a>>,
 }
 
@@ -51,7 +53,8 @@ fn read_argument(text: &[u8]) -> Result<Option<Value<'_>>, Malformed>
     }
 }
 
-/// The directive that a text is. No blank may stand beside the `=`.
+/// Parses a text as a directive (RFC 9111, section 5.2). `Malformed` for any other text, also for
+/// one with a blank beside the `=`.
 pub fn read_directive(text: &[u8]) -> Result<Directive<'_>, Malformed>
     ensures { MatchResult result (λ directive. IsDirective text.now (directive_parts directive))
         (λ _. (d : DirectiveParts) → IsDirective text.now d → ⊥) }
@@ -69,7 +72,7 @@ pub fn read_directive(text: &[u8]) -> Result<Directive<'_>, Malformed>
     }
 }
 
-/// The directive that a text is, if it is one.
+/// Parses a text as a directive, as `read_directive` does. `None` for any other text.
 pub fn directive_in(text: &[u8]) -> Option<Directive<'_>>
     ensures { option_map directive_parts result ≡ directive_in text.now }
 {
@@ -80,7 +83,7 @@ pub fn directive_in(text: &[u8]) -> Option<Directive<'_>>
 }
 
 impl<'a> Directive<'a> {
-    /// Whether it has that name. The case of ASCII letters is ignored.
+    /// Returns whether the directive has this name, ignoring the case of ASCII letters.
     pub fn is(&self, name: &[u8]) -> bool
         ensures { result ≡ is_named name.now (directive_parts self.now) }
     {

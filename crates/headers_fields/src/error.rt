@@ -1,9 +1,9 @@
-//! Why a text isn't read.
+//! Why a text doesn't parse.
 ghost use Rattle.std.specs.Prelude.{Some, codes};
 
 use std::fmt;
 
-/// A field, a member or a text isn't one by the grammar.
+/// The error of a field, a member or a text that doesn't parse by the grammar.
 #[derive(Clone, Copy, Debug, PartialEq, Eq)]
 pub struct Malformed;
 

@@ -1,4 +1,4 @@
-//! What all lines of a field say together.
+//! What all lines of a field mean together.
 ghost use Rattle.std.specs.Prelude.{◌≡◌, ◌<◌, [], length, true, MatchResult};
 ghost use Rattle.std.specs.Bool.{MatchBool};
 ghost use Rattle.std.specs.Option.{option_map};
@@ -15,7 +15,7 @@ use crate::members::FieldMembers;
 use crate::values::is_token;
 use http_header::{GetAll, HeaderValue};
 
-/// Whether a field has a field line.
+/// Returns whether a field has a field line.
 pub fn has_line(field: &GetAll<'_, HeaderValue>) -> bool
     ensures present { MatchBool result (0 < length (lines_of field.now)) (¬ (0 < length (lines_of field.now))) }
     ensures lines { MatchBool result (0 < length (lines_of field.now)) (lines_of field.now ≡ []) }
@@ -23,7 +23,7 @@ pub fn has_line(field: &GetAll<'_, HeaderValue>) -> bool
     field.iter().next().is_some()
 }
 
-/// The value of a field's only field line. `None` if it has none or several.
+/// Returns the only field line of a field. `None` if there are no or several lines.
 pub fn only_value<'a>(field: &GetAll<'a, HeaderValue>) -> Option<&'a HeaderValue>
     ensures { option_map (λ value. value.now.bytes) result ≡ only_line (lines_of field.now) }
 {
@@ -67,9 +67,9 @@ fn or_named<'a>(
     }
 }
 
-/// The first directive of that name in all lines of a field. It is malformed if there is anything
-/// else than directives in it, also behind the one that is sought: such a field may have, by
-/// another reading, any directive.
+/// Finds the first directive with this name in all lines of a field. `Malformed` if anything in the
+/// field is no directive, also after the one that is sought: another recipient may find any
+/// directive in such a field.
 pub fn find_directive<'a>(
     field: &GetAll<'a, HeaderValue>,
     name: &[u8],
@@ -89,8 +89,8 @@ pub fn find_directive<'a>(
     Ok(found)
 }
 
-/// Whether a field surely lacks the directive of that name: each of its lines is well formed, each
-/// member is a directive, and none has the name.
+/// Returns whether a field certainly lacks the directive with this name. It does if each line is
+/// well formed, each member is a directive, and none has the name.
 pub fn is_clear_of(field: &GetAll<'_, HeaderValue>, name: &[u8]) -> bool
     ensures { MatchBool result (IsClearOf (lines_of field.now) name.now)
         (¬ (IsClearOf (lines_of field.now) name.now)) }
@@ -111,7 +111,7 @@ fn is_token_member(member: Result<&[u8], Malformed>) -> bool
     }
 }
 
-/// Whether each member of a field is a token.
+/// Returns whether each member of a field is a token.
 pub fn are_tokens(field: &GetAll<'_, HeaderValue>) -> bool
     ensures { result ≡ list_all is_token_member (field_members true (lines_of field.now)) }
 {
@@ -133,7 +133,7 @@ fn is_same_token(member: Result<&[u8], Malformed>, token: &[u8]) -> bool
     }
 }
 
-/// Whether some member of a field is the token, in any case.
+/// Returns whether some member of a field is the token, ignoring the case of ASCII letters.
 pub fn contains_token(field: &GetAll<'_, HeaderValue>, token: &[u8]) -> bool
     ensures { result ≡ list_any (is_same_token token.now) (field_members true (lines_of field.now)) }
 {

@@ -1,4 +1,4 @@
-//! What follows from the definitions alone. A proof cites a law by calling it.
+//! Theorems about the definitions alone. To cite one in a proof, call it.
 ghost use Rattle.std.specs.Prelude.{◌≡◌, ◌↔◌, ℕ, List, Some};
 ghost use Rattle.headers_fields.specs.Comments.{CommentsParseOneWay};
 ghost use Rattle.headers_fields.specs.Directives.{DirectiveParts, IsDirective, directive_in};
@@ -8,91 +8,92 @@ ghost use Rattle.headers_fields.specs.Laws.{ParsesOneWay, PartsAreWhole, QuotedT
 ghost use Rattle.headers_fields.specs.Laws.{Separate, WellFormedFieldIsWhole, WellFormedIsWhole};
 ghost use Rattle.headers_fields.specs.Laws.{WholeMembersAreWellFormed};
 
-/// A list by the grammar (RFC 9110, section 5.6.1) is parsed to its elements, and it has no others.
+/// Theorem: a list by the grammar is parsed to its elements, and has no others (RFC 9110, section
+/// 5.6.1).
 pub fn lists_parse_one_way()
     ensures { ParsesOneWay }
 {}
 
-/// A well formed line is a list by the grammar.
+/// Theorem: a well formed field line is a list by the grammar.
 pub fn well_formed_lines_are_lists()
     ensures { HasAReading }
 {}
 
-/// What follows a well formed line changes none of its members, even if it is malformed.
+/// Theorem: text after a well formed line changes none of its members, even malformed text.
 pub fn members_before_stay()
     ensures { KeepsMembersBefore }
 {}
 
-/// Joining the field lines of a field by commas changes no member, if each line is well formed
-/// (section 5.3).
+/// Theorem: joining well formed field lines by commas changes no member (RFC 9110, section 5.3).
 pub fn joined_lines_keep_members()
     ensures { JoinKeepsMembers }
 {}
 
-/// A line that isn't well formed has one malformed member, the last, which reaches to the end of
-/// the line: nothing is passed over.
+/// Theorem: a line that isn't well formed has one malformed member, which is the last. It reaches
+/// to the end of the line, so nothing is skipped.
 pub fn malformed_member_is_last()
     ensures { MalformedComesLast }
 {}
 
-/// A line is well formed exactly if none of its members is malformed.
+/// Theorem: a line is well formed exactly if none of its members is malformed.
 pub fn well_formed_lines_are_whole()
     ensures { WellFormedIsWhole }
 {}
 
-/// A member that isn't malformed is well formed by itself.
+/// Theorem: a member that isn't malformed is well formed by itself.
 pub fn whole_members_are_well_formed()
     ensures { WholeMembersAreWellFormed }
 {}
 
-/// So no parameter of a member is malformed for a quote without an end (section 5.6.6).
+/// Theorem: each parameter of a well formed member is well formed (RFC 9110, section 5.6.6).
 pub fn parts_of_well_formed_texts_are_whole()
     ensures { PartsAreWhole }
 {}
 
-/// The members of a field are whole exactly if each of its lines is well formed.
+/// Theorem: no member of a field is malformed exactly if each of its lines is well formed.
 pub fn well_formed_fields_are_whole()
     ensures { WellFormedFieldIsWhole }
 {}
 
-/// A quoted-string by the grammar (section 5.6.4) is parsed as one, and a quoted-pair in it means
-/// the octet behind its backslash.
+/// Theorem: a quoted-string by the grammar is parsed as one (RFC 9110, section 5.6.4). A
+/// quoted-pair in it means the octet after its backslash.
 pub fn quoted_strings_parse()
     ensures { QuotedTextsParse }
 {}
 
-/// What is parsed as a quoted-string is one by the grammar.
+/// Theorem: what is parsed as a quoted-string is a quoted-string by the grammar.
 pub fn quoted_strings_have_octets()
     ensures { QuotedTextsAreOctets }
 {}
 
-/// A text is the directive that the grammar parses, and no other (RFC 9111, section 5.2).
+/// Theorem: a text is the directive that the grammar gives, and no other (RFC 9111, section 5.2).
 pub fn directives_follow_the_grammar()
     ensures { (text : List ℕ) (directive : DirectiveParts) → directive_in text ≡ Some directive
         ↔ IsDirective text directive }
 {}
 
-/// A text is one directive at most, and a field one list of directives.
+/// Theorem: a text is at most one directive, and a field at most one list of directives.
 pub fn directives_parse_one_way()
     ensures { DirectivesParseOneWay }
 {}
 
-/// Joining the field lines of a field by commas changes no directive, if each line is well formed.
+/// Theorem: joining well formed field lines by commas changes no directive.
 pub fn joined_lines_keep_directives()
     ensures { JoinKeepsDirectives }
 {}
 
-/// A field with a malformed line surely lacks no directive.
+/// Theorem: a field with a malformed line certainly lacks no directive.
 pub fn malformed_fields_are_clear_of_none()
     ensures { MalformedIsClearOfNone }
 {}
 
-/// Members are cut at commas, and parameters at semicolons: both are separators of the grammar.
+/// Theorem: commas, which separate members, and semicolons, which separate parameters, are
+/// separators of the grammar.
 pub fn commas_and_semicolons_separate()
     ensures { Separate }
 {}
 
-/// A text begins with one comment at most (section 5.6.5).
+/// Theorem: a text begins with at most one comment (RFC 9110, section 5.6.5).
 pub fn comments_parse_one_way()
     ensures { CommentsParseOneWay }
 {}

@@ -1,8 +1,8 @@
-//! The grammar of field values: lists, quoted-strings, comments, parameters, directives and numbers (RFC 9110,
-//! section 5.6).
+//! The grammar of field values: lists, quoted-strings, comments, parameters, directives and numbers
+//! (RFC 9110, section 5.6).
 //!
-//! A member of a list is a slice of its field line, and nothing allocates. What the grammar doesn't
-//! have is malformed, and no reading of it is guessed: a caller takes it as the strictest answer.
+//! A member of a list is a slice of its field line, and no call allocates. A text that doesn't
+//! parse is malformed: no meaning is guessed, and a caller treats it in the strictest way.
 #![tactic(auto)]
 
 mod comments;

@@ -15,9 +15,9 @@ use headers_syntax::trim;
 use http_header::{GetAll, HeaderValue, ValueIter};
 use std::marker::Model;
 
-/// The members of one field line (RFC 9110, section 5.6.1), from the first on, each a slice of it
-/// without the blanks about it. Empty members are passed over. A member with a quote that has no
-/// end in the line is malformed, and reaches to the end of the line.
+/// An iterator over the members of one field line (RFC 9110, section 5.6.1). Each is a slice of the
+/// line without blanks around it. Empty members are skipped. A member with a quote that has no end
+/// in the line is malformed, and reaches to the end of the line.
 #[derive(Drop)]
 pub struct Members<'a> {
     separator: u8,
@@ -40,7 +40,8 @@ impl<'a> Model for Members<'a> {
 }
 
 impl<'a> Members<'a> {
-    /// The members of a list whose quoted-strings have quoted-pairs (section 5.6.4).
+    /// Starts an iterator over a list whose quoted-strings have quoted-pairs (RFC 9110, section
+    /// 5.6.4).
     pub fn new(line: &'a [u8]) -> Members<'a>
         ensures members { members_left result ≡ members true line.now }
         ensures pairs { result.pairs ≡ true }
@@ -48,7 +49,8 @@ impl<'a> Members<'a> {
         Members::with_pairs(true, line)
     }
 
-    /// The members of a list of entity tags, which have no quoted-pairs (section 8.8.3).
+    /// Starts an iterator over a list of entity tags, which have no quoted-pairs (RFC 9110, section
+    /// 8.8.3).
     pub fn of_tags(line: &'a [u8]) -> Members<'a>
         ensures members { members_left result ≡ members false line.now }
         ensures pairs { result.pairs ≡ false }
@@ -68,7 +70,7 @@ impl<'a> Members<'a> {
         }
     }
 
-    /// What stands between the semicolons of an element.
+    /// Starts an iterator over what is between the semicolons of an element.
     pub(crate) fn between_semicolons(element: &'a [u8]) -> Members<'a>
         ensures { pieces_left result ≡ pieces semicolon true Outside element.now }
     {
@@ -80,7 +82,7 @@ impl<'a> Members<'a> {
         }
     }
 
-    /// What stands before the next separator, with the blanks about it.
+    /// Returns what is before the next separator, with the blanks around it.
     pub(crate) fn next_piece(&mut self) -> Option<Result<&'a [u8], Malformed>>
         ensures steps { YieldsFirstBy member_of pieces_left self.old result self.new }
         ensures pairs { self.new.pairs ≡ self.old.pairs }
@@ -105,7 +107,7 @@ impl<'a> Members<'a> {
         }
     }
 
-    /// The next member, if one is left.
+    /// Returns the next member, if one is left, or `Malformed`.
     pub fn next(&mut self) -> Option<Result<&'a [u8], Malformed>>
         ensures steps { YieldsFirstBy member_of members_left self.old result self.new }
         ensures pairs { self.new.pairs ≡ self.old.pairs }
@@ -137,7 +139,7 @@ impl<'a> Iterator for Members<'a> {
     }
 }
 
-/// Whether each quote of a field line has its end, so that no member of it is malformed.
+/// Returns whether each quote of a field line has its end, so that no member of it is malformed.
 pub fn is_well_formed(line: &[u8]) -> bool
     ensures { result ≡ is_well_formed line.now }
 {
@@ -151,8 +153,8 @@ pub fn is_well_formed(line: &[u8]) -> bool
     true
 }
 
-/// The members of all lines of a field. Each line is read by itself: a malformed member reaches to
-/// the end of its line, and the next line begins anew.
+/// An iterator over the members of all lines of a field. Each line is parsed by itself: a malformed
+/// member reaches to the end of its line, and the next line begins outside quotes.
 #[derive(Drop)]
 pub struct FieldMembers<'a> {
     line: Members<'a>,
@@ -168,7 +170,8 @@ impl<'a> Model for FieldMembers<'a> {
 }
 
 impl<'a> FieldMembers<'a> {
-    /// The members of a field, whose quoted-strings have quoted-pairs (section 5.6.4).
+    /// Starts an iterator over a field whose quoted-strings have quoted-pairs (RFC 9110, section
+    /// 5.6.4).
     pub fn new(field: &GetAll<'a, HeaderValue>) -> FieldMembers<'a>
         ensures { field_left result ≡ field_members true (lines_of field.now) }
     {
@@ -178,7 +181,8 @@ impl<'a> FieldMembers<'a> {
         }
     }
 
-    /// The members of a field of entity tags, which have no quoted-pairs (section 8.8.3).
+    /// Starts an iterator over a field of entity tags, which have no quoted-pairs (RFC 9110,
+    /// section 8.8.3).
     pub fn of_tags(field: &GetAll<'a, HeaderValue>) -> FieldMembers<'a>
         ensures { field_left result ≡ field_members false (lines_of field.now) }
     {
@@ -188,7 +192,7 @@ impl<'a> FieldMembers<'a> {
         }
     }
 
-    /// The next member, if one is left.
+    /// Returns the next member, if one is left, or `Malformed`.
     pub fn next(&mut self) -> Option<Result<&'a [u8], Malformed>>
         ensures { YieldsFirstBy member_of field_left self.old result self.new }
     {

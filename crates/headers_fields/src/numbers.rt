@@ -7,7 +7,7 @@ ghost use Rattle.headers_fields.specs.Values.{octets_of, value_parts};
 
 use crate::values::Value;
 
-/// What stands for a number of seconds that is greater (RFC 9111, section 1.2.2).
+/// The number of seconds that replaces a greater one (RFC 9111, section 1.2.2).
 const GREATEST_SECONDS: u64 = 2_147_483_648;
 
 // The number with one more digit.
@@ -22,7 +22,7 @@ fn with_digit(number: Option<u64>, digit: u8, greatest: u64) -> Option<u64>
     Some(tens.saturating_add(u64::from(digit - b'0')).min(greatest))
 }
 
-/// The number that the value's octets write, or the greatest, if it is greater.
+/// Parses the octets of a value as a number; one above the greatest is replaced by it.
 pub(crate) fn number_within(value: &Value<'_>, greatest: u64) -> Option<u64>
     ensures value { result ≡ number_within greatest (octets_of (value_parts value.now)) }
     ensures within { IfSome result (λ number. number ≤ greatest) }
@@ -38,8 +38,8 @@ pub(crate) fn number_within(value: &Value<'_>, greatest: u64) -> Option<u64>
     number
 }
 
-/// The number that digits write. One above 2^64 - 1 is 2^64 - 1. `None` if the text is empty or has
-/// anything else than digits, as a sign.
+/// Parses a text of digits as a number; one above 2^64 - 1 is replaced by it. `None` if the text is
+/// empty or has another character, such as a sign.
 pub fn number(text: &[u8]) -> Option<u64>
     ensures { result ≡ number_within (2 ^ 64 - 1) text.now }
 {
@@ -47,16 +47,16 @@ pub fn number(text: &[u8]) -> Option<u64>
 }
 
 impl<'a> Value<'a> {
-    /// The number that the value means, in either form. One above 2^64 - 1 is 2^64 - 1. `None` if it
-    /// is no number.
+    /// Returns the number that the value means, as a token or a quoted-string. A number above 2^64
+    /// - 1 is replaced by it. `None` if the value is no number.
     pub fn number(&self) -> Option<u64>
         ensures { result ≡ number_within (2 ^ 64 - 1) (octets_of (value_parts self.now)) }
     {
         number_within(self, u64::MAX)
     }
 
-    /// The delta-seconds that the value means (RFC 9111, section 1.2.2), in either form. A number
-    /// above 2^31 is 2^31. `None` if it is no number.
+    /// Returns the delta-seconds that the value means, as a token or a quoted-string (RFC 9111,
+    /// section 1.2.2). A number above 2^31 is replaced by it. `None` if the value is no number.
     pub fn delta_seconds(&self) -> Option<u32>
         ensures { result ≡ number_within (2 ^ 31) (octets_of (value_parts self.now)) }
     {
@@ -67,8 +67,8 @@ impl<'a> Value<'a> {
     }
 }
 
-/// The delta-seconds that digits write, as in Age (RFC 9111, sections 1.2.2 and 5.1). A number
-/// above 2^31 is 2^31. `None` if the text is no number.
+/// Parses a text of digits as delta-seconds, as in Age (RFC 9111, sections 1.2.2 and 5.1). A number
+/// above 2^31 is replaced by it. `None` if the text is no number.
 pub fn delta_seconds(text: &[u8]) -> Option<u32>
     ensures { result ≡ number_within (2 ^ 31) text.now }
 {

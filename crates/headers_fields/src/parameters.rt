@@ -11,19 +11,19 @@ use crate::error::Malformed;
 use crate::members::Members;
 use headers_syntax::trim;
 
-/// An element with parameters, as `text/html; charset=utf-8`.
+/// An element with parameters, such as `text/html; charset=utf-8` (RFC 9110, section 5.6.6).
 #[derive(Drop)]
 pub struct Parameterized<'a> {
-    /// What stands before the first semicolon, without the blanks about it. It may be empty.
+    /// What is before the first semicolon, without blanks around it. It may be empty.
     pub value: &'a [u8],
-    /// The parameters, each a slice of the element: `read_directive` reads one. Empty ones are
-    /// passed over.
+    /// The parameters, each a slice of the element, which `read_directive` parses. Empty ones are
+    /// skipped.
     pub parameters: Members<'a>,
 }
 
 impl<'a> Parameterized<'a> {
-    /// The parts of an element. It is malformed if a quote before the first semicolon has no end,
-    /// which no member of a list has.
+    /// Splits an element into its value and its parameters (RFC 9110, section 5.6.6). `Malformed`
+    /// if a quote before the first semicolon has no end; no member of a list has such a quote.
     pub fn read(element: &'a [u8]) -> Result<Parameterized<'a>, Malformed>
         ensures { MatchResult result
             (λ p. HasParameters element.now p.value.now (members_left p.parameters))

@@ -1,4 +1,4 @@
-//! Where quotes and elements end.
+//! The ends of quotes and of elements.
 ghost use Rattle.std.specs.Prelude.{◌≡◌, ◌≤◌, length, drop};
 ghost use Rattle.headers_fields.specs.Scan.{FindsEnd, end_from, end_of, is_cut, is_outside, state_after};
 ghost use Rattle.headers_fields.specs.declared.scan.State.TheVariants.{Outside};
@@ -7,7 +7,8 @@ use memchr::memchr2;
 
 const QUOTE: u8 = b'"';
 
-/// Where a byte stands: outside quotes, between two, or just behind the backslash of a quoted-pair.
+/// The place of a byte: outside quotes, between two quotes, or after the backslash of a
+/// quoted-pair.
 #[derive(Clone, Copy)]
 pub(crate) enum State {
     Outside,
@@ -91,7 +92,7 @@ fn end_from(separator: u8, pairs: bool, text: &[u8], from: usize) -> End
     last_end(state)
 }
 
-/// Where the first element ends. One search finds the separator of an element without quotes.
+/// Finds the end of the first element. One search finds the separator of an element without quotes.
 pub(crate) fn first_end(separator: u8, pairs: bool, text: &[u8]) -> End
     ensures { FindsEnd separator pairs text.now result }
 {

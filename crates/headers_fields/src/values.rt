@@ -12,16 +12,17 @@ use crate::error::Malformed;
 use http_header::is_token_char;
 use std::marker::Model;
 
-/// A value: `( token / quoted-string )`.
+/// A parsed value, which is a token or a quoted-string: `( token / quoted-string )`.
 #[derive(Clone, Copy, Debug)]
 pub enum Value<'a> {
-    /// A token.
+    /// The token, as in the field line.
     Token(&'a [u8]),
-    /// What stands between the quotes of a quoted-string, with its backslashes.
+    /// What is between the quotes of a quoted-string, with its backslashes.
     Quoted(&'a [u8]),
 }
 
-/// The octets that a value means, each quoted-pair as the octet behind its backslash.
+/// An iterator over the octets that a value means; a quoted-pair means the octet after its
+/// backslash.
 #[derive(Drop)]
 pub struct Octets<'a> {
     rest: &'a [u8],
@@ -43,7 +44,7 @@ fn are_token_bytes(text: &[u8]) -> bool
     text.iter().all(|byte| is_token_char(*byte))
 }
 
-/// Whether the text is a token (section 5.6.2).
+/// Returns whether a text is a token (RFC 9110, section 5.6.2).
 pub fn is_token(text: &[u8]) -> bool
     ensures { result ≡ is_token text.now }
 {
@@ -105,7 +106,7 @@ fn between_quotes(text: &[u8]) -> Option<&[u8]>
     }
 }
 
-/// The value that a text is. It is malformed if it is neither a token nor a quoted-string.
+/// Parses a text as a value. `Malformed` if it is neither a token nor a quoted-string.
 pub fn read_value(text: &[u8]) -> Result<Value<'_>, Malformed>
     ensures { MatchResult result (λ value. IsValue text.now (value_parts value))
         (λ _. (v : ValueParts) → IsValue text.now v → ⊥) }
@@ -120,7 +121,7 @@ pub fn read_value(text: &[u8]) -> Result<Value<'_>, Malformed>
 }
 
 impl<'a> Value<'a> {
-    /// The octets that the value means.
+    /// Starts an iterator over the octets that the value means.
     pub fn octets(&self) -> Octets<'a>
         ensures { octets_left result ≡ octets_of (value_parts self.now) }
     {
@@ -136,7 +137,7 @@ impl<'a> Value<'a> {
         }
     }
 
-    /// Whether the value means these octets.
+    /// Returns whether the value means these octets.
     pub fn equals(&self, octets: &[u8]) -> bool
         ensures { MatchBool result (octets_of (value_parts self.now) ≡ octets.now)
             (octets_of (value_parts self.now) ≢ octets.now) }
@@ -144,7 +145,7 @@ impl<'a> Value<'a> {
         self.same_octets(&Value::Token(octets))
     }
 
-    /// Whether both values mean the same octets, in whichever form they are written.
+    /// Returns whether two values mean the same octets, as tokens or as quoted-strings.
     pub fn same_octets(&self, other: &Value<'_>) -> bool
         ensures { MatchBool result
             (octets_of (value_parts self.now) ≡ octets_of (value_parts other.now))
@@ -175,7 +176,7 @@ fn behind_backslash(is_quoted: bool, text: &[u8]) -> &[u8]
 }
 
 impl<'a> Octets<'a> {
-    /// The next octet, if one is left.
+    /// Returns the next octet, if one is left.
     pub fn next(&mut self) -> Option<u8>
         ensures { YieldsFirst octets_left self.old result self.new }
     {

@@ -54,10 +54,11 @@ fn one(fraction: Option<u16>) -> Option<u16>
     }
 }
 
-/// The weight that a text is, in thousandths. `None` if it is none.
+/// Parses a text as a weight, in thousandths, from 0 to 1000 (RFC 9110, section 12.4.2). `None` for
+/// any other text.
 ///
-/// A weight is the value of a parameter `q`, and no quoted-string: 0 or 1, and maybe a point and at
-/// most three digits, which are 0 behind a 1.
+/// A weight is the value of a parameter `q`, and no quoted-string: 0 or 1, then perhaps a point and
+/// at most three digits, which are all 0 after a 1.
 pub fn weight(text: &[u8]) -> Option<u16>
     ensures value { result ≡ weight text.now }
     ensures within { IfSome result (λ n. n ≤ 1000) }

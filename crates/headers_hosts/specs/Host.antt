@@ -9,11 +9,11 @@ use Rattle.headers_hosts.specs.declared.host.Host.{Host}
 abbrev pub host_bytes : Host → List ℕ
 host_bytes host = host.authority
 
--- an authority of at most 65,534 bytes, kept as it is
+-- an authority of at most 65,534 bytes, stored as it is
 abbrev pub IsHostLine : Line → Host → Type 0
 IsHostLine line host = IsAuthority line × (length line ≤ 65534) × (host_bytes host ≡ line)
 
--- the first line is a host, and so is what is written
+-- the first field line is a host, and so is the encoding
 abbrev pub host_reads : List Line → Host → Type 0
 host_reads = ReadsLine first_line IsHostLine
 

@@ -18,7 +18,7 @@ host_back line v h =
 pub host_laws : HeaderLaws Same host_reads host_writes
 host_laws = line_laws first_line IsHostLine host_bytes (λ line. refl) host_once host_back
 
--- what is written of an authority of at most 65,534 bytes is read back
+-- an authority of at most 65,534 bytes survives a round trip
 pub host_read_back : (host : Host) → IsAuthority (host_bytes host)
     → host_reads (host_writes host) host ↔ (length (host_bytes host) ≤ 65534)
 host_read_back host a = (

@@ -1,4 +1,4 @@
--- Headers of one line, which a relation ties to their value.
+-- Headers of one field line, which a relation connects to their value.
 use Rattle.std.specs.Prelude.{◌≡◌, List, [], ◌∷◌, Option, Some, Result, refl}
 use Rattle.std.proofs.Common.{sym, ◌∙◌, ap, subst}
 use Rattle.headers_syntax.specs.Lines.{Line}
@@ -6,22 +6,22 @@ use Rattle.headers_syntax.specs.DecodesTo.{DecodesTo}
 use Rattle.headers_syntax.specs.declared.error.Refused.{Refused}
 use Rattle.headers_syntax.specs.HeaderLaws.{HeaderLaws}
 
--- they are the same, byte for byte
+-- both values are the same, byte for byte
 abbrev pub Same : {V : Type 0} → V → V → Type 0
 Same v w = v ≡ w
 
 module _ {V : Type 0} (pick : List Line → Option Line) (Reads : Line → V → Type 0) where
-  -- the line that is picked of the lines reads v
+  -- the field line that is picked decodes to v
   abbrev pub ReadsLine : List Line → V → Type 0
   ReadsLine lines v = (line : Line) × (pick lines ≡ Some line) × Reads line v
 
 module _ {V : Type 0} (write : V → Line) where
-  -- one line is written
+  -- the encoding is one field line
   abbrev pub written_line : V → List Line
   written_line v = write v ∷ []
 
 module _ {V : Type 0} (pick : List Line → Option Line) (Reads : Line → V → Type 0) (write : V → Line) where
-  -- the laws rest on the line alone
+  -- all laws follow from facts about one field line
   pub line_laws : ((line : Line) → pick (line ∷ []) ≡ Some line)
       → ((line : Line) (v w : V) → Reads line v → Reads line w → v ≡ w)
       → ((line : Line) (v : V) → Reads line v → Reads (write v) v)
@@ -39,6 +39,6 @@ module _ {V : Type 0} (pick : List Line → Option Line) (Reads : Line → V →
         reads_back = λ lines v h. (write v, single (write v), back h.0 v h.2);
       }
 
--- a line decodes to this result: a value only if it reads it, `Invalid` only if it reads nothing
+-- a field line decodes to this result: to a value only if it encodes it, to `Invalid` only if it encodes none
 abbrev pub LineDecodesTo : {V E : Type 0} → (Line → V → Type 0) → Line → Result V (Refused E) → Type 0
 LineDecodesTo Reads line r = DecodesTo (λ _ v. Reads line v) [] r

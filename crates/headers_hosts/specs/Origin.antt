@@ -13,12 +13,12 @@ IsOriginUri text scheme authority =
     (kept : List ℕ) × IsUriText text (Some scheme) (Some authority) kept × (path_of kept ≡ codes "/") ×
     (query_of kept ≡ None)
 
--- the parts of an origin, read from a line
+-- the parts of an origin in a field line
 abbrev pub IsKindLine : Line → OriginOrNull → Type 0
 IsKindLine line (Tuple scheme authority) = IsOriginUri line scheme authority
 IsKindLine line Null = line ≡ codes "null"
 
--- `null`, or such a URI, whose scheme and authority are kept
+-- `null`, or a URI with this scheme and this authority, which the header stores
 abbrev pub IsOriginLine : Line → Origin → Type 0
 IsOriginLine line origin = IsKindLine line origin.kind
 
@@ -30,11 +30,11 @@ abbrev pub kind_text : OriginOrNull → List ℕ
 kind_text (Tuple scheme authority) = tuple_text scheme authority
 kind_text Null = codes "null"
 
--- what is written of an origin
+-- the encoding of an origin
 abbrev pub origin_text : Origin → List ℕ
 origin_text origin = kind_text origin.kind
 
--- the only line is an origin
+-- the only field line is an origin
 abbrev pub origin_reads : List Line → Origin → Type 0
 origin_reads = ReadsLine only_line IsOriginLine
 

@@ -1,4 +1,4 @@
--- The laws of the header `origin`: a text is read as one URI at most, and an origin as it is written.
+-- The laws of the header `origin`: a text parses as at most one URI, and an origin survives a round trip.
 use Rattle.std.specs.Prelude.{◌≡◌, ℕ, suc, ◌+◌, ◌<◌, Bool, true, false, not, List, [], ◌∷◌, ◌++◌}
 use Rattle.std.specs.Prelude.{length, Option, Some, None, codes, bytes_eq, IsTrue, slice_index, refl}
 use Rattle.std.specs.List.{prefix_len, list_all}
@@ -68,7 +68,7 @@ tail_stops [] kept h = refl
 tail_stops (b ∷ bs) kept h =
     ⊎_elim (λ x. let none = x.0 in absurd (cc none)) (λ x. let stop : is_delimiter b ≡ true = x.0 in rw stop refl) h
 
--- and what is kept of it is one
+-- and the stored text is one
 tail_once : (tail kept kept' : List ℕ) → IsTail tail kept → IsTail tail kept' → kept ≡ kept'
 tail_once [] kept kept' h k =
     ⊎_elim (λ x. ⊎_elim (λ y. x.1 ∙ sym y.1) (λ y. let f = y.0 in absurd (cc f)) k)
@@ -161,7 +161,8 @@ null_inside = refl
 null_no_uri : (line s a : List ℕ) → line ≡ codes "null" → IsOriginUri line s a → ⊥
 null_no_uri line s a e h = absolute_not_inside line s a h.0 h.1.1 (ap (list_all is_inside) e ∙ null_inside)
 
--- A scheme as a URI keeps it: as long as the scheme that was read, a scheme itself, and kept as it is
+-- A scheme as a URI stores it: as long as the scheme in the text, a scheme itself, and stored as it is when it is
+-- parsed again.
 pub record IsKept (name kept : List ℕ) : Type 0 where
   pub size : length kept ≡ length name
   pub is_scheme : IsScheme kept
@@ -207,7 +208,7 @@ kind_once line (Tuple s a) (Tuple s' a') h k =
     let authority : a ≡ a' = let e = same.1 in cc in
     ap (λ (x : List ℕ). Tuple x a) scheme ∙ ap (λ (x : List ℕ). Tuple s' x) authority
 
--- a line is one origin at most, and what is written of an origin is that origin
+-- a field line is at most one origin, and the encoding of an origin is that origin
 pub origin_once : (line : Line) (v w : Origin) → IsOriginLine line v → IsOriginLine line w → v ≡ w
 origin_once line v w h k = ap (λ (kind : OriginOrNull). let origin : Origin = record { kind = kind } in origin)
     (kind_once line v.kind w.kind h k)

@@ -11,10 +11,12 @@ use http_uri::Authority;
 use std::alloc::{AllocError, Global};
 use std::fmt;
 
-/// The host that a request is for (RFC 9110, section 7.2).
+/// The header `Host`: the host, and perhaps the port, of the request's target (RFC 9110, section
+/// 7.2).
 ///
-/// The first line is read, and refused if it is no authority of at most 65,534 bytes, as `http_uri`
-/// reads it. It is written as it stands. Equality, order and hash ignore the case of ASCII letters.
+/// The first field line is stored. `decode` rejects a line that is no authority of at most 65,534
+/// bytes, as `http_uri` parses it, and may run out of memory. Headers are compared, ordered and
+/// hashed without the case of ASCII letters.
 #[derive(Debug, PartialEq, Eq, PartialOrd, Hash, Drop)]
 pub struct Host {
     authority: Authority,
@@ -24,21 +26,22 @@ pub struct Host {
 pub(crate) const MAX_LEN: usize = 65534;
 
 impl Host {
-    /// The host: what follows the last `@`, up to the port. An IPv6 address keeps its brackets.
+    /// Returns the host: what follows the last `@`, up to the port. An IPv6 address includes its
+    /// brackets.
     pub fn hostname(&self) -> &str
         ensures { result.now ≡ authority_host (host_bytes self.now) }
     {
         self.authority.host()
     }
 
-    /// The port: what follows the last colon, if it is a number below 65,536.
+    /// Returns the port: what follows the last colon, if it is a number below 65,536.
     pub fn port(&self) -> Option<u16>
         ensures { IsPortNumberOf (host_bytes self.now) result }
     {
         self.authority.port_u16()
     }
 
-    /// A copy of the host.
+    /// Copies the header. Fails only if an allocation fails.
     pub fn clone(&self, _alloc: Global) -> Result<Host, AllocError>
         ensures { IfOk result (λ copy. copy ≡ self.now) }
     {
@@ -70,8 +73,8 @@ impl Host {
     }
 }
 
-/// A host is read back exactly if it has at most 65,534 bytes. Only one that was made of an
-/// authority has more.
+/// Theorem: a host survives a round trip exactly if it has at most 65,534 bytes. Only a host that
+/// is made of an authority can have more.
 pub fn hosts_read_back(host: &Host)
     ensures { host_reads (host_writes host.now) host.now ↔ (length (host_bytes host.now) ≤ 65534) }
 {

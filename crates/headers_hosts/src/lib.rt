@@ -1,4 +1,4 @@
-//! Hosts and origins.
+//! Headers of hosts and origins (RFC 9110, section 7.2; RFC 6454).
 #![tactic(auto)]
 
 mod host;

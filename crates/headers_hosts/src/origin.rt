@@ -14,11 +14,12 @@ use http_uri::{Authority, Parts, Scheme, Uri, UriError};
 use std::alloc::{AllocError, Global};
 use std::fmt;
 
-/// The origin of a request (RFC 6454, section 7).
+/// The header `Origin`: the origin of a request (RFC 6454, section 7).
 ///
-/// The only line is read: `null`, or at most 65,534 bytes that `http_uri` reads as a URI with a
-/// scheme and an authority, the path `/` or none, and no query; anything else is refused. It is
-/// written as `null`, or as scheme, `://` and authority. Equality and hash ignore the case of ASCII
+/// The only field line is decoded: `null`, or at most 65,534 bytes that `http_uri` parses as a URI
+/// with a scheme and an authority, the path `/` or none, and no query. `decode` rejects any other
+/// value, and no or several lines, and may run out of memory. The encoding is `null`, or the
+/// scheme, `://` and the authority. Headers are compared and hashed without the case of ASCII
 /// letters.
 #[derive(Debug, PartialEq, Eq, Hash, Drop)]
 pub struct Origin {
@@ -31,7 +32,7 @@ enum OriginOrNull {
     Null,
 }
 
-/// The text is no header value or no origin.
+/// The error of a text that is no header value or no origin.
 #[derive(Clone, Copy, Debug, PartialEq, Eq)]
 pub struct InvalidOrigin;
 
@@ -83,12 +84,12 @@ fn parts_string(
 }
 
 impl Origin {
-    /// `null`.
+    /// The origin `null`.
     pub const NULL: Origin = Origin {
         kind: OriginOrNull::Null,
     };
 
-    /// Whether it is `null`.
+    /// Returns whether the origin is `null`.
     pub fn is_null(&self) -> bool
         ensures { result ≡ origin_is_null self.now }
     {
@@ -98,7 +99,7 @@ impl Origin {
         }
     }
 
-    /// The scheme. That of `null` is empty.
+    /// Returns the scheme of the origin, which is empty for `null`.
     pub fn scheme(&self) -> &str
         ensures { result.now ≡ origin_scheme self.now }
     {
@@ -108,7 +109,8 @@ impl Origin {
         }
     }
 
-    /// The host. That of `null` is empty. An IPv6 address keeps its brackets.
+    /// Returns the host of the origin, which is empty for `null`. An IPv6 address includes its
+    /// brackets.
     pub fn hostname(&self) -> &str
         ensures { result.now ≡ origin_host self.now }
     {
@@ -118,7 +120,8 @@ impl Origin {
         }
     }
 
-    /// The port: what follows the last colon of the authority, if it is a number below 65,536.
+    /// Returns the port of the origin: what follows the last colon of the authority, if it is a
+    /// number below 65,536.
     pub fn port(&self) -> Option<u16>
         ensures { IsPortNumberOfSome (origin_authority self.now) result }
     {
@@ -128,7 +131,7 @@ impl Origin {
         }
     }
 
-    /// A copy of the origin.
+    /// Copies the origin. Fails only if an allocation fails.
     pub fn clone(&self, _alloc: Global) -> Result<Origin, AllocError>
         ensures { IfOk result (λ copy. copy ≡ self.now) }
     {
@@ -141,9 +144,9 @@ impl Origin {
         Ok(Origin { kind })
     }
 
-    /// The origin of this scheme, host and port. The scheme, `://`, the host and, if there is a
-    /// port, a colon and the port are read as a line is. `InvalidOrigin` if they are no header
-    /// value or no origin.
+    /// Makes the origin of a scheme, a host and perhaps a port. The scheme, `://`, the host and, if
+    /// there is a port, a colon and the port are parsed as a field line is. `Invalid` if they are
+    /// no header value or no origin, `Memory` if an allocation fails.
     pub fn try_from_parts(
         alloc: Global,
         scheme: &str,
@@ -161,7 +164,7 @@ impl Origin {
     }
 }
 
-/// Reads an origin from a line.
+/// Parses a field line as an origin: `Invalid` if it is none, `Memory` if an allocation fails.
 pub fn origin_of_line(line: &HeaderValue) -> Result<Origin, Refused<Error>>
     ensures { LineDecodesTo IsOriginLine line.now.bytes result }
 {
@@ -178,7 +181,8 @@ pub fn origin_of_line(line: &HeaderValue) -> Result<Origin, Refused<Error>>
     }
 }
 
-/// Reads an origin from a text, as from a line. A text that is no header value is no origin.
+/// Parses a text as an origin, like a field line. `Invalid` if the text is no header value or no
+/// origin, `Memory` if an allocation fails.
 pub fn origin_of_text(alloc: Global, text: &str) -> Result<Origin, Refused<Error>>
     ensures { LineDecodesTo IsOriginText text.now result }
 {
@@ -205,7 +209,7 @@ fn tuple_line(
     }
 }
 
-/// The line that is written of an origin.
+/// Encodes an origin as a field line. Fails only if an allocation fails.
 pub fn line_of_origin(alloc: Global, origin: &Origin) -> Result<HeaderValue, AllocError>
     ensures { IfOk result (λ line. line.bytes ≡ origin_text origin.now) }
 {
@@ -215,7 +219,7 @@ pub fn line_of_origin(alloc: Global, origin: &Origin) -> Result<HeaderValue, All
     }
 }
 
-/// `null`, and each origin that was read from a text, is written as a line that reads as it.
+/// Theorem: `null`, and each origin that was parsed from a text, survives a round trip.
 pub fn origin_of_own_text()
     ensures null { (origin : Seen) → IsTrue (origin_is_null origin)
         → origin_reads (origin_writes origin) origin }

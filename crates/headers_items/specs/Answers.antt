@@ -1,4 +1,4 @@
--- Answers that stay the same if the lines of a list field are joined or split (RFC 9110, section 5.3).
+-- What doesn't change if the field lines of a list field are joined or split (RFC 9110, section 5.3).
 use Rattle.std.specs.Prelude.{◌≡◌, ◌↔◌, ℕ, true, List, [], ◌∷◌}
 use Rattle.std.specs.List.{list_all}
 use Rattle.headers_syntax.specs.Lines.{Line}
@@ -12,8 +12,9 @@ module _ {A R : Type 0} (answers : A → R → Type 0) where
   abbrev pub SameAnswers : A → A → Type 0
   SameAnswers v w = (result : R) → answers v result ↔ answers w result
 
--- a text that is cut at any choice of its counting places has the answers of that text as one line; and lines of
--- text, of which each but the last has an even number of quotes, have the answers of their merged line
+-- Two facts. A text that is cut at any choice of its counting places gives the same results as the text in one line.
+-- Field lines of text, of which each but the last has an even number of quotes, give the same results as the one line
+-- that joins them.
 pub record SurvivesCuts {R : Type 0} (separator : ℕ) (answers : List Line → R → Type 0) : Type 0 where
   pub cut : (text places : List ℕ) → is_text text ≡ true → AreCuts separator text 0 places
       → SameAnswers answers (pieces text 0 places) (text ∷ [])

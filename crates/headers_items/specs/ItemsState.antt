@@ -1,4 +1,4 @@
--- What a contract sees of a walk over the items of a value.
+-- The state of an iterator over the items of a value, as a contract sees it.
 use Rattle.std.specs.Prelude.{◌≡◌, ◌⊎◌, ℕ, ◌+◌, ◌<◌, ◌≤◌, Bool, true, false, List, [], ◌++◌, length, drop, not, ◌==◌}
 use Rattle.std.specs.Prelude.{filter, Option, None, Some, MatchOption, ⊤, if◌then◌else◌}
 use Rattle.std.specs.Iterator.{YieldsFirstBy}
@@ -8,8 +8,8 @@ use Rattle.headers_syntax.specs.Text.{is_text, trim}
 use Rattle.headers_items.specs.Places.{is_counting_place, hits, items_from}
 use Rattle.headers_items.specs.ScanState.{ScanState, end_search}
 
--- the text and the separator, where the next piece begins, whether the last piece was handed out, and how far the
--- scan has come
+-- the text and the separator, where the next piece begins, whether the last piece was yielded, and how far the scan has
+-- come
 pub record ItemsState : Type 0 where
   pub text : List ℕ
   pub separator : ℕ
@@ -23,7 +23,7 @@ pub record ItemsState : Type 0 where
 abbrev pub items_left : ItemsState → List (List ℕ)
 items_left s = if s.is_done then [] else items_from s.separator s.text s.start
 
--- a walk over the items of s that has made no search; over a value that isn't text it is done
+-- the first state of an iterator over the items of s, before any search; for a value that isn't text it is the end
 abbrev pub walk_over : ℕ → List ℕ → ItemsState
 walk_over sep s =
     record {
@@ -58,8 +58,8 @@ GivesPiece sep s i item p =
     ((q : ℕ) × IsNextCut sep s i q × (item ≡ trim (slice_range s i q)) × (p ≡ q + 1))
     ⊎ (NoCut sep s i (length s) × (item ≡ trim (drop i s)) × (p ≡ length s))
 
--- a call from s that gave r and left t: the scan stands just past the piece that was handed out, and stays at the end
--- of the text if none is left; so far it made one search for each hit before its place, and one more for the end
+-- A call in state s returned r and left state t. The scan is just past the yielded piece, or stays at the end of the
+-- text if none is left. So far it made one search for each hit before its place, and one more for the end.
 pub record ScansPiece (s : ItemsState) (r : Option (Bor (List ℕ))) (t : ItemsState) : Type 0 where
   pub text : t.text ≡ s.text
   pub separator : t.separator ≡ s.separator
@@ -68,13 +68,13 @@ pub record ScansPiece (s : ItemsState) (r : Option (Bor (List ℕ))) (t : ItemsS
   pub searches : t.searches ≡ hits t.separator t.text t.place + end_search t.is_ended
   pub stops : MatchOption r ((t.searches ≡ s.searches) × (t.is_done ≡ true)) (λ _. ⊤)
 
--- where a scan stands after the cut r
+-- the place of a scan after the cut r
 abbrev pub after_cut : List ℕ → Option ℕ → ℕ
 after_cut s None = length s
 after_cut s (Some q) = q + 1
 
--- a walk's fields: the scan is over the text, and as long as the walk is not done it stands where the next piece
--- begins, and then at the end
+-- The fields of an iterator. The scan is over the text. It is where the next piece begins, or at the end once the
+-- iterator has ended.
 pub record ItemsInvariant (sep : ℕ) (text : List ℕ) (scan : ScanState) (start : ℕ) (is_done : Bool) : Type 0 where
   pub plain : is_text text ≡ true
   pub bytes : scan.bytes ≡ text
@@ -98,8 +98,8 @@ abbrev pub BeginsPiece : ℕ → List ℕ → ℕ → ℕ → Type 0
 BeginsPiece sep s i j =
     (j ≡ i) ⊎ ((q : ℕ) × (i ≤ q) × (q < length s) × (is_counting_place sep s q ≡ true) × (j ≡ q + 1))
 
--- item is what the piece from place `begin` gives, p stands just past that piece, and no item of the walk s before it
--- is wanted
+-- The piece that begins at `begin` gives the item, p is just past that piece, and no item before it, from state s on,
+-- is wanted.
 pub record GivesWanted (wanted : List ℕ → Bool) (s : ItemsState) (item : List ℕ) (p : ℕ) : Type 0 where
   pub begin : ℕ
   pub begins : BeginsPiece s.separator s.text s.start begin
@@ -108,9 +108,9 @@ pub record GivesWanted (wanted : List ℕ → Bool) (s : ItemsState) (item : Lis
   pub passed : filter wanted skipped ≡ []
   pub gives : GivesPiece s.separator s.text begin item p
 
--- a call of a walk that hands out only the wanted items, from s to t, gave r, which shows an item: the scan stands
--- just past its piece, or at the end of the text if none was left; so far it made one search for each hit before its
--- place, and one more for the end, and a walk that was done makes none
+-- A call of an iterator that yields only the wanted items led from s to t and returned r, which shows an item. The scan
+-- is just past its piece, or at the end of the text if none was left. So far it made one search for each hit before its
+-- place, and one more for the end. An iterator that has ended makes none.
 pub record ScansWanted {A : Type 0} (wanted : List ℕ → Bool) (Shows : A → List ℕ → Type 0) (s : ItemsState)
     (r : Option A) (t : ItemsState) : Type 0 where
   pub text : t.text ≡ s.text
@@ -120,22 +120,22 @@ pub record ScansWanted {A : Type 0} (wanted : List ℕ → Bool) (Shows : A → 
   pub searches : t.searches ≡ hits t.separator t.text t.place + end_search t.is_ended
   pub stays : s.is_done ≡ true → (t.is_done ≡ true) × (t.searches ≡ s.searches)
 
--- such a call of a walk over entries
+-- such a call of an iterator over entries
 abbrev pub ScansEntry : ItemsState → Option (Bor (List ℕ)) → ItemsState → Type 0
 ScansEntry = ScansWanted is_entry (λ entry item. item ≡ entry.now)
 
--- a call of a walk from s to t gave r: it is the first of what is left of s, as `view` reads it, and `Scans` says how
--- far the scan went
+-- A call of an iterator led from s to t and returned r. This is the first of what was left in s, as `view` shows it,
+-- and `Scans` says how far the scan went.
 pub record Walks {A B : Type 0} (view : A → B) (rest : ItemsState → List B)
     (Scans : ItemsState → Option A → ItemsState → Type 0) (s : ItemsState) (r : Option A) (t : ItemsState)
     : Type 0 where
   pub gives : YieldsFirstBy view rest s r t
   pub scans : Scans s r t
 
--- such a call of a walk over items
+-- such a call of an iterator over items
 abbrev pub WalksItems : ItemsState → Option (Bor (List ℕ)) → ItemsState → Type 0
 WalksItems = Walks (λ item. item.now) items_left ScansPiece
 
--- such a call of a walk over entries
+-- such a call of an iterator over entries
 abbrev pub WalksEntries : ItemsState → Option (Bor (List ℕ)) → ItemsState → Type 0
 WalksEntries = Walks (λ entry. entry.now) entries_left ScansEntry

@@ -1,15 +1,15 @@
--- Lines of a field as one value.
+-- The field lines of a field, joined to one value.
 use Rattle.std.specs.Prelude.{ℕ, List, [], ◌∷◌, ◌++◌, Some}
 use Rattle.headers_syntax.specs.Lines.{Line}
 use Rattle.headers_syntax.specs.HeaderLaws.{Grammar}
 
--- the lines, joined by the separator and one space
+-- the field lines, joined by the separator and one space
 abbrev pub merge : ℕ → List (List ℕ) → List ℕ
 merge sep [] = []
 merge sep (x ∷ []) = x
 merge sep (x ∷ y ∷ ys) = x ++ (sep ∷ 32 ∷ merge sep (y ∷ ys))
 
--- the lines joined by a separator and a space, kept and written; never refused
+-- the header stores the field lines joined by a separator and a space, and encodes to that value; none are rejected
 abbrev pub merged : {V : Type 0} → ℕ → (V → Line) → Grammar V Line
 merged separator kept =
     record {

@@ -1,4 +1,4 @@
--- The pairs of a list, as the cookies of a request are (RFC 6265, section 4.2.1).
+-- The pairs of a list, as in the cookies of a request (RFC 6265, section 4.2.1).
 use Rattle.std.specs.Prelude.{◌≡◌, ℕ, ◌+◌, Bool, List, take, drop, find, position, ◌==◌, Option, Some, is_some}
 use Rattle.std.specs.Prelude.{option_map, bytes_eq}
 use Rattle.std.specs.Iterator.Runs.{EveryRun, ItemsMapTo}
@@ -39,18 +39,18 @@ first_value name all = option_map (λ (pair : Pair). pair.1) (find (λ (pair : P
 abbrev pub pairs_left : ItemsState → List Pair
 pairs_left s = pairs (items_left s)
 
--- what a pair of texts reads
+-- the pair that two texts show
 abbrev pub pair_shown : Bor (List ℕ) × Bor (List ℕ) → Pair
 pair_shown pair = (pair.0.now, pair.1.now)
 
--- a call of a walk over pairs
+-- a call of an iterator over pairs
 abbrev pub ScansPair : ItemsState → Option (Bor (List ℕ) × Bor (List ℕ)) → ItemsState → Type 0
 ScansPair = ScansWanted has_pair (λ pair item. pair_of item ≡ Some (pair_shown pair))
 
--- a call of a walk over pairs: what it gave, and how far the scan went
+-- a call of an iterator over pairs: what it returned, and how far the scan went
 abbrev pub WalksPairs : ItemsState → Option (Bor (List ℕ) × Bor (List ℕ)) → ItemsState → Type 0
 WalksPairs = Walks pair_shown pairs_left ScansPair
 
--- each run of a walk gives the pairs that it had left, in order
+-- each run of an iterator yields the pairs that were left, in order
 abbrev pub YieldsPairsInOrder : Type 0
 YieldsPairsInOrder = EveryRun WalksPairs (λ run. ItemsMapTo run pair_shown (pairs_left run.from))

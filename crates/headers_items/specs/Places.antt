@@ -12,14 +12,14 @@ comma = 44
 abbrev pub semicolon : ℕ
 semicolon = 59
 
--- how many quotes stand before place p
+-- how many quotes are before place p
 abbrev pub quotes_before : List ℕ → ℕ → ℕ
 quotes_before s p = count_by is_quote (take p s)
 
 abbrev pub is_even : ℕ → Bool
 is_even n = n % 2 == 0
 
--- place p of s is a counting place: the separator stands there, with an even number of quotes before it
+-- place p of s is a counting place: the byte there is the separator, with an even number of quotes before it
 unfoldable pub is_counting_place : ℕ → List ℕ → ℕ → Bool
 is_counting_place sep s p = slice_index s p == sep && is_even (quotes_before s p)
 
@@ -57,6 +57,6 @@ hits sep s p = quotes_before s p + count_by (is_counting_place sep s) (places 0 
 abbrev pub is_hit : ℕ → List ℕ → ℕ → Bool
 is_hit sep s k = is_quote (slice_index s k) || is_counting_place sep s k
 
--- no quote and no counting place stands from i up to j
+-- there is no quote and no counting place from i up to j
 abbrev pub NoHit : ℕ → List ℕ → ℕ → ℕ → Type 0
 NoHit sep s i j = (k : ℕ) → i ≤ k → k < j → is_hit sep s k ≡ false

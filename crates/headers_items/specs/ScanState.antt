@@ -1,12 +1,11 @@
--- What a contract sees of a `Scan`, and of what it finds.
+-- The state of a `Scan` as a contract sees it, and what the scan finds.
 use Rattle.std.specs.Prelude.{◌≡◌, ℕ, ◌+◌, ◌<◌, ◌≤◌, Bool, true, false, List, length, slice_index, Option, None, Some}
 use Rattle.std.specs.Prelude.{MatchOption, if◌then◌else◌}
 use Rattle.headers_syntax.specs.Text.{quote}
 use Rattle.headers_items.specs.Places.{is_counting_place, NoHit}
 use Rattle.headers_items.specs.declared.scan.Mark.{Mark}
 
--- the bytes and the separator, the place that the scan has reached, whether it has come to the end, and how many
--- searches it has made
+-- the bytes and the separator, the place that the scan has reached, whether it has ended, and how many searches it made
 pub record ScanState : Type 0 where
   pub bytes : List ℕ
   pub separator : ℕ
@@ -26,11 +25,11 @@ pub record IsNextMark (sep : ℕ) (s : List ℕ) (i : ℕ) (m : Mark) : Type 0 w
 abbrev pub FindsMark : ℕ → List ℕ → ℕ → Option Mark → Type 0
 FindsMark sep s i r = MatchOption r (NoHit sep s i (length s)) (IsNextMark sep s i)
 
--- where a scan stands after it found r
+-- the place of a scan after it found r
 abbrev pub place_after : List ℕ → Option Mark → ℕ
 place_after s None = length s
 place_after s (Some m) = m.place + 1
 
--- one, once the scan has come to the end
+-- one search for the end, once the scan has ended
 abbrev pub end_search : Bool → ℕ
 end_search is_ended = if is_ended then 1 else 0

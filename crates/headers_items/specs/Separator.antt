@@ -1,4 +1,4 @@
--- What a separator may be.
+-- Which bytes can be separators.
 use Rattle.std.specs.Prelude.{◌≡◌, ◌≢◌, ℕ, true, false, refl}
 use Rattle.std.proofs.Common.{arith}
 use Rattle.http_header.specs.Token.{is_visible_or_blank}

@@ -1,4 +1,4 @@
-//! The entries of one line.
+//! The entries of one field line.
 ghost use Rattle.std.specs.Prelude.{◌≡◌, ◌+◌, ◌≤◌};
 ghost use Rattle.std.specs.Iterator.{YieldsFirstBy, item_count};
 ghost use Rattle.headers_items.specs.Places.{comma, marks};
@@ -11,8 +11,9 @@ use crate::separator::Comma;
 use http_header::HeaderValue;
 use std::marker::Model;
 
-/// The entries of one line: its items by comma that aren't empty, each a slice of the line. A line
-/// that isn't text has none (RFC 9110, section 5.6.1.2).
+/// An iterator over the entries of one field line (RFC 9110, section 5.6.1.2). The entries are the
+/// items between commas that aren't empty, each a slice of the line. A line that isn't text has
+/// none. The iterator never allocates.
 #[derive(Drop)]
 pub struct Entries<'a> {
     items: Items<'a, Comma>,
@@ -41,7 +42,7 @@ fn next_entry<'a>(items: &mut Items<'a, Comma>) -> Option<&'a str>
 }
 
 impl<'a> Entries<'a> {
-    /// The entries of a line, from the first on.
+    /// Starts an iterator over the entries of a field line.
     pub fn new(line: &'a HeaderValue) -> Entries<'a>
         ensures entries { entries_left result ≡ line_entries line.now.bytes }
         ensures fresh { result ≡ walk_over comma line.now.bytes }
@@ -51,8 +52,8 @@ impl<'a> Entries<'a> {
         }
     }
 
-    /// The next entry, if one is left. The scan stands just past its piece, or at the end of the
-    /// line if no separator ends the piece or no entry was left.
+    /// Returns the next entry, if one is left. The scan is then just past its piece, or at the end
+    /// of the line if no separator ends the piece or no entry was left.
     pub fn next(&mut self) -> Option<&'a str>
         ensures steps { YieldsFirstBy (λ item. item.now) entries_left self.old result self.new }
         ensures scanned { ScansEntry self.old result self.new }

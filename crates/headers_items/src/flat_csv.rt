@@ -1,4 +1,4 @@
-//! The lines of a list field, kept as one value.
+//! The field lines of a list field, stored as one value.
 ghost use Rattle.std.specs.Prelude.{◌≡◌, ◌≤◌, ◌<◌, ◌^◌, length, ◌∷◌, ◌++◌, true, false, IfOk, OnOk, IsTrue};
 ghost use Rattle.std.specs.Prelude.{MatchOption};
 ghost use Rattle.std.specs.Iterator.{IsFinite};
@@ -22,10 +22,10 @@ use std::alloc::{AllocError, Global};
 use std::fmt;
 use std::marker::{Model, PhantomData};
 
-/// The lines of a list field, joined by the separator and one space (RFC 9110, section 5.3; for
-/// cookies RFC 9113, section 8.2.3).
+/// The field lines of a list field, joined by the separator and one space (RFC 9110, section 5.3;
+/// for cookies RFC 9113, section 8.2.3).
 ///
-/// A contract sees its bytes.
+/// A contract sees the bytes of the joined value.
 #[derive(Drop)]
 pub struct FlatCsv<S: Separator> {
     value: HeaderValue,
@@ -105,7 +105,7 @@ pub(crate) fn text_items<S: Separator>(value: &HeaderValue) -> Items<'_, S>
 }
 
 impl<S: Separator> FlatCsv<S> {
-    /// One value, as it stands.
+    /// Stores one header value as it is.
     pub fn from_value(value: HeaderValue) -> FlatCsv<S>
         ensures { result ≡ value.bytes }
     {
@@ -115,9 +115,10 @@ impl<S: Separator> FlatCsv<S> {
         }
     }
 
-    /// Joins the lines: no line gives the empty value, and one line is itself. The size hint isn't
-    /// read. If all lines are text and each but the last has an even number of quotes, the value
-    /// has the items of the lines.
+    /// Joins field lines by the separator and one space. Fails only if an allocation fails. Without
+    /// a line the value is empty; one line is the value itself. The size hint isn't used. If all
+    /// lines are text and each but the last has an even number of quotes, the value has the items
+    /// of the lines.
     pub fn from_lines<I: Iterator>(alloc: Global, lines: &mut I) -> Result<FlatCsv<S>, AllocError>
     where
         I::Item: AsHeaderValue,
@@ -136,7 +137,8 @@ impl<S: Separator> FlatCsv<S> {
         Ok(FlatCsv::from_value(joined::<S, I>(alloc, first, second, lines)?))
     }
 
-    /// Joins the values of an iterator as `from_lines` joins lines. Its size hint isn't read.
+    /// Joins the header values of an iterator by the separator and one space. Fails only if an
+    /// allocation fails. The size hint isn't used.
     pub fn from_items<I: Iterator<Item = HeaderValue> + Drop>(
         alloc: Global,
         items: I,
@@ -149,7 +151,8 @@ impl<S: Separator> FlatCsv<S> {
         FlatCsv::from_lines(alloc, &mut items)
     }
 
-    /// Joins the names of an iterator as `from_items` joins values.
+    /// Joins the field names of an iterator by the separator and one space. Fails only if an
+    /// allocation fails. The size hint isn't used.
     pub fn from_names<I: Iterator<Item = HeaderName> + Drop>(
         alloc: Global,
         names: I,
@@ -161,7 +164,8 @@ impl<S: Separator> FlatCsv<S> {
         FlatCsv::from_items(alloc, names.map(HeaderValue::from_name))
     }
 
-    /// One word, as it stands. It must be visible ASCII, spaces and tabs.
+    /// Stores one static word, without copying it. The caller must show that it is visible ASCII,
+    /// spaces and tabs.
     pub fn from_word(word: &'static str) -> FlatCsv<S>
         requires { IsTrue (is_text word.now) }
         ensures { result ≡ word.now }
@@ -169,14 +173,15 @@ impl<S: Separator> FlatCsv<S> {
         FlatCsv::from_value(HeaderValue::from_static(word))
     }
 
-    /// A copy of the value.
+    /// Copies the joined value. Fails only if an allocation fails.
     pub fn clone(&self, alloc: Global) -> Result<FlatCsv<S>, AllocError>
         ensures { IfOk result (λ c. c ≡ self.now) }
     {
         Ok(FlatCsv::from_value(self.to_value(alloc)?))
     }
 
-    /// The value as text. `None` if it isn't text.
+    /// Returns the joined value as text: visible ASCII, spaces and tabs. `None` if it has another
+    /// byte.
     pub fn as_text(&self) -> Option<&str>
         ensures { MatchOption result (is_text self.now ≡ false)
             (λ text. (is_text self.now ≡ true) × (text.now ≡ self.now)) }
@@ -184,7 +189,7 @@ impl<S: Separator> FlatCsv<S> {
         read_text(&self.value)
     }
 
-    /// The bytes of the value.
+    /// Returns the bytes of the joined value.
     pub fn as_bytes(&self) -> &[u8]
         ensures value { result.now ≡ self.now }
         ensures valid { IsFieldValue self.now }
@@ -192,14 +197,15 @@ impl<S: Separator> FlatCsv<S> {
         self.value.as_bytes()
     }
 
-    /// The value itself.
+    /// Returns the joined value as a header value. Fails only if an allocation fails.
     pub fn to_value(&self, _alloc: Global) -> Result<HeaderValue, AllocError>
         ensures { IfOk result (λ v. v.bytes ≡ self.now) }
     {
         self.value.clone()
     }
 
-    /// The items, as slices of the value. A value that isn't text has none.
+    /// Starts an iterator over the items, which are slices of the value. A value that isn't text
+    /// has no items.
     pub fn iter(&self) -> Items<'_, S>
         ensures items { items_left result ≡ items S.BYTE self.now }
         ensures fresh { result ≡ walk_over S.BYTE self.now }
@@ -209,10 +215,11 @@ impl<S: Separator> FlatCsv<S> {
         text_items(&self.value)
     }
 
-    /// Cuts the value at these places, which count bytes from 0. The bytes at the places are left
-    /// out, the pieces aren't trimmed, and without a place the value is the only piece. The places
-    /// must increase and be those of separators that count, as a `Scan` gives them. Joined again,
-    /// the pieces have the items of the value.
+    /// Cuts the value into field lines at these places. Fails only if an allocation fails. The
+    /// places count bytes from 0. They must increase and be those of counting separators, as a
+    /// `Scan` yields them. The bytes at the places are left out, the pieces aren't trimmed, and
+    /// without a place the value is the only piece. Joined again, the pieces have the items of the
+    /// value.
     pub fn cut_at(&self, alloc: Global, places: &[usize]) -> Result<Vec<HeaderValue>, AllocError>
         requires text { is_text self.now ≡ true }
         requires cuts { AreCuts S.BYTE self.now 0 places.now }

@@ -1,4 +1,4 @@
-//! The items of a value, as slices of it.
+//! The items of a joined value, as slices of it.
 ghost use Rattle.std.specs.Prelude.{◌≡◌, ◌≢◌, ◌+◌, ◌≤◌, ◌<◌, ◌^◌, [], IsTrue, length, true, false, is_none, IfSome};
 ghost use Rattle.std.specs.Iterator.{YieldsFirstBy, item_count};
 ghost use Rattle.headers_syntax.specs.Text.{is_text, quote};
@@ -12,7 +12,8 @@ use crate::separator::Separator;
 use headers_syntax::trimmed;
 use std::marker::{Model, PhantomData};
 
-/// The trimmed pieces between neighbouring separators that count, each a slice of the value.
+/// An iterator over the trimmed pieces between counting separators, each a slice of the value. It
+/// never allocates.
 #[derive(Drop)]
 pub struct Items<'a, S: Separator> {
     text: &'a str,
@@ -77,7 +78,7 @@ impl<'a, S: Separator> Items<'a, S> {
         }
     }
 
-    /// The walk of a value that isn't text: it has no item.
+    /// An iterator without an item, for a value that isn't text.
     pub(crate) fn none() -> Items<'a, S>
         ensures { result ≡ record {
           text = [];
@@ -98,8 +99,8 @@ impl<'a, S: Separator> Items<'a, S> {
         }
     }
 
-    /// The next item, if one is left. The scan stands just past its piece, or at the end of the
-    /// text if no separator ends the piece or no item was left.
+    /// Returns the next item, if one is left. The scan is then just past its piece, or at the end
+    /// of the text if no separator ends the piece or no item was left.
     pub fn next(&mut self) -> Option<&'a str>
         ensures steps { YieldsFirstBy (λ item. item.now) items_left self.old result self.new }
         ensures scanned { ScansPiece self.old result self.new }

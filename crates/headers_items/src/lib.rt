@@ -1,4 +1,4 @@
-//! The items of list fields: separators outside quotes, the walks over them, lines merged and cut.
+//! The items of list fields: separators outside quotes, iterators, and field lines joined and cut.
 #![tactic(auto)]
 
 mod entries;

@@ -1,4 +1,4 @@
-//! The pairs of a value: the two sides of the first `=` of each item.
+//! The pairs of a joined value: the two sides of the first `=` of each item.
 ghost use Rattle.std.specs.Prelude.{◌≡◌, ◌+◌, ◌≤◌, ◌<◌, ◌^◌, true, length, option_map};
 ghost use Rattle.std.specs.Iterator.{YieldsFirstBy, item_count};
 ghost use Rattle.headers_syntax.specs.Text.{is_text};
@@ -14,8 +14,9 @@ use headers_syntax::trimmed;
 use memchr::memchr;
 use std::marker::Model;
 
-/// The pairs of a list by semicolon: for each item with an `=`, the trimmed halves on both sides of
-/// its first `=` (RFC 6265, section 4.2.1). Each half is a slice of the value.
+/// An iterator over the pairs of a list between semicolons (RFC 6265, section 4.2.1). Each item
+/// with an `=` gives a pair: the trimmed halves on both sides of its first `=`, as slices of the
+/// value. The iterator never allocates.
 #[derive(Drop)]
 pub struct Pairs<'a> {
     items: Items<'a, SemiColon>,
@@ -56,7 +57,7 @@ fn next_pair<'a>(items: &mut Items<'a, SemiColon>) -> Option<(&'a str, &'a str)>
 }
 
 impl<'a> Pairs<'a> {
-    /// The pairs of a value. A value that isn't text has none.
+    /// Starts an iterator over the pairs of a value. A value that isn't text has none.
     pub fn new(value: &'a FlatCsv<SemiColon>) -> Pairs<'a>
         ensures pairs { pairs_left result ≡ pairs (items semicolon value.now) }
         ensures fresh { result ≡ walk_over semicolon value.now }
@@ -68,8 +69,8 @@ impl<'a> Pairs<'a> {
         }
     }
 
-    /// The next pair, if one is left. The scan stands just past its piece, or at the end of the
-    /// value if no separator ends the piece or no pair was left.
+    /// Returns the next pair, if one is left. The scan is then just past its piece, or at the end
+    /// of the value if no separator ends the piece or no pair was left.
     pub fn next(&mut self) -> Option<(&'a str, &'a str)>
         ensures steps { YieldsFirstBy pair_shown pairs_left self.old result self.new }
         ensures scanned { ScansPair self.old result self.new }

@@ -1,4 +1,4 @@
-//! A scan for the quotes and the separators that count.
+//! A scan for quotes and counting separators.
 ghost use Rattle.std.specs.Prelude.{◌≡◌, ◌≢◌, ◌+◌, ◌≤◌, length, true, false, not, is_none, if◌then◌else◌};
 ghost use Rattle.memchr.specs.Find.{IsFirstByte, is_byte, is_byte2};
 ghost use Rattle.headers_items.specs.Places.{is_even, quotes_before, hits};
@@ -9,18 +9,18 @@ use std::marker::Model;
 
 const QUOTE: u8 = b'"';
 
-/// A quote, or a separator at a counting place.
+/// What a scan finds: a quote, or a counting separator.
 #[derive(Clone, Copy, Debug, PartialEq, Eq)]
 pub struct Mark {
-    /// Where it stands, counted in bytes from 0.
+    /// Its place, counted in bytes from 0.
     pub place: usize,
-    /// Whether it is a quote.
+    /// Whether it is a quote, and not a separator.
     pub quote: bool,
 }
 
-/// Visits the quotes of some bytes, and the separators outside quotes, by one search a call.
+/// A scan of bytes for quotes and for separators outside quotes, one search a call.
 ///
-/// A contract sees how many searches were made; no code keeps their number.
+/// A contract sees how many searches were made; the code doesn't store their number.
 #[derive(Drop)]
 pub struct Scan<'a> {
     bytes: &'a [u8],
@@ -114,7 +114,7 @@ fn find_mark(bytes: &[u8], separator: u8, from: usize, is_open: bool) -> Option<
 }
 
 impl<'a> Scan<'a> {
-    /// A scan from the first byte on, for a separator other than a quote.
+    /// Starts a scan at the first byte. The caller must show that the separator is not a quote.
     pub fn new(bytes: &'a [u8], separator: u8) -> Scan<'a>
         requires { separator ≢ QUOTE }
         ensures { result ≡ record {
@@ -134,8 +134,8 @@ impl<'a> Scan<'a> {
         }
     }
 
-    /// The next quote or counting separator at or after the scan's place, which moves past it. If
-    /// none is left, the scan moves to the end, and later calls make no search.
+    /// Finds the next quote or counting separator, and moves just past it. If none is left, the
+    /// scan moves to the end, and later calls make no search.
     pub fn next_mark(&mut self) -> Option<Mark>
         ensures found { FindsMark self.old.separator self.old.bytes self.old.place result }
         ensures place { self.new.place ≡ place_after self.old.bytes result }

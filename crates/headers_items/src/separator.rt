@@ -2,14 +2,14 @@
 ghost use Rattle.std.specs.Prelude.{◌≡◌, ℕ};
 ghost use Rattle.headers_items.specs.Separator.{IsSeparator};
 
-/// A separator: a byte of text other than a quote, a space or a tab.
+/// The separator of a list: a byte of text other than a quote, a space or a tab.
 pub trait Separator {
-    /// The byte itself.
+    /// The separator, as a byte.
     const BYTE: u8;
 
     ghost BYTE: { ℕ };
 
-    /// The same byte, for contracts.
+    /// Returns the separator as a byte, for contracts.
     final fn separator_byte() -> u8
         ensures { result ≡ BYTE }
     {
@@ -20,11 +20,11 @@ pub trait Separator {
     ghost lawful: { IsSeparator BYTE };
 }
 
-/// Items separated by commas.
+/// The separator of lists between commas (RFC 9110, section 5.6.1).
 #[derive(Clone, Copy, Debug)]
 pub struct Comma;
 
-/// Items separated by semicolons.
+/// The separator of lists between semicolons (RFC 6265, section 4.2.1).
 #[derive(Clone, Copy, Debug)]
 pub struct SemiColon;
 

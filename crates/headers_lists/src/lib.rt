@@ -1,4 +1,4 @@
-//! The list headers, by subject in the crates that this one passes on.
+//! Exports of the headers that are lists.
 #![tactic(auto)]
 
 pub use headers_caching::{

@@ -1,4 +1,4 @@
--- What a refused insert answers, and what it leaves.
+-- The error of a failed insert, and what the map has then.
 use Rattle.std.specs.Prelude.{◌≡◌, ◌≢◌, ◌⊎◌, ℕ, ◌<◌, ◌≤◌, List, ◌++◌, length, take, Some, slice_get, codes}
 use Rattle.std.specs.Prelude.{decimal}
 use Rattle.http_header.specs.FieldValue.{FieldValue}
@@ -27,23 +27,23 @@ insert_error_text Full = codes "max size reached"
 abbrev pub apply_error_text : ApplyError → List ℕ
 apply_error_text e = codes "after " ++ decimal e.done ++ codes " steps: " ++ insert_error_text e.cause
 
--- at least one of the lines and not all, from the first on
+-- at least one of the lines but not all, from the first on
 abbrev pub IsProperBeginning : List Line → List Line → Type 0
 IsProperBeginning begun lines = HasLine begun × ((rest : List Line) × HasLine rest × (begun ++ rest ≡ lines))
 
--- the name has its old values, or a proper beginning of the lines, which are then at least two
+-- the name has its old values, or a proper beginning of the lines, of which there are then at least two
 abbrev pub KeepsOrBegins : Entries FieldValue → Entries FieldValue → List ℕ → List Line → Type 0
 KeepsOrBegins old new name lines = (get_all new name ≡ get_all old name) ⊎ IsProperBeginning (lines_at new name) lines
 
--- what a refused put of lines leaves at their name. The map is full if it refuses one more line under the name; one
--- line in place of others always has room.
+-- What a failed put leaves at the name. If the error is `Full`, the map has no room for one more line with the name.
+-- One line that replaces others always has room.
 pub record IsRefusedPut (old new : Entries FieldValue) (name : List ℕ) (lines : List Line) (cause : InsertError)
     : Type 0 where
   pub own : KeepsOrBegins old new name lines
   pub full : cause ≡ Full → RefusesAppend new name
   pub replaces : HasLine (lines_at old name) → length lines ≤ 1 → cause ≢ Full
 
--- the step is a `Put`, which was refused. It isn't one line in place of others.
+-- the step is a `Put` that failed, and not one line that replaces others
 pub record IsRefusedStep (old new : Entries FieldValue) (step : Step) (cause : InsertError) : Type 0 where
   pub refused : Encoded
   pub is_put : step ≡ Put refused
@@ -51,7 +51,7 @@ pub record IsRefusedStep (old new : Entries FieldValue) (step : Step) (cause : I
   pub left : IsRefusedPut old new refused.name (lines_of refused.lines.items) cause
   pub grows : HasLine (lines_at old refused.name) → length refused.lines.items ≤ 1 → ⊥
 
--- the first `done` steps are done whole, the next was refused, and no other was begun
+-- the first `done` steps are done, the next one failed, and none after it was begun
 pub record AppliesPart (old new : Entries FieldValue) (steps : List Step) (error : ApplyError) : Type 0 where
   pub within : error.done < length steps
   pub step : Step

@@ -1,4 +1,4 @@
--- What a typed read answers after steps, by the last step that touched its name.
+-- The result of a typed read after steps, by the last step that changed its field.
 use Rattle.std.specs.Prelude.{◌≡◌, ℕ, List, ⊤, Option, Some, None, Result, Ok, Err}
 use Rattle.headers_syntax.specs.Lines.{Line, lines_of}
 use Rattle.headers_syntax.specs.declared.error.Refused.{Refused}
@@ -10,20 +10,20 @@ use Rattle.headers_map.specs.declared.steps.Step.{Step}
 use Rattle.headers_map.specs.declared.steps.Step.TheVariants.{Put, Remove}
 
 module _ {V : Type 0} (reads : List Line → V → Type 0) (writes : V → List Line) where
-  -- the lines are what is written of a value that was read
+  -- the lines are the encoding of a value that was decoded from some lines
   pub record IsEncodingOf (lines : List Line) (v : V) : Type 0 where
     pub from : List Line
     pub was_read : reads from v
     pub written : lines ≡ writes v
 
--- the read gave the same value, unless the allocator had no memory
+-- the read returned the same value, unless an allocation failed
 abbrev pub GivesSame : {V E : Type 0} → (V → V → Type 0) → V → Result (Option V) (Refused E) → Type 0
 GivesSame same v (Ok None) = ⊥
 GivesSame same v (Ok (Some w)) = same v w
 GivesSame same v (Err (Invalid e)) = ⊥
 GivesSame same v (Err (Memory e)) = ⊤
 
--- the encoding has these lines, unless the allocator had no memory
+-- the encoding has these lines, unless an allocation failed
 abbrev pub GivesLines : {E : Type 0} → List Line → Result (Option Encoded) (Refused E) → Type 0
 GivesLines lines (Ok None) = ⊥
 GivesLines lines (Ok (Some e)) = lines_of e.lines.items ≡ lines
@@ -31,8 +31,8 @@ GivesLines lines (Err (Invalid e)) = ⊥
 GivesLines lines (Err (Memory e)) = ⊤
 
 module _ {V E : Type 0} (same : V → V → Type 0) (reads : List Line → V → Type 0) (writes : V → List Line) where
-  -- A `Put` is read, and gives its value if its lines are an encoding. After a `Remove` there is no line. If no step
-  -- touched the name, the lines that stood there before are read.
+  -- The lines of a `Put` are decoded, and give its value if they are an encoding. After a `Remove` there is no line. If
+  -- no step changed the name, the lines from before are decoded.
   abbrev pub IsLastRead : List Line → Option Step → Result (Option V) (Refused E) → Type 0
   IsLastRead before None read = IsTypedRead reads before read
   IsLastRead before (Some (Put e)) read =
@@ -41,7 +41,7 @@ module _ {V E : Type 0} (same : V → V → Type 0) (reads : List Line → V →
   IsLastRead before (Some (Remove name)) read = read ≡ Ok None
 
 module _ {V E : Type 0} (name : List ℕ) (reads : List Line → V → Type 0) (writes : V → List Line) where
-  -- the same of `canonical`: an encoding comes back as it was put
+  -- the same for `canonical`: an encoding comes back as it was put
   abbrev pub IsLastCanonical : List Line → Option Step → Result (Option Encoded) (Refused E) → Type 0
   IsLastCanonical before None read = IsCanonicalRead name reads writes before read
   IsLastCanonical before (Some (Put e)) read =

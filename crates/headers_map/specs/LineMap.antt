@@ -1,4 +1,4 @@
--- A map gives each name a list of lines, and steps change it.
+-- A map gives each name a list of field lines, and steps change it.
 use Rattle.std.specs.Prelude.{◌≢◌, ℕ, Bool, ◌&&◌, List, [], ◌∷◌, length, reverse, Option, if◌then◌else◌, bytes_eq}
 use Rattle.std.specs.Prelude.{nat_lt, find, map}
 use Rattle.std.specs.Option.{option_map_or}
@@ -54,12 +54,12 @@ IsOfOther name step = step_name step ≢ name
 abbrev pub last_step : List Step → List ℕ → Option Step
 last_step steps name = find (touches name) (reverse steps)
 
--- the lines that a step leaves at a name that it touches
+-- the lines that a step leaves at a name that it changes
 abbrev pub lines_left : Step → List Line
 lines_left (Put e) = lines_of e.lines.items
 lines_left (Remove name) = []
 
--- what the last step that touches the name left there, or what the map has there if none does
+-- what the last step that changes the name left there, or what the map has there if none does
 abbrev pub last : LineMap → List Step → LineMap
 last m steps name = option_map_or lines_left (last_step steps name) (m name)
 

@@ -1,4 +1,4 @@
-//! A header's name with its lines.
+//! A field as data: its name and its field lines.
 ghost use Rattle.std.specs.Prelude.{◌≡◌, IsTrue, IfOk};
 ghost use Rattle.headers_syntax.specs.Lines.{lines_of};
 ghost use Rattle.headers_syntax.specs.Refusal.{NeverMemory};
@@ -11,14 +11,17 @@ use headers_core::{Error, Header, Refused};
 use http_header::{HeaderMap, HeaderName, HeaderValue};
 use std::alloc::{AllocError, Global};
 
-/// A name, and the lines to put under it.
+/// A field as data: a field name, and the field lines for it.
 #[derive(Debug, Drop)]
 pub struct Encoded {
+    /// The field name.
     pub name: HeaderName,
+    /// The field lines, in order.
     pub lines: Vec<HeaderValue>,
 }
 
-/// The header's name with the lines that are written of it.
+/// Encodes a header as data: its field name, and the field lines that encode it. Fails only if an
+/// allocation fails.
 pub fn encoding<H: Header>(alloc: Global, header: &H) -> Result<Encoded, AllocError>
     ensures name { IfOk result (λ e. e.name ≡ H.field_name) }
     ensures lines { IfOk result (λ e. lines_of e.lines.items ≡ H.writes header.now) }
@@ -31,8 +34,8 @@ pub fn encoding<H: Header>(alloc: Global, header: &H) -> Result<Encoded, AllocEr
     })
 }
 
-/// The encoding of the value that the lines under the header's name read. `Ok(None)` if there is no
-/// line, `Invalid` if the lines read no value.
+/// Decodes a header from a map, and encodes it again. `Ok(None)` if the map has no line of the
+/// field, `Invalid` if the lines encode no value, `Memory` if an allocation fails.
 pub fn canonical<H: Header>(
     alloc: Global,
     map: &HeaderMap,

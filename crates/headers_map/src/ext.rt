@@ -19,14 +19,14 @@ mod sealed {
     impl Sealed for http_header::HeaderMap {}
 }
 
-/// Typed reads and inserts of a header map.
+/// Typed reads and inserts as methods of a header map.
 pub trait HeaderMapExt: sealed::Sealed {
     // The names of the map, each with its values.
     ghost entries: { Self → Entries FieldValue };
 
-    /// Replaces all lines under the header's name by those that are written of the header. If no
-    /// line is written, the map stays as it was. If the call is refused, the name has its old lines
-    /// or a beginning of the new ones. Other names never change.
+    /// Replaces all field lines of a header in the map by the encoding of this one. If the encoding
+    /// has no line, the map is unchanged. The errors are `Memory` and `Full`; then the field has
+    /// its old lines, or a beginning of the new ones. Other fields never change.
     fn typed_insert<H: Header>(&mut self, alloc: Global, header: H) -> Result<(), InsertError>
         ensures ok { OnOk result ((name : List ℕ) → lines_at (entries self.new) name
             ≡ put (lines_at (entries self.old)) H.field_name (H.writes header) name) }
@@ -35,16 +35,16 @@ pub trait HeaderMapExt: sealed::Sealed {
         ensures err { IfErr result
             (IsRefusedPut (entries self.old) (entries self.new) H.field_name (H.writes header)) };
 
-    /// The value that the lines under the header's name read. `None` if there is no line, if the
-    /// lines read no value, or if the allocator had no memory; `typed_try_get` tells these apart.
+    /// Decodes a header from the map. `None` if the map has no line of the field, if the lines
+    /// encode no value, or if an allocation fails. `typed_try_get` tells these apart.
     fn typed_get<H: Header>(&self, alloc: Global) -> Option<H>
         ensures some { IfSome result (λ value. HasLine (lines_at (entries self.now) H.field_name)
             × H.reads (lines_at (entries self.now) H.field_name) value) }
         ensures none { IsTrue H.free → IfNone result
             (ReadsNothing H.reads (lines_at (entries self.now) H.field_name)) };
 
-    /// The value that the lines under the header's name read. `Ok(None)` if there is no line,
-    /// `Invalid` if the lines read no value.
+    /// Decodes a header from the map: `Ok(None)` if the map has no line of the field. `Invalid` if
+    /// the lines encode no value, `Memory` if an allocation fails.
     fn typed_try_get<H: Header>(&self, alloc: Global) -> Result<Option<H>, Refused<Error>>
         ensures value { IsTypedRead H.reads (lines_at (entries self.now) H.field_name) result }
         ensures memory { IsTrue H.free → NeverMemory result };

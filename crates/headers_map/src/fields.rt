@@ -20,9 +20,9 @@ fn setting(field: Encoded) -> Step
     }
 }
 
-/// Sets each field in order: its field lines replace all lines under its name, and a field without
-/// lines is removed. If an allocation fails or the map is full, the fields before are set and none
-/// after. The values under other names never change.
+/// Sets fields in a header map, in order. The lines of a field replace all lines with its name. A
+/// field without lines is removed. If an allocation fails or the map is full, the fields before are
+/// set and none after. Fields with other names never change.
 pub fn set_all(map: &mut HeaderMap, fields: Vec<Encoded>) -> Result<(), ApplyError>
     ensures ok { OnOk result ((name : List ℕ)
         → lines_at map.new name ≡ set_all (lines_at map.old) (fields_of fields.items) name) }

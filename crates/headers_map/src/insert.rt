@@ -1,4 +1,4 @@
-//! Lines put into a header map.
+//! Field lines put into a header map.
 ghost use Rattle.std.specs.Prelude.{◌≡◌, ◌≢◌, ◌<◌, ◌≤◌, ℕ, List, length, IsOk, OnOk, OnErr, IsErrOf};
 ghost use Rattle.http_header.specs.HeaderMap.{get_all, RefusesAppend};
 ghost use Rattle.headers_syntax.specs.Lines.{lines_of};
@@ -10,10 +10,10 @@ use std::alloc::AllocError;
 use std::error::Error;
 use std::fmt;
 
-/// Why lines could not be put into a map.
+/// Why field lines could not be put into a header map.
 #[derive(Clone, Copy, Debug, PartialEq, Eq)]
 pub enum InsertError {
-    /// The allocator had no memory.
+    /// Out of memory: an allocation failed.
     Memory,
     /// The map has no room for the lines: it has as many names or values as it can hold.
     Full,

@@ -1,4 +1,4 @@
-//! What follows for the calls on a map from the laws of `Header` alone, for every header.
+//! Theorems about typed reads and inserts for every header, from the laws of `Header` alone.
 ghost use Rattle.std.specs.Prelude.{◌≡◌, ℕ, List, Option, Result};
 ghost use Rattle.headers_syntax.specs.Lines.{Line};
 ghost use Rattle.headers_map.specs.LineMap.{LineMap, put, run, last, last_step};
@@ -10,9 +10,10 @@ use crate::encoded::Encoded;
 use crate::steps::Step;
 use headers_core::{Error, Header, Refused};
 
-/// After any list of steps, a typed read decodes the last encoding of at least one line that was
-/// put under its name, else what stood there before. If that encoding is of a value that was read,
-/// the read gives that value, and `canonical` gives the same lines again.
+/// Theorem: after any list of steps, a typed read decodes the lines that were put last. Those are
+/// the last lines, at least one, that were put for the field; if none were put, the lines from
+/// before the steps. If they encode a decoded value, the read returns that value, and `canonical`
+/// the same lines.
 pub fn reads_the_last_put<H: Header>()
     ensures lines { (map : LineMap) (steps : List Step) (name : List ℕ)
         → run map steps name ≡ last map steps name }
@@ -25,8 +26,8 @@ pub fn reads_the_last_put<H: Header>()
         (last_step steps H.field_name) read }
 {}
 
-/// After a typed insert of a value that was read, a typed read gives that value if at least one
-/// line is written of it.
+/// Theorem: after a typed insert of a decoded value, a typed read returns that value. The encoding
+/// of the value must have at least one line.
 pub fn reads_the_inserted<H: Header>()
     ensures { (map : LineMap) (from : List Line) (v : H) (read : Result (Option H) (Refused Error))
         → H.reads from v → HasLine (H.writes v)

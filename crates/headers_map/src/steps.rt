@@ -11,21 +11,21 @@ use http_header::{HeaderMap, HeaderName};
 use std::error::Error;
 use std::fmt;
 
-/// One change of a map.
+/// One change of a header map.
 #[derive(Debug, Drop)]
 pub enum Step {
-    /// Replaces all lines under the name by these. Without a line nothing changes.
+    /// Replaces all lines with the name by these. Without a line nothing changes.
     Put(Encoded),
-    /// Removes the name with all its lines.
+    /// Removes all lines with the name.
     Remove(HeaderName),
 }
 
-/// Which step was refused, and why.
+/// Which step failed, and why.
 #[derive(Clone, Copy, Debug, PartialEq, Eq)]
 pub struct ApplyError {
-    /// The number of steps that are done.
+    /// The number of steps before it, which are all done.
     pub done: usize,
-    /// Why the next one was refused.
+    /// Why the step failed.
     pub cause: InsertError,
 }
 
@@ -42,8 +42,8 @@ impl fmt::Display for ApplyError {
 
 impl Error for ApplyError {}
 
-/// Takes the steps in order. If a `Put` is refused, the steps before it are done, and those after
-/// it aren't begun. The values under names that no step has stay, whatever comes.
+/// Applies steps to a header map, in order. If a `Put` fails, the steps before it are done, and
+/// none after it. Fields whose names are in no step never change.
 pub fn apply(map: &mut HeaderMap, steps: Vec<Step>) -> Result<(), ApplyError>
     ensures ok { OnOk result ((name : List ℕ)
         → lines_at map.new name ≡ run (lines_at map.old) steps.items name) }

@@ -21,12 +21,12 @@ equals = 61
 abbrev pub backslash : ℕ
 backslash = 92
 
--- a parameter as it is written; a quoted value keeps its quotes
+-- a parameter as in the text; a quoted value includes its quotes
 pub record Parameter : Type 0 where
   pub name : List ℕ
   pub value : List ℕ
 
--- the parts of a media type, as they are written
+-- the parts of a media type, as in the text
 pub record MediaType : Type 0 where
   pub top_level : List ℕ
   pub subtype : List ℕ
@@ -36,12 +36,12 @@ pub record MediaType : Type 0 where
 abbrev pub IsBlanks : List ℕ → Type 0
 IsBlanks s = AllPass is_blank s
 
--- what stands between quotes: a byte by itself, or one after a backslash
+-- what is between quotes: a byte by itself, or a byte after a backslash
 pub data QuotedPart : Type 0 where
   plain : ℕ → QuotedPart
   escaped : ℕ → QuotedPart
 
--- any byte of text is escaped, and any but a quote and a backslash stands by itself
+-- a quoted-pair may have any byte of text; any byte but a quote and a backslash may be by itself
 abbrev pub IsQuotedPart : QuotedPart → Type 0
 IsQuotedPart (plain b) = IsTrue (is_visible_or_blank b) × (b ≢ quote) × (b ≢ backslash)
 IsQuotedPart (escaped b) = IsTrue (is_visible_or_blank b)
@@ -50,7 +50,7 @@ abbrev pub quoted_part_text : QuotedPart → List ℕ
 quoted_part_text (plain b) = b ∷ []
 quoted_part_text (escaped b) = backslash ∷ b ∷ []
 
--- a quote, any number of parts, a quote
+-- a quote, any number of parts, and a quote
 pub record IsQuotedString (s : List ℕ) : Type 0 where
   pub parts : List QuotedPart
   pub valid : All IsQuotedPart parts
@@ -89,7 +89,7 @@ segments_text segments = flat_map segment_text segments
 abbrev pub parameters_of : List Segment → List Parameter
 parameters_of segments = filter_map (λ (s : Segment). s.parameter) segments
 
--- a text reads as a media type: a token, a slash, a token and any number of segments, with blanks at both ends
+-- A text parses as a media type: a token, a slash, a token and any number of segments, with blanks at both ends.
 pub record IsMediaType (text : List ℕ) (media : MediaType) : Type 0 where
   pub front : List ℕ
   pub segments : List Segment
@@ -102,18 +102,18 @@ pub record IsMediaType (text : List ℕ) (media : MediaType) : Type 0 where
   pub segments_are : All IsSegment segments
   pub back_is : IsBlanks back
 
--- a `charset`, in any case of that name, whose value is a token
+-- a parameter `charset`, in any case of the name, whose value is a token
 abbrev pub is_charset_token : Parameter → Bool
 is_charset_token p = bytes_eq (lowercase p.name) (codes "charset") && list_all is_token_byte p.value
 
--- the value of a `charset` in lower case if it is a token, and any other value as it is written
+-- the value in canonical form: in lower case for a `charset` that is a token, else as in the text
 abbrev pub canonical_value : Parameter → List ℕ
 canonical_value p = if is_charset_token p then lowercase p.value else p.value
 
 abbrev pub canonical_parameter : Parameter → Parameter
 canonical_parameter p = record { name = lowercase p.name; value = canonical_value p }
 
--- the parts in lower case, but for the values
+-- the parts in lower case, except the values of parameters
 abbrev pub canonical_parts : MediaType → MediaType
 canonical_parts m =
     record {
@@ -129,10 +129,10 @@ parameters_text ps = flat_map (λ (p : Parameter). semicolon ∷ 32 ∷ paramete
 abbrev pub media_text : MediaType → List ℕ
 media_text m = m.top_level ++ slash ∷ (m.subtype ++ parameters_text m.parameters)
 
--- the canonical text of a reading
+-- the canonical text of a parsed media type
 abbrev pub canonical : MediaType → List ℕ
 canonical m = media_text (canonical_parts m)
 
--- the text is the canonical text of a reading
+-- the text is the canonical text of some media type
 abbrev pub IsCanonical : List ℕ → Type 0
 IsCanonical text = (m : MediaType) × IsMediaType text m × (canonical m ≡ text)

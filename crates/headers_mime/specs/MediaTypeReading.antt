@@ -1,4 +1,4 @@
--- Media types, read from the front. That this is the grammar is proved in proofs/ReadingLemmas.
+-- The parser of media types, as functions. That it agrees with the grammar is proved in proofs/ReadingLemmas.
 use Rattle.std.specs.Prelude.{◌≡◌, ℕ, zero, suc, ◌+◌, Bool, false, ◌&&◌, not, ◌==◌, List, [], ◌∷◌, ◌++◌, length, take}
 use Rattle.std.specs.Prelude.{drop, Option, Some, None, map, option_map, if◌then◌else◌}
 use Rattle.std.specs.List.{prefix_len, cons_option}
@@ -12,7 +12,7 @@ use Rattle.std.specs.Prelude.{Result, Ok, Err, ⊤}
 use Rattle.headers_syntax.specs.declared.error.Refused.{Refused}
 use Rattle.headers_syntax.specs.declared.error.Refused.TheVariants.{Invalid, Memory}
 
--- how many bytes stand from here up to and with the closing quote; `is_escaped` is whether a backslash stands before
+-- how many bytes from here to the closing quote, which is included; `is_escaped`: the byte before is a backslash
 abbrev pub quoted_len : Bool → List ℕ → Option ℕ
 quoted_len is_escaped [] = None
 quoted_len is_escaped (b ∷ s) =
@@ -109,12 +109,12 @@ read_media s =
     (read_parameters read.2))
     (read_essence s)
 
--- what is written of the parameters that end a text
+-- the canonical text of the parameters that end a text
 abbrev pub canonical_rest : List ℕ → Option (List ℕ)
 canonical_rest s =
     option_map (λ (ps : List Parameter). parameters_text (map canonical_parameter ps)) (read_parameters s)
 
--- what is written of a parameter or nothing
+-- the canonical text of a parameter, or of nothing
 abbrev pub optional_canonical : Option Parameter → List ℕ
 optional_canonical o = parameters_text (map canonical_parameter (cons_option o []))
 
@@ -122,17 +122,17 @@ optional_canonical o = parameters_text (map canonical_parameter (cons_option o [
 abbrev pub canonical_of : List ℕ → Option (List ℕ)
 canonical_of s = option_map canonical (read_media s)
 
--- what was read, and what follows it
+-- the parsed value, and what follows it
 abbrev pub read_shown : {A : Type 0} → A × Bor (List ℕ) → A × List ℕ
 read_shown read = (read.0, read.1.now)
 
--- an answer of a writer that read on: what was read follows the old bytes, or nothing was read
+-- The result of a writer that parses as it writes: the new text follows the old bytes, or nothing parsed.
 abbrev pub WritesBehind : {E : Type 0} → List ℕ → Option (List ℕ) → List ℕ → Result (Unit {0}) (Refused E) → Type 0
 WritesBehind old read new (Ok x) = option_map (λ (t : List ℕ). old ++ t) read ≡ Some new
 WritesBehind old read new (Err (Invalid e)) = read ≡ None
 WritesBehind old read new (Err (Memory e)) = ⊤
 
--- an answer of a reader: the value that is read, or nothing was read
+-- the result of a parser: the parsed value, or `Invalid` because nothing parsed
 abbrev pub GivesRead : {T E A : Type 0} → (T → A) → Option A → Result T (Refused E) → Type 0
 GivesRead shown read (Ok x) = read ≡ Some (shown x)
 GivesRead shown read (Err (Invalid e)) = read ≡ None

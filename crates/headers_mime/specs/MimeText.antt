@@ -1,4 +1,4 @@
--- What a `Mime` holds.
+-- The text that a `Mime` stores.
 use Rattle.std.specs.Prelude.{◌≡◌, ⊤, ℕ, List, [], ◌∷◌, codes, Bool, IsTrue, bytes_eq, Result, Ok, Err}
 use Rattle.headers_syntax.specs.declared.error.Refused.{Refused}
 use Rattle.headers_syntax.specs.declared.error.Refused.TheVariants.{Invalid, Memory}
@@ -25,16 +25,16 @@ known_texts =
     codes "application/octet-stream" ∷
     []
 
--- the text is that of a constant
+-- the text is that of one of the constants
 abbrev pub is_known : List ℕ → Bool
 is_known text = list_any (λ (known : List ℕ). bytes_eq known text) known_texts
 
--- what a media type may hold: the text of a constant, or a canonical text
+-- the text that a media type may store: that of a constant, or a canonical text
 abbrev pub IsMimeText : Text → Type 0
 IsMimeText (Known text) = IsTrue (is_known text.now)
 IsMimeText (Read value) = IsCanonical value.bytes
 
--- an answer of a reader of text: the canonical text of its reading, and `Invalid` only if it has none
+-- the result of a parser: the canonical text of what it parsed; `Invalid` only if the text is no media type
 abbrev pub ReadsMime : {E : Type 0} → List ℕ → Result (List ℕ) (Refused E) → Type 0
 ReadsMime text (Ok mime) = (m : MediaType) × IsMediaType text m × (mime ≡ canonical m)
 ReadsMime text (Err (Invalid e)) = (m : MediaType) → ¬ (IsMediaType text m)

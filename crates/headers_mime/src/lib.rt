@@ -1,4 +1,4 @@
-//! Media types, by a grammar of their own.
+//! Media types (RFC 9110, section 8.3.1).
 #![tactic(auto)]
 
 mod mime;

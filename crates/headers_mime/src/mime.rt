@@ -18,11 +18,11 @@ enum Text {
     Read(HeaderValue),
 }
 
-/// A media type (RFC 9110, section 8.3.1), kept as its canonical text: type, subtype and names of
-/// parameters in lower case, each parameter after a semicolon and a space. Equality goes by that
-/// text.
+/// A media type, stored as its canonical text (RFC 9110, section 8.3.1). In the canonical text the
+/// type, the subtype and the names of parameters are in lower case, and each parameter follows a
+/// semicolon and a space. Media types are compared by this text.
 ///
-/// A contract sees that text.
+/// A contract sees the canonical text.
 #[derive(Drop)]
 pub struct Mime {
     text: Text,
@@ -40,52 +40,52 @@ impl Model for Mime {
 }
 
 impl Mime {
-    /// `application/json`.
+    /// The media type `application/json`.
     pub const APPLICATION_JSON: Mime = Mime {
         text: Text::Known("application/json"),
     };
 
-    /// `text/plain`.
+    /// The media type `text/plain`.
     pub const TEXT_PLAIN: Mime = Mime {
         text: Text::Known("text/plain"),
     };
 
-    /// `text/plain; charset=utf-8`.
+    /// The media type `text/plain; charset=utf-8`.
     pub const TEXT_PLAIN_UTF_8: Mime = Mime {
         text: Text::Known("text/plain; charset=utf-8"),
     };
 
-    /// `text/html`.
+    /// The media type `text/html`.
     pub const TEXT_HTML: Mime = Mime {
         text: Text::Known("text/html"),
     };
 
-    /// `text/xml`.
+    /// The media type `text/xml`.
     pub const TEXT_XML: Mime = Mime {
         text: Text::Known("text/xml"),
     };
 
-    /// `application/x-www-form-urlencoded`.
+    /// The media type `application/x-www-form-urlencoded`.
     pub const APPLICATION_WWW_FORM_URLENCODED: Mime = Mime {
         text: Text::Known("application/x-www-form-urlencoded"),
     };
 
-    /// `image/jpeg`.
+    /// The media type `image/jpeg`.
     pub const IMAGE_JPEG: Mime = Mime {
         text: Text::Known("image/jpeg"),
     };
 
-    /// `image/png`.
+    /// The media type `image/png`.
     pub const IMAGE_PNG: Mime = Mime {
         text: Text::Known("image/png"),
     };
 
-    /// `application/octet-stream`.
+    /// The media type `application/octet-stream`.
     pub const APPLICATION_OCTET_STREAM: Mime = Mime {
         text: Text::Known("application/octet-stream"),
     };
 
-    /// The nine constants, each of which has the text that its name says.
+    /// Returns the nine constants, each of which has the text that its name says.
     pub fn all() -> [Mime; 9]
         ensures { result ≡ known_texts }
     {
@@ -131,9 +131,10 @@ impl Mime {
         })
     }
 
-    /// Reads a media type, and puts it in canonical form. Spaces and tabs may stand at both ends
-    /// and around a semicolon, and nowhere else outside quotes. A semicolon need not have a
-    /// parameter after it. `Invalid` if the text is no media type.
+    /// Parses a media type, and stores its canonical text (RFC 9110, section 8.3.1). Spaces and
+    /// tabs are allowed at both ends and around a semicolon, and nowhere else outside quotes. A
+    /// semicolon needs no parameter after it. `Invalid` if the text is no media type, `Memory` if
+    /// an allocation fails.
     pub fn parse(alloc: Global, text: &str) -> Result<Mime, Refused<Error>>
         ensures { ReadsMime text.now result }
     {
@@ -146,7 +147,7 @@ impl Mime {
         }
     }
 
-    /// The canonical text.
+    /// Returns the canonical text of the media type.
     pub fn as_str(&self) -> &str
         ensures text { result.now ≡ self.now }
         ensures canonical { IsCanonical self.now }
@@ -157,7 +158,7 @@ impl Mime {
         }
     }
 
-    /// The canonical text as a header value.
+    /// Returns the canonical text as a header value. Fails only if an allocation fails.
     pub fn to_value(&self, _alloc: Global) -> Result<HeaderValue, AllocError>
         ensures { IfOk result (λ value. value.bytes ≡ self.now) }
     {
@@ -167,7 +168,7 @@ impl Mime {
         }
     }
 
-    /// A copy of the media type.
+    /// Copies the media type. Fails only if an allocation fails.
     pub fn clone(&self, _alloc: Global) -> Result<Mime, AllocError>
         ensures { IfOk result (λ copy. copy ≡ self.now) }
     {
@@ -209,8 +210,8 @@ impl fmt::Debug for Mime {
     }
 }
 
-/// A text has at most one reading. The canonical text of a reading reads as its parts in canonical
-/// form, and is their canonical text too.
+/// Theorem: a text parses as at most one media type, and canonical text is stable. The canonical
+/// text parses as the parts in canonical form, and its canonical text is itself.
 pub fn media_types_are_read_once()
     ensures once { (text : List ℕ) (m n : MediaType) → IsMediaType text m → IsMediaType text n → m ≡ n }
     ensures back { (text : List ℕ) (m : MediaType) → IsMediaType text m

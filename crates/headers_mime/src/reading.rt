@@ -1,4 +1,4 @@
-//! Media types, read from the front.
+//! A parser of media types, from the front of the text.
 ghost use Rattle.std.specs.Prelude.{◌≡◌, ◌+◌, ◌≤◌, length, false, IfSome, option_map};
 ghost use Rattle.std.specs.List.{prefix_len};
 ghost use Rattle.std.specs.Option.{option_copied};
@@ -12,7 +12,7 @@ use headers_syntax::trim_start;
 use http_header::is_token_char;
 use std::marker::Model;
 
-/// A parameter as it is written. A quoted value keeps its quotes.
+/// A parsed parameter of a media type. A quoted value includes its quotes.
 #[derive(Drop)]
 pub struct ParameterRef<'a> {
     pub name: &'a [u8],

@@ -1,4 +1,4 @@
-//! The canonical text of a media type, written while the text is read.
+//! The canonical text of a media type, written while the text is parsed.
 ghost use Rattle.std.specs.Prelude.{◌≡◌, ◌∷◌, [], ◌++◌, OnOk, vec_items, bytes_eq, codes};
 ghost use Rattle.http_header.specs.Token.{is_token_byte, lowercase};
 ghost use Rattle.std.specs.List.{list_all};

@@ -1,4 +1,4 @@
--- The empty item is no name and no method.
+-- An empty item is no field name and no method.
 use Rattle.std.specs.Prelude.{◌≡◌, [], None, refl}
 use Rattle.headers_names.specs.ListItem.{name_of, method_of}
 

@@ -1,4 +1,4 @@
-//! Lists of field names and of methods: how they are joined, and the walks over them.
+//! Lists of field names and of methods: how they are joined, and the iterators over them.
 #![tactic(auto)]
 
 mod list_header;

@@ -1,4 +1,4 @@
-//! Headers that are a list of names or of methods.
+//! Headers that are a list of field names or of methods.
 ghost use Rattle.std.specs.Prelude.{◌≡◌, IfOk};
 ghost use Rattle.std.specs.Iterator.{IsFinite};
 ghost use Rattle.headers_items.specs.Answers.{GoesByItems, SurvivesCuts};
@@ -13,14 +13,15 @@ use http_header::HeaderName;
 use std::alloc::{AllocError, Global};
 use std::marker::{Model, PhantomData};
 
-/// The field of a list header.
+/// The field name of a list header, and the type of its items.
 pub trait ListField: NamedField {
-    /// What its items are read as.
+    /// The type of the items: field names or methods.
     type Item: ListItem;
 }
 
-/// The lines of a list field, joined by a comma and a space, and never refused. Equality goes by
-/// the joined bytes.
+/// A header that is a list of field names or of methods between commas (RFC 9110, section 5.6.1).
+/// All field lines are joined by a comma and a space, and none are rejected: `decode` fails only if
+/// an allocation fails. Headers are compared by the joined bytes.
 #[derive(Debug, Drop, PartialEq)]
 pub struct ListHeader<N: ListField> {
     list: FlatCsv<Comma>,
@@ -38,8 +39,8 @@ impl<N: ListField> Model for ListHeader<N> {
 }
 
 impl<N: ListField> ListHeader<N> {
-    /// Joins the names or methods of an iterator by a comma and a space. Its size hint isn't read.
-    /// `iter` gives them back.
+    /// Joins the field names or methods of an iterator by a comma and a space. Fails only if an
+    /// allocation fails. The size hint isn't used. `iter` yields the same items again.
     pub fn from_iter<I: Iterator<Item = N::Item> + Drop>(
         alloc: Global,
         items: I,
@@ -51,7 +52,8 @@ impl<N: ListField> ListHeader<N> {
         Ok(ListHeader::from_form(list_of(alloc, items)?))
     }
 
-    /// The items that are a name or a method, in order. Other items are skipped.
+    /// Starts an iterator over the items that are a field name or a method, in order. Other items
+    /// are skipped.
     pub fn iter(&self, alloc: Global) -> ItemsRead<'_, N::Item>
         ensures answer { result ≡ values N.Item.value_of (items comma self.now) }
         ensures cuts { SurvivesCuts comma
@@ -62,7 +64,7 @@ impl<N: ListField> ListHeader<N> {
         ItemsRead::new(alloc, &self.list)
     }
 
-    /// A copy of the value.
+    /// Copies the list. Fails only if an allocation fails.
     pub fn clone(&self, alloc: Global) -> Result<ListHeader<N>, AllocError>
         ensures { IfOk result (λ copy. copy ≡ self.now) }
     {

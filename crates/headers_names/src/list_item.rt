@@ -1,4 +1,4 @@
-//! What an item of a list by comma can be read as.
+//! The types that an item of a list between commas can have.
 ghost use Rattle.std.specs.Prelude.{◌≡◌, ℕ, List, [], Option, None, IfOk};
 ghost use Rattle.std.specs.Iterator.{IsFinite};
 ghost use Rattle.headers_names.specs.ListItem.{Reading, ReadsItem, ReadsAsItself, ListsValues};
@@ -9,7 +9,7 @@ use http::method::MethodError;
 use http_header::{HeaderName, HeaderNameError, HeaderValue, HeaderValueError};
 use std::alloc::{AllocError, Global};
 
-/// A value that an item of a list can be: a field name or a method.
+/// A type that an item of a list can have: a field name or a method.
 pub trait ListItem: Drop {
     // The bytes of a value.
     ghost bytes_of: { Self → List ℕ };
@@ -20,11 +20,13 @@ pub trait ListItem: Drop {
     // The values that may want for memory.
     ghost wants: { List ℕ → Type 0 };
 
-    /// Reads an item: `None` if it is no such value.
+    /// Parses an item of a list. `None` if it is no such value, `Some(Err(..))` if an allocation
+    /// fails.
     fn from_item(alloc: Global, item: &str) -> Option<Result<Self, AllocError>>
         ensures { ReadsItem bytes_of value_of wants item.now result };
 
-    /// The value as a line. The line is a token, and reads as that value.
+    /// Encodes the value as a field line, which is a token and parses as that value. Fails only if
+    /// an allocation fails.
     fn into_line(self, alloc: Global) -> Result<HeaderValue, AllocError>
         ensures bytes { IfOk result (λ line. line.bytes ≡ bytes_of self) }
         ensures reads { IfOk result (λ line. ReadsAsItself value_of line.bytes) };
@@ -88,8 +90,8 @@ impl ListItem for Method {
     }
 }
 
-/// Joins the values of an iterator to a list. Its size hint isn't read. Without a value the list is
-/// empty.
+/// Joins the values of an iterator to a list. Fails only if an allocation fails. The size hint
+/// isn't used. Without a value the list is empty.
 pub(crate) fn list_of<T: ListItem, I: Iterator<Item = T> + Drop>(
     alloc: Global,
     values: I,

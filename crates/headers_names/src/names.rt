@@ -1,4 +1,4 @@
-//! A walk over the field names of a list, up to the first item that isn't one.
+//! An iterator over the field names of a list, up to the first item that isn't one.
 ghost use Rattle.std.specs.Prelude.{◌≡◌, List, ℕ, All, IfOk};
 ghost use Rattle.http_header.specs.FieldName.{IsHeaderName};
 ghost use Rattle.headers_items.specs.Merge.{merge};
@@ -12,8 +12,8 @@ use http_header::HeaderName;
 use std::alloc::{AllocError, Global};
 use std::marker::Model;
 
-/// The field names of a list, up to the first item that isn't a field name (RFC 9110, section 5.1).
-/// If there is no memory for a name, the walk hands out the error and ends.
+/// An iterator over the field names of a list, up to the first item that isn't a field name (RFC
+/// 9110, section 5.1). If an allocation fails, it yields the error and ends.
 ///
 /// A contract sees the bytes of the names that are left.
 #[derive(Drop)]
@@ -34,7 +34,7 @@ impl<'a> Model for Names<'a> {
 }
 
 impl<'a> Names<'a> {
-    /// The names of a list. A list that isn't text has none.
+    /// Starts an iterator over the field names of a list. A list that isn't text has none.
     pub fn new(alloc: Global, list: &'a FlatCsv<Comma>) -> Names<'a>
         ensures { result ≡ names (items comma list.now) }
     {
@@ -45,7 +45,7 @@ impl<'a> Names<'a> {
         }
     }
 
-    /// The next name, if one is left.
+    /// Returns the next field name, if one is left, or the error if an allocation fails.
     pub fn next(&mut self) -> Option<Result<HeaderName, AllocError>>
         ensures { GivesNext (λ name. name) NameWants self.old result self.new }
     {
@@ -74,8 +74,8 @@ impl<'a> Iterator for Names<'a> {
     }
 }
 
-/// Joins the names of an iterator by a comma and a space. Its size hint isn't read. Walks over the
-/// list give the names back.
+/// Joins the field names of an iterator by a comma and a space. Fails only if an allocation fails.
+/// The size hint isn't used. Iterators over the list yield the names again.
 pub fn list_of_names<I: Iterator<Item = HeaderName> + Drop>(
     alloc: Global,
     names: I,
@@ -87,7 +87,7 @@ pub fn list_of_names<I: Iterator<Item = HeaderName> + Drop>(
     list_of(alloc, names)
 }
 
-/// Both walks give back the names that were joined, also if there are none.
+/// Theorem: both iterators yield the field names that were joined, also if there are none.
 pub fn names_of_own_list()
     ensures { (given : List (List ℕ)) → All IsHeaderName given
         → IsListOf name_of given (merge comma given) }

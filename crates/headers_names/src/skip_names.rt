@@ -1,4 +1,4 @@
-//! A walk over the items of a list that are names or methods.
+//! An iterator over the items of a list that are field names or methods.
 ghost use Rattle.std.specs.Prelude.{◌≡◌};
 ghost use Rattle.std.specs.Iterator.{item_count};
 ghost use Rattle.headers_items.specs.Places.{comma, items};
@@ -10,8 +10,8 @@ use http_header::HeaderName;
 use std::alloc::{AllocError, Global};
 use std::marker::{Model, PhantomData};
 
-/// The items of a list that read as a value, in order. Other items are skipped. If there is no
-/// memory for a value, the walk hands out the error and ends.
+/// An iterator over the items of a list that parse as a field name or a method, in order. Other
+/// items are skipped. If an allocation fails, the iterator yields the error and ends.
 ///
 /// A contract sees the bytes of the values that are left.
 #[derive(Drop)]
@@ -22,7 +22,7 @@ pub struct ItemsRead<'a, T: ListItem> {
     of: PhantomData<T>,
 }
 
-/// The items that are field names (RFC 9110, section 5.1).
+/// An iterator over the items of a list that are field names (RFC 9110, section 5.1).
 pub type SkipNames<'a> = ItemsRead<'a, HeaderName>;
 
 impl<'a, T: ListItem> Model for ItemsRead<'a, T> {
@@ -36,7 +36,7 @@ impl<'a, T: ListItem> Model for ItemsRead<'a, T> {
 }
 
 impl<'a, T: ListItem> ItemsRead<'a, T> {
-    /// The values of a list. A list that isn't text has none.
+    /// Starts an iterator over the values of a list. A list that isn't text has none.
     pub fn new(alloc: Global, list: &'a FlatCsv<Comma>) -> ItemsRead<'a, T>
         ensures { result ≡ values T.value_of (items comma list.now) }
     {
@@ -48,7 +48,7 @@ impl<'a, T: ListItem> ItemsRead<'a, T> {
         }
     }
 
-    /// The next value, if one is left.
+    /// Returns the next value, if one is left, or the error if an allocation fails.
     pub fn next(&mut self) -> Option<Result<T, AllocError>>
         ensures { GivesNext T.bytes_of T.wants self.old result self.new }
     {

@@ -1,4 +1,4 @@
--- The ranges of bytes that a line asks for (RFC 9110, section 14.1.2).
+-- The byte ranges in a field line of Range (RFC 9110, section 14.1.2).
 use Rattle.std.specs.Prelude.{◌≡◌, ◌↔◌, ◌++◌, ℕ, ◌+◌, ◌-◌, ◌<◌, ◌≤◌, Bool, true, false, ◌&&◌, List, [], ◌∷◌, drop}
 use Rattle.std.specs.Prelude.{length, ◌==◌, nat_lt, nat_le, min, Option, Some, None, option_map, MatchOption, codes}
 use Rattle.std.specs.Prelude.{decimal, nat_eq, if◌then◌else◌}
@@ -18,7 +18,7 @@ use Rattle.headers_ranges.specs.Cut.{cut}
 abbrev pub dash : ℕ
 dash = 45
 
--- what the value of the field begins with
+-- the beginning of the field value
 abbrev pub bytes_unit : Line
 bytes_unit = codes "bytes="
 
@@ -26,7 +26,7 @@ bytes_unit = codes "bytes="
 unfoldable pub is_range_line : Line → Bool
 is_range_line line = is_text line && starts_with nat_eq line bytes_unit
 
--- the line, if it is such text
+-- the field line, if it is such text
 abbrev pub range_line : Line → Option Line
 range_line line = line_if is_range_line line
 
@@ -56,8 +56,8 @@ pieces text = slice_split (λ b. b == comma) text
 abbrev pub specs : Line → List Spec
 specs line = filter_map spec_of (pieces (drop (length bytes_unit) line))
 
--- The grammar has a spec of these halves (section 14.1.1): they aren't both empty, and the first position isn't past
--- the last.
+-- A range specification with these halves is valid (section 14.1.1): they aren't both empty, and the first position
+-- isn't past the last.
 abbrev pub are_valid_halves : Option ℕ → Option ℕ → Bool
 are_valid_halves (Some a) (Some b) = nat_le a b
 are_valid_halves (Some a) None = true
@@ -78,7 +78,7 @@ Names None None len p = ⊥
 abbrev pub Covers : ℕ → ℕ → Spec → Type 0
 Covers len p spec = (p < len) × Names spec.0 spec.1 len p
 
--- the range from a to b, as far as it lies below the length
+-- the range from a to b, as far as it is below the length
 abbrev pub clipped : ℕ → ℕ → ℕ → Option ByteRange
 clipped len a b = if nat_le a b && nat_lt a len then Some (Included a, Included (min b (len - 1))) else None
 
@@ -102,7 +102,7 @@ bytes_from_to first (Some last) = bytes_unit ++ (decimal first ++ dash ∷ decim
 abbrev pub last_before : ℕ → Option ℕ
 last_before end = if end == 0 then None else Some (end - 1)
 
--- the text of a range with a first position, which says its last position or none; other ranges have no text
+-- the text of a range that has a first position, and a last position or none; other ranges have no text
 abbrev pub bounds_text : Bound ℕ → Bound ℕ → Option Line
 bounds_text (Included first) (Included last) = Some (bytes_from_to first (Some last))
 bounds_text (Included first) (Excluded end) = option_map (λ last. bytes_from_to first (Some last)) (last_before end)
@@ -125,7 +125,7 @@ IsUpTo (Included b) p = p ≤ b
 IsUpTo (Excluded b) p = p < b
 IsUpTo Unbounded p = Unit {0}
 
--- position p lies in a range
+-- position p is in a range
 abbrev pub LiesIn : ℕ → ByteRange → Type 0
 LiesIn p range = IsFrom range.0 p × IsUpTo range.1 p
 
@@ -139,7 +139,7 @@ GivesCovered len spec =
     MatchOption (gives len spec) ((p : ℕ) → ¬ (Covers len p spec))
     (λ range. IsWithin len range × ((p : ℕ) → LiesIn p range ↔ Covers len p spec))
 
--- what a walk has left: the pieces of a rest, if there is one, and their ranges
+-- what an iterator has left: the pieces of the rest, if there is one, and their ranges
 abbrev pub pieces_left : Option (Bor (List ℕ)) → List (List ℕ)
 pieces_left None = []
 pieces_left (Some rest) = pieces rest.now

@@ -1,4 +1,4 @@
--- The part of a representation that a message carries, by bytes (RFC 9110, section 14.4).
+-- The part of a representation that a message carries, in bytes (RFC 9110, section 14.4).
 use Rattle.std.specs.Prelude.{◌≡◌, ℕ, ◌+◌, ◌^◌, ◌<◌, ◌++◌, Bool, true, ◌∷◌, nat_lt, nat_le, Option, Some, None}
 use Rattle.std.specs.Prelude.{option_map, codes, decimal, bytes_eq, if◌then◌else◌}
 use Rattle.std.specs.Option.{option_and_then, option_zip}
@@ -18,7 +18,7 @@ pub record ContentBytes : Type 0 where
 abbrev pub of_parts : Option (ℕ × ℕ) × Option ℕ → ContentBytes
 of_parts parts = record { range = parts.0; length = parts.1 }
 
--- ---- what a line says
+-- ---- decoding
 
 -- b' '
 abbrev pub space : ℕ
@@ -28,7 +28,7 @@ space = 32
 abbrev pub slash : ℕ
 slash = 47
 
--- the byte that stands for no range, and for no length
+-- the byte that means no range, or no length
 abbrev pub star : Line
 star = codes "*"
 
@@ -51,15 +51,15 @@ positions text = option_and_then numbers (cut dash text)
 abbrev pub sized : Line × Line → Option ContentBytes
 sized parts = option_map of_parts (option_zip (read_or_star positions parts.0) (read_or_star number parts.1))
 
--- the unit is `bytes`; the range stands before the first slash after it
+-- the unit is `bytes`; the range is before the first slash that follows the unit
 abbrev pub in_bytes : Line × Line → Option ContentBytes
 in_bytes parts = if bytes_eq parts.0 (codes "bytes") then option_and_then sized (cut slash parts.1) else None
 
--- what a line of text says: the unit stands before its first space
+-- what a field line of text decodes to: the unit is before its first space
 unfoldable pub content_bytes : Line → Option ContentBytes
 content_bytes line = if is_text line then option_and_then in_bytes (cut space line) else None
 
--- ---- what is written
+-- ---- encoding
 
 abbrev pub range_shown : Option (ℕ × ℕ) → Line
 range_shown None = star
@@ -80,7 +80,7 @@ is_ordered content = range_ordered content.range
     range_ordered None = true
     range_ordered (Some range) = nat_le range.0 range.1
 
--- ---- what is built of bounds
+-- ---- construction from bounds
 
 -- the first position of a range: there is none past the greatest `u64`
 abbrev pub first_position : Bound ℕ → Option ℕ
@@ -88,13 +88,13 @@ first_position (Included first) = Some first
 first_position (Excluded before) = if nat_lt (before + 1) (2 ^ 64) then Some (before + 1) else None
 first_position Unbounded = Some 0
 
--- the last position of a range in a whole of some length: there is none before 0, nor in a whole without length
+-- the last position of a range in a representation of some length: none is before 0, or without a length
 abbrev pub last_position : Bound ℕ → Option ℕ → Option ℕ
 last_position (Included last) length = Some last
 last_position (Excluded end) length = last_before end
 last_position Unbounded length = option_and_then last_before length
 
--- a range of two bounds, in a whole of some length
+-- the range of two bounds, in a representation of some length
 abbrev pub built : ByteRange → Option ℕ → Option ContentBytes
 built range length =
     option_map (λ positions. of_parts (Some positions, length))

@@ -1,5 +1,5 @@
--- The header `content-range` (RFC 9110, section 14.4): the first line is text that says a range in bytes, or none,
--- and a length, or none.
+-- The header `content-range` (RFC 9110, section 14.4): the first field line is text with a range in bytes, or none, and
+-- a length, or none.
 use Rattle.headers_syntax.specs.HeaderLaws.{Grammar}
 use Rattle.headers_syntax.specs.Lines.{first_line}
 use Rattle.headers_syntax.specs.Shapes.{one_line}

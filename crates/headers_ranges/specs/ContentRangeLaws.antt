@@ -1,4 +1,4 @@
--- What is written of a content range reads as it, exactly if its positions are in order.
+-- A content range survives a round trip exactly if its positions are in order.
 use Rattle.std.specs.Prelude.{◌≡◌, ℕ, ◌<◌, ◌^◌, ◌++◌, Bool, true, false, not, ◌==◌, nat_le, ◌∷◌}
 use Rattle.std.specs.Prelude.{Option, Some, None, option_map, codes, decimal, bytes_eq, if◌then◌else◌, refl}
 use Rattle.std.proofs.Common.{inl, inr, ap, ◌∙◌, subst, cond}
@@ -24,7 +24,7 @@ use Rattle.headers_ranges.specs.Cut.{cut}
 use Rattle.headers_ranges.specs.CutLaws.{Lacks, cut_joined}
 use Rattle.headers_ranges.specs.PrintedLaws.{decimal_text, decimal_lacks}
 
--- ---- what is printed is read
+-- ---- the encoding is decoded
 
 -- what has no star in it isn't the star
 no_star : (s : Line) → Lacks 42 s → bytes_eq s star ≡ false
@@ -38,7 +38,7 @@ range_lacks : (a b c : ℕ) → a < 2 ^ 64 → b < 2 ^ 64 → (45 == c) ≡ fals
 range_lacks a b c f g other x y =
     list_all-append (λ d. not (d == c)) (decimal a) (45 ∷ decimal b) ∙ and_from _ _ x (and_from _ _ (ap not other) y)
 
--- a range reads as itself, if it is in order
+-- a range decodes to itself, if it is in order
 read_range : (range : Option (ℕ × ℕ)) → ((r : ℕ × ℕ) → range ≡ Some r → r.0 < 2 ^ 64)
     → ((r : ℕ × ℕ) → range ≡ Some r → r.1 < 2 ^ 64)
     → read_or_star positions (range_shown range) ≡ (if is_ordered (of_parts (range, None)) then Some range else None)
@@ -82,7 +82,7 @@ length_plain : (length : Option ℕ) → FitsOption length → is_text (length_s
 length_plain None f = refl
 length_plain (Some n) f = decimal_text n (f n refl)
 
--- what is written of a content range is text
+-- the encoding of a content range is text
 pub content_plain : (v : ContentBytes) → FitsContent v → is_text (content_text v) ≡ true
 unfolding content_text
 content_plain v h =
@@ -95,7 +95,7 @@ parts_read : (range : Option (ℕ × ℕ)) (length : Option ℕ)
 parts_read range length =
     elim (cases_Bool (is_ordered (of_parts (range, length)))) [ inl y ↦ rw y refl | inr n ↦ rw n refl ]
 
--- what is written reads as the value if its positions are in order, else as nothing
+-- the encoding decodes to the value if its positions are in order, else to nothing
 pub content_read : (v : ContentBytes) → FitsContent v
     → content_bytes (content_text v) ≡ (if is_ordered v then Some v else None)
 unfolding content_bytes content_text
@@ -111,7 +111,7 @@ content_read v h =
     (Some v.range) None) o)) (read_length v.length h.whole)
     ∙ parts_read v.range v.length
 
--- ---- what is read is in order
+-- ---- a decoded value is in order
 
 from_if : {A : Type 0} (b : Bool) (o : Option A) (a : A) → (if b then o else None) ≡ Some a
     → (b ≡ true) × (o ≡ Some a)

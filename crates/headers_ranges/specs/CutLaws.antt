@@ -1,4 +1,4 @@
--- What a cut at the first of a byte finds, and where a text that was joined is cut.
+-- Where a text is cut at the first place of a byte, and where a joined text is cut.
 use Rattle.std.proofs.Common.{◌≡◌, ℕ, ◌+◌, ◌<◌, Bool, true, false, not, ◌==◌, nat_lt, ◌≤◌, List, [], ◌∷◌, ◌++◌}
 use Rattle.std.proofs.Common.{length, take, drop, get_or, Option, Some, None, MatchOption, refl, eq-eqb, sym, ◌∙◌, ap}
 use Rattle.std.proofs.Common.{arith, inl, inr}
@@ -56,7 +56,7 @@ Lacks c s = list_all (λ b. not (b == c)) s ≡ true
 other_at : (c : ℕ) (s : List ℕ) → Lacks c s → (k : ℕ) → k < length s → (get_or s k 0 == c) ≡ false
 other_at c s lacks k l = not-true _ (AllPass-from_list_all (λ b. not (b == c)) s lacks k 0 l)
 
--- a text that was joined at a byte is cut there, if the byte doesn't stand before
+-- a text that was joined at a byte is cut there, if the byte isn't earlier in it
 pub cut_joined : (c : ℕ) (xs ys : List ℕ) → Lacks c xs → cut c (xs ++ c ∷ ys) ≡ Some (xs, ys)
 cut_joined c xs ys lacks =
     let s = xs ++ c ∷ ys in

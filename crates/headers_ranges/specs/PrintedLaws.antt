@@ -34,7 +34,7 @@ digits_pass test passes (c ∷ ds) h =
 pub decimal_text : (n : ℕ) → n < 2 ^ 64 → is_text (decimal n) ≡ true
 decimal_text n h = digits_pass is_visible_or_blank digit_visible (decimal n) (decimal_digits n h)
 
--- no byte but a digit stands there
+-- only digits are in it
 pub decimal_lacks : (n c : ℕ) → n < 2 ^ 64 → is_ascii_digit c ≡ false → Lacks c (decimal n)
 decimal_lacks n c h other = digits_pass (λ b. not (b == c))
     (λ b d. ap not (ne_eqb b c (λ e. let no : is_ascii_digit c ≡ true = ap is_ascii_digit (sym e)
@@ -54,7 +54,7 @@ printed_text first (Some last) f g = list_all-both is_visible_or_blank (decimal 
     (decimal_text first f)
     (decimal_text last (g last refl))
 
--- what is printed of a range is one
+-- the text of a range is a field line of Range
 pub printed_range : (first : ℕ) (last : Option ℕ) → first < 2 ^ 64 → FitsOption last
     → is_range_line (bytes_from_to first last) ≡ true
 unfolding is_range_line

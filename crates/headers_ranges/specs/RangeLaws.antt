@@ -8,7 +8,7 @@ use Rattle.headers_syntax.proofs.ShapeLemmas.{ReadsBackLine, one_line_laws}
 use Rattle.headers_ranges.specs.ByteRanges.{is_range_line, range_line}
 use Rattle.headers_ranges.specs.Range.{range_grammar}
 
--- a line that is kept is read again
+-- a stored field line is decoded again
 range_back : ReadsBackLine range_line (λ line. line)
 range_back line kept e =
     elim (cases_Bool (is_range_line line)) [

@@ -7,8 +7,9 @@ use http_header::{ACCEPT_RANGES, HeaderName};
 use std::alloc::{AllocError, Global};
 use std::marker::Model;
 
-/// The range units that a resource supports (RFC 9110, section 14.3). All lines are read, joined by
-/// a comma and a space, and never refused. Equality goes by the joined bytes.
+/// The header `Accept-Ranges`: the range units that a resource supports (RFC 9110, section 14.3).
+/// All field lines are joined by a comma and a space, and none are rejected: `decode` fails only if
+/// an allocation fails. Headers are compared by the joined bytes.
 #[derive(Debug, PartialEq, Drop)]
 pub struct AcceptRanges {
     units: FlatCsv<Comma>,
@@ -23,35 +24,35 @@ impl Model for AcceptRanges {
 }
 
 impl AcceptRanges {
-    /// `bytes`: ranges of bytes.
+    /// Makes the header `bytes`: the resource supports byte ranges.
     pub fn bytes() -> AcceptRanges
         ensures { result ≡ codes "bytes" }
     {
         AcceptRanges::from_form(FlatCsv::from_word("bytes"))
     }
 
-    /// `none`: no ranges.
+    /// Makes the header `none`: the resource supports no ranges.
     pub fn none() -> AcceptRanges
         ensures { result ≡ codes "none" }
     {
         AcceptRanges::from_form(FlatCsv::from_word("none"))
     }
 
-    /// Whether the whole value is `bytes`.
+    /// Returns whether the whole value is `bytes`, byte for byte.
     pub fn is_bytes(&self) -> bool
         ensures { IsTrue result ↔ (self.now ≡ codes "bytes") }
     {
         self.units.as_bytes() == b"bytes".as_slice()
     }
 
-    /// Whether the whole value is `none`.
+    /// Returns whether the whole value is `none`, byte for byte.
     pub fn is_none(&self) -> bool
         ensures { IsTrue result ↔ (self.now ≡ codes "none") }
     {
         self.units.as_bytes() == b"none".as_slice()
     }
 
-    /// A copy of the value.
+    /// Copies the header. Fails only if an allocation fails.
     pub fn clone(&self, alloc: Global) -> Result<AcceptRanges, AllocError>
         ensures { IfOk result (λ copy. copy ≡ self.now) }
     {

@@ -18,10 +18,11 @@ use std::fmt;
 use std::marker::Model;
 use std::ops::Bound;
 
-/// The part of a representation that a message carries (RFC 9110, section 14.4): the first line,
-/// which is the unit `bytes`, a range of positions or `*`, and the length of the whole or `*`;
-/// anything else is refused. Positions and lengths are counted in bytes and lie below 2^64.
-/// Equality goes by the positions and the length.
+/// The header `Content-Range`: the part of a representation that a message carries (RFC 9110,
+/// section 14.4). The first field line is decoded: the unit `bytes`, a range of positions or `*`,
+/// and the complete length or `*`. Positions and lengths count bytes, and are below 2^64. `decode`
+/// rejects any other value, and never allocates. Headers are compared by the positions and the
+/// length.
 #[derive(Clone, Debug, Drop, PartialEq)]
 pub struct ContentRange {
     range: Option<(u64, u64)>,
@@ -40,7 +41,7 @@ impl Model for ContentRange {
     ghost inverse = { λ content. record { range = content.range; complete_length = content.length } };
 }
 
-/// The bounds have no first or no last position.
+/// The error of bounds that have no first or no last position.
 #[derive(Clone, Copy, Debug, PartialEq, Eq)]
 pub struct InvalidContentRange;
 
@@ -109,10 +110,10 @@ fn read_length(text: &str) -> Option<Option<u64>>
 }
 
 impl ContentRange {
-    /// The range between two bounds, which count bytes from 0, of a whole of this length. An
-    /// unbounded start is position 0, an unbounded end the last position of the whole.
-    /// `InvalidContentRange` if there is no first or no last position. A start past the end is
-    /// accepted, but what is written of it is refused when it is read.
+    /// Makes the header of a range between two bounds, which count bytes from 0 (RFC 9110, section
+    /// 14.4). An unbounded start is position 0, and an unbounded end is the last position of the
+    /// representation. `InvalidContentRange` if there is no first or no last position. A start past
+    /// the end is accepted, but its encoding is rejected when it is decoded.
     pub fn bytes(
         range: (Bound<u64>, Bound<u64>),
         complete_length: Option<u64>,
@@ -130,7 +131,7 @@ impl ContentRange {
         }
     }
 
-    /// No range of a whole of this many bytes could be satisfied.
+    /// Makes the header of a response that no range can be satisfied: `*` and the complete length.
     pub fn unsatisfied_bytes(complete_length: u64) -> ContentRange
         ensures { result ≡ record { range = None; length = Some complete_length } }
     {
@@ -140,14 +141,14 @@ impl ContentRange {
         }
     }
 
-    /// The first and the last position, both included, if there is a range.
+    /// Returns the first and the last position, both included, or `None` if the range is `*`.
     pub fn bytes_range(&self) -> Option<(u64, u64)>
         ensures { result ≡ self.now.range }
     {
         self.range
     }
 
-    /// The length of the whole, in bytes, if it is known.
+    /// Returns the complete length in bytes, or `None` if it is unknown.
     pub fn bytes_len(&self) -> Option<u64>
         ensures { result ≡ self.now.length }
     {
@@ -213,8 +214,8 @@ fn print_content(
     Ok(text)
 }
 
-/// Every content range, built or read, is written as a line that reads as it if its first position
-/// is at most its last or if it has none, and is refused otherwise.
+/// Theorem: which content ranges survive a round trip. All do that have no range, or whose first
+/// position is at most the last. The encoding of any other is rejected.
 pub fn content_ranges_read_back(range: &ContentRange)
     ensures { content_range_grammar.value_of (written_by content_range_grammar range.now)
         ≡ (if is_ordered range.now then Some range.now else None) }

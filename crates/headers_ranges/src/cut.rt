@@ -1,4 +1,4 @@
-//! Texts cut at a character.
+//! Text cut at a character.
 ghost use Rattle.std.specs.Prelude.{◌≡◌, ◌<◌, option_map};
 ghost use Rattle.headers_items.specs.Pairs.{pair_shown};
 ghost use Rattle.headers_ranges.specs.Cut.{cut};

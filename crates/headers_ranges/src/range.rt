@@ -17,9 +17,9 @@ use std::fmt;
 use std::marker::Model;
 use std::ops::Bound;
 
-/// The ranges that a request asks for: the first line, which is refused if it isn't text that
-/// begins with `bytes=` (RFC 9110, section 14.2). It is kept and written as it came. Equality goes
-/// by the bytes.
+/// The header `Range`: the byte ranges that a request asks for (RFC 9110, section 14.2). The first
+/// field line is stored. `decode` rejects a line that isn't text that begins with `bytes=`, and may
+/// run out of memory. Headers are compared by their bytes.
 #[derive(Debug, Drop, PartialEq)]
 pub struct Range {
     text: HeaderValueString,
@@ -39,7 +39,7 @@ impl Model for Range {
     ghost inverse = { λ text. record { text = text } };
 }
 
-/// The bounds can't be written as a range of bytes.
+/// The error of bounds that no byte range can express.
 #[derive(Clone, Copy, Debug, PartialEq, Eq)]
 pub struct InvalidRange;
 
@@ -58,9 +58,9 @@ impl fmt::Display for InvalidRange {
 impl std::error::Error for InvalidRange {}
 
 impl Range {
-    /// The range between two bounds, which count bytes from 0. The start must be `Included`; the
-    /// end may be any bound. `InvalidRange` if the start is another bound, or if the end is
-    /// `Excluded(0)`.
+    /// Makes the header of one range between two bounds, which count bytes from 0 (RFC 9110,
+    /// section 14.1.2). The start must be `Included`; the end may be any bound. `Invalid` if the
+    /// start is another bound, or if the end is `Excluded(0)`; `Memory` if an allocation fails.
     pub fn bytes(
         alloc: Global,
         range: (Bound<u64>, Bound<u64>),
@@ -78,9 +78,10 @@ impl Range {
         }
     }
 
-    /// The ranges that a representation of this many bytes can satisfy, in the order in which they
-    /// are asked for (RFC 9110, section 14.1.2). Each has a first and a last position below the
-    /// length, both included. A part that is no range, or that covers no position, is skipped.
+    /// Starts an iterator over the ranges that a representation of this many bytes can satisfy (RFC
+    /// 9110, section 14.1.2). They are in the order of the request. Each is a first and a last
+    /// position below the length, both included. A part that is no range, or that covers no
+    /// position, is skipped.
     pub fn satisfiable_ranges(&self, len: u64) -> Satisfiable<'_>
         ensures ranges { result ≡ filter_map (gives len) (specs self.now.bytes) }
         ensures each { (spec : Spec) → GivesCovered len spec }
@@ -91,15 +92,16 @@ impl Range {
         Satisfiable::new(self.rest(), len)
     }
 
-    /// Whether some range that is asked for is one that the grammar has (RFC 9110, section 14.1.1):
-    /// its first position isn't past its last one. If none is, a server ignores the field.
+    /// Returns whether at least one range of the request is valid (RFC 9110, section 14.1.1). A
+    /// range is valid if its first position isn't past its last one. If none is, a server ignores
+    /// the field.
     pub fn has_valid_spec(&self) -> bool
         ensures { result ≡ list_any is_valid_spec (specs self.now.bytes) }
     {
         has_valid_spec(self.rest())
     }
 
-    /// A copy of the ranges.
+    /// Copies the header. Fails only if an allocation fails.
     pub fn clone(&self, alloc: Global) -> Result<Range, AllocError>
         ensures { IfOk result (λ range. range ≡ self.now) }
     {
@@ -156,7 +158,7 @@ impl Range {
     }
 }
 
-/// Every range, built or read, is written as a line that reads as it.
+/// Theorem: every value of `Range` survives a round trip.
 pub fn ranges_read_back(range: &Range)
     ensures { ReadsBy range_grammar (written_by range_grammar range.now) range.now }
 {

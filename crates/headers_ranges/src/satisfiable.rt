@@ -1,4 +1,4 @@
-//! The ranges that a representation can satisfy.
+//! The byte ranges that a representation can satisfy.
 ghost use Rattle.std.specs.Prelude.{◌≡◌, ◌<◌, ◌^◌, true, length, IfSome};
 ghost use Rattle.std.specs.List.{filter_map, list_any};
 ghost use Rattle.std.specs.Iterator.{YieldsFirst, YieldsFirstBy, item_count};
@@ -14,8 +14,8 @@ use std::ops::Bound;
 /// The two sides of a dash, each a number or nothing.
 type Spec = (Option<u64>, Option<u64>);
 
-/// The ranges of a `Range` that a representation of some length can satisfy, in order (RFC 9110,
-/// section 14.1.2). The walk takes no memory, and stays ended.
+/// An iterator over the ranges of a `Range` that a representation of some length can satisfy (RFC
+/// 9110, section 14.1.2). It never allocates, and stays ended.
 #[derive(Drop)]
 pub struct Satisfiable<'a> {
     rest: Option<&'a str>,
@@ -83,7 +83,7 @@ fn is_valid_spec(spec: Spec) -> bool
     }
 }
 
-/// Whether some piece of the text is a spec that the grammar has.
+/// Returns whether some piece of the text is a valid range specification.
 pub(crate) fn has_valid_spec(text: &str) -> bool
     requires { is_text text.now ≡ true }
     ensures { result ≡ list_any is_valid_spec (filter_map spec_of (pieces text.now)) }
@@ -133,7 +133,7 @@ fn next_range(rest: &mut Option<&str>, len: u64) -> Option<(Bound<u64>, Bound<u6
 }
 
 impl<'a> Satisfiable<'a> {
-    /// The ranges of what follows `bytes=`.
+    /// Starts an iterator over the ranges in what follows `bytes=`.
     pub(crate) fn new(rest: &'a str, len: u64) -> Satisfiable<'a>
         requires { is_text rest.now ≡ true }
         ensures ranges { result ≡ filter_map (gives len) (filter_map spec_of (pieces rest.now)) }
@@ -145,7 +145,7 @@ impl<'a> Satisfiable<'a> {
         }
     }
 
-    /// The next range, if one is left: its first and its last position, both included.
+    /// Returns the next range, if one is left: its first and its last position, both included.
     pub fn next(&mut self) -> Option<(Bound<u64>, Bound<u64>)>
         ensures { YieldsFirst (λ left. left) self.old result self.new }
     {

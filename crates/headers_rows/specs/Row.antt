@@ -1,4 +1,4 @@
--- The lines of a file that are rows.
+-- The lines of a file that are test cases.
 use Rattle.std.specs.Prelude.{ℕ, Bool, false, not, ◌==◌, List, [], ◌∷◌}
 
 -- a line that is neither empty nor a comment, which begins with `#`

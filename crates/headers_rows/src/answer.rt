@@ -1,11 +1,11 @@
-//! The words of an answer.
+//! The answer of a call, as words.
 use crate::word::{NONE, Word};
 use std::alloc::{AllocError, Global};
 use std::convert::AsSlice;
 use std::fmt::Display;
 use std::ops::Bound;
 
-/// Words with one space between them.
+/// The answer of a call: words with one space between them.
 #[derive(Drop)]
 pub struct Answer {
     alloc: Global,
@@ -13,7 +13,7 @@ pub struct Answer {
 }
 
 impl Answer {
-    /// An answer without a word.
+    /// Makes an answer without a word.
     pub fn new(alloc: Global) -> Answer {
         Answer {
             alloc,
@@ -21,17 +21,17 @@ impl Answer {
         }
     }
 
-    /// The allocator of its text.
+    /// Returns the allocator of the answer.
     pub fn alloc(&self) -> Global {
         self.alloc
     }
 
-    /// Its text.
+    /// Returns the answer as text.
     pub fn as_str(&self) -> &str {
         self.text.as_str()
     }
 
-    /// Adds a word as it prints.
+    /// Appends a value as one word. Fails only if an allocation fails.
     pub fn word(&mut self, word: impl Display + Drop) -> Result<(), AllocError> {
         if !self.text.is_empty() {
             self.text.push(' ')?;
@@ -39,17 +39,17 @@ impl Answer {
         write!(self.text, "{word}")
     }
 
-    /// Adds bytes.
+    /// Appends bytes as one word. Fails only if an allocation fails.
     pub fn bytes(&mut self, bytes: &[u8]) -> Result<(), AllocError> {
         self.word(Word(bytes))
     }
 
-    /// Adds the word of an absent answer, `(none)`.
+    /// Appends the word of an absent value, `(none)`. Fails only if an allocation fails.
     pub fn none(&mut self) -> Result<(), AllocError> {
         self.word(NONE)
     }
 
-    /// Adds a word, or `(none)`.
+    /// Appends a value as one word, or `(none)`. Fails only if an allocation fails.
     pub fn option<T: Display + Drop>(&mut self, word: Option<T>) -> Result<(), AllocError> {
         match word {
             Some(word) => self.word(word),
@@ -57,7 +57,7 @@ impl Answer {
         }
     }
 
-    /// Adds a count, and that many byte strings.
+    /// Appends a count, and that many byte strings. Fails only if an allocation fails.
     pub fn list<T: AsSlice<u8>>(&mut self, items: &[T]) -> Result<(), AllocError> {
         self.word(items.len())?;
         for item in items {
@@ -66,7 +66,7 @@ impl Answer {
         Ok(())
     }
 
-    /// Adds a bound.
+    /// Appends the bound of a range. Fails only if an allocation fails.
     pub fn bound(&mut self, bound: Bound<u64>) -> Result<(), AllocError> {
         match bound {
             Bound::Included(position) => self.word(format_args!("i{position}")),

@@ -1,4 +1,4 @@
-//! The arguments of a call.
+//! The arguments of a call, as words.
 ghost use Rattle.std.specs.Prelude.{IfOk, IfSome};
 ghost use Rattle.headers_syntax.specs.Date.{IsDated};
 ghost use Rattle.headers_syntax.specs.Durations.{IsWholeSeconds};
@@ -11,10 +11,10 @@ use std::alloc::Global;
 use std::ops::Bound;
 use std::time::Duration;
 
-/// The first second past the dates of HTTP.
+/// The first second after the dates of HTTP.
 const END_OF_DATES: u64 = 253_402_300_800;
 
-/// The words that are left of a call.
+/// The words of a call that aren't taken yet.
 #[derive(Clone, Copy)]
 pub struct Arguments<'a> {
     alloc: Global,
@@ -30,29 +30,29 @@ fn read_number(word: &str) -> Result<u64, Failure> {
 }
 
 impl<'a> Arguments<'a> {
-    /// The words of a text.
+    /// Makes arguments of the words of a text.
     pub fn new(alloc: Global, rest: &'a str) -> Arguments<'a> {
         Arguments { alloc, rest }
     }
 
-    /// The allocator of the arguments.
+    /// Returns the allocator of the arguments.
     pub fn alloc(&self) -> Global {
         self.alloc
     }
 
-    /// All words that are left.
+    /// Takes all words that are left, as one text.
     pub fn rest(&mut self) -> &'a str {
         let rest = self.rest;
         self.rest = "";
         rest
     }
 
-    /// Whether no word is left.
+    /// Returns whether no word is left.
     pub fn is_empty(&self) -> bool {
         self.rest.is_empty()
     }
 
-    /// The next word.
+    /// Takes the next word. `NoCall` if none is left.
     pub fn word(&mut self) -> Result<&'a str, Failure> {
         let rest = self.rest();
         if rest.is_empty() {
@@ -67,28 +67,28 @@ impl<'a> Arguments<'a> {
         }
     }
 
-    /// The next word, or `None` if it is `(none)`.
+    /// Takes the next word, or `None` if it is `(none)`.
     pub fn option(&mut self) -> Result<Option<&'a str>, Failure> {
         let word = self.word()?;
         Ok(if word == NONE { None } else { Some(word) })
     }
 
-    /// The next word, as bytes.
+    /// Takes the next word as bytes.
     pub fn bytes(&mut self) -> Result<Vec<u8>, Failure> {
         read_bytes(self.alloc, self.word()?)
     }
 
-    /// The next word, as text.
+    /// Takes the next word as text.
     pub fn text(&mut self) -> Result<String, Failure> {
         String::from_utf8(self.bytes()?).map_err(|_| Failure::NoCall)
     }
 
-    /// The next word, as a number.
+    /// Takes the next word as a number.
     pub fn number(&mut self) -> Result<u64, Failure> {
         read_number(self.word()?)
     }
 
-    /// The next word, as a number or `(none)`.
+    /// Takes the next word as a number or `(none)`.
     pub fn optional_number(&mut self) -> Result<Option<u64>, Failure> {
         match self.option()? {
             Some(word) => Ok(Some(read_number(word)?)),
@@ -96,7 +96,7 @@ impl<'a> Arguments<'a> {
         }
     }
 
-    /// The next word, as a port or `(none)`.
+    /// Takes the next word as a port or `(none)`.
     pub fn port(&mut self) -> Result<Option<u16>, Failure> {
         match self.option()? {
             Some(word) => Ok(Some(word.parse().map_err(|_| Failure::NoCall)?)),
@@ -104,7 +104,7 @@ impl<'a> Arguments<'a> {
         }
     }
 
-    /// The next word, as a second that a date of HTTP may have.
+    /// Takes the next word as a time before the year 10000, in seconds since 1970.
     pub fn date(&mut self) -> Result<u64, Failure>
         ensures { IfOk result IsDated }
     {
@@ -116,7 +116,7 @@ impl<'a> Arguments<'a> {
         }
     }
 
-    /// The next word, as such a second or `(none)`.
+    /// Takes the next word as a time before the year 10000, in seconds since 1970, or `(none)`.
     pub fn optional_date(&mut self) -> Result<Option<u64>, Failure>
         ensures { IfOk result (λ found. IfSome found IsDated) }
     {
@@ -126,14 +126,14 @@ impl<'a> Arguments<'a> {
         }
     }
 
-    /// The next word, as a number of seconds.
+    /// Takes the next word as a number of seconds.
     pub fn duration(&mut self) -> Result<Duration, Failure>
         ensures { IfOk result IsWholeSeconds }
     {
         Ok(Duration::from_secs(self.number()?))
     }
 
-    /// The next word, as a bound.
+    /// Takes the next word as the bound of a range.
     pub fn bound(&mut self) -> Result<Bound<u64>, Failure> {
         let word = self.word()?;
         if let Some(position) = word.strip_prefix('i') {
@@ -149,12 +149,12 @@ impl<'a> Arguments<'a> {
         }
     }
 
-    /// The next word, as a name.
+    /// Takes the next word as a field name.
     pub fn name(&mut self) -> Result<HeaderName, Failure> {
         Ok(HeaderName::from_bytes(self.alloc, &self.bytes()?)?)
     }
 
-    /// All words that are left, as lines.
+    /// Takes all words that are left as field lines.
     pub fn lines(&mut self) -> Result<Vec<HeaderValue>, Failure> {
         let mut lines = Vec::new(self.alloc);
         for word in self.rest().split_whitespace() {
@@ -163,7 +163,7 @@ impl<'a> Arguments<'a> {
         Ok(lines)
     }
 
-    /// All words that are left, as names.
+    /// Takes all words that are left as field names.
     pub fn names(&mut self) -> Result<std::vec::IntoIter<HeaderName>, Failure> {
         let mut names = Vec::new(self.alloc);
         for word in self.rest().split_whitespace() {
@@ -173,7 +173,7 @@ impl<'a> Arguments<'a> {
         Ok(names.into_iter())
     }
 
-    /// All words that are left, as methods.
+    /// Takes all words that are left as methods.
     pub fn methods(&mut self) -> Result<std::vec::IntoIter<Method>, Failure> {
         let mut methods = Vec::new(self.alloc);
         for word in self.rest().split_whitespace() {
@@ -183,23 +183,23 @@ impl<'a> Arguments<'a> {
         Ok(methods.into_iter())
     }
 
-    /// The header that the next word reads.
+    /// Takes the next word as a field line, and decodes a header of it.
     pub fn header<H: Header>(&mut self) -> Result<H, Failure> {
         let line = read_value(self.alloc, self.word()?)?;
         Ok(decode_values(self.alloc, &[line])?)
     }
 
-    /// The header that all words that are left read.
+    /// Takes all words that are left as field lines, and decodes a header of them.
     pub fn header_of_rest<H: Header>(&mut self) -> Result<H, Failure> {
         Ok(decode_values(self.alloc, &self.lines()?)?)
     }
 
-    /// The entity tag that the next word reads.
+    /// Takes the next word as an entity tag.
     pub fn tag(&mut self) -> Result<ETag, Failure> {
         self.header()
     }
 
-    /// The entity tag that the next word reads, or `None` if it is `(none)`.
+    /// Takes the next word as an entity tag or `(none)`.
     pub fn optional_tag(&mut self) -> Result<Option<ETag>, Failure> {
         match self.option()? {
             Some(word) => {

@@ -1,16 +1,16 @@
-//! What makes the calls that rows name.
+//! The calls that test cases name.
 use crate::answer::Answer;
 use crate::arguments::Arguments;
 use crate::failure::Failure;
 use std::alloc::Global;
 
-/// What makes calls by their names.
+/// Calls that test cases can name.
 pub trait Calls {
-    /// Makes a call, and adds its answer.
+    /// Makes the call with this name, and appends its answer. `NoCall` if there is no such call.
     fn make(name: &str, arguments: &mut Arguments<'_>, answer: &mut Answer) -> Result<(), Failure>;
 }
 
-/// The calls of one, and those of another that it doesn't have.
+/// The calls of A, and those calls of B that A doesn't have.
 impl<A: Calls, B: Calls> Calls for (A, B) {
     fn make(name: &str, arguments: &mut Arguments<'_>, answer: &mut Answer) -> Result<(), Failure> {
         let left = *arguments;
@@ -24,7 +24,7 @@ impl<A: Calls, B: Calls> Calls for (A, B) {
     }
 }
 
-/// What a call answers: its name and its arguments, with one space between.
+/// Makes a call that is written as its name and its arguments, with one space between them.
 pub fn answer_of<C: Calls>(alloc: Global, call: &str) -> Result<Answer, Failure> {
     let (name, arguments) = call.split_once(' ').unwrap_or((call, ""));
     let mut arguments = Arguments::new(alloc, arguments);

@@ -1,22 +1,22 @@
-//! Why a call has no value.
+//! Why a call has no answer.
 use headers::{InsertError, Refused};
 use http::method::MethodError;
 use http_header::{HeaderMapError, HeaderNameError, HeaderValueError};
 use std::alloc::{AllocError, AllocFailed};
 
-/// Why a call has no value.
+/// Why a call has no answer.
 #[derive(Clone, Copy, Debug, PartialEq, Eq)]
 pub enum Failure {
-    /// The port refuses it.
+    /// The call rejects its input.
     Refused,
-    /// The row isn't one of the calls, or has other arguments.
+    /// There is no such call, or it has other arguments.
     NoCall,
-    /// The allocator had no memory, or a map no room.
+    /// An allocation failed, or a map has no room.
     Memory,
 }
 
 impl Failure {
-    /// The word that stands for it in place of an answer.
+    /// Returns the word that stands for the failure in an answer.
     pub fn as_str(self) -> &'static str {
         match self {
             Failure::Refused => "(refused)",

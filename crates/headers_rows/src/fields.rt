@@ -1,8 +1,9 @@
-//! Fields of a map, and steps over it, as words.
+//! Maps of fields, and steps over them, as words.
 //!
-//! A name in parentheses begins the lines of a field, as in `(age) 5`. `(put:age) 5` is a step that puts
-//! these lines, `(remove:age)` one that removes the name, and `(sensitive)` marks the line before it. A
-//! map ends at the word `(/)`, or with the row. A map is answered as its fields, by their names.
+//! A name in parentheses begins the lines of a field, as in `(age) 5`. `(put:age) 5` is a step that
+//! puts these lines, and `(remove:age)` is a step that removes the name. `(sensitive)` marks the
+//! line before it. A map ends at the word `(/)`, or with the test case. A map is answered as its
+//! fields, in the order of their names.
 use crate::answer::Answer;
 use crate::arguments::Arguments;
 use crate::failure::Failure;
@@ -76,7 +77,7 @@ fn read_parts(alloc: Global, text: &str) -> Result<Vec<Part>, Failure> {
     Ok(parts)
 }
 
-/// Appends lines under a name.
+/// Appends field lines with a name to a map.
 pub fn append_lines(
     map: &mut HeaderMap,
     name: &HeaderName,
@@ -100,7 +101,7 @@ impl<'a> Arguments<'a> {
         words
     }
 
-    /// The map of the fields that are left, up to the word `(/)`, and the steps among them.
+    /// Takes the words up to `(/)` as the fields of a map, and the steps among them.
     pub fn map_and_steps(&mut self) -> Result<(HeaderMap, Vec<Step>), Failure> {
         let alloc = self.alloc();
         let mut map = HeaderMap::new(alloc);
@@ -116,7 +117,7 @@ impl<'a> Arguments<'a> {
         Ok((map, steps))
     }
 
-    /// The map of the fields that are left, up to the word `(/)`. No step may stand among them.
+    /// Takes the words up to `(/)` as the fields of a map. `NoCall` if a step is among them.
     pub fn map(&mut self) -> Result<HeaderMap, Failure> {
         let (map, steps) = self.map_and_steps()?;
         if steps.is_empty() {
@@ -128,7 +129,7 @@ impl<'a> Arguments<'a> {
 }
 
 impl Answer {
-    /// Adds a line, and whether it is sensitive.
+    /// Appends a field line to the answer, and whether it is sensitive.
     pub fn line(&mut self, line: &HeaderValue) -> Result<(), Failure> {
         self.bytes(line.as_bytes())?;
         if line.is_sensitive() {
@@ -137,7 +138,7 @@ impl Answer {
         Ok(())
     }
 
-    /// Adds the fields of a map under these names.
+    /// Appends the fields of a map that have one of these names.
     pub fn fields(&mut self, map: &HeaderMap, names: &[&str]) -> Result<(), Failure> {
         for name in names {
             self.word(format_args!("({name})"))?;
@@ -148,7 +149,7 @@ impl Answer {
         Ok(())
     }
 
-    /// Adds the fields of a map by their names, or `(none)`.
+    /// Appends the fields of a map in the order of their names, or `(none)`.
     pub fn map(&mut self, map: &HeaderMap) -> Result<(), Failure> {
         let mut names: Vec<&str> = map.keys().map(|name| name.as_str()).collect(self.alloc())?;
         names.sort_unstable();

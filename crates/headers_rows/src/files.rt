@@ -1,4 +1,4 @@
-//! The program that replays rows.
+//! The program that runs test cases.
 use crate::calls::Calls;
 use crate::replay::replay_rows;
 use crate::tally::Tally;
@@ -8,8 +8,8 @@ use std::io::{self, BufWriter, Write};
 use std::process::ExitCode;
 use std::rt::{Env, Files};
 
-/// Makes the calls of the rows in the files that the program's arguments name. Prints those that are
-/// answered otherwise than is wanted, and then the counts. The exit code is 0 exactly if there are none.
+/// Runs the test cases in the files that the program's arguments name. It prints the test cases
+/// with an unexpected answer, and then the counts. The exit code is 0 exactly if there are none.
 pub fn replay_files<C: Calls, R: Env + Files + Print + AllocGlobal>(rt: &R) -> Result<ExitCode> {
     let alloc = rt.alloc();
     let mut writer = BufWriter::new(alloc, io::writer(rt))?;

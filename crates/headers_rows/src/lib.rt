@@ -1,4 +1,4 @@
-//! Rows: calls with their arguments and the answers that are wanted.
+//! Test cases: calls with their arguments and their expected answers.
 #![tactic(auto)]
 
 mod answer;

@@ -1,4 +1,4 @@
-//! A replay of rows.
+//! A run of test cases.
 ghost use Rattle.std.specs.Prelude.{◌≡◌, ◌+◌, ◌-◌, ◌≤◌, length, filter, if◌then◌else◌, IfSome, OnOk};
 ghost use Rattle.std.specs.Str.Lines.{lines};
 ghost use Rattle.headers_rows.specs.Row.{is_row_line};
@@ -10,7 +10,7 @@ use anyhow::Result;
 use std::alloc::Global;
 use std::io::{self, Read, Write};
 
-/// A row: a call, what the port has to answer, and the kind of difference if the Rust crate answers
+/// A test case: a call, its expected answer, and the kind of difference if upstream answers
 /// otherwise.
 #[derive(Clone, Copy)]
 struct Row<'a> {
@@ -101,8 +101,8 @@ fn replay_text<C: Calls, W: Write>(
     Ok(())
 }
 
-/// Makes the call of each row of a file, whose name is given. Prints those that are answered otherwise
-/// than is wanted.
+/// Runs the test cases of one file, whose name is given, and prints those with an unexpected
+/// answer.
 pub fn replay_rows<C: Calls, R: Read + Drop, W: Write>(
     alloc: Global,
     file: &str,

@@ -1,4 +1,4 @@
-//! The counts of a replay.
+//! The counts of a run.
 ghost use Rattle.std.specs.Prelude.{◌≡◌, ◌+◌, ◌<◌, ◌≤◌, ◌^◌, ◌↔◌, if◌then◌else◌, OnOk};
 
 use anyhow::{Context, Result};
@@ -6,21 +6,21 @@ use std::alloc::{AllocError, Global};
 use std::collections::BTreeMap;
 use std::io::{self, Write};
 
-/// The counts of a replay.
+/// The counts of a run of test cases.
 #[derive(Drop)]
 pub struct Tally {
     alloc: Global,
     files: Vec<(String, u64)>,
     kinds: BTreeMap<String, u64>,
-    /// The number of rows whose calls were made.
+    /// The number of test cases that were run.
     pub rows: u64,
-    /// The number of rows that were answered otherwise than is wanted.
+    /// The number of test cases with an unexpected answer.
     pub differing: u64,
     ghost within: { differing ≤ rows },
 }
 
 impl Tally {
-    /// No row yet.
+    /// Makes the counts before the first test case.
     pub fn new(alloc: Global) -> Tally
         ensures rows { result.rows ≡ 0 }
         ensures differing { result.differing ≡ 0 }
@@ -46,8 +46,8 @@ impl Tally {
         Ok(())
     }
 
-    /// Counts a row, and whether it was answered as is wanted. It has a kind if the port has to differ
-    /// from the Rust crate.
+    /// Counts a test case, and whether its answer was the expected one. It has a kind if the answer
+    /// must differ from upstream's.
     pub fn add_row(&mut self, kind: Option<&str>, agrees: bool) -> Result<()>
         ensures rows { OnOk result (self.new.rows ≡ self.old.rows + 1) }
         ensures differing { OnOk result (self.new.differing ≡ self.old.differing + (if agrees then 0 else 1)) }
@@ -62,7 +62,7 @@ impl Tally {
         Ok(())
     }
 
-    /// Keeps how many rows a file had.
+    /// Stores the number of test cases of a file.
     pub fn add_file(&mut self, file: &str, rows: u64) -> Result<(), AllocError>
         ensures rows { self.new.rows ≡ self.old.rows }
         ensures differing { self.new.differing ≡ self.old.differing }
@@ -72,7 +72,7 @@ impl Tally {
         Ok(())
     }
 
-    /// Prints the counts: a line a file, a line a kind of difference, and the sum.
+    /// Prints the counts: a line for each file, a line for each kind of difference, and the sum.
     pub fn print<W: Write>(&self, writer: &mut W) -> io::Result<()> {
         for (file, rows) in self.files.iter() {
             writeln!(writer, "{file}: {rows} rows")?;
@@ -87,7 +87,7 @@ impl Tally {
         )
     }
 
-    /// The status that the program ends with: 0 exactly if no row was answered otherwise.
+    /// Returns the exit status: 0 exactly if no test case had an unexpected answer.
     pub fn exit_status(&self) -> u8
         ensures { (result ≡ 0) ↔ (self.now.differing ≡ 0) }
     {

@@ -1,14 +1,14 @@
-//! Bytes as words. Printable ASCII stands for itself, all else is `%` and two digits. A word in
-//! parentheses is never bytes, but for `()`.
+//! Bytes as words. Printable ASCII is itself, any other byte is `%` and two hexadecimal digits. A
+//! word in parentheses never means bytes, except `()`.
 use crate::failure::Failure;
 use percent_encoding::{CONTROLS, PercentEncode, percent_decode_str, percent_encode};
 use std::alloc::Global;
 use std::fmt;
 
-/// The word of an absent argument or answer.
+/// The word of an absent argument or answer, `(none)`.
 pub const NONE: &str = "(none)";
 
-/// Bytes that print as a word.
+/// Bytes that are printed as a word.
 #[derive(Clone, Copy)]
 pub struct Word<'a>(pub &'a [u8]);
 
@@ -29,7 +29,7 @@ impl fmt::Display for Word<'_> {
     }
 }
 
-/// The bytes of a word.
+/// Returns the bytes that a word means. `NoCall` if it means none.
 pub fn read_bytes(alloc: Global, word: &str) -> Result<Vec<u8>, Failure> {
     let mut bytes = Vec::new(alloc);
     if word == "()" {

@@ -1,5 +1,4 @@
--- What the answers of a run say of the bytes that its reader had and has left, and of those that its writer held and
--- holds.
+-- What the result of a run says about the bytes of its reader, before and after, and about those of its writer.
 use Rattle.std.specs.Prelude.{◌⊎◌, ℕ, ◌<◌, ◌≤◌, Bool, true, false, List, ◌++◌, length, Option, IfSome, Result, Ok, Err}
 use Rattle.std.specs.Io.KnownBytes.{Appends, Keeps, IsAtEnd}
 use Rattle.headers_section.specs.Section.{input_limit, section, HasNoField, HasTooManyFields}
@@ -9,7 +8,7 @@ use Rattle.headers_section.specs.declared.status.Outcome.TheVariants.{Clean, Som
 use Rattle.headers_section.specs.declared.status.RunError.{RunError}
 use Rattle.headers_section.specs.declared.status.RunError.TheVariants.{Io, Memory, Room}
 
--- the exit status of an answer
+-- the exit status of a result
 abbrev pub status_of : Result Outcome RunError → ℕ
 status_of (Ok Clean) = 0
 status_of (Ok SomeRefused) = 1
@@ -52,7 +51,7 @@ module _ (had left held holds : Option (List ℕ)) where
       × IsCanonicalText input (begun ++ rest) some_refused
       × Appends held holds begun)))
 
-  -- what each answer says
+  -- what each result says
   abbrev pub IsRun : Result Outcome RunError → Type 0
   IsRun (Ok Clean) = WroteText false
   IsRun (Ok SomeRefused) = WroteText true

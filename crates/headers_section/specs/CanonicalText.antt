@@ -10,7 +10,7 @@ use Rattle.headers_section.specs.Section.{Field, AreFields, section}
 abbrev pub names : List Field → List (List ℕ)
 names fields = map (λ field. field.0) fields
 
--- the values under a name, in order
+-- the values with a name, in order
 abbrev pub lines_under : List Field → List ℕ → List Line
 lines_under fields name = map (λ field. field.1.bytes) (filter (λ field. bytes_eq field.0 name) fields)
 
@@ -25,17 +25,17 @@ pub record ListsNames (input : List ℕ) (list : List (List ℕ)) : Type 0 where
   pub are_fields : AreFields (section input) fields
   pub in_order : list ≡ first_appearances (names fields)
 
--- the lines that stand for those of a name, or `None` if the name's header refuses them
+-- the field lines to print for a name, or `None` if the header of this name rejects its lines
 abbrev pub Block : Type 0
 Block = Option (List Line)
 
--- what is written of the value that the lines read, or `None` if they read nothing
+-- the encoding of the value that the lines decode to, or `None` if they encode no value
 abbrev pub IsTypedBlock : {V : Type 0} → (List Line → V → Type 0) → (V → List Line) → List Line → Block → Type 0
 IsTypedBlock {V} reads writes lines None = (v : V) → ¬ (reads lines v)
 IsTypedBlock {V} reads writes lines (Some written) = (v : V) × reads lines v × (written ≡ writes v)
 
--- The block of a name that has these lines, by the header of the name.
--- The lines of a name that no header has stay as they came.
+-- The block of a name that has these lines, by the header of the name. The lines of a name that is no known header are
+-- unchanged.
 abbrev pub IsBlockAmong : List KnownHeader → List ℕ → List Line → Block → Type 0
 IsBlockAmong [] name lines block = block ≡ Some lines
 IsBlockAmong (header ∷ headers) name lines block =
@@ -54,7 +54,7 @@ abbrev pub block_text : List ℕ → Block → List ℕ
 block_text name None = 33 ∷ 32 ∷ name ++ 10 ∷ []
 block_text name (Some lines) = flat_map (line_text name) lines
 
--- the text is the block of each name, in this order, if these lines stand under a name
+-- the text is the block of each name, in this order, if a name has these lines
 pub record HasBlocks (lines : List ℕ → List Line) (order : List (List ℕ)) (text : List ℕ) (some_refused : Bool)
     : Type 0 where
   pub blocks : List (List ℕ × Block)
@@ -63,7 +63,7 @@ pub record HasBlocks (lines : List ℕ → List Line) (order : List (List ℕ)) 
   pub text_is : text ≡ flat_map (λ block. block_text block.0 block.1) blocks
   pub refused_is : some_refused ≡ list_any (λ block. is_none block.1) blocks
 
--- the text is the block of each name, at its first appearance
+-- the text is the block of each name, in the order of first appearance
 abbrev pub IsTextOf : List Field → List ℕ → Bool → Type 0
 IsTextOf fields text some_refused = HasBlocks (lines_under fields) (first_appearances (names fields)) text some_refused
 

@@ -1,4 +1,4 @@
--- The known headers: the name of each, and how its lines are read and written.
+-- The known headers: the name of each, and how its field lines are decoded and encoded.
 use Rattle.std.specs.Prelude.{ℕ, List, [], ◌∷◌, ◌++◌, codes}
 use Rattle.http_header.specs.FieldValue.{FieldValue}
 use Rattle.headers.specs.AccessControlAllowCredentials.{access_control_allow_credentials_grammar}
@@ -25,7 +25,7 @@ use Rattle.headers.specs.SetCookie.{set_cookie_grammar}
 use Rattle.headers.specs.Shapes.{first_kept, only_date, only_number, only_tag, only_text}
 use Rattle.headers.specs.StrictTransportSecurityGrammar.{security_grammar}
 
--- a header: the name of its field in lower case, and how its lines are read and written
+-- a header: its field name in lower case, and how its field lines are decoded and encoded
 pub record KnownHeader : Type 1 where
   pub name : List ℕ
   pub Value : Type 0
@@ -39,7 +39,7 @@ by_grammar {V} name grammar = record { name = name; Value = V; reads = ReadsBy g
 abbrev pub by_lines : {V : Type 0} → List ℕ → (List Line → V → Type 0) → (V → List Line) → KnownHeader
 by_lines {V} name reads writes = record { name = name; Value = V; reads = reads; writes = writes }
 
--- headers that keep one form
+-- headers that are one encoding shape
 abbrev pub number : List ℕ → KnownHeader
 number name = by_grammar name (only_number {V = ℕ} (λ seconds. seconds))
 
@@ -58,7 +58,7 @@ tag name = by_grammar name (only_tag {V = FieldValue} (λ value. value.bytes))
 abbrev pub list : ℕ → List ℕ → KnownHeader
 list separator name = by_grammar name (merged {V = Line} separator (λ value. value))
 
--- of caches and conditions
+-- headers of caches and of conditions
 abbrev pub caching_headers : List KnownHeader
 caching_headers =
     number (codes "age")
@@ -75,7 +75,7 @@ caching_headers =
     ∷ date (codes "last-modified")
     ∷ []
 
--- of the connection, and of content and its ranges
+-- headers of the connection, of content and of its ranges
 abbrev pub content_headers : List KnownHeader
 content_headers =
     list comma (codes "connection")
@@ -93,7 +93,7 @@ content_headers =
     ∷ by_grammar (codes "range") range_grammar
     ∷ []
 
--- of the context, and of cookies and hosts
+-- headers of the context, of cookies and of hosts
 abbrev pub context_headers : List KnownHeader
 context_headers =
     list comma (codes "allow")
@@ -109,7 +109,7 @@ context_headers =
     ∷ by_lines (codes "origin") origin_reads origin_writes
     ∷ []
 
--- of other origins, security and websockets
+-- headers of cross-origin requests, of security and of WebSocket
 abbrev pub security_headers : List KnownHeader
 security_headers =
     by_grammar (codes "access-control-allow-credentials") access_control_allow_credentials_grammar

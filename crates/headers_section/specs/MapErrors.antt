@@ -1,4 +1,4 @@
--- What a refusal of a header map is to a run.
+-- The program's error for each error of a header map.
 use Rattle.http_header.specs.declared.map.HeaderMapError.{HeaderMapError}
 use Rattle.http_header.specs.declared.map.HeaderMapError.TheVariants.{MaxSizeReached, OutOfMemory}
 use Rattle.headers_section.specs.declared.status.RunError.{RunError}

@@ -36,8 +36,8 @@ section input = take_while is_filled (input_lines input)
 abbrev pub Field : Type 0
 Field = List ℕ × FieldValue
 
--- the line is a name, the first colon of the line, and a value, of which leading and trailing spaces and tabs are no
--- part
+-- The line is a name, the first colon of the line, and a value. Spaces and tabs at the ends of the value are no part of
+-- it.
 pub record IsField (line : Line) (field : Field) : Type 0 where
   pub name : List ℕ
   pub rest : List ℕ
@@ -68,7 +68,7 @@ pub record Holds (input : List ℕ) (map : Entries FieldValue) : Type 0 where
   pub are_fields : AreFields (section input) fields
   pub held : map ≡ append_all [] fields
 
--- a map that holds the fields before one of them, and no other, has no room for it
+-- a map that has the fields before one of them, and no other, has no room for that one
 pub record FillsMap (fields : List Field) : Type 0 where
   pub first : List Field
   pub next : Field
@@ -76,6 +76,6 @@ pub record FillsMap (fields : List Field) : Type 0 where
   pub split : fields ≡ first ++ next ∷ later
   pub full : RefusesAppend (append_all [] first) next.0
 
--- the lines before the first empty one are fields, and these fill a map
+-- the lines before the first empty one are fields, and a map has no room for them
 abbrev pub HasTooManyFields : List ℕ → Type 0
 HasTooManyFields input = (fields : List Field) × AreFields (section input) fields × FillsMap fields

@@ -135,9 +135,9 @@ fn content_block(
     }
 }
 
-/// The lines to print for a name that the map has: those that `canonical` returns for its header, or
-/// `None` if the header rejects its lines. The values of a name that no header has stay as they
-/// came.
+/// Returns the field lines to print for a name that the map has. They are the lines that
+/// `canonical` returns for its header; `None` if the header rejects its lines. The values of a name
+/// that is no known header are unchanged. Fails only if an allocation fails.
 //
 // A match over all the names takes twice as long to prove as these four.
 pub fn read_block(

@@ -115,11 +115,12 @@ fn empty_map(alloc: Global, keys: Option<RandomState>) -> HeaderMap
     }
 }
 
-/// The fields of a header section in one map, and their names in the order of their first
-/// appearance.
+/// The fields of a header section in a map, and their names in the order of their first appearance.
 #[derive(Drop)]
 pub struct Fields {
+    /// The map of the fields.
     pub map: HeaderMap,
+    /// The names of the fields, each once, in the order of their first appearance.
     pub names: Vec<HeaderName>,
 }
 
@@ -144,10 +145,10 @@ impl Fields {
     }
 }
 
-/// The fields before the first empty line (RFC 9112, sections 2.1 and 5). Their map hashes with the
-/// keys where names collide. `None` if a line before the empty one is no field,
-/// `MaxSizeReached` if all are fields and a map has no room for them. The fields share the bytes of
-/// the input.
+/// Parses the fields before the first empty line, with the order of their names (RFC 9112, sections
+/// 2.1 and 5). `None` if a line before the empty one is no field; `MaxSizeReached` if all are
+/// fields and a map has no room for them; `OutOfMemory` if an allocation fails. The map hashes with
+/// the keys if names collide. The values share the bytes of the input.
 pub fn read_fields(
     alloc: Global,
     keys: Option<RandomState>,
@@ -183,10 +184,10 @@ pub fn read_fields(
     Ok(Some(fields))
 }
 
-/// The fields before the first empty line (RFC 9112, sections 2.1 and 5) in one map, which hashes
-/// with the keys where names collide. `None` if a line before the empty one is no field,
-/// `MaxSizeReached` if all are fields and a map has no room for them. The map shares the bytes of
-/// the input.
+/// Parses the fields before the first empty line to a map (RFC 9112, sections 2.1 and 5). `None` if
+/// a line before the empty one is no field; `MaxSizeReached` if all are fields and a map has no
+/// room for them; `OutOfMemory` if an allocation fails. The map hashes with the keys if names
+/// collide. The values share the bytes of the input.
 pub fn read_map(
     alloc: Global,
     keys: Option<RandomState>,

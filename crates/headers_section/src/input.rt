@@ -1,4 +1,4 @@
-//! The bytes that a run reads.
+//! The input of the program.
 ghost use Rattle.std.specs.Prelude.{◌≡◌, ◌<◌, ◌≤◌, length, IfOk, IfSome};
 ghost use Rattle.std.specs.Io.KnownBytes.{Consumes, IsAtEnd};
 ghost use Rattle.headers_section.specs.Section.{input_limit};
@@ -10,7 +10,8 @@ use std::io::Read;
 /// The greatest length of an input, in bytes.
 const INPUT_LIMIT: usize = 8_388_608;
 
-/// Reads the whole input. `Room` as soon as more than the limit has come; then no more is read.
+/// Reads the whole input. `Room` as soon as it is longer than the limit; then no more is read. `Io`
+/// if a read fails, `Memory` if an allocation fails.
 pub fn read_input<R: Read>(alloc: Global, reader: &mut R) -> Result<Vec<u8>, RunError>
     ensures limit { IfOk result (λ input. length input.items ≤ input_limit) }
     ensures read { IfOk result

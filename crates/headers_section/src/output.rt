@@ -1,11 +1,11 @@
-//! The bytes that a run writes.
+//! The output of the program.
 ghost use Rattle.std.specs.Prelude.{◌≡◌, ℕ, List, ◌++◌, OnOk, IfErr, OnErr};
 ghost use Rattle.std.specs.Io.KnownBytes.{Appends};
 
 use crate::status::RunError;
 use std::io::Write;
 
-/// Writes the text, and then flushes. The first failure, or a write that takes no byte, is `Io`;
+/// Writes the text, and then flushes. `Io` at the first failure, or if a write takes no byte;
 /// nothing is tried again.
 pub fn write_text<W: Write>(writer: &mut W, text: &[u8]) -> Result<(), RunError>
     ensures ok { OnOk result (Appends (W.contents writer.old) (W.contents writer.new) text.now) }

@@ -1,4 +1,4 @@
-//! A run of the program over a reader and a writer.
+//! The program, over a reader and a writer.
 ghost use Rattle.std.specs.Prelude.{◌≡◌, Err, IfErr};
 ghost use Rattle.headers_section.specs.Answer.{IsRun};
 
@@ -11,13 +11,13 @@ use std::alloc::Global;
 use std::hash::RandomState;
 use std::io::{self, Read, Write};
 
-/// Reads an input of at most 8,388,608 bytes that begins with a header section (RFC 9112, section
-/// 2.1), and writes its canonical text: each name at its first appearance, with its lines. The
-/// whole text is made before the first write, and no failing call is tried again. How far the
-/// reader was read is open after `Memory`, after `Io`, and if the input is too long.
+/// Reads a header section, and writes its canonical text (RFC 9112, section 2.1). The input has at
+/// most 8,388,608 bytes. The text has each name at its first appearance, with its field lines; it
+/// is complete before the first write, and no failed call is tried again. After `Memory`, after
+/// `Io`, and if the input is too long, it is open how much was read.
 ///
-/// This is `run_with_keys` without keys. Its map hashes with fixed ones, so names can be picked
-/// that make it slow.
+/// This is `run_with_keys` without keys. The map then hashes with fixed keys, so an attacker can
+/// choose names that make it slow.
 pub fn run<R: Read, W: Write>(
     alloc: Global,
     reader: &mut R,
@@ -29,7 +29,7 @@ pub fn run<R: Read, W: Write>(
     run_with_keys(alloc, None, reader, writer)
 }
 
-/// `run` over a map that hashes with these keys if names collide.
+/// Does the same as `run`, with a map that hashes with these keys if names collide.
 pub fn run_with_keys<R: Read, W: Write>(
     alloc: Global,
     keys: Option<RandomState>,
@@ -51,8 +51,8 @@ pub fn run_with_keys<R: Read, W: Write>(
     }
 }
 
-/// `run` with the keys that the system gave. If it gave none, the answer is `Io`, and nothing was
-/// read or written: no map with fixed keys stands in.
+/// Does the same as `run`, with keys from the system. If the system gives no keys, the result is
+/// `Io`, and nothing was read or written.
 pub fn run_with_system_keys<R: Read, W: Write>(
     alloc: Global,
     keys: io::Result<RandomState>,

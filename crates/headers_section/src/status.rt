@@ -6,23 +6,23 @@ use http_header::HeaderMapError;
 use std::alloc::{AllocError, AllocFailed};
 use std::io;
 
-/// What a run found in an input that it read whole.
+/// What the program found in an input that it read to its end.
 #[derive(Clone, Copy, Debug, PartialEq, Eq)]
 pub enum Outcome {
-    /// Every known header was read.
+    /// All known headers were decoded.
     Clean,
-    /// The lines of some known header were refused.
+    /// Some known header rejected its field lines.
     SomeRefused,
     /// A line before the first empty one is no field.
     NotAField,
 }
 
-/// Why a run gave up.
+/// Why the program gave up.
 #[derive(Clone, Copy, Debug, PartialEq, Eq)]
 pub enum RunError {
     /// A read, a write or a flush failed, or a write took no byte.
     Io,
-    /// The allocator had no memory.
+    /// Out of memory: an allocation failed.
     Memory,
     /// The input is too long, or a header map has no room for its fields.
     Room,
@@ -75,8 +75,8 @@ impl From<HeaderMapError> for RunError {
     }
 }
 
-/// The exit status: 0 for `Clean`, 1 for `SomeRefused`, 2 for `NotAField`, 3 for `Io`,
-/// and 4 for `Memory` and `Room`.
+/// Returns the exit status: 0 for `Clean`, 1 for `SomeRefused`, 2 for `NotAField`, 3 for `Io`, and
+/// 4 for `Memory` and `Room`.
 pub fn exit_status(answer: &Result<Outcome, RunError>) -> u8
     ensures { result ≡ status_of answer.now }
 {

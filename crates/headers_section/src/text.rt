@@ -13,14 +13,17 @@ use headers::{HeaderMap, HeaderName, HeaderValue};
 use std::alloc::{AllocError, Global};
 use std::hash::RandomState;
 
-/// The canonical text of a header section, and whether the lines of some name were refused.
+/// The canonical text of a header section, and whether some known header rejected its lines.
 #[derive(Drop)]
 pub struct CanonicalText {
+    /// The text.
     pub bytes: Vec<u8>,
+    /// Whether some known header rejected its field lines.
     pub some_refused: bool,
 }
 
-/// Prints the line after the name, a colon and a space.
+/// Appends a field line to the text: the name, a colon, a space, the value and a line feed. Fails
+/// only if an allocation fails.
 pub fn print_line(
     text: &mut Vec<u8>,
     name: &HeaderName,
@@ -35,7 +38,7 @@ pub fn print_line(
     Ok(())
 }
 
-/// Prints each line after the name.
+/// Appends field lines with one name to the text. Fails only if an allocation fails.
 pub fn print_lines(
     text: &mut Vec<u8>,
     name: &HeaderName,
@@ -99,8 +102,9 @@ fn print_blocks(
     })
 }
 
-/// The canonical text of an input, or `None` if a line before the first empty one is no field.
-/// `Room` if a header map has no room for the fields. The keys are those of the map.
+/// Returns the canonical text of an input, or `None` if a line before the first empty one is no
+/// field. `Room` if a header map has no room for the fields, `Memory` if an allocation fails. The
+/// map hashes with the keys if names collide.
 pub fn canonical_text(
     alloc: Global,
     keys: Option<RandomState>,

@@ -1,4 +1,4 @@
--- The header `referrer-policy`: the last known word of all lines.
+-- The header `referrer-policy`: the last known word of all field lines.
 use Rattle.std.specs.Prelude.{ℕ, List, [], ◌∷◌, Option, None, codes, bytes_eq, find, option_map}
 use Rattle.std.specs.List.{filter_map, last_or}
 use Rattle.headers_syntax.specs.Lines.{Line}
@@ -37,7 +37,7 @@ words =
     ∷ codes "strict-origin-when-cross-origin"
     ∷ []
 
--- each known word with its policy: the eight words, and three of older drafts
+-- each known word with its policy: the eight words, and three of earlier drafts
 abbrev pub known_words : List (List ℕ × Policy)
 known_words =
     (codes "no-referrer", NoReferrer) ∷ (codes "never", NoReferrer)
@@ -50,15 +50,15 @@ known_words =
     ∷ (codes "strict-origin-when-cross-origin", StrictOriginWhenCrossOrigin)
     ∷ []
 
--- the policy of a known word, by its very bytes
+-- the policy of a known word, byte for byte
 abbrev pub policy_named : List ℕ → Option Policy
 policy_named word = option_map (λ row. row.1) (find (λ row. bytes_eq word row.0) known_words)
 
--- the policies of the known words among the parts by comma of all lines, in order
+-- the policies of the known words among the parts between commas of all field lines, in order
 abbrev pub policies : List Line → List Policy
 policies lines = filter_map policy_named (parts_of_lines comma lines)
 
--- the last of them is read, and its word is written
+-- the last of them is decoded, and its word is the encoding
 abbrev pub referrer_grammar : Grammar ReferrerPolicy Policy
 referrer_grammar =
     record {

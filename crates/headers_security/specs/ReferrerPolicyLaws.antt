@@ -1,4 +1,4 @@
--- What is written of a policy reads as that policy.
+-- Round trip: the encoding of a policy decodes to that policy.
 use Rattle.std.specs.Prelude.{refl}
 use Rattle.headers_syntax.specs.HeaderLaws.{ReadsBack}
 use Rattle.headers_security.specs.ReferrerPolicy.{referrer_grammar}

@@ -1,4 +1,4 @@
--- The parts of a text, and what one of them carries.
+-- The parts of a text, and the age in a part.
 use Rattle.std.specs.Prelude.{ℕ, List, map, ◌==◌, Option, Some, None, if◌then◌else◌}
 use Rattle.std.specs.List.{slice_split}
 use Rattle.headers_syntax.specs.Text.{trim}
@@ -8,6 +8,6 @@ use Rattle.headers_security.specs.StrictTransportSecurity.{carries_age, age_in}
 abbrev pub pieces : List ℕ → List (List ℕ)
 pieces text = map trim (slice_split (λ b. b == 59) text)
 
--- the age that a part carries, if it carries one
+-- the age in a part, if it is one
 abbrev pub age_of : List ℕ → Option (Option ℕ)
 age_of part = if carries_age part then Some (age_in part) else None

@@ -18,11 +18,11 @@ pub record TransportSecurity : Type 0 where
   pub include_subdomains : Bool
   pub max_age : ℕ
 
--- a part names `includeSubdomains`, in any case
+-- a part is `includeSubdomains`, in any case
 abbrev pub names_subdomains : List ℕ → Bool
 names_subdomains part = same_name part (codes "includeSubdomains")
 
--- a part carries an age if it has an `=`, and what stands before the first one is `max-age`, in any case
+-- a part is an age if it has an `=`, and what is before the first one is `max-age`, in any case
 abbrev pub carries_age : List ℕ → Bool
 carries_age part = list_any is_equals part && same_name (trim (before_first is_equals part)) (codes "max-age")
 
@@ -30,8 +30,7 @@ carries_age part = list_any is_equals part && same_name (trim (before_first is_e
 abbrev pub age_in : List ℕ → Option ℕ
 age_in part = number (without_quotes (trim (after_first is_equals part)))
 
--- at most one part names `includeSubdomains`, exactly one carries an age, and that age is readable; other parts say
--- nothing
+-- At most one part is `includeSubdomains`, exactly one is an age, and that age is a number. Other parts are ignored.
 abbrev pub security_of : List (List ℕ) → Option TransportSecurity
 security_of ps =
     if nat_le (count_by names_subdomains ps) 1
@@ -39,7 +38,7 @@ security_of ps =
     (option_and_then age_in (only_line (filter carries_age ps)))
     else None
 
--- a line is cut at every semicolon, in quotes or not
+-- a field line is cut at every semicolon, in quotes or not
 abbrev pub read_security : Line → Option TransportSecurity
 read_security line = security_of (parts semicolon line)
 

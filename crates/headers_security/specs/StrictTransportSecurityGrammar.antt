@@ -5,6 +5,6 @@ use Rattle.headers_syntax.specs.Shapes.{one_line}
 use Rattle.headers_security.specs.StrictTransportSecurity.{TransportSecurity, read_security, print_security}
 use Rattle.headers_security.specs.declared.strict_transport_security.StrictTransportSecurity.{StrictTransportSecurity}
 
--- the only line is read, and a value keeps what it says
+-- the only field line is decoded, and the header stores the result
 abbrev pub security_grammar : Grammar StrictTransportSecurity TransportSecurity
 security_grammar = one_line (λ v. v) only_line read_security print_security

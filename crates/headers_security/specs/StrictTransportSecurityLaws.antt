@@ -1,4 +1,4 @@
--- What is printed of transport security reads as it.
+-- Round trip: the encoding of transport security decodes to it.
 use Rattle.std.proofs.Common.{◌≡◌, ℕ, ◌^◌, ◌<◌, Bool, true, false, not, ◌==◌, nat_le, cond, List, [], ◌∷◌, ◌++◌}
 use Rattle.std.proofs.Common.{map, filter, Option, Some, None, codes, refl, ◌∙◌, ap, arith}
 use Rattle.std.specs.Prelude.{option_map}
@@ -65,7 +65,7 @@ module _ (n : ℕ) (fits : n < 2 ^ 64) where
       ap (λ r. number (without_quotes r)) (trim_piece (decimal n) (decimal_plain n fits))
       ∙ ap number (unquoted_piece (decimal n) (decimal_plain n fits)) ∙ number-decimal n fits
 
-  -- the parts of what is printed, and what they say
+  -- the parts of the encoding, and what they are
   printed_says : (b : Bool)
       → security_of (map trim (slice_split (λ b. b == 59) (print_security (value b n)))) ≡ Some (value b n)
   printed_says true =
@@ -79,13 +79,13 @@ module _ (n : ℕ) (fits : n < 2 ^ 64) where
       ∙ ap (λ part. security_of (part ∷ [])) trimmed
       ∙ ap (option_map (value false)) age_read
 
--- what is written of any value reads as that value
+-- every value survives a round trip
 pub built_back : (s : TransportSecurity) → s.max_age < 2 ^ 64 → read_security (print_security s) ≡ Some s
 built_back s fits =
     ap (λ t. security_of (cond t (map trim (slice_split (λ b. b == 59) (print_security s))) []))
     (printed_text s.max_age fits s.include_subdomains) ∙ printed_says s.max_age fits s.include_subdomains
 
--- an age that was read fits
+-- a decoded age fits
 age_fits : (part : Option (List ℕ)) (n : ℕ) → option_and_then age_in part ≡ Some n → n < 2 ^ 64
 age_fits None n h = absurd (cc h)
 age_fits (Some part) n h = number-lt _ n h

@@ -1,4 +1,4 @@
-//! Headers of transport security and referrers (RFC 6797; W3C Referrer Policy).
+//! Headers of transport security and of referrers (RFC 6797; W3C Referrer Policy).
 #![tactic(auto)]
 
 mod referrer_policy;

@@ -22,9 +22,9 @@ enum Policy {
     StrictOriginWhenCrossOrigin,
 }
 
-/// How much a request reveals of the page that it comes from (W3C Referrer Policy, section 8.1).
-/// All lines that are text are cut at every comma, and the last known word is read. If there is
-/// none, they are refused.
+/// The header `Referrer-Policy`: how much of its page a request reveals (W3C Referrer Policy,
+/// section 8.1). All field lines that are text are cut at every comma, and the last known word is
+/// the value. `decode` rejects lines without a known word, and never allocates.
 #[derive(Clone, Debug, PartialEq, Eq, Hash, Drop)]
 pub struct ReferrerPolicy {
     policy: Policy,
@@ -41,47 +41,47 @@ impl Model for ReferrerPolicy {
 }
 
 impl ReferrerPolicy {
-    /// `no-referrer`, also read from `never`.
+    /// The policy `no-referrer`, also decoded from `never`.
     pub const NO_REFERRER: ReferrerPolicy = ReferrerPolicy {
         policy: Policy::NoReferrer,
     };
 
-    /// `no-referrer-when-downgrade`, also read from `default`.
+    /// The policy `no-referrer-when-downgrade`, also decoded from `default`.
     pub const NO_REFERRER_WHEN_DOWNGRADE: ReferrerPolicy = ReferrerPolicy {
         policy: Policy::NoReferrerWhenDowngrade,
     };
 
-    /// `same-origin`.
+    /// The policy `same-origin`.
     pub const SAME_ORIGIN: ReferrerPolicy = ReferrerPolicy {
         policy: Policy::SameOrigin,
     };
 
-    /// `origin`.
+    /// The policy `origin`.
     pub const ORIGIN: ReferrerPolicy = ReferrerPolicy {
         policy: Policy::Origin,
     };
 
-    /// `origin-when-cross-origin`.
+    /// The policy `origin-when-cross-origin`.
     pub const ORIGIN_WHEN_CROSS_ORIGIN: ReferrerPolicy = ReferrerPolicy {
         policy: Policy::OriginWhenCrossOrigin,
     };
 
-    /// `unsafe-url`, also read from `always`.
+    /// The policy `unsafe-url`, also decoded from `always`.
     pub const UNSAFE_URL: ReferrerPolicy = ReferrerPolicy {
         policy: Policy::UnsafeUrl,
     };
 
-    /// `strict-origin`.
+    /// The policy `strict-origin`.
     pub const STRICT_ORIGIN: ReferrerPolicy = ReferrerPolicy {
         policy: Policy::StrictOrigin,
     };
 
-    /// `strict-origin-when-cross-origin`.
+    /// The policy `strict-origin-when-cross-origin`.
     pub const STRICT_ORIGIN_WHEN_CROSS_ORIGIN: ReferrerPolicy = ReferrerPolicy {
         policy: Policy::StrictOriginWhenCrossOrigin,
     };
 
-    /// The eight constants. Each is written as the word that its name says.
+    /// Returns the eight constants, each of which is encoded as the word that its name says.
     pub fn all() -> [ReferrerPolicy; 8]
         ensures { map word_of result ≡ words }
     {
@@ -182,7 +182,7 @@ impl Header for ReferrerPolicy {
     }
 }
 
-/// Every policy is written as a line that reads as it.
+/// Theorem: every value of `ReferrerPolicy` survives a round trip.
 #[tactic(auto, using(crate::specs::ReferrerPolicyLaws::referrer_back))]
 pub fn policies_read_back()
     ensures { (policy : ReferrerPolicy)

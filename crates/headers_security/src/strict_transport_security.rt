@@ -22,10 +22,12 @@ use std::fmt::Write;
 use std::marker::Model;
 use std::time::Duration;
 
-/// For how long a host, and perhaps its subdomains, may be reached only by secure transport, in
-/// seconds below 2^64 (RFC 6797, section 6.1). The only line is cut at every semicolon. It is
-/// refused unless exactly one part carries an age, that age is a number, and at most one part names
-/// `includeSubdomains`. Equality goes by both.
+/// The header `Strict-Transport-Security`: for how many seconds a host may be reached only by
+/// secure transport, and whether its subdomains are included (RFC 6797, section 6.1). The only
+/// field line is cut at every semicolon. `decode` rejects it unless exactly one part is an age,
+/// that age is a number below 2^64, and at most one part is `includeSubdomains`; it rejects no or
+/// several lines, and never allocates. Headers are compared by the age and by whether subdomains
+/// are included.
 #[derive(Clone, Debug, PartialEq, Drop)]
 pub struct StrictTransportSecurity {
     include_subdomains: bool,
@@ -43,7 +45,8 @@ impl Model for StrictTransportSecurity {
 }
 
 impl StrictTransportSecurity {
-    /// The host and its subdomains, for this duration, which must be whole seconds.
+    /// Makes a header for a host and its subdomains. The caller must show that the duration has no
+    /// part of a second.
     pub fn including_subdomains(max_age: Duration) -> StrictTransportSecurity
         requires { IsWholeSeconds max_age }
         ensures { result ≡ record { include_subdomains = true; max_age = as_nanos max_age / 1_000_000_000 } }
@@ -54,7 +57,8 @@ impl StrictTransportSecurity {
         }
     }
 
-    /// The host alone, for this duration, which must be whole seconds.
+    /// Makes a header for a host without its subdomains. The caller must show that the duration has
+    /// no part of a second.
     pub fn excluding_subdomains(max_age: Duration) -> StrictTransportSecurity
         requires { IsWholeSeconds max_age }
         ensures { result ≡ record { include_subdomains = false; max_age = as_nanos max_age / 1_000_000_000 } }
@@ -65,14 +69,14 @@ impl StrictTransportSecurity {
         }
     }
 
-    /// Whether the subdomains are included.
+    /// Returns whether the subdomains are included.
     pub fn include_subdomains(&self) -> bool
         ensures { result ≡ self.now.include_subdomains }
     {
         self.include_subdomains
     }
 
-    /// The duration, in whole seconds.
+    /// Returns the duration, in whole seconds.
     pub fn max_age(&self) -> Duration
         ensures { LastsSeconds result self.now.max_age }
     {
@@ -188,7 +192,7 @@ impl Header for StrictTransportSecurity {
     }
 }
 
-/// Every value is written as a line that reads as it.
+/// Theorem: every value of `StrictTransportSecurity` survives a round trip.
 #[tactic(auto, using(crate::specs::StrictTransportSecurityLaws::built_back))]
 pub fn security_reads_back(header: &StrictTransportSecurity)
     ensures { ReadsBy security_grammar (written_by security_grammar header.now) header.now }

@@ -1,4 +1,4 @@
--- Dates in field lines, as seconds since 1970, and the date that a number of seconds is printed as.
+-- Dates in field lines, as seconds since 1970, and the text of the date of a time.
 use Rattle.std.specs.Prelude.{ℕ, zero, suc, ◌+◌, ◌-◌, ◌/◌, ◌%◌, ◌<◌, Option, None, if◌then◌else◌, nat_lt, ◌≡◌, IsTrue}
 use Rattle.httpdate.specs.declared.parts.Parts.{Parts}
 use Rattle.httpdate.specs.Calendar.{days_in_year, days_in_month, weekday}
@@ -8,11 +8,12 @@ use Rattle.httpdate.specs.Valid.{IsValid, parts_secs}
 use Rattle.headers_syntax.specs.Lines.{Line}
 use Rattle.headers_syntax.specs.Text.{is_text, trim}
 
--- the second that a line shows: text that is, once trimmed of spaces and tabs, a date in one of the three formats
+-- the time that a field line shows: the line is text that is, without spaces and tabs at its ends, a date in one of the
+-- three formats
 unfoldable pub date : Line → Option ℕ
 date line = if is_text line then parse_secs (trim line) else None
 
--- the second lies before the year 10000
+-- the time is before the year 10000
 abbrev pub IsDated : ℕ → Type 0
 IsDated secs = secs < 253_402_300_800
 
@@ -43,7 +44,7 @@ parts_at secs =
 unfoldable pub fixdate : ℕ → Line
 fixdate secs = imf_fixdate (parts_at secs)
 
--- the line is text, and once trimmed of spaces and tabs it shows the date of that second in one of the three formats
+-- The line is text. Without spaces and tabs at its ends, it shows the date of this time in one of the three formats.
 abbrev pub ShowsDate : Line → ℕ → Type 0
 ShowsDate line secs = IsTrue (is_text line)
     × ((p : Parts) × IsValid p × IsPartsText (trim line) p × (parts_secs p ≡ secs))

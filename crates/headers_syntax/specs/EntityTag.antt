@@ -6,20 +6,20 @@ use denote.Ref.{Bor}
 use Rattle.http_header.specs.Token.{AllPass}
 use Rattle.headers_syntax.specs.Text.{quote}
 
--- a byte that may stand between the quotes of a tag: 0x21, 0x23 to 0x7E, or 0x80 and above
+-- a byte that is allowed between the quotes of a tag: 0x21, 0x23 to 0x7E, or 0x80 and above
 abbrev pub is_tag_byte : ℕ → Bool
 is_tag_byte b = b == 0x21 || ((nat_le 0x23 b && nat_le b 0x7E) || nat_le 0x80 b)
 
--- what a tag says: whether it is weak, and the opaque part between its quotes
+-- the parts of a tag: whether it is weak, and the opaque part between its quotes
 pub record TagParts : Type 0 where
   pub is_weak : Bool
   pub opaque : List ℕ
 
--- what stands before the first quote: `W/`, with an upper case W, if the tag is weak
+-- what is before the first quote: `W/`, with an upper case W, if the tag is weak
 abbrev pub weak_prefix : Bool → List ℕ
 weak_prefix is_weak = if is_weak then codes "W/" else []
 
--- a tag as it is written
+-- the text of a tag with these parts
 abbrev pub tag_text : TagParts → List ℕ
 tag_text parts = weak_prefix parts.is_weak ++ quote ∷ (parts.opaque ++ quote ∷ [])
 
@@ -32,8 +32,8 @@ pub record IsTag (bytes : List ℕ) (parts : TagParts) : Type 0 where
 abbrev pub IsSomeTag : List ℕ → Type 0
 IsSomeTag bytes = (parts : TagParts) × IsTag bytes parts
 
--- Whether the bytes are a tag, as a test: they are what is written of the parts that a tag of their first byte and
--- their length has.
+-- Whether the bytes are a tag, as a test: take the parts that a tag with this first byte and this length has; the bytes
+-- are the text of these parts.
 abbrev pub between_quotes : List ℕ → List ℕ
 between_quotes bytes = take (length bytes - 2) (drop 1 bytes)
 
@@ -57,15 +57,15 @@ pub record StronglyEqual (s t : TagParts) : Type 0 where
 abbrev pub WeaklyEqual : TagParts → TagParts → Type 0
 WeaklyEqual s t = s.opaque ≡ t.opaque
 
--- both are tags, and R holds of their parts
+-- both lists of bytes are tags, and R holds of their parts
 abbrev pub AreTags : (TagParts → TagParts → Type 0) → List ℕ → List ℕ → Type 0
 AreTags R a b = (s : TagParts) × (t : TagParts) × IsTag a s × IsTag b t × R s t
 
--- the parts of the bytes if they are a tag, and none if they aren't
+-- the result is the parts of the bytes if they are a tag, and `None` if they are not
 abbrev pub FindsTag : List ℕ → Option TagParts → Type 0
 FindsTag bytes found = MatchOption found (¬ (IsSomeTag bytes)) (IsTag bytes)
 
--- the bytes are a quote, what was found, and a quote; there are no such bytes if nothing was found
+-- the bytes are a quote, the result, and a quote; the result is `None` if they have no such shape
 abbrev pub FindsQuoted : List ℕ → Option (Bor (List ℕ)) → Type 0
 FindsQuoted bytes found =
     MatchOption found ((inner : List ℕ) → bytes ≢ quote ∷ (inner ++ quote ∷ []))

@@ -1,10 +1,10 @@
--- What holds of every header type, and the header types whose grammar is a pair of functions.
+-- The laws of every header type, and header types whose grammar is a pair of functions.
 use Rattle.std.specs.Prelude.{◌≡◌, List, Option, Some, refl}
 use Rattle.std.proofs.Common.{sym, ◌∙◌, ap}
 use Rattle.headers_syntax.specs.Lines.{Line}
 
--- `same` is an equivalence that reading and writing respect, lines read one value at most, and what is written of a
--- value that was read reads as that value
+-- The laws of a header type. `same` is an equivalence, and decoding and encoding respect it. Field lines decode to at
+-- most one value. The encoding of a decoded value decodes to the same value.
 pub record HeaderLaws {V : Type 0} (same : V → V → Type 0) (reads : List Line → V → Type 0) (writes : V → List Line) :
     Type 0 where
   pub same_refl : (v : V) → same v v
@@ -15,32 +15,32 @@ pub record HeaderLaws {V : Type 0} (same : V → V → Type 0) (reads : List Lin
   pub reads_once : (lines : List Line) (v w : V) → reads lines v → reads lines w → same v w
   pub reads_back : (lines : List Line) (v : V) → reads lines v → reads (writes v) v
 
--- A grammar: the abstract value that a header keeps, the one that lines read, if any, and the lines that are written
--- of one.
+-- A grammar: the abstract value that a header stores, the abstract value that field lines decode to, if any, and the
+-- field lines that encode an abstract value.
 pub record Grammar (V A : Type 0) : Type 0 where
   pub kept : V → A
   pub value_of : List Line → Option A
   pub lines_of_value : A → List Line
 
 module _ {V A : Type 0} (grammar : Grammar V A) where
-  -- they keep the same abstract value
+  -- both headers store the same abstract value
   abbrev pub SameBy : V → V → Type 0
   SameBy v w = grammar.kept v ≡ grammar.kept w
 
-  -- the lines read the abstract value that v keeps
+  -- the field lines decode to the abstract value that v stores
   abbrev pub ReadsBy : List Line → V → Type 0
   ReadsBy lines v = grammar.value_of lines ≡ Some (grammar.kept v)
 
-  -- what is written of v
+  -- the encoding of v
   abbrev pub written_by : V → List Line
   written_by v = grammar.lines_of_value (grammar.kept v)
 
-  -- what is written of an abstract value that lines read, reads as it
+  -- round trip: the encoding of an abstract value that field lines decode to decodes to it again
   abbrev pub ReadsBack : Type 0
   ReadsBack = (lines : List Line) (a : A) → grammar.value_of lines ≡ Some a
       → grammar.value_of (grammar.lines_of_value a) ≡ Some a
 
-  -- the laws rest on that alone
+  -- all laws follow from the round trip
   pub laws_by : ReadsBack → HeaderLaws SameBy ReadsBy written_by
   laws_by back =
       record {

@@ -6,7 +6,7 @@ use Rattle.http_header.specs.FieldValue.{FieldValue}
 abbrev pub Line : Type 0
 Line = List ℕ
 
--- the lines of some values
+-- the field lines of a list of header values
 abbrev pub lines_of : List FieldValue → List Line
 lines_of values = map (λ v. v.bytes) values
 
@@ -26,7 +26,7 @@ abbrev pub some_lines : List Line → Option (List Line)
 some_lines [] = None
 some_lines (line ∷ lines) = Some (line ∷ lines)
 
--- new values follow the old ones, and these are their lines
+-- new header values are appended to the old ones, and these are their field lines
 pub record Appends (old new : List FieldValue) (lines : List Line) : Type 0 where
   pub added : List FieldValue
   pub behind : new ≡ old ++ added

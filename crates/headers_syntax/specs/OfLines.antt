@@ -1,4 +1,4 @@
--- What the calls of an iterator over header values say of its list of lines.
+-- What calls of an iterator over header values say about its list of field lines.
 use Rattle.std.specs.Prelude.{◌≡◌, Bool, IsTrue, List, [], ◌++◌, map, Option, None}
 use Rattle.std.specs.Bool.{MatchBool}
 use Rattle.std.specs.Iterator.{Yields, YieldsThen}
@@ -6,8 +6,8 @@ use Rattle.http_header.specs.FieldValue.{FieldValue}
 use Rattle.headers_syntax.specs.Lines.{Line}
 
 module _ {S A : Type 0} (shown : A → FieldValue) (steps : S → Option A → S → Type 0) where
-  -- Calls led from s to t and gave `items`, and then `None` if `ended`. P holds of each list of lines that begins
-  -- with these; if `ended`, of these alone.
+  -- The calls led from state s to state t and yielded `items`, and then `None` if `ended`. P holds of each list of
+  -- field lines that begins with these; if `ended`, of these alone.
   pub record OfLines (s t : S) (P : List Line → Type 0) : Type 0 where
     pub items : List A
     pub ended : Bool

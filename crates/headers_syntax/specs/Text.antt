@@ -1,4 +1,4 @@
--- Text, and text without the blanks or the quotes at its ends.
+-- Text, and text without blanks or quotes at its ends.
 use Rattle.std.specs.Prelude.{ℕ, ◌-◌, Bool, ◌||◌, ◌==◌, List, take, drop, length}
 use Rattle.std.specs.List.{list_all, prefix_len, suffix_len}
 use Rattle.http_header.specs.Token.{is_visible_or_blank}

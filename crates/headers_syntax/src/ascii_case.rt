@@ -2,8 +2,8 @@
 ghost use Rattle.std.specs.Prelude.{◌↔◌, IsTrue};
 ghost use Rattle.headers_syntax.specs.AsciiCase.{SameButForCase};
 
-/// Whether two texts are equal but for the case of ASCII letters, as names of options and
-/// directives are compared (RFC 9110, section 7.6.1; RFC 9111, section 5.2).
+/// Returns whether two texts are equal apart from the case of ASCII letters. Options, directives
+/// and other names are compared so (RFC 9110, section 7.6.1; RFC 9111, section 5.2).
 pub fn same_but_for_case(a: &str, b: &str) -> bool
     ensures { IsTrue result ↔ SameButForCase a.now b.now }
 {

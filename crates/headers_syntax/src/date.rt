@@ -18,7 +18,8 @@ use httpdate::HttpDate;
 use std::alloc::{AllocError, Global};
 use std::marker::Model;
 
-/// A date of a header field: a second from 1970 to 9999 (RFC 9110, section 5.6.7).
+/// The date of a field line, in whole seconds since 1970 and before the year 10000 (RFC 9110,
+/// section 5.6.7).
 #[derive(Clone, Copy, Debug, PartialEq, Eq, PartialOrd, Ord, Hash)]
 pub struct Date1 {
     seconds: u64,
@@ -38,8 +39,9 @@ impl Model for Date1 {
 }
 
 impl Date1 {
-    /// The date in the value, in one of the three formats of RFC 9110, section 5.6.7. Leading and
-    /// trailing spaces and tabs are ignored.
+    /// Parses a field line as a date in one of the three formats of RFC 9110, section 5.6.7.
+    /// Leading and trailing spaces and tabs are ignored. `None` for any other value, and for a date
+    /// before 1970 or after 9999.
     pub fn from_val(value: &HeaderValue) -> Option<Date1>
         ensures { result ≡ date value.now.bytes }
     {
@@ -54,7 +56,8 @@ impl Date1 {
         })
     }
 
-    /// The date this many seconds after the start of 1970. It must lie before the year 10000.
+    /// Makes the date that is this many seconds after the start of 1970. The caller must show that
+    /// it is before the year 10000.
     pub fn from_unix_secs(seconds: u64) -> Date1
         requires { IsDated seconds }
         ensures { result ≡ seconds }
@@ -62,7 +65,7 @@ impl Date1 {
         Date1 { seconds }
     }
 
-    /// The seconds since the start of 1970.
+    /// Returns the date in seconds since the start of 1970.
     pub fn unix_secs(&self) -> u64
         ensures value { result ≡ self.now }
         ensures bound { IsDated result }
@@ -70,7 +73,8 @@ impl Date1 {
         self.seconds
     }
 
-    /// The date as IMF-fixdate (RFC 9110, section 5.6.7).
+    /// Encodes the date as a field line in the format IMF-fixdate (RFC 9110, section 5.6.7). Fails
+    /// only if an allocation fails.
     pub fn to_value(&self, alloc: Global) -> Result<HeaderValue, AllocError>
         ensures value { IfOk result (λ value. value ≡ plain_value (fixdate self.now)) }
         ensures reads_back { IfOk result (λ value. date value.bytes ≡ Some self.now) }
@@ -83,7 +87,8 @@ impl Date1 {
     }
 }
 
-/// The date in the only line. `None` if there are none or several lines, or if it is no date.
+/// Parses a field that has exactly one field line as a date (RFC 9110, section 5.6.7). `None` if
+/// there are no or several field lines, or if the line is no date.
 pub fn only_date<I: Iterator>(values: &mut I) -> Option<Date1>
 where
     I::Item: AsHeaderValue,
@@ -94,7 +99,7 @@ where
     Date1::from_val(just_one(values)?.as_header_value())
 }
 
-/// A second from 1970 to 9999 is written as a line that reads as that second.
+/// Theorem: a time from 1970 to 9999 is encoded as a field line that parses as that time.
 pub fn date_reads_back(seconds: u64)
     requires { IsDated seconds }
     ensures { date (fixdate seconds) ≡ Some seconds }
@@ -104,7 +109,7 @@ pub fn date_reads_back(seconds: u64)
     };
 }
 
-/// What dates are, by the calendar alone: which lines show a second, and how a date is printed.
+/// Theorem: which field lines show a time, and how a date is printed, by the calendar alone.
 pub fn dates_by_the_calendar()
     ensures read { (line : Line) (secs : ℕ) → (date line ≡ Some secs) ↔ ShowsDate line secs }
     ensures bound { (line : Line) (secs : ℕ) → date line ≡ Some secs → IsDated secs }

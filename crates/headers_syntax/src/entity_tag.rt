@@ -8,9 +8,9 @@ use http_header::HeaderValue;
 use std::alloc::{AllocError, Global};
 use std::marker::Model;
 
-/// An entity tag whose bytes are borrowed (RFC 9110, section 8.8.3).
+/// A parsed entity tag that borrows its bytes (RFC 9110, section 8.8.3).
 ///
-/// A contract sees whether it is weak, and its opaque part.
+/// A contract sees whether the tag is weak, and its opaque part.
 #[derive(Debug, Drop)]
 pub struct EntityTagRef<'a> {
     is_weak: bool,
@@ -56,8 +56,9 @@ fn shaped(bytes: &[u8]) -> Option<EntityTagRef<'_>>
 
 #[tactic(auto, using(crate::proofs::EntityTagLemmas::passes_from_text))]
 impl<'a> EntityTagRef<'a> {
-    /// Reads all of the bytes as an entity tag: `W/` if it is weak, then the opaque part in quotes,
-    /// of the bytes 0x21, 0x23 to 0x7E and 0x80 to 0xFF. `None` if they are no entity tag.
+    /// Parses all of the bytes as an entity tag (RFC 9110, section 8.8.3). A tag is `W/` if it is
+    /// weak, then the opaque part in quotes. The opaque part has only the bytes 0x21, 0x23 to 0x7E
+    /// and 0x80 to 0xFF. `None` for any other bytes.
     pub fn parse(bytes: &'a [u8]) -> Option<EntityTagRef<'a>>
         ensures { FindsTag bytes.now result }
     {
@@ -69,28 +70,29 @@ impl<'a> EntityTagRef<'a> {
         }
     }
 
-    /// The opaque part, without its quotes.
+    /// Returns the opaque part of the tag, without its quotes.
     pub fn tag(&self) -> &'a [u8]
         ensures { result.now ≡ self.now.opaque }
     {
         self.opaque
     }
 
-    /// Whether `W/` stands before the first quote.
+    /// Returns whether the tag is weak, so whether it begins with `W/`.
     pub fn is_weak(&self) -> bool
         ensures { result ≡ self.now.is_weak }
     {
         self.is_weak
     }
 
-    /// Whether neither tag is weak and their opaque parts are equal (RFC 9110, section 8.8.3.2).
+    /// Compares two entity tags strongly: neither is weak, and their opaque parts are equal (RFC
+    /// 9110, section 8.8.3.2).
     pub fn strong_eq(&self, other: &EntityTagRef<'_>) -> bool
         ensures { IsTrue result ↔ StronglyEqual self.now other.now }
     {
         !self.is_weak && !other.is_weak && self.opaque == other.opaque
     }
 
-    /// Whether the opaque parts are equal (RFC 9110, section 8.8.3.2).
+    /// Compares two entity tags weakly: their opaque parts are equal (RFC 9110, section 8.8.3.2).
     pub fn weak_eq(&self, other: &EntityTagRef<'_>) -> bool
         ensures { IsTrue result ↔ WeaklyEqual self.now other.now }
     {
@@ -98,9 +100,9 @@ impl<'a> EntityTagRef<'a> {
     }
 }
 
-/// A header value that is an entity tag.
+/// A header value that is an entity tag (RFC 9110, section 8.8.3).
 ///
-/// A contract sees the value.
+/// A contract sees the header value.
 #[derive(Debug, Drop, PartialEq, Eq)]
 pub struct EntityTag {
     value: HeaderValue,
@@ -128,7 +130,8 @@ fn is_tag(bytes: &[u8]) -> bool
 
 #[tactic(auto, using(crate::proofs::EntityTagLemmas::is_tag_iff))]
 impl EntityTag {
-    /// A copy of the value if it is an entity tag.
+    /// Parses a field line as an entity tag, and copies it. `Ok(None)` if it is no entity tag.
+    /// Fails only if an allocation fails.
     pub fn from_val(_alloc: Global, value: &HeaderValue) -> Result<Option<EntityTag>, AllocError>
         ensures { IfOk result (λ found. found ≡ (if is_tag value.now.bytes then Some value.now else None)) }
     {
@@ -141,7 +144,8 @@ impl EntityTag {
         }
     }
 
-    /// The value if it is an entity tag.
+    /// Makes an entity tag of a header value without copying it. `None` if the value is no entity
+    /// tag.
     pub fn from_owned(value: HeaderValue) -> Option<EntityTag>
         ensures { result ≡ (if is_tag value.bytes then Some value else None) }
     {
@@ -152,7 +156,7 @@ impl EntityTag {
         }
     }
 
-    /// The tag in parts.
+    /// Returns the parts of the entity tag: whether it is weak, and its opaque part.
     pub fn view(&self) -> EntityTagRef<'_>
         ensures { IsTag self.now.bytes result }
     {
@@ -160,7 +164,7 @@ impl EntityTag {
         shaped(self.value.as_bytes()).unwrap()
     }
 
-    /// Whether the bytes are an entity tag that is strongly equal to this one.
+    /// Compares bytes with this tag: true if they are an entity tag that is strongly equal to it.
     pub fn strong_eq_bytes(&self, bytes: &[u8]) -> bool
         ensures { IsTrue result ↔ AreTags StronglyEqual bytes.now self.now.bytes }
     {
@@ -168,14 +172,14 @@ impl EntityTag {
         bytes == self.value.as_bytes() && !self.view().is_weak()
     }
 
-    /// Whether the two are strongly equal.
+    /// Compares two entity tags strongly: neither is weak, and their opaque parts are equal.
     pub fn strong_eq(&self, other: &EntityTag) -> bool
         ensures { IsTrue result ↔ AreTags StronglyEqual self.now.bytes other.now.bytes }
     {
         other.strong_eq_bytes(self.value.as_bytes())
     }
 
-    /// Whether the bytes are an entity tag that is weakly equal to this one.
+    /// Compares bytes with this tag: true if they are an entity tag that is weakly equal to it.
     pub fn weak_eq_bytes(&self, bytes: &[u8]) -> bool
         ensures { IsTrue result ↔ AreTags WeaklyEqual bytes.now self.now.bytes }
     {
@@ -186,14 +190,14 @@ impl EntityTag {
         }
     }
 
-    /// The value itself.
+    /// Returns the header value of the entity tag, without copying it.
     pub fn into_value(self) -> HeaderValue
         ensures { result ≡ self }
     {
         self.value
     }
 
-    /// A copy of the tag.
+    /// Copies the entity tag. Fails only if an allocation fails.
     pub fn clone(&self, _alloc: Global) -> Result<EntityTag, AllocError>
         ensures { IfOk result (λ tag. tag ≡ self.now) }
     {
@@ -203,20 +207,22 @@ impl EntityTag {
     }
 }
 
-/// The parts of a tag are fixed by its bytes, and the test for a tag is whether it has parts.
+/// Theorem: the bytes of an entity tag determine its parts, and the test accepts exactly the bytes
+/// that have parts.
 #[tactic(auto, using(crate::proofs::EntityTagLemmas::is_tag_iff))]
 pub fn tag_has_parts_once()
     ensures once { (bytes : List ℕ) (s t : TagParts) → IsTag bytes s → IsTag bytes t → s ≡ t }
     ensures test { (bytes : List ℕ) → IsTrue (is_tag bytes) ↔ IsSomeTag bytes }
 {}
 
-/// Tags are strongly equal exactly if neither is weak and their bytes are equal.
+/// Theorem: two entity tags are strongly equal exactly if neither is weak and their bytes are
+/// equal.
 pub fn strong_eq_by_bytes()
     ensures { (a b : List ℕ) (s t : TagParts) → IsTag a s → IsTag b t
         → (StronglyEqual s t ↔ ((s.is_weak ≡ false) × (t.is_weak ≡ false) × (a ≡ b))) }
 {}
 
-/// Weak equality is an equivalence.
+/// Theorem: weak equality of entity tags is an equivalence.
 pub fn weak_eq_is_equivalence()
     ensures reflexive { (s : TagParts) → WeaklyEqual s s }
     ensures symmetric { (s t : TagParts) → WeaklyEqual s t → WeaklyEqual t s }

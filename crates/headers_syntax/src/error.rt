@@ -1,17 +1,17 @@
-//! Why a header could not be read.
+//! Why a header could not be decoded.
 ghost use Rattle.std.specs.Prelude.{Some, codes};
 
 use std::alloc::{AllocError, AllocFailed};
 use std::fmt;
 
-/// The lines of a field are not a value of its header.
+/// The error of field lines that don't encode a value of the header.
 #[derive(Clone, Copy, Debug, PartialEq, Eq)]
 pub struct Error {
     _priv: (),
 }
 
 impl Error {
-    /// The one value of the error.
+    /// Makes the error, which has one value only.
     pub fn invalid() -> Error {
         Error { _priv: () }
     }
@@ -29,12 +29,12 @@ impl fmt::Display for Error {
 
 impl std::error::Error for Error {}
 
-/// Why a call that takes memory gave no value.
+/// Why a call that allocates returned no value: invalid input, or out of memory.
 #[derive(Clone, Copy, Debug, PartialEq, Eq)]
 pub enum Refused<E> {
-    /// There is no such value.
+    /// The input is invalid. This error says why.
     Invalid(E),
-    /// The allocator had no memory.
+    /// Out of memory: an allocation failed.
     Memory(AllocError),
 }
 

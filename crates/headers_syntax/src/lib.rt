@@ -1,4 +1,4 @@
-//! From the bytes of a header field to its parts: lines, texts, numbers, dates, entity tags.
+//! Parsers for the parts of header fields: field lines, text, numbers, dates and entity tags.
 #![tactic(auto)]
 
 mod ascii_case;

@@ -1,4 +1,4 @@
-//! Readers of one line, and how a kept line is written.
+//! Parsers for one field line, and a copy of a field line.
 ghost use Rattle.std.specs.Prelude.{◌≡◌, [], ◌∷◌, ◌++◌, Some, None, IfSome, OnOk, OnErr};
 ghost use Rattle.std.specs.Prelude.{option_map, if◌then◌else◌};
 ghost use Rattle.std.specs.Iterator.{YieldsThen};
@@ -11,7 +11,7 @@ use crate::item::AsHeaderValue;
 use http_header::HeaderValue;
 use std::alloc::AllocError;
 
-/// The first value. The iterator is asked once.
+/// Takes the first field line. `None` if there is none. The iterator is called once.
 pub fn first<I: Iterator>(values: &mut I) -> Option<I::Item>
 where
     I::Item: AsHeaderValue,
@@ -23,7 +23,7 @@ where
     values.next()
 }
 
-/// The only value. `None` if there are none or several.
+/// Takes the field line of a field that has exactly one. `None` if there are no or several lines.
 pub fn just_one<I: Iterator>(values: &mut I) -> Option<I::Item>
 where
     I::Item: AsHeaderValue,
@@ -47,7 +47,7 @@ fn is_word(value: &HeaderValue, word: &str) -> bool
     value.as_bytes() == word.as_bytes()
 }
 
-/// Whether the first value is the word, byte for byte.
+/// Returns whether the first field line is the word, byte for byte.
 pub fn first_word<I: Iterator>(values: &mut I, word: &str) -> bool
 where
     I::Item: AsHeaderValue,
@@ -62,7 +62,7 @@ where
     }
 }
 
-/// Whether there is exactly one value, and it is the word, byte for byte.
+/// Returns whether there is exactly one field line, and it is the word, byte for byte.
 pub fn only_word<I: Iterator>(values: &mut I, word: &str) -> bool
 where
     I::Item: AsHeaderValue,
@@ -77,7 +77,7 @@ where
     }
 }
 
-/// Appends a copy of a value, or leaves the list as it was.
+/// Appends a copy of a header value to the list. If an allocation fails, the list is unchanged.
 pub fn push_clone(values: &mut Vec<HeaderValue>, value: &HeaderValue) -> Result<(), AllocError>
     ensures ok { OnOk result (values.new.items ≡ values.old.items ++ value.now ∷ []) }
     ensures err { OnErr result (values.new.items ≡ values.old.items) }

@@ -1,4 +1,4 @@
-//! The reader of numbers.
+//! The parser of numbers.
 ghost use Rattle.std.specs.Prelude.{◌≡◌, ◌<◌, ◌≤◌, ◌^◌, ℕ, Some, None, decimal, length, if◌then◌else◌};
 ghost use Rattle.std.specs.Str.{all_ascii_digits};
 ghost use Rattle.headers_syntax.specs.Number.{after_plus, decimal_value, is_numeral, number};
@@ -46,7 +46,8 @@ fn short_number(digits: &[u8]) -> Option<u64>
     digits_value(digits)
 }
 
-/// The number in the value, below 2^64: an optional plus and decimal digits.
+/// Parses a field line as a number below 2^64: an optional plus sign and decimal digits. `None` for
+/// any other value.
 pub fn read_number(value: &HeaderValue) -> Option<u64>
     ensures { result ≡ number value.now.bytes }
 {
@@ -60,7 +61,8 @@ pub fn read_number(value: &HeaderValue) -> Option<u64>
     }
 }
 
-/// The number in a text, as `read_number` reads it.
+/// Parses a text as a number below 2^64: an optional plus sign and decimal digits. `None` for any
+/// other text.
 pub fn parse_number(text: &str) -> Option<u64>
     ensures { result ≡ number text.now }
 {
@@ -71,7 +73,7 @@ pub fn parse_number(text: &str) -> Option<u64>
     text.parse::<u64>().ok()
 }
 
-/// A number below 2^64 is written as a line that reads as that number.
+/// Theorem: a number below 2^64 is encoded as a field line that parses as that number.
 pub fn numbers_read_back()
     ensures { (n : ℕ) → n < 2 ^ 64 → number (decimal n) ≡ Some n }
 {}

@@ -1,4 +1,4 @@
-//! Whole seconds, as header fields count them.
+//! Whole seconds, the unit of time in header fields.
 ghost use Rattle.std.specs.Prelude.{◌≡◌, IfOk, decimal};
 ghost use Rattle.std.specs.Option.{option_and_then};
 ghost use Rattle.http_header.specs.FieldValue.{plain_value};
@@ -15,7 +15,7 @@ use std::alloc::{AllocError, Global};
 use std::marker::Model;
 use std::time::Duration;
 
-/// A number of seconds below 2^64 (RFC 9111, section 1.2.2).
+/// A time span in whole seconds, below 2^64 (RFC 9111, section 1.2.2).
 #[derive(Clone, Copy, Debug, PartialEq, Eq, PartialOrd, Ord, Hash)]
 pub struct Seconds {
     seconds: u64,
@@ -32,8 +32,8 @@ impl Model for Seconds {
 }
 
 impl Seconds {
-    /// The number in the value, below 2^64: an optional plus and decimal digits. Nothing is
-    /// trimmed.
+    /// Parses a field line as a number of seconds below 2^64: an optional plus sign and decimal
+    /// digits. `None` for any other value, also for one with blanks around it.
     pub fn from_val(value: &HeaderValue) -> Option<Seconds>
         ensures { result ≡ number value.now.bytes }
     {
@@ -42,14 +42,14 @@ impl Seconds {
         })
     }
 
-    /// This many seconds.
+    /// Makes a time span of this many seconds.
     pub fn from_secs(seconds: u64) -> Seconds
         ensures { result ≡ seconds }
     {
         Seconds { seconds }
     }
 
-    /// The seconds of a duration of whole seconds.
+    /// Converts a duration to seconds. The caller must show that it has no part of a second.
     pub fn from_duration(duration: Duration) -> Seconds
         requires { IsWholeSeconds duration }
         ensures { LastsSeconds duration result }
@@ -59,14 +59,15 @@ impl Seconds {
         }
     }
 
-    /// The number of seconds.
+    /// Returns the number of seconds.
     pub fn as_u64(&self) -> u64
         ensures { result ≡ self.now }
     {
         self.seconds
     }
 
-    /// The number in decimal.
+    /// Encodes the number of seconds as a field line, in decimal digits. Fails only if an
+    /// allocation fails.
     pub fn to_value(&self, alloc: Global) -> Result<HeaderValue, AllocError>
         ensures { IfOk result (λ value. value ≡ plain_value (decimal self.now)) }
     {
@@ -82,7 +83,8 @@ impl From<Seconds> for Duration {
     }
 }
 
-/// The seconds in the only line. `None` if there are none or several lines, or if it is no number.
+/// Parses a field that has exactly one field line as a number of seconds. `None` if there are no or
+/// several field lines, or if the line is no number.
 pub fn only_seconds<I: Iterator>(values: &mut I) -> Option<Seconds>
 where
     I::Item: AsHeaderValue,

@@ -1,4 +1,4 @@
-//! Header values as text, and texts trimmed of blanks and of quotes.
+//! Header values as text, and text without blanks or quotes at its ends.
 ghost use Rattle.std.specs.Prelude.{◌≡◌, true, false, MatchOption};
 ghost use Rattle.std.specs.Option.{option_copied};
 ghost use Rattle.headers_syntax.specs.Text.{is_text};
@@ -11,8 +11,8 @@ const BLANKS: [char; 2] = ['\t', ' '];
 
 const QUOTES: [char; 1] = ['"'];
 
-/// The value as text: visible ASCII, spaces and tabs (RFC 9110, section 5.5). `None` if it has
-/// another byte.
+/// Returns the header value as text: visible ASCII, spaces and tabs (RFC 9110, section 5.5). `None`
+/// if it has any other byte.
 pub fn read_text(value: &HeaderValue) -> Option<&str>
     ensures value { option_copied result ≡ text_line value.now.bytes }
     ensures cases { MatchOption result (is_text value.now.bytes ≡ false)
@@ -24,14 +24,14 @@ pub fn read_text(value: &HeaderValue) -> Option<&str>
     }
 }
 
-/// The text without leading and trailing spaces and tabs (RFC 9110, section 5.6.3).
+/// Removes leading and trailing spaces and tabs from a text (RFC 9110, section 5.6.3).
 pub fn trim_text(text: &str) -> &str
     ensures { result.now ≡ trim text.now }
 {
     text.trim_start_matches(BLANKS).trim_end_matches(BLANKS)
 }
 
-/// The text without leading and trailing quotes, paired or not.
+/// Removes all leading and trailing quotes from a text, paired or not.
 pub fn unquoted(text: &str) -> &str
     ensures { result.now ≡ without_quotes text.now }
 {

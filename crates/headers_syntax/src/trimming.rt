@@ -1,4 +1,4 @@
-//! Spaces and tabs at the ends of a piece.
+//! Removal of spaces and tabs at the ends of a slice.
 ghost use Rattle.std.specs.Prelude.{◌≡◌, ◌-◌, ◌≤◌, length};
 ghost use Rattle.std.specs.List.{prefix_len, suffix_len, slice_range};
 ghost use Rattle.headers_syntax.specs.Text.{is_blank, trim, trim_start};
@@ -34,8 +34,8 @@ fn without_trailing(bytes: &[u8]) -> usize
     end
 }
 
-/// The bounds of the piece from `start` up to `end`, once its leading and trailing spaces and tabs
-/// are cut off.
+/// Returns the bounds of a slice without its leading and trailing spaces and tabs. The slice is
+/// `bytes[start..end]`.
 pub fn trimmed(bytes: &[u8], start: usize, end: usize) -> (usize, usize)
     requires order { start ≤ end }
     requires within { end ≤ length bytes.now }
@@ -49,14 +49,14 @@ pub fn trimmed(bytes: &[u8], start: usize, end: usize) -> (usize, usize)
     (start + low, start + low + without_trailing(rest))
 }
 
-/// The bytes without leading spaces and tabs.
+/// Removes leading spaces and tabs from a slice.
 pub fn trim_start(bytes: &[u8]) -> &[u8]
     ensures { result.now ≡ trim_start bytes.now }
 {
     &bytes[leading(bytes)..]
 }
 
-/// The bytes without leading and trailing spaces and tabs (RFC 9110, section 5.6.3).
+/// Removes leading and trailing spaces and tabs from a slice (RFC 9110, section 5.6.3).
 pub fn trim(bytes: &[u8]) -> &[u8]
     ensures { result.now ≡ trim bytes.now }
 {

@@ -11,7 +11,7 @@ use std::alloc::{AllocError, Global};
 use std::marker::Model;
 use std::str;
 
-/// A header value whose bytes are UTF-8. Equality, order and hash go by the bytes.
+/// A header value whose bytes are UTF-8. It is compared, ordered and hashed by its bytes.
 #[derive(Debug, Drop, PartialEq, Eq, PartialOrd, Ord, Hash)]
 pub struct HeaderValueString {
     value: HeaderValue,
@@ -33,7 +33,8 @@ impl Model for HeaderValueString {
 }
 
 impl HeaderValueString {
-    /// A copy of the value if it is text: visible ASCII, spaces and tabs (RFC 9110, section 5.5).
+    /// Copies a header value that is text: visible ASCII, spaces and tabs (RFC 9110, section 5.5).
+    /// `Invalid` if it has any other byte, `Memory` if an allocation fails.
     pub fn from_val(
         _alloc: Global,
         value: &HeaderValue,
@@ -50,7 +51,9 @@ impl HeaderValueString {
         })
     }
 
-    /// A copy of the text, which may hold all that a header value may, also characters past ASCII.
+    /// Makes a header value of a copy of the text, which may have characters outside ASCII.
+    /// `Invalid` if the text has a byte that no header value may have, `Memory` if an allocation
+    /// fails.
     pub fn from_str(alloc: Global, text: &str) -> Result<HeaderValueString, Refused<Error>>
         ensures ok { IfOk result (λ copy. copy ≡ plain_value text.now) }
         ensures valid { IfOk result (λ _. IsFieldValue text.now) }
@@ -63,7 +66,8 @@ impl HeaderValueString {
         }
     }
 
-    /// The static text, not copied. It must be visible ASCII, spaces and tabs.
+    /// Makes a header value of a static text, without copying it. The caller must show that the
+    /// text is visible ASCII, spaces and tabs.
     pub fn from_static(text: &'static str) -> HeaderValueString
         requires { IsTrue (is_text text.now) }
         ensures { result ≡ plain_value text.now }
@@ -73,7 +77,7 @@ impl HeaderValueString {
         }
     }
 
-    /// The text.
+    /// Returns the header value as text.
     pub fn as_str(&self) -> &str
         ensures { result.now ≡ self.now.bytes }
     {
@@ -81,7 +85,7 @@ impl HeaderValueString {
         unsafe { str::from_utf8_unchecked(self.value.as_bytes()) }
     }
 
-    /// The header value, whose bytes are those of the text.
+    /// Returns the header value, whose bytes are those of the text.
     pub fn as_value(&self) -> &HeaderValue
         ensures value { result.now ≡ self.now }
         ensures utf8 { IsUtf8 result.now.bytes }
@@ -89,7 +93,8 @@ impl HeaderValueString {
         &self.value
     }
 
-    /// A copy of the text, sensitive exactly if the original is.
+    /// Copies the header value. The copy is sensitive exactly if the original is. Fails only if an
+    /// allocation fails.
     pub fn clone(&self, _alloc: Global) -> Result<HeaderValueString, AllocError>
         ensures { IfOk result (λ copy. copy ≡ self.now) }
     {

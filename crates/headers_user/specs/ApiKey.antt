@@ -1,4 +1,4 @@
--- Credentials of the scheme `ApiKey`: a key stands after the scheme and one space.
+-- Credentials of the scheme `ApiKey`: the scheme, one space and a key.
 use Rattle.std.specs.Prelude.{◌≡◌, ℕ, Bool, ◌&&◌, ◌||◌, ◌==◌, List, ◌++◌, drop, length, nat_lt, codes, IsTrue}
 use Rattle.std.specs.Char.{is_ascii_alphanumeric}
 use Rattle.std.specs.List.{list_all}
@@ -23,6 +23,6 @@ ReadsApiKey line key = IsTrue (is_key key) × (drop 7 line ≡ key)
 abbrev pub api_key_writes : List ℕ → Line
 api_key_writes key = codes "ApiKey " ++ key
 
--- the lines of `authorization` carry the key
+-- the lines of `authorization` encode the key
 abbrev pub CarryKey : List Line → List ℕ → Type 0
 CarryKey = FirstReads api_key_scheme ReadsApiKey

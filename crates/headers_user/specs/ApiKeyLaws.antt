@@ -1,4 +1,4 @@
--- Credentials of the scheme `ApiKey` are lawful.
+-- The laws of credentials of the scheme `ApiKey`.
 use Rattle.std.specs.Prelude.{◌≡◌, refl}
 use Rattle.std.proofs.Common.{sym, ◌∙◌, ap, subst, arith}
 use Rattle.headers.specs.CredentialLaws.{CredentialLaws}

@@ -14,7 +14,7 @@ use Rattle.headers_user.specs.declared.forwarding.Forwarded.TheVariants.{Stop, P
 abbrev pub hop_lines : LineMap → List Line
 hop_lines map = map (codes "max-forwards")
 
--- there are lines, and they read no number of hops
+-- there are lines, and they encode no number of hops
 abbrev pub HasBadHops : LineMap → Type 0
 HasBadHops map = HasLine (hop_lines map) × ((hops : Option ℕ) → ¬ (max_forwards_reads (hop_lines map) hops))
 
@@ -34,7 +34,7 @@ Runs old new steps = (name : List ℕ) → new name ≡ run old steps name
 abbrev pub without_credentials : Step
 without_credentials = Remove (codes "proxy-authorization")
 
--- the hops that are left are put under their name, and the proxy's credentials are removed
+-- the hops that are left are put for the field, and the credentials for this proxy are removed
 pub record RunsPass (old new : LineMap) (left : ℕ) : Type 0 where
   pub header : Encoded
   pub named : header.name ≡ codes "max-forwards"

@@ -1,4 +1,4 @@
-//! Keys as credentials.
+//! Credentials that are a key.
 ghost use Rattle.std.specs.Prelude.{◌≡◌, codes};
 ghost use Rattle.std.specs.List.{list_all};
 ghost use Rattle.headers.specs.LineMap.{lines_at};
@@ -12,8 +12,8 @@ use std::alloc::{AllocError, Global};
 use std::marker::Model;
 use std::str;
 
-/// A key: after the scheme `ApiKey`, in any case, and one space, one or more letters, digits, `-`
-/// or `_`, and nothing else.
+/// Credentials of the scheme `ApiKey`: a key of letters, digits, `-` and `_`. A field line is the
+/// scheme, in any case, one space, and at least one such character.
 #[derive(Drop)]
 pub struct ApiKey {
     text: String,
@@ -31,7 +31,7 @@ impl Model for ApiKey {
 }
 
 impl ApiKey {
-    /// The key, as it came.
+    /// Returns the key, as in the field line.
     pub fn key(&self) -> &str
         ensures { result.now ≡ self.now }
     {
@@ -101,8 +101,8 @@ impl Credentials for ApiKey {
     }
 }
 
-/// The key that the lines of `authorization` carry. `Ok(None)` if there is no line, `Invalid` if
-/// they carry no key.
+/// Returns the key in the header `authorization` of a map: `Ok(None)` if there is no line.
+/// `Invalid` if the lines encode no key, `Memory` if an allocation fails.
 pub fn key_of(alloc: Global, map: &HeaderMap) -> Result<Option<ApiKey>, Refused<Error>>
     ensures { IsTypedRead CarryKey (lines_at map.now (codes "authorization")) result }
 {

@@ -1,4 +1,4 @@
-//! How a proxy passes the headers of a request on.
+//! A proxy's step: the fields of a request that it forwards.
 ghost use Rattle.std.specs.Prelude.{◌↔◌, Some, codes, IfOk, OnErr, IsErrOf};
 ghost use Rattle.headers.specs.LineMap.{lines_at};
 ghost use Rattle.headers_user.specs.Forward.{HasBadHops, HasHops, SameLines, IsForwarded};
@@ -10,23 +10,23 @@ use std::alloc::{AllocError, AllocFailed, Global};
 use std::error::Error;
 use std::fmt;
 
-/// What becomes of a request.
+/// Whether a proxy forwards a request.
 #[derive(Clone, Copy, Debug, PartialEq, Eq)]
 pub enum Forwarded {
-    /// It has no hop left, and is for this proxy.
+    /// The request has no hop left: this proxy is its final recipient.
     Stop,
-    /// It is passed on, with this many hops.
+    /// The request is forwarded, with this many hops left.
     Passed(u64),
-    /// It is passed on without a limit.
+    /// The request is forwarded, with no limit of hops.
     Unlimited,
 }
 
-/// Why a request isn't passed on.
+/// Why a request isn't forwarded.
 #[derive(Clone, Copy, Debug, PartialEq, Eq)]
 pub enum ForwardError {
-    /// The lines of `max-forwards` read no number.
+    /// The lines of `max-forwards` encode no number.
     BadHops,
-    /// The allocator had no memory.
+    /// Out of memory: an allocation failed.
     Memory,
 }
 
@@ -81,8 +81,10 @@ impl From<ApplyError> for ForwardError {
     }
 }
 
-/// Passes the headers of a request on: counts a hop of `max-forwards`, and removes the credentials
-/// that were meant for this proxy. If it refuses, the map has the lines that it had.
+/// Changes the fields of a request for the next hop (RFC 9110, sections 7.6.2 and 11.7.2). It
+/// counts a hop of `max-forwards`, and removes the credentials for this proxy. `BadHops` if the
+/// lines of `max-forwards` encode no number, `Memory` if an allocation fails; the map is then
+/// unchanged.
 pub fn forward(alloc: Global, map: &mut HeaderMap) -> Result<Forwarded, ForwardError>
     ensures ok { IfOk result (IsForwarded (lines_at map.old) (lines_at map.new)) }
     ensures bad { IsErrOf result ForwardError.BadHops ↔ HasBadHops (lines_at map.old) }

@@ -1,4 +1,4 @@
-//! A header and credentials of a user's own, and a proxy's step that uses them.
+//! An example of a header and of credentials of one's own, and a proxy's step that uses them.
 #![tactic(auto)]
 
 mod api_key;

@@ -6,8 +6,9 @@ use http_header::MAX_FORWARDS;
 use std::alloc::{AllocError, Global};
 use std::marker::Model;
 
-/// How often a request may still be forwarded: the only line, a number below 2^64; anything else is
-/// refused (RFC 9110, section 7.6.2). Equality goes by the number.
+/// The header `Max-Forwards`: how often a request may still be forwarded (RFC 9110, section 7.6.2).
+/// The only field line is decoded, a number below 2^64. `decode` rejects any other value, and no or
+/// several lines, and never allocates. Headers are compared by the number.
 #[derive(Clone, Copy, Debug, PartialEq, Eq)]
 pub struct MaxForwards {
     limit: Option<u64>,
@@ -24,21 +25,21 @@ impl Model for MaxForwards {
 }
 
 impl MaxForwards {
-    /// This many hops.
+    /// Makes a header of this many hops.
     pub fn new(hops: u64) -> MaxForwards
         ensures { result ≡ Some hops }
     {
         MaxForwards { limit: Some(hops) }
     }
 
-    /// No limit. No line is written of it.
+    /// Makes a header without a limit, which is encoded as no field line.
     pub fn none() -> MaxForwards
         ensures { result ≡ None }
     {
         MaxForwards { limit: None }
     }
 
-    /// The number of hops, or `None` if there is no limit.
+    /// Returns the number of hops, or `None` if there is no limit.
     pub fn hops(&self) -> Option<u64>
         ensures { result ≡ self.now }
     {

@@ -1,4 +1,4 @@
-//! The headers of one value, by subject in the crates that this one passes on.
+//! Exports of the headers that are one value.
 #![tactic(auto)]
 
 pub use headers_caching::{Age, Expires, Pragma};

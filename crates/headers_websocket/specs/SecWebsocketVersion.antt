@@ -1,4 +1,4 @@
--- The header `sec-websocket-version`: its first line is `13`.
+-- The header `sec-websocket-version`: its first field line is `13`.
 use Rattle.std.specs.Prelude.{codes}
 use Rattle.headers_syntax.specs.Lines.{Line}
 use Rattle.headers_syntax.specs.HeaderLaws.{Grammar}

@@ -1,4 +1,4 @@
-//! Headers of the websocket handshake (RFC 6455, section 11.3).
+//! Headers of the WebSocket handshake (RFC 6455, section 11.3).
 #![tactic(auto)]
 
 mod sec_websocket_accept;

@@ -12,8 +12,9 @@ use sha1::Sha1;
 use std::alloc::{AllocError, Global};
 use std::marker::Model;
 
-/// The proof that a server accepts a client's handshake: the first line, whatever it is, as it came
-/// (RFC 6455, section 11.3.3). Equality and hash go by the bytes.
+/// The header `Sec-WebSocket-Accept`: the proof that a server accepts a client's handshake (RFC
+/// 6455, section 11.3.3). The first field line is stored, whatever it is. `decode` rejects only a
+/// field without a line, and may run out of memory. Headers are compared and hashed by their bytes.
 #[derive(Debug, Drop, PartialEq, Eq, Hash)]
 pub struct SecWebsocketAccept {
     value: HeaderValue,
@@ -30,8 +31,9 @@ impl Model for SecWebsocketAccept {
 }
 
 impl SecWebsocketAccept {
-    /// What a server answers to a key: the base64 of the SHA-1 digest of the key's bytes, as they
-    /// came, followed by the protocol's GUID (RFC 6455, section 4.2.2).
+    /// Makes a server's answer to a key (RFC 6455, section 4.2.2). Fails only if an allocation
+    /// fails. It is the base64 of the SHA-1 digest of the key's bytes, followed by the protocol's
+    /// GUID.
     pub fn from_key(alloc: Global, key: &SecWebsocketKey) -> Result<SecWebsocketAccept, AllocError>
         ensures { IfOk result (λ accept. accept ≡ plain_value
             (base64 (sha1 (key.now.bytes ++ codes "258EAFA5-E914-47DA-95CA-C5AB0DC85B11")))) }
@@ -42,7 +44,8 @@ impl SecWebsocketAccept {
         Ok(SecWebsocketAccept::from_form(base64_value(alloc, "", &hasher.finalize())?))
     }
 
-    /// A copy of the value, sensitive exactly if the original is.
+    /// Copies the header. The copy is sensitive exactly if the original is. Fails only if an
+    /// allocation fails.
     pub fn clone(&self, _alloc: Global) -> Result<SecWebsocketAccept, AllocError>
         ensures { IfOk result (λ copy. copy ≡ self.now) }
     {

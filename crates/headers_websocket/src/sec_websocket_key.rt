@@ -9,8 +9,9 @@ use http_header::{HeaderName, HeaderValue, SEC_WEBSOCKET_KEY};
 use std::alloc::{AllocError, Global};
 use std::marker::Model;
 
-/// The nonce of a client's handshake: the first line, whatever it is, as it came (RFC 6455, section
-/// 11.3.1). Equality and hash go by the bytes.
+/// The header `Sec-WebSocket-Key`: the nonce of a client's handshake (RFC 6455, section 11.3.1).
+/// The first field line is stored, whatever it is. `decode` rejects only a field without a line,
+/// and may run out of memory. Headers are compared and hashed by their bytes.
 #[derive(Debug, Drop, PartialEq, Eq, Hash)]
 pub struct SecWebsocketKey {
     value: HeaderValue,
@@ -27,7 +28,8 @@ impl Model for SecWebsocketKey {
 }
 
 impl SecWebsocketKey {
-    /// The base64 of sixteen bytes. The value is sensitive.
+    /// Makes a key of the base64 of sixteen bytes, and marks it sensitive. Fails only if an
+    /// allocation fails.
     pub fn from_bytes16(alloc: Global, bytes: [u8; 16]) -> Result<SecWebsocketKey, AllocError>
         ensures { IfOk result (λ key. key ≡ record { bytes = base64 bytes; is_sensitive = true }) }
     {
@@ -36,7 +38,8 @@ impl SecWebsocketKey {
         Ok(SecWebsocketKey::from_form(value))
     }
 
-    /// A copy of the value, sensitive exactly if the original is.
+    /// Copies the header. The copy is sensitive exactly if the original is. Fails only if an
+    /// allocation fails.
     pub fn clone(&self, _alloc: Global) -> Result<SecWebsocketKey, AllocError>
         ensures { IfOk result (λ copy. copy ≡ self.now) }
     {

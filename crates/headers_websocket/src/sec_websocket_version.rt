@@ -4,15 +4,15 @@ use headers_core::{AsHeaderValue, Error, Header, Refused, first_word};
 use http_header::{HeaderName, HeaderValue, SEC_WEBSOCKET_VERSION};
 use std::alloc::{AllocError, Global};
 
-/// The version of the WebSocket protocol: the first line, which is `13`; anything else is refused
-/// (RFC 6455, section 11.3.5).
+/// The header `Sec-WebSocket-Version`: the version of the WebSocket protocol (RFC 6455, section
+/// 11.3.5). The first field line is `13`. `decode` rejects any other value, and never allocates.
 #[derive(Clone, Copy, Debug, PartialEq, Eq, Hash)]
 pub struct SecWebsocketVersion {
     _priv: (),
 }
 
 impl SecWebsocketVersion {
-    /// The version of RFC 6455.
+    /// Version 13, which is that of RFC 6455.
     pub const V13: SecWebsocketVersion = SecWebsocketVersion { _priv: () };
 }
 

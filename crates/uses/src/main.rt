@@ -1,5 +1,5 @@
-//! Keeps the headers of a stored response in a map: reads its age, and puts the age that it has a
-//! minute later in place of it.
+//! A first program: reads the age of a stored response from a map, and replaces it by the age a
+//! minute later.
 #![tactic(auto)]
 
 ghost use Rattle.std.specs.Prelude.{◌≡◌, IfOk};

@@ -1,4 +1,4 @@
-//! The only line, a date.
+//! Encoding shape: the only field line, which is a date.
 
 use crate::field_form::FieldForm;
 use headers_syntax::{AsHeaderValue, Date1, Error, Refused, only_date};

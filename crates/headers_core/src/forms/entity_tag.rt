@@ -1,4 +1,4 @@
-//! The only line, an entity tag.
+//! Encoding shape: the only field line, which is an entity tag.
 
 use crate::field_form::FieldForm;
 use headers_syntax::{AsHeaderValue, EntityTag, Error, Refused, just_one};

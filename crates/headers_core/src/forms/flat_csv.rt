@@ -1,4 +1,4 @@
-//! All lines, joined by the separator and a space.
+//! Encoding shape: all field lines, joined by the separator and a space.
 
 use crate::field_form::FieldForm;
 use headers_items::{FlatCsv, Separator};

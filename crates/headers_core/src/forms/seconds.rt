@@ -1,4 +1,4 @@
-//! The only line, a number.
+//! Encoding shape: the only field line, which is a number.
 
 use crate::field_form::FieldForm;
 use headers_syntax::{AsHeaderValue, Error, Refused, Seconds, only_seconds};

@@ -1,4 +1,4 @@
-//! The only line, which is text.
+//! Encoding shape: the only field line, which is text.
 
 use crate::field_form::FieldForm;
 use headers_syntax::{AsHeaderValue, Error, HeaderValueString, Refused, just_one, push_clone};

@@ -1,4 +1,4 @@
-//! The first line, whatever it is.
+//! Encoding shape: the first field line, whatever it is.
 
 use crate::field_form::FieldForm;
 use headers_syntax::{AsHeaderValue, Error, Refused, first, push_clone};
