@@ -1,4 +1,4 @@
--- Which targets the fields of a response name (RFC 9111, section 4.4).
+-- The targets in the fields of a response (RFC 9111, section 4.4).
 use Rattle.std.specs.Prelude.{◌≡◌, ℕ, List, [], ◌∷◌, ◌++◌, Option, Some, None, IsSome, Ok, MatchResult, codes}
 use Rattle.std.specs.Prelude.{option_to_list}
 use Rattle.url.specs.Origin.{origin_of}
@@ -19,21 +19,21 @@ pub record RefersTo (base : Parts) (line : Line) (url : Parts) : Type 0 where
   pub is_text : text_line line ≡ Some text
   pub resolved : parse_url (Some base) text ≡ Ok url
 
--- The target that the field line names, if it names one of the origin of the base: the URL that it refers to, without
--- its fragment (RFC 9110, section 7.1).
+-- The target in the field line, if it has one with the origin of the base: the URL that it refers to, without its
+-- fragment (RFC 9110, section 7.1).
 abbrev pub Names : Parts → Line → Option Parts → Type 0
 Names base line (Some target) =
     (url : Parts) × RefersTo base line url × IsSameOrigin base url × (target ≡ set_fragment url None)
 Names base line None = (url : Parts) → RefersTo base line url → ¬ (IsSameOrigin base url)
 
--- the targets that the field lines name, in their order
+-- the targets in the field lines, in order
 abbrev pub AreNamedBy : Parts → List Line → List Parts → Type 0
 AreNamedBy base [] targets = targets ≡ []
 AreNamedBy base (line ∷ lines) targets =
     (named : Option Parts) × (rest : List Parts) × Names base line named × AreNamedBy base lines rest
     × (targets ≡ option_to_list named ++ rest)
 
--- the targets that Location and Content-Location of a response name; none if the target of its request is no URL
+-- the targets in Location and Content-Location of a response; none if the target of its request is no URL
 abbrev pub AreNamed : List ℕ → LineMap → List Parts → Type 0
 AreNamed target response targets =
     MatchResult (parse_url None target)

@@ -1,5 +1,5 @@
-//! Which further targets a response invalidates that a cache has stored: those that its Location and
-//! Content-Location name (RFC 9111, section 4.4).
+//! The further targets that a response invalidates in a cache: those in its Location and
+//! Content-Location (RFC 9111, section 4.4).
 #![tactic(auto)]
 
 mod named;

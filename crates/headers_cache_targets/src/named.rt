@@ -1,4 +1,4 @@
-//! The targets that a response names.
+//! The targets in a response.
 ghost use Rattle.std.specs.Prelude.{◌≡◌, ◌++◌, List, option_to_list, IfErr, IfOk, MatchOption, OnOk, Ok, Some};
 ghost use Rattle.std.specs.Bool.{MatchBool};
 ghost use Rattle.headers.specs.LineMap.{lines_at};
@@ -95,16 +95,16 @@ fn append_named(
     Ok(())
 }
 
-/// The URLs that Location and Content-Location of a response name, if they have the origin of the
-/// target of its request: without their fragments, in the order of their field lines, those of Location
-/// first (RFC 9111, section 4.4; RFC 9110, sections 8.7 and 10.2.2). A reference is resolved against the
-/// target, by the URL Standard. A field line that is none names nothing, and none does if the target is
-/// no URL.
+/// Returns the URLs in Location and Content-Location of a response that have the origin of the
+/// request's target (RFC 9111, section 4.4; RFC 9110, sections 8.7 and 10.2.2). They have no
+/// fragments, and are in the order of the field lines, those of Location first. A reference is
+/// resolved against the target, by the URL Standard. A field line that is no reference is skipped;
+/// if the target is no URL, the list is empty.
 ///
 /// After a request that isn't safe and a response that is no error, a cache may remove what it has
 /// stored for them. It must not remove what it has for URLs of other origins.
 ///
-/// Fails only if it runs out of memory, or a URL is longer than 4 GB.
+/// Fails only if an allocation fails, or if a URL is longer than 4 GB.
 pub fn named_targets(
     alloc: Global,
     target: &str,

@@ -1,4 +1,4 @@
--- What is allowed of values.
+-- Which values are allowed.
 use Rattle.std.specs.Prelude.{◌≡◌, Contains, [], ⊤}
 use Rattle.headers.specs.Lines.{Line}
 use Rattle.headers_cors_policy.specs.declared.rules.Allowed.{Allowed}
@@ -41,7 +41,7 @@ ListsNoName Names.Any = ⊥
 ListsNoName Names.AnyAndAuthorization = ⊥
 ListsNoName (Names.Listed names) = names.items ≡ []
 
--- the same names, which leave out `authorization` if they are any
+-- the same names; if they are any, without `authorization`
 abbrev pub names_of : Allowed Line → AllowedNames
 names_of Any = Names.Any
 names_of (Listed names) = Names.Listed names

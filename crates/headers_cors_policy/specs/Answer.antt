@@ -1,4 +1,4 @@
--- What a policy answers a request.
+-- The answer of a policy to a request.
 use Rattle.std.specs.Prelude.{◌≡◌, ℕ, Bool, true, List, Option, is_some, codes}
 use Rattle.headers.specs.LineMap.{LineMap, fields_of}
 use Rattle.headers.specs.Lines.{Line}
@@ -9,13 +9,13 @@ use Rattle.headers_cors_policy.specs.declared.kind.CorsKind.{CorsKind}
 use Rattle.headers_cors_policy.specs.declared.kind.CorsKind.TheVariants.{Preflight, Plain, NoOrigin}
 use Rattle.headers_cors_policy.specs.declared.policy.CorsAnswer.{CorsAnswer}
 
--- a request without Origin is allowed; any other, if it is granted a line
+-- a request without Origin is allowed; any other, if a line of Access-Control-Allow-Origin is granted to it
 abbrev pub allows : CorsKind → Option Line → Bool
 allows NoOrigin line = true
 allows Preflight line = is_some line
 allows Plain line = is_some line
 
--- the answer to a request of this method and these fields, for a response with these
+-- the answer to a request of this method with these fields, for a response with these fields
 pub record IsAnswer (policy : Policy) (method : List ℕ) (request response : LineMap) (answer : CorsAnswer)
     : Type 0 where
   pub kind : IsKindOf method request answer.kind
@@ -23,7 +23,7 @@ pub record IsAnswer (policy : Policy) (method : List ℕ) (request response : Li
   pub fields : fields_of answer.fields.items
       ≡ fields_sent policy (is_preflight answer.kind) (request (codes "origin")) (response (codes "vary"))
 
--- answers that say the same, and set the same fields
+-- two answers with the same kind, permission and fields
 pub record AreSame (a b : CorsAnswer) : Type 0 where
   pub kind : a.kind ≡ b.kind
   pub allowed : a.is_allowed ≡ b.is_allowed

@@ -1,4 +1,4 @@
--- The browser (Fetch standard): which responses it hands on, by their lines.
+-- The browser (Fetch standard): which responses it gives to scripts, by their field lines.
 use Rattle.std.specs.Prelude.{◌≡◌, ◌≢◌, ◌⊎◌, ◌≤◌, ℕ, Bool, List, [], ◌∷◌, Option, Some, None, Contains, IsTrue, codes}
 use Rattle.std.specs.Prelude.{IsSomeAnd, if◌then◌else◌, map}
 use Rattle.std.specs.List.{list_all}
@@ -14,7 +14,7 @@ abbrev pub star : Line
 star = codes "*"
 
 -- A cross-origin request: its origin, serialized; whether its credentials mode is "include"; its method; its unsafe
--- names, those of header fields that aren't safelisted, in any case; and whether it is sent after a preflight whatever
+-- names, those of header fields that aren't safelisted, in any case; and whether a preflight is sent before it whatever
 -- its method and names are.
 pub record Request : Type 0 where
   pub origin : Line
@@ -86,7 +86,7 @@ GrantsName request listed name =
 abbrev pub IsOkStatus : ℕ → Type 0
 IsOkStatus status = (200 ≤ status) × (status ≤ 299)
 
--- the preflight's response lets the request be sent ("CORS-preflight fetch")
+-- after this response to the preflight, the browser sends the request ("CORS-preflight fetch")
 pub record PreflightPasses (status : ℕ) (response : LineMap) (request : Request) : Type 0 where
   pub check : CorsCheck response request
   pub ok : IsOkStatus status

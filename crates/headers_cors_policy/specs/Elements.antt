@@ -5,13 +5,13 @@ use Rattle.headers.specs.Lines.{Line}
 use Rattle.headers.specs.Places.{comma}
 use Rattle.headers.specs.Text.{trim}
 
--- what stands between the commas of a value
+-- what is between the commas of a value
 abbrev pub pieces : Line → List Line
 pieces value = slice_split (λ b. b == comma) value
 
 abbrev pub is_filled : Line → Bool
 is_filled piece = nat_lt 0 (length piece)
 
--- the pieces without the white space round them, but for empty ones, which are ignored (RFC 9110, section 5.6.1.2)
+-- the pieces without the white space around them, except empty ones, which are ignored (RFC 9110, section 5.6.1.2)
 unfoldable pub elements : Line → List Line
 elements value = filter is_filled (map trim (pieces value))

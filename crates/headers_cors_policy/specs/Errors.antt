@@ -1,4 +1,4 @@
--- What errors print.
+-- The texts of errors.
 use Rattle.std.specs.Prelude.{ℕ, List, codes}
 use Rattle.headers_cors_policy.specs.declared.error.RulesError.{RulesError}
 use Rattle.headers_cors_policy.specs.declared.error.RulesError.TheVariants as Error

@@ -8,12 +8,12 @@ use Rattle.headers_cors_policy.specs.Cache.{nominates}
 use Rattle.headers_cors_policy.specs.Elements.{is_filled}
 use Rattle.headers_cors_policy.specs.Policy.{Policy}
 
--- one field line if the condition holds and there is one, else none
+-- one field line if the condition holds and there is a line, else none
 abbrev pub lines_if : Bool → Option Line → List Line
 lines_if condition None = []
 lines_if condition (Some line) = if condition then line ∷ [] else []
 
--- a line that isn't empty
+-- the line, if it isn't empty
 abbrev pub filled_line : Line → Option Line
 filled_line line = if is_filled line then Some line else None
 
@@ -27,15 +27,15 @@ grant (Some listed) (Some line) = if list_any (bytes_eq line) listed then Some l
 abbrev pub granted : Policy → List Line → Option Line
 granted policy lines = grant policy.origins (only_line lines)
 
--- What a preflight asks for. Access-Control-Allow-Methods is there although it is empty: without it, a request that is
--- sent after a preflight whatever its method is would be granted that method.
+-- The permissions of a preflight. Access-Control-Allow-Methods is present although it is empty: without it, a request
+-- for which a preflight is sent whatever its method is would be granted that method.
 abbrev pub leave_fields : Policy → Bool → List Field
 leave_fields policy condition =
     (codes "access-control-allow-methods", lines_if condition (Some policy.methods))
     ∷ (codes "access-control-allow-headers", lines_if condition (filled_line policy.names))
     ∷ (codes "access-control-max-age", lines_if condition policy.max_age) ∷ []
 
--- what a response grants if this is its line of Access-Control-Allow-Origin, by whether it answers a preflight
+-- the fields of a response with this line of Access-Control-Allow-Origin, and of whether it answers a preflight
 abbrev pub grant_fields : Policy → Bool → Option Line → List Field
 grant_fields policy is_preflight line =
     (codes "access-control-allow-origin", lines_if (is_some line) line)
@@ -56,7 +56,7 @@ vary_fields lines =
 abbrev pub vary_sent : Policy → List Line → List Field
 vary_sent policy lines = if is_some policy.origins then vary_fields lines else []
 
--- the fields by the request's field lines of Origin and the response's of Vary
+-- the fields of a response, by the request's field lines of Origin and the response's of Vary
 abbrev pub fields_sent : Policy → Bool → List Line → List Line → List Field
 fields_sent policy is_preflight sent varying =
     grant_fields policy is_preflight (granted policy sent) ++ vary_sent policy varying

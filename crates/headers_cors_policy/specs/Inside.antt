@@ -1,4 +1,4 @@
--- What the fields of a policy come to.
+-- The policy that the fields of the type make.
 use Rattle.std.specs.Prelude.{option_map}
 use Rattle.headers.specs.Lines.{lines_of}
 use Rattle.headers_cors_policy.specs.Policy.{Policy}

@@ -1,4 +1,4 @@
--- What a request is to a policy.
+-- The kinds of requests.
 use Rattle.std.specs.Prelude.{◌≡◌, ℕ, Bool, true, false, List, codes}
 use Rattle.headers.specs.LineMap.{LineMap}
 use Rattle.headers.specs.Typed.{HasLine}
@@ -9,7 +9,7 @@ use Rattle.headers_cors_policy.specs.declared.kind.CorsKind.TheVariants.{Preflig
 abbrev pub AsksLeave : List ℕ → LineMap → Type 0
 AsksLeave method request = (method ≡ codes "OPTIONS") × HasLine (request (codes "access-control-request-method"))
 
--- a request with Origin that asks for leave (a CORS-preflight request), any other with Origin, or one without it
+-- a preflight (a CORS-preflight request), any other request with Origin, or one without it
 abbrev pub IsKindOf : List ℕ → LineMap → CorsKind → Type 0
 IsKindOf method request Preflight = HasLine (request (codes "origin")) × AsksLeave method request
 IsKindOf method request Plain = HasLine (request (codes "origin")) × ¬ (AsksLeave method request)

@@ -1,4 +1,4 @@
--- What rules allow, which rules make a policy, and which one.
+-- What rules allow, which rules make a policy, and which policy they make.
 use Rattle.std.specs.Prelude.{◌≡◌, ◌≢◌, ◌⊎◌, ℕ, Bool, true, false, List, map, Option, Some, None, Contains, IsTrue, ⊤}
 use Rattle.std.specs.Prelude.{codes, decimal, min, option_map, IfSome, IsSome}
 use Rattle.http_header.specs.Token.{lowercase}
@@ -34,7 +34,7 @@ AllowsCredentials rules included = IsTrue included → IsTrue rules.credentials
 abbrev pub AllowsMethod : CorsRules → Line → Type 0
 AllowsMethod rules method = IsSafeMethod method ⊎ Admits rules.methods method
 
--- ASCII case is ignored; any name is all but `authorization`, unless that is allowed too
+-- ASCII case is ignored; any name is all but `authorization`, unless that is allowed as well
 abbrev pub AdmitsName : AllowedNames → Line → Type 0
 AdmitsName Names.Any name = lowercase name ≢ codes "authorization"
 AdmitsName Names.AnyAndAuthorization name = ⊤
@@ -53,7 +53,7 @@ abbrev pub ShowsListed : Allowed Line → Line → Type 0
 ShowsListed Any name = ⊤
 ShowsListed (Listed names) name = Contains (map lowercase names.items) (lowercase name)
 
--- scripts are to read the response's field of this name
+-- the rules let scripts read the response's field of this name
 abbrev pub Exposes : CorsRules → Line → Type 0
 Exposes rules name = Contains safe_fields (lowercase name) ⊎ (¬ (IsForbidden name) × ShowsListed rules.exposed name)
 
@@ -68,12 +68,12 @@ pub record ListsAll (rules : CorsRules) : Type 0 where
 abbrev pub HasStar : CorsRules → Type 0
 HasStar rules = Lists rules.methods star ⊎ ListsName rules.names star ⊎ Lists rules.exposed star
 
--- what browsers read as it is meant: with credentials nothing is any, and a star isn't listed
+-- browsers take the rules as they mean: with credentials nothing is any, and no star is listed
 pub record IsReadable (rules : CorsRules) : Type 0 where
   pub lists : IsTrue rules.credentials → ListsAll rules
   pub no_star : ¬ (HasStar rules)
 
--- and some browser may send each of the listed origins
+-- in addition, some browser sends each of the listed origins
 pub record IsLawful (rules : CorsRules) : Type 0 where
   pub lists : IsTrue rules.credentials → ListsAll rules
   pub no_star : ¬ (HasStar rules)
@@ -82,7 +82,7 @@ pub record IsLawful (rules : CorsRules) : Type 0 where
 abbrev pub HasUnsent : CorsRules → Type 0
 HasUnsent rules = are_sent (texts rules.origins) ≡ false
 
--- what is any although there are credentials
+-- what is any although credentials are allowed
 abbrev pub RefusesAny : CorsRules → Option RulesError → Type 0
 RefusesAny rules None = IsTrue rules.credentials → ListsAll rules
 RefusesAny rules (Some Error.AnyOriginWithCredentials) = IsTrue rules.credentials × IsAny rules.origins
@@ -93,34 +93,34 @@ RefusesAny rules (Some Error.Star) = ⊥
 RefusesAny rules (Some Error.UnsentOrigin) = ⊥
 RefusesAny rules (Some Error.Memory) = ⊥
 
--- why browsers don't read rules as they are meant
+-- why browsers take rules in another sense than they mean
 abbrev pub RefusesReading : CorsRules → Option RulesError → Type 0
 RefusesReading rules None = IsReadable rules
 RefusesReading rules (Some Error.Star) = HasStar rules
 RefusesReading rules (Some error) = RefusesAny rules (Some error)
 
--- why rules are no policy
+-- why rules make no policy
 abbrev pub Refuses : CorsRules → RulesError → Type 0
 Refuses rules Error.UnsentOrigin = HasUnsent rules
 Refuses rules error = RefusesReading rules (Some error)
 
--- something is written of the rules: a list, or the seconds; a star isn't
+-- something of the rules is encoded: a list, or the seconds; a star needs no allocation
 abbrev pub IsWritten : CorsRules → Type 0
 IsWritten rules = ¬ (IsAny rules.origins) ⊎ ¬ (IsAny rules.methods) ⊎ ¬ (IsAnyName rules.names)
     ⊎ ¬ (IsAny rules.exposed) ⊎ IsSome rules.max_age
 
--- What an error says. Memory runs out only if something is written, and once all is known but whether the listed
--- origins are sent.
+-- What an error says. Memory runs out only if something is encoded, and once all rules are checked but whether some
+-- browser sends the listed origins.
 abbrev pub IsErrorOf : CorsRules → RulesError → Type 0
 IsErrorOf rules Error.Memory = IsReadable rules × IsWritten rules
 IsErrorOf rules error = Refuses rules error
 
--- a star for any value; else the values, joined by a comma and a space, which its items are
+-- a star for any value; else a line whose items are the values, joined by a comma and a space
 abbrev pub IsListLine : Reading → Allowed Line → Line → Type 0
 IsListLine reading Any line = line ≡ star
 IsListLine reading (Listed values) line = IsListOf reading values.items line
 
--- a star for any name, and `authorization` for itself, since a star doesn't stand for it; else the names
+-- a star for any name, and `authorization` by itself, since a star doesn't include it; else the names
 abbrev pub IsNamesLine : AllowedNames → Line → Type 0
 IsNamesLine Names.Any line = line ≡ star
 IsNamesLine Names.AnyAndAuthorization line = line ≡ codes "*, authorization"
@@ -130,7 +130,7 @@ IsNamesLine (Names.Listed names) line = IsListOf name_of names.items line
 abbrev pub greatest_age : ℕ
 greatest_age = 2147483647
 
--- the seconds as they are written: browsers cap them far lower, and read a number past 2^63 as none
+-- the seconds as they are encoded: browsers cap them far lower, and take a number past 2^63 for none
 abbrev pub age_line : ℕ → Line
 age_line seconds = decimal (min seconds greatest_age)
 

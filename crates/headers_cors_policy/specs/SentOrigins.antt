@@ -10,7 +10,7 @@ use Rattle.headers_fields.specs.Numbers.{number_within}
 abbrev pub is_colon : ℕ → Bool
 is_colon b = b == 58
 
--- Scheme and host are in lower case, and there is no userinfo. No origin has a star: a host can't be resolved by one.
+-- Scheme and host are in lower case, and there is no userinfo. No origin has a star, since no host has one.
 abbrev pub is_sent_byte : ℕ → Bool
 is_sent_byte b = not (is_ascii_uppercase b || (b == 42 || b == 64))
 
@@ -31,18 +31,18 @@ is_port_number (Some number) = nat_lt number 65536
 abbrev pub is_port : Line → Bool
 is_port port = is_port_number (number_within (18446744073709551615) port) && not (has_leading_zero port)
 
--- What follows the last colon is the host, behind `//`, the end of an IPv6 address, or a port.
+-- What follows the last colon is the host, after `//`, the end of an IPv6 address, or a port.
 abbrev pub has_sent_port : (text behind : Line) → Bool
 has_sent_port text behind =
     (starts_with (◌==◌) behind (codes "/") || ends_with (◌==◌) behind (codes "]"))
     || (is_port behind && not (is_default_port text behind))
 
--- the text is `null`, or a scheme, `://`, a host and maybe a port as browsers write them
+-- the text is `null`, or a scheme, `://`, a host and perhaps a port as browsers write them
 abbrev pub is_sent : Line → Bool
 is_sent text =
     bytes_eq text (codes "null") || (list_all is_sent_byte text && has_sent_port text (after_last is_colon text))
 
--- each listed text is such
+-- each listed text is one that a browser sends
 abbrev pub are_sent : Option (List Line) → Bool
 are_sent None = true
 are_sent (Some listed) = list_all is_sent listed

@@ -1,26 +1,29 @@
-//! Why rules are no policy.
+//! Why rules make no policy.
 use std::alloc::AllocError;
 use std::error::Error;
 use std::fmt;
 
-/// Why rules are no policy.
+/// Why rules make no policy.
 #[derive(Clone, Copy, Debug, PartialEq, Eq)]
 pub enum RulesError {
-    /// Any origin would be allowed with credentials.
+    /// Any origin would be allowed with credentials, which browsers don't accept.
     AnyOriginWithCredentials,
-    /// Any method would be allowed with credentials. Browsers don't read a star so.
+    /// Any method would be allowed with credentials, but browsers then take the star for a method's
+    /// name.
     AnyMethodWithCredentials,
-    /// Any request field would be allowed with credentials. Browsers don't read a star so.
+    /// Any request field would be allowed with credentials, but browsers then take the star for a
+    /// field's name.
     AnyNameWithCredentials,
-    /// Any response field would be exposed with credentials. Browsers don't read a star so.
+    /// Any response field would be exposed with credentials, but browsers then take the star for a
+    /// field's name.
     AnyExposedWithCredentials,
-    /// A listed method or field name is `*`, which browsers read as any.
+    /// A listed method or field name is `*`, which browsers take for any.
     Star,
-    /// The text of a listed origin isn't as browsers send it, so no request would match it: it has an
-    /// upper-case letter, a star or userinfo, or its port is the scheme's default, is past 65,535, is
-    /// empty or begins with a zero.
+    /// A listed origin has a text that no browser sends, so no request would match it. It has an
+    /// upper-case letter, a star or userinfo, or its port is the scheme's default, is past 65,535,
+    /// is empty or begins with a zero.
     UnsentOrigin,
-    /// The allocator had no memory.
+    /// Out of memory: an allocation failed.
     Memory,
 }
 

@@ -1,4 +1,4 @@
-//! What a request is to a policy.
+//! The kinds of requests.
 ghost use Rattle.std.specs.Prelude.{◌≡◌};
 ghost use Rattle.std.specs.Bool.{MatchBool};
 ghost use Rattle.headers.specs.LineMap.{lines_at};
@@ -9,10 +9,10 @@ use headers_fields::has_line;
 use http::Method;
 use http_header::{ACCESS_CONTROL_REQUEST_METHOD, ORIGIN};
 
-/// What a request is to a policy.
+/// The kind of a request: a preflight, another cross-origin request, or one without `Origin`.
 #[derive(Clone, Copy, Debug, PartialEq, Eq)]
 pub enum CorsKind {
-    /// It asks for leave to send another request: OPTIONS, with `Origin` and
+    /// A preflight, which asks whether another request may be sent: OPTIONS with `Origin` and
     /// `Access-Control-Request-Method`.
     Preflight,
     /// Any other request with an `Origin`.

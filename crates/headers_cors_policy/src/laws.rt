@@ -1,4 +1,4 @@
-//! What follows from the definitions alone. A proof cites a law by calling it.
+//! Theorems about the definitions alone. To cite one in a proof, call it.
 ghost use Rattle.std.specs.Prelude.{◌≡◌, ◌≢◌, ◌↔◌, ◌⊎◌, ◌∷◌, [], ◌++◌, ℕ, List, None, IsTrue, codes};
 ghost use Rattle.headers.specs.LineMap.{LineMap, fields_of, set_all};
 ghost use Rattle.headers.specs.Lines.{Line};
@@ -14,20 +14,20 @@ ghost use Rattle.headers_cors_policy.specs.declared.kind.CorsKind.{CorsKind};
 ghost use Rattle.headers_cors_policy.specs.declared.policy.CorsAnswer.{CorsAnswer};
 ghost use Rattle.headers_cors_policy.specs.declared.rules.CorsRules.{CorsRules};
 
-/// Each request is of some kind. The rest of its answer is computed from the kind, so each request
-/// has an answer.
+/// Theorem: each request is of some kind, and so has an answer, which is computed from the kind.
 pub fn request_has_a_kind()
     ensures { (method : List ℕ) (sent : LineMap) → (kind : CorsKind) × IsKindOf method sent kind }
 {}
 
-/// A request has at most one answer: two have one kind, allow the same, and set the same fields.
+/// Theorem: a request has at most one answer: one kind, one permission, and one list of fields.
 pub fn request_has_one_answer()
     ensures { (policy : Policy) (method : List ℕ) (sent response : LineMap) (a b : CorsAnswer)
         → IsAnswer policy method sent response a → IsAnswer policy method sent response b → AreSame a b }
 {}
 
-/// After `set_all` of the fields of an answer, whatever fields the response had before, a browser's
-/// CORS check holds exactly if the rules allow the origin and the credentials.
+/// Theorem: a browser's CORS check passes exactly if the rules allow the origin and the
+/// credentials. This holds after `set_all` of the answer's fields, whatever fields the response had
+/// before.
 pub fn check_goes_by_rules()
     ensures { (rules : CorsRules) (policy : Policy) (method : List ℕ) (sent response before : LineMap)
         (answer : CorsAnswer) (request : Request) → IsLawful rules → IsPolicyOf rules policy
@@ -36,8 +36,8 @@ pub fn check_goes_by_rules()
         ↔ (AllowsOrigin rules request.origin × AllowsCredentials rules request.credentials) }
 {}
 
-/// A response to a preflight lets a browser send the request exactly if the rules allow it: its
-/// origin, its credentials, its method and each name that needs leave.
+/// Theorem: after a preflight, a browser sends the request exactly if the rules allow it. They must
+/// allow its origin, its credentials, its method and each field name that isn't safelisted.
 pub fn preflight_goes_by_rules()
     ensures { (rules : CorsRules) (policy : Policy) (method : List ℕ) (sent response before : LineMap)
         (answer : CorsAnswer) (request : Request) (status : ℕ) → IsLawful rules → IsPolicyOf rules policy
@@ -46,7 +46,8 @@ pub fn preflight_goes_by_rules()
         ↔ AllowsRequest rules request }
 {}
 
-/// Scripts may read exactly those fields of a response that passed the check that the rules expose.
+/// Theorem: of a response that passed the check, scripts may read exactly the fields that the rules
+/// expose.
 pub fn exposed_goes_by_rules()
     ensures { (rules : CorsRules) (policy : Policy) (method : List ℕ) (sent response before : LineMap)
         (answer : CorsAnswer) (request : Request) → IsLawful rules → IsPolicyOf rules policy
@@ -55,7 +56,7 @@ pub fn exposed_goes_by_rules()
         → IsExposed (set_all before (fields_of answer.fields.items)) request name ↔ Exposes rules name }
 {}
 
-/// An answer says that a request is allowed exactly if the rules allow its origin.
+/// Theorem: an answer says that a request is allowed exactly if the rules allow its origin.
 pub fn allowed_goes_by_rules()
     ensures { (rules : CorsRules) (policy : Policy) (method : List ℕ) (sent response : LineMap)
         (answer : CorsAnswer) (origin : Line) → IsPolicyOf rules policy
@@ -63,8 +64,9 @@ pub fn allowed_goes_by_rules()
         → IsTrue answer.is_allowed ↔ AllowsOrigin rules origin }
 {}
 
-/// If a response is stored and `Vary` lets it serve another request of its method, that request
-/// would have got the same fields. A cache stores no answer to OPTIONS (RFC 9110, section 9.3.7).
+/// Theorem: if a stored response is used for another request of its method, that request would have
+/// got the same fields. `Vary` decides whether a cache uses it so; a cache stores no response to
+/// OPTIONS (RFC 9110, section 9.3.7).
 pub fn stored_lines_are_own()
     ensures { (policy : Policy) (method : List ℕ) (r s response : LineMap) (a b : CorsAnswer)
         → IsAnswer policy method r response a → IsAnswer policy method s response b → method ≢ codes "OPTIONS"
@@ -72,7 +74,7 @@ pub fn stored_lines_are_own()
         → fields_of a.fields.items ≡ fields_of b.fields.items }
 {}
 
-/// The field lines of `Vary` stay, and at most `origin` comes after them.
+/// Theorem: the field lines of `Vary` stay, and at most `origin` is added after them.
 pub fn vary_stays()
     ensures { (policy : Policy) (method : List ℕ) (sent response : LineMap) (answer : CorsAnswer)
         → IsAnswer policy method sent response answer
@@ -81,8 +83,7 @@ pub fn vary_stays()
         ≡ response (codes "vary") ++ codes "origin" ∷ []) }
 {}
 
-/// Two requests of one method with equal field lines of `Origin` and
-/// `Access-Control-Request-Method` get the same fields, whatever else they have.
+/// Theorem: the fields depend on the method, `Origin` and `Access-Control-Request-Method` alone.
 pub fn lines_go_by_origin()
     ensures { (policy : Policy) (method : List ℕ) (r s response : LineMap) (a b : CorsAnswer)
         → IsAnswer policy method r response a → IsAnswer policy method s response b
@@ -91,7 +92,7 @@ pub fn lines_go_by_origin()
         → fields_of a.fields.items ≡ fields_of b.fields.items }
 {}
 
-/// If any origin is allowed, two requests of one kind get the same fields, whatever their origins.
+/// Theorem: if any origin is allowed, two requests of one kind get the same fields.
 pub fn any_origin_gets_equal_lines()
     ensures { (policy : Policy) (m n : List ℕ) (r s response : LineMap) (a b : CorsAnswer)
         → IsAnswer policy m r response a → IsAnswer policy n s response b → policy.origins ≡ None

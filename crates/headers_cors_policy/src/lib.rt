@@ -1,5 +1,5 @@
-//! Cross-origin requests: which fields a server's policy gives a response, and that browsers let
-//! through exactly what its rules allow (Fetch standard).
+//! Cross-origin requests: which fields a server's policy gives a response. Browsers then let
+//! scripts do exactly what the rules allow (Fetch standard).
 #![tactic(auto)]
 
 mod error;

@@ -1,4 +1,4 @@
-//! Which origin is granted a response.
+//! Which origins may read a response.
 ghost use Rattle.std.specs.Prelude.{◌≡◌, IfOk, codes, option_map};
 ghost use Rattle.headers.specs.LineMap.{lines_at};
 ghost use Rattle.headers.specs.Lines.{lines_of, only_line};

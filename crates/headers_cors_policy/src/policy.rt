@@ -1,4 +1,4 @@
-//! A server's policy, and what it answers.
+//! A server's policy, and its answer to a request.
 ghost use Rattle.std.specs.Prelude.{◌≡◌, ◌&&◌, ◌⊎◌, ◌++◌, true, IfErr, IfOk, OnOk, Some, option_map, is_some, codes};
 ghost use Rattle.headers.specs.LineMap.{field_of, fields_of, lines_at};
 ghost use Rattle.headers_cors_policy.specs.Answer.{allows, IsAnswer};
@@ -25,18 +25,18 @@ use http_header::{
 use std::alloc::{AllocError, Global};
 use std::marker::Model;
 
-/// What a policy answers a request.
+/// The answer of a policy to a request: its kind, whether it is allowed, and the response's fields.
 #[derive(Debug, Drop)]
 pub struct CorsAnswer {
-    /// What the request is.
+    /// The kind of the request.
     pub kind: CorsKind,
-    /// Whether the policy allows its origin. A request without an `Origin` is allowed.
+    /// Whether the policy allows the request's origin. A request without `Origin` is allowed.
     pub is_allowed: bool,
-    /// The response's fields, for `set_all`: one without field lines is removed.
+    /// The fields of the response, for `set_all`: one without field lines is removed.
     pub fields: Vec<Encoded>,
 }
 
-/// A server's policy for requests from other origins.
+/// A server's policy for cross-origin requests (Fetch standard).
 #[derive(Debug, Drop)]
 pub struct CorsPolicy {
     origins: Option<Vec<HeaderValue>>,
@@ -58,10 +58,11 @@ impl Model for CorsPolicy {
 }
 
 impl CorsPolicy {
-    /// The policy of these rules. What no browser would read as it is meant is rejected: any origin,
-    /// method or name with credentials, and a listed method or name `*`; and so is a listed origin that
-    /// no browser sends. It is out of memory only for rules of which the first two don't hold, and that
-    /// list something or have a `max_age`.
+    /// Makes the policy of these rules, or says why they make none. Rules are rejected if browsers
+    /// would take them in another sense than they mean: any origin, method or name with
+    /// credentials, and a listed method or name `*`. A listed origin that no browser sends is
+    /// rejected as well. `Memory` only if the rules have a list or a `max_age`, and browsers take
+    /// them as they mean.
     pub fn new(alloc: Global, rules: CorsRules) -> Result<CorsPolicy, RulesError>
         ensures ok { IfOk result (λ policy. IsLawful rules × IsPolicyOf rules policy) }
         ensures err { IfErr result (IsErrorOf rules) }
@@ -72,9 +73,10 @@ impl CorsPolicy {
         written_of(alloc, rules)
     }
 
-    /// Answers a request, by its method and its fields. The fields of the answer replace those of the
-    /// response, and add `origin` to its `Vary` if the policy lists its origins and `Vary` has neither
-    /// `origin` nor `*`. There are always fields, so a call for any request may run out of memory.
+    /// Decides the response fields of a request, by its method and its fields (Fetch standard).
+    /// They replace those that the response has. `origin` is added to `Vary` if the policy lists
+    /// its origins, and `Vary` has neither `origin` nor `*`. Fails only if an allocation fails,
+    /// which is possible for every request.
     pub fn answer(
         &self,
         alloc: Global,

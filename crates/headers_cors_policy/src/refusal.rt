@@ -1,4 +1,4 @@
-//! Which rules browsers don't read as they are meant.
+//! Rules that browsers would take in another sense than they mean.
 ghost use Rattle.std.specs.Prelude.{Contains};
 ghost use Rattle.std.specs.Bool.{MatchBool};
 ghost use Rattle.headers_cors_policy.specs.Allowed.{Lists, ListsName};

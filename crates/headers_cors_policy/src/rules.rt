@@ -1,4 +1,4 @@
-//! What a server allows requests from other origins.
+//! The cross-origin requests that a server allows.
 ghost use Rattle.std.specs.Prelude.{◌≡◌};
 ghost use Rattle.std.specs.Bool.{MatchBool};
 ghost use Rattle.headers_cors_policy.specs.Allowed.{IsAny, IsAnyName};
@@ -8,10 +8,10 @@ use headers::{HeaderName, Origin};
 use http::Method;
 use std::alloc::Global;
 
-/// Which values are allowed.
+/// Which values are allowed: any, or those of a list.
 #[derive(Debug, Drop)]
 pub enum Allowed<T> {
-    /// Any value, which is written as `*`. Not with credentials.
+    /// Any value, which is encoded as `*`. Not allowed with credentials.
     Any,
     /// These values.
     Listed(Vec<T>),
@@ -25,13 +25,13 @@ impl<T> Allowed<T> {
     }
 }
 
-/// Which names of request fields are allowed.
+/// Which names of request fields are allowed: any, or those of a list.
 #[derive(Debug, Drop)]
 pub enum AllowedNames {
-    /// Any name but `authorization`, which is written as `*`. Not with credentials. Chromium and
-    /// Firefox let the star stand for `authorization` too, against the Fetch standard.
+    /// Any name but `authorization`, which is encoded as `*`. Not allowed with credentials.
+    /// Chromium and Firefox let the star include `authorization`, against the Fetch standard.
     Any,
-    /// Any name, which is written as `*, authorization`. Not with credentials.
+    /// Any name, which is encoded as `*, authorization`. Not allowed with credentials.
     AnyAndAuthorization,
     /// These names.
     Listed(Vec<HeaderName>),
@@ -62,28 +62,29 @@ impl From<Allowed<HeaderName>> for AllowedNames {
     }
 }
 
-/// What a server allows requests from other origins.
+/// The cross-origin requests that a server allows, and what scripts may read (Fetch standard).
 #[derive(Debug, Drop)]
 pub struct CorsRules {
-    /// The origins. A listed one is compared byte for byte with the text that a browser sends, in
-    /// which scheme and host are in lower case and a default port is left out. `null` is allowed
-    /// only if it is listed, or if any origin is.
+    /// The allowed origins. A listed origin is compared byte for byte with the text that a browser
+    /// sends, which has scheme and host in lower case, and no default port. `null` is allowed only
+    /// if it is listed, or if any origin is allowed.
     pub origins: Allowed<Origin>,
-    /// The methods besides GET, HEAD and POST, which need no leave. They are compared with case.
+    /// The allowed methods besides GET, HEAD and POST, which need no permission. Case matters.
     pub methods: Allowed<Method>,
-    /// The names of request fields besides those that need no leave.
+    /// The allowed names of request fields besides the safelisted ones, which need no permission.
     pub names: AllowedNames,
-    /// The names of response fields that scripts may read besides those that are always readable.
+    /// The names of response fields that scripts may read besides the safelisted ones.
     pub exposed: Allowed<HeaderName>,
     /// Whether requests may include credentials.
     pub credentials: bool,
-    /// For how many seconds the answer to a preflight may be cached. Above 2^31 - 1 that is written,
-    /// since browsers take five seconds if they can't read the number, as if it is left out.
+    /// For how many seconds the response to a preflight may be cached. A number above 2^31 - 1 is
+    /// encoded as that, since a browser that can't parse the number uses five seconds, as it does
+    /// without the field.
     pub max_age: Option<u64>,
 }
 
 impl CorsRules {
-    /// These origins, without credentials; no further method, no name, and nothing exposed.
+    /// Makes rules that allow these origins without credentials, and no further method or field.
     pub fn new(alloc: Global, origins: Allowed<Origin>) -> CorsRules
         ensures { AllowsOriginsAlone origins result }
     {

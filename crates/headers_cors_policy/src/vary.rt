@@ -1,4 +1,4 @@
-//! What a response's `Vary` says, and `origin` added to it.
+//! The response's `Vary`, and `origin` added to it.
 ghost use Rattle.std.specs.Prelude.{◌≡◌, ◌∷◌, [], ◌++◌, IfOk, OnOk, codes};
 ghost use Rattle.headers.specs.LineMap.{fields_of, lines_at};
 ghost use Rattle.headers.specs.Lines.{lines_of};

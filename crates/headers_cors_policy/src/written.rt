@@ -1,4 +1,4 @@
-//! The lines that are written of rules.
+//! The encoding of rules.
 ghost use Rattle.std.specs.Prelude.{◌≡◌, ◌∷◌, [], decimal, length, map, IfErr, IfOk, IsSome, option_map};
 ghost use Rattle.headers.specs.Lines.{lines_of};
 ghost use Rattle.headers.specs.ListItem.{method_of, name_of, IsListOf};

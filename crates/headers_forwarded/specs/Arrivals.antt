@@ -10,7 +10,7 @@ abbrev pub scheme_text : Scheme → Line
 scheme_text Http = codes "http"
 scheme_text Https = codes "https"
 
--- what an `Arrival` shows
+-- the parts of an `Arrival`
 pub record ArrivalParts : Type 0 where
   pub client : Node
   pub interface : Option Node

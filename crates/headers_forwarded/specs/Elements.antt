@@ -9,7 +9,7 @@ use Rattle.headers_fields.specs.Values.ValueParts.{QuotedText, TokenText}
 use Rattle.headers_forwarded.specs.Arrivals.{ArrivalParts, scheme_text}
 use Rattle.headers_forwarded.specs.Nodes.{node_text}
 
--- an octet as it is written between quotes
+-- an octet as it is between quotes
 abbrev pub escaped : ℕ → List ℕ
 escaped b = if b == quote || b == backslash then backslash ∷ b ∷ [] else b ∷ []
 
@@ -25,12 +25,12 @@ quoted_text octets = quote ∷ (flat_map escaped octets ++ quote ∷ [])
 abbrev pub pair_text : List ℕ → Line → Line
 pair_text name octets = name ++ (codes "=" ++ value_text (value_of octets))
 
--- such a pair behind a semicolon, if there is one
+-- such a pair after a semicolon, if there is one
 abbrev pub optional_pair : List ℕ → Option Line → Line
 optional_pair name None = []
 optional_pair name (Some octets) = codes ";" ++ pair_text name octets
 
--- what a gateway tells of a request: who sent it, at which node, to which host, and by which scheme
+-- the element of a request: who sent it, at which node, to which host, and by which scheme
 abbrev pub element_text : ArrivalParts → Line
 element_text arrival =
     pair_text (codes "for") (node_text arrival.client)

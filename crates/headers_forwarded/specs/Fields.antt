@@ -12,7 +12,7 @@ use Rattle.headers_forwarded.specs.declared.fields.Forwarding.{Forwarding}
 use Rattle.headers_forwarded.specs.declared.fields.Received.{Received}
 use Rattle.headers_forwarded.specs.declared.fields.Received.TheVariants.{Dropped, KeptFromTrusted}
 
--- the received fields are believed
+-- the gateway trusts the received fields
 abbrev pub is_believed : Received → Bool → Bool
 is_believed Dropped is_trusted = false
 is_believed KeptFromTrusted is_trusted = is_trusted
@@ -24,26 +24,25 @@ believes forwarding arrival = is_believed forwarding.received arrival.is_trusted
 abbrev pub kept_if : Bool → List Line → List Line
 kept_if keeps received = if keeps then received else []
 
--- Forwarded: what was received, if it is believed and each of its quotes has its end, and the element of this gateway
--- behind it
+-- Forwarded: what was received, if it is trusted and each of its quotes has its end, and then the gateway's own element
 abbrev pub forwarded_lines : Forwarding → ArrivalParts → List Line → List Line
 forwarded_lines forwarding arrival received =
     kept_if (believes forwarding arrival && list_all is_well_formed received) received
     ++ (if forwarding.writes_forwarded then element_text arrival ∷ [] else [])
 
--- X-Forwarded-For: what was received, if it is believed, and the client behind it
+-- X-Forwarded-For: what was received, if it is trusted, and then the client
 abbrev pub client_lines : Forwarding → ArrivalParts → List Line → List Line
 client_lines forwarding arrival received =
     kept_if (believes forwarding arrival) received
     ++ (if forwarding.writes_x_forwarded then bare_text arrival.client.name ∷ [] else [])
 
--- what was received, if it is kept and there is some, else the gateway's own
+-- what was received, if it is kept and there is some, else the gateway's own value
 abbrev pub first_told : Bool → List Line → List Line → List Line
 first_told false received own = own
 first_told true [] own = own
 first_told true (line ∷ lines) own = line ∷ lines
 
--- X-Forwarded-Host and X-Forwarded-Proto: what the first gateway told, if it is believed, else what this one knows
+-- X-Forwarded-Host and X-Forwarded-Proto: the first gateway's value, if it is trusted, else the gateway's own
 abbrev pub host_lines : Forwarding → ArrivalParts → List Line → List Line
 host_lines forwarding arrival received =
     first_told (believes forwarding arrival) received

@@ -26,7 +26,7 @@ is_obfuscated (b ∷ s) = b == 95 && (not (length s == 0) && list_all is_obfusca
 abbrev pub bracketed_text : Ipv6Addr → Line
 bracketed_text ip = codes "[" ++ (ipv6_text (ipv6_segments ip) ++ codes "]")
 
--- nodename: an IPv6 address stands in brackets
+-- nodename: an IPv6 address is in brackets
 abbrev pub name_text : NodeName → Line
 name_text (Address (V4 ip)) = ipv4_text (ipv4_octets ip)
 name_text (Address (V6 ip)) = bracketed_text ip
@@ -43,7 +43,7 @@ port_text (Some (Port.Hidden port)) = codes ":" ++ port
 abbrev pub node_text : Node → Line
 node_text node = name_text node.name ++ port_text node.port
 
--- as X-Forwarded-For has it: an address without brackets (section 7.4)
+-- the name in X-Forwarded-For: an address without brackets (section 7.4)
 abbrev pub bare_text : NodeName → Line
 bare_text (Address ip) = ip_text ip
 bare_text Unknown = codes "unknown"

@@ -5,17 +5,17 @@ ghost use Rattle.headers_forwarded.specs.Arrivals.{scheme_text};
 use crate::node::Node;
 use headers::HeaderValue;
 
-/// The scheme of a request.
+/// The scheme by which a request arrived at a gateway.
 #[derive(Clone, Copy, Debug, PartialEq, Eq)]
 pub enum Scheme {
-    /// `http`.
+    /// The scheme `http`.
     Http,
-    /// `https`.
+    /// The scheme `https`.
     Https,
 }
 
 impl Scheme {
-    /// The scheme as text.
+    /// Returns the scheme as text.
     pub fn as_str(self) -> &'static str
         ensures { result.now ≡ scheme_text self }
     {
@@ -26,17 +26,18 @@ impl Scheme {
     }
 }
 
-/// How a request arrived at a gateway.
+/// How a request arrived at a gateway: from whom, at which node, to which host, and by which
+/// scheme.
 #[derive(Clone, Copy)]
 pub struct Arrival<'a> {
-    /// The node that sent it.
+    /// The node that sent the request.
     pub client: &'a Node,
-    /// The node at which the gateway received it, if that is told.
+    /// The node at which the gateway received the request, if the next server may know it.
     pub interface: Option<&'a Node>,
-    /// The Host with which it came, if there is one and it is told.
+    /// The Host field of the request, if it has one and the next server may know it.
     pub host: Option<&'a HeaderValue>,
-    /// The scheme by which it came.
+    /// The scheme by which the request arrived.
     pub scheme: Scheme,
-    /// Whether the node that sent it is trusted to tell who sent it the request.
+    /// Whether the gateway trusts what the sending node says about earlier nodes.
     pub is_trusted: bool,
 }

@@ -1,4 +1,4 @@
-//! What a gateway tells of a request in Forwarded.
+//! The element that a gateway adds to Forwarded.
 ghost use Rattle.std.specs.Prelude.{◌≡◌, ◌++◌, IfOk, OnOk, codes, option_map};
 ghost use Rattle.http_header.specs.FieldValue.{IsFieldValue, plain_value};
 ghost use Rattle.headers_fields.specs.Values.{value_text};
@@ -109,7 +109,7 @@ fn element_text(alloc: Global, arrival: &Arrival<'_>) -> Result<Vec<u8>, AllocEr
     Ok(text)
 }
 
-/// The element that tells how a request arrived.
+/// Makes the element of Forwarded that says how a request arrived.
 pub(crate) fn element(alloc: Global, arrival: &Arrival<'_>) -> Result<HeaderValue, AllocError>
     ensures { IfOk result (λ line. line ≡ plain_value (element_text (arrival_parts arrival.now))) }
 {

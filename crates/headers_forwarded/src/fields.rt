@@ -20,24 +20,24 @@ use headers_syntax::push_clone;
 use http_header::{FORWARDED, GetAll, HeaderValueError};
 use std::alloc::{AllocError, Global};
 
-/// What becomes of the fields about earlier gateways that were received. A client can write anything
-/// into them.
+/// What a gateway does with the fields about earlier gateways that it received. A client can write
+/// anything into them.
 #[derive(Clone, Copy, Debug, PartialEq, Eq)]
 pub enum Received {
-    /// They are dropped.
+    /// The gateway drops them.
     Dropped,
-    /// They are kept if the node that sent them is trusted, and else dropped.
+    /// The gateway keeps them if it trusts the node that sent them, and drops them otherwise.
     KeptFromTrusted,
 }
 
-/// How a gateway tells who made a request.
+/// How a gateway tells the next server who sent a request.
 #[derive(Clone, Copy, Debug, PartialEq, Eq)]
 pub struct Forwarding {
-    /// What becomes of the fields that were received.
+    /// What it does with the fields that it received.
     pub received: Received,
-    /// Whether it writes Forwarded (RFC 7239).
+    /// Whether it sends Forwarded (RFC 7239).
     pub writes_forwarded: bool,
-    /// Whether it writes X-Forwarded-For, X-Forwarded-Host and X-Forwarded-Proto.
+    /// Whether it sends X-Forwarded-For, X-Forwarded-Host and X-Forwarded-Proto.
     pub writes_x_forwarded: bool,
 }
 
@@ -193,9 +193,9 @@ fn push_encoded(
     Ok(())
 }
 
-/// The field lines of Forwarded, X-Forwarded-For, X-Forwarded-Host and X-Forwarded-Proto that a gateway
-/// sends with a request, in place of those that it received. No field lines mean that the field is
-/// removed.
+/// Makes the fields Forwarded, X-Forwarded-For, X-Forwarded-Host and X-Forwarded-Proto that a
+/// gateway sends with a request (RFC 7239, section 4). They replace those that it received; one
+/// without field lines is removed. Fails only if an allocation fails.
 pub fn forwarding_fields(
     alloc: Global,
     forwarding: Forwarding,

@@ -1,4 +1,4 @@
-//! What follows from the definitions alone. A proof cites a law by calling it.
+//! Theorems about the definitions alone. To cite one in a proof, call it.
 ghost use Rattle.std.specs.Prelude.{◌≡◌, List, true};
 ghost use Rattle.http_header.specs.FieldValue.{IsFieldValue};
 ghost use Rattle.headers.specs.Lines.{Line};
@@ -11,14 +11,15 @@ ghost use Rattle.headers_forwarded.specs.declared.fields.Forwarding.{Forwarding}
 
 use headers_fields::laws::{joined_lines_keep_members, lists_parse_one_way};
 
-/// A value that is written is a value by the grammar, and means the octets that it was written for.
+/// Theorem: an encoded value is a value by the grammar, and means the octets that were encoded.
 pub fn values_read_back()
     ensures valid { (octets : Line) → IsFieldValue octets → is_value (value_of octets) ≡ true }
     ensures octets { (octets : Line) → IsFieldValue octets → octets_of (value_of octets) ≡ octets }
 {}
 
-/// Whatever was received, the element of this gateway is the last member of Forwarded, also to a
-/// recipient that joins the field lines: nothing that was received takes it in (RFC 7239, section 4).
+/// Theorem: whatever was received, the gateway's own element is the last member of Forwarded. This
+/// holds also for a recipient that joins the field lines: no received text, such as an open quote,
+/// can include it (RFC 7239, section 4).
 pub fn own_element_is_last()
     ensures { (forwarding : Forwarding) (arrival : ArrivalParts) (received : List Line)
         → forwarding.writes_forwarded ≡ true → IsTold arrival

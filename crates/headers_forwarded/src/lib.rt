@@ -1,4 +1,4 @@
-//! How a gateway tells the next server who made a request, to which host and by which protocol:
+//! How a gateway tells the next server who sent a request, to which host and by which scheme:
 //! Forwarded (RFC 7239), X-Forwarded-For, X-Forwarded-Host and X-Forwarded-Proto, as data.
 #![tactic(auto)]
 

@@ -10,32 +10,32 @@ use crate::obfuscated::Obfuscated;
 use std::alloc::{AllocError, Global};
 use std::net::{IpAddr, Ipv4Addr, Ipv6Addr};
 
-/// What identifies a node.
+/// The name of a node: an address, unknown, or an identifier that hides the address.
 #[derive(Debug, Drop)]
 pub enum NodeName {
-    /// Its address.
+    /// The address of the node.
     Address(IpAddr),
-    /// Nothing: the gateway doesn't know it (RFC 7239, section 6.2).
+    /// The gateway doesn't know the node (RFC 7239, section 6.2).
     Unknown,
-    /// An identifier that hides its address (RFC 7239, section 6.3).
+    /// An identifier that hides the address (RFC 7239, section 6.3).
     Hidden(Obfuscated),
 }
 
-/// What identifies the port of a node.
+/// The port of a node: a number, or an identifier that hides it.
 #[derive(Debug, Drop)]
 pub enum NodePort {
-    /// Its number.
+    /// The number of the port.
     Number(u16),
-    /// An identifier that hides it (RFC 7239, section 6.3).
+    /// An identifier that hides the port (RFC 7239, section 6.3).
     Hidden(Obfuscated),
 }
 
-/// A node identifier (RFC 7239, section 6).
+/// A client or a gateway, as Forwarded names it (RFC 7239, section 6).
 #[derive(Debug, Drop)]
 pub struct Node {
-    /// What identifies the node.
+    /// The name of the node.
     pub name: NodeName,
-    /// What identifies its port, if that is told.
+    /// The port of the node, if the next server may know it.
     pub port: Option<NodePort>,
 }
 
@@ -116,7 +116,7 @@ fn push_port(alloc: Global, port: &Option<NodePort>, text: &mut Vec<u8>) -> Resu
 }
 
 impl Node {
-    /// The identifier as text.
+    /// Returns the node identifier as text.
     pub(crate) fn text(&self, alloc: Global) -> Result<Vec<u8>, AllocError>
         ensures value { IfOk result (λ text. text.items ≡ node_text self.now) }
         ensures valid { OnOk result (IsFieldValue (node_text self.now)) }

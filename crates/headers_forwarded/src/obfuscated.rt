@@ -11,8 +11,8 @@ use std::alloc::{AllocError, Global};
 use std::fmt;
 use std::marker::Model;
 
-/// An obfuscated identifier of a node or of a port: an underscore, and then letters, digits, dots,
-/// underscores and hyphens (RFC 7239, section 6.3).
+/// An identifier that hides a node or a port (RFC 7239, section 6.3). It is an underscore, and then
+/// at least one letter, digit, dot, underscore or hyphen.
 #[derive(Debug, Drop)]
 pub struct Obfuscated {
     text: HeaderValue,
@@ -26,7 +26,7 @@ impl Model for Obfuscated {
     ghost view = { λ obfuscated. obfuscated.text.bytes };
 }
 
-/// A text that is to be an obfuscated identifier isn't one.
+/// The error of a text that is no obfuscated identifier.
 #[derive(Clone, Copy, Debug, PartialEq, Eq)]
 pub struct InvalidObfuscated;
 
@@ -67,7 +67,8 @@ fn is_obfuscated(text: &[u8]) -> bool
 }
 
 impl Obfuscated {
-    /// Makes an obfuscated identifier of a text. `InvalidObfuscated` if it isn't one.
+    /// Makes an obfuscated identifier of a text (RFC 7239, section 6.3). `Invalid` if the text
+    /// isn't one, `Memory` if an allocation fails.
     pub fn new(alloc: Global, text: &str) -> Result<Obfuscated, Refused<InvalidObfuscated>>
         ensures value { IfOk result (λ obfuscated. obfuscated ≡ text.now) }
         ensures valid { OnOk result (is_obfuscated text.now ≡ true) }
@@ -83,7 +84,7 @@ impl Obfuscated {
         }
     }
 
-    /// The identifier as text.
+    /// Returns the identifier as text.
     pub fn as_bytes(&self) -> &[u8]
         ensures value { result.now ≡ self.now }
         ensures valid { IsFieldValue self.now }

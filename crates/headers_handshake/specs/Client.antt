@@ -1,4 +1,4 @@
--- What a client finds in the response to its opening handshake (RFC 6455, section 4.1, the last list).
+-- A client's result for the response to its opening handshake (RFC 6455, section 4.1, the last list).
 use Rattle.std.specs.Prelude.{◌≡◌, ℕ, Some, IsSomeAnd, codes}
 use Rattle.http_header.specs.Token.{lowercase}
 use Rattle.websocket.specs.Handshake.{accept_key_of}
@@ -19,7 +19,7 @@ use Rattle.headers_handshake.specs.declared.client.Flaw.TheVariants.{UnaskedProt
 abbrev pub IsSwitched : ℕ → Type 0
 IsSwitched status = status ≡ 101
 
--- 2: the only line of Upgrade is `websocket`, but for the case of ASCII letters
+-- 2: the only line of Upgrade is `websocket`, ignoring the case of ASCII letters
 abbrev pub NamesWebsocket : LineMap → Type 0
 NamesWebsocket response =
     IsSomeAnd (only_line (response (codes "upgrade"))) (λ line. lowercase line ≡ codes "websocket")
@@ -28,13 +28,13 @@ NamesWebsocket response =
 abbrev pub SendsKey : LineMap → Line → Type 0
 SendsKey sent key = only_line (sent (codes "sec-websocket-key")) ≡ Some key
 
--- 4: the only line of Sec-WebSocket-Accept is what the key that was sent calls for
+-- 4: the only line of Sec-WebSocket-Accept is the accept value of the key that was sent
 pub record AcceptsKey (sent response : LineMap) : Type 0 where
   pub key : Line
   pub sends : SendsKey sent key
   pub accepts : only_line (response (codes "sec-websocket-accept")) ≡ Some (accept_key_of key)
 
--- the place of each rule in their order
+-- the place of each rule in the order of the list
 abbrev pub flaw_number : Flaw → ℕ
 flaw_number NotSwitched = 0
 flaw_number NoUpgrade = 1
@@ -55,7 +55,7 @@ module _ (sent : LineMap) (status : ℕ) (response : LineMap) where
   Rule UnaskedExtension = UsesAskedExtensions sent response
   Rule UnaskedProtocol = UsesAskedProtocol sent response
 
-  -- the response opens the connection: it keeps all rules
+  -- the response opens the connection: it breaks no rule
   abbrev pub IsOpened : Type 0
   IsOpened = KeepsAll flaw_number Rule
 

@@ -28,7 +28,7 @@ IsParameterOf text (Some sides) = IsTrue (is_token (trim sides.0)) × MeansToken
 abbrev pub IsParameter : List ℕ → Type 0
 IsParameter text = IsParameterOf text (cut equals text)
 
--- Parameters, with semicolons between them. No quoted-string has a semicolon, since what it means is a token.
+-- Parameters, with semicolons between them. No quoted-string has a semicolon, since it means a token.
 abbrev pub AreParameters : List ℕ → Type 0
 AreParameters text = All (λ parameter. IsParameter (trim parameter)) (slice_split (λ b. b == semicolon) text)
 
@@ -41,7 +41,7 @@ abbrev pub IsExtension : Member → Type 0
 IsExtension (Whole element) = IsExtensionOf element (cut semicolon element)
 IsExtension Malformed = ⊥
 
--- extension-list = 1#extension: a member at least, and each is an extension
+-- extension-list = 1#extension: at least one member, and each is an extension
 pub record IsExtensionList (lines : List Line) : Type 0 where
   pub some : HasMember lines
   pub each : All IsExtension (field_members true lines)
@@ -62,17 +62,17 @@ extension_lines map = map (codes "sec-websocket-extensions")
 abbrev pub HasExtensions : LineMap → Type 0
 HasExtensions map = AbsentOr IsExtensionList (extension_lines map)
 
--- the member is of the extension of this name, compared with case
+-- the member is the extension with this name, compared with case
 abbrev pub is_named : List ℕ → Member → Bool
 is_named name (Whole element) = bytes_eq (extension_name element) name
 is_named name Malformed = false
 
--- of the members of a handshake's field, one has the name of this member
+-- one of the members of a handshake's field has the name of this member
 abbrev pub is_among : List Member → Member → Bool
 is_among asked (Whole element) = list_any (is_named (extension_name element)) asked
 is_among asked Malformed = false
 
--- each extension that the response uses was asked for, in a list by the grammar; its parameters don't matter
+-- each extension of the response was offered, in a list by the grammar; its parameters don't matter
 pub record UsesListed (sent response : List Line) : Type 0 where
   pub well_formed : IsExtensionList sent
   pub asked : IsTrue (list_all (is_among (field_members true sent)) (field_members true response))

@@ -1,5 +1,5 @@
--- What both ends ask of the fields of a handshake (RFC 6455, sections 4.1 and 4.2). All field lines of a list field are
--- one list (RFC 9110, section 5.3).
+-- What both sides require of the fields of a handshake (RFC 6455, sections 4.1 and 4.2). All field lines of a list
+-- field are one list (RFC 9110, section 5.3).
 use Rattle.std.specs.Prelude.{◌≡◌, ◌⊎◌, ◌<◌, ℕ, Bool, true, false, ◌&&◌, List, [], codes, length}
 use Rattle.std.specs.Prelude.{IsTrue, Option, Some, None}
 use Rattle.std.specs.List.{list_all, list_any}
@@ -35,10 +35,10 @@ pub record ListsUpgrade (map : LineMap) : Type 0 where
   pub tokens : IsTrue (list_all is_token_member (field_members true (map (codes "connection"))))
   pub listed : IsTrue (list_any (is_same_token (codes "upgrade")) (field_members true (map (codes "connection"))))
 
--- The lines have a member: as in 1#element, where empty elements don't count (RFC 2616, section 2.1).
+-- The lines have a member, as in 1#element, where empty elements don't count (RFC 2616, section 2.1).
 abbrev pub HasMember : List Line → Type 0
 HasMember lines = 0 < length (field_members true lines)
 
--- there is no line, or the lines are such a list
+-- there is no line, or P holds of the lines
 abbrev pub AbsentOr : (List Line → Type 0) → List Line → Type 0
 AbsentOr IsList lines = (lines ≡ []) ⊎ IsList lines

@@ -1,4 +1,4 @@
--- The fields of a handshake, and of what a server answers (RFC 6455, sections 4.1, 4.2.2 and 4.4).
+-- The fields of a handshake, and of a server's answer (RFC 6455, sections 4.1, 4.2.2 and 4.4).
 use Rattle.std.specs.Prelude.{◌≡◌, ⊤, ℕ, Bool, false, ◌||◌, bytes_eq, List, [], ◌∷◌, Option, Some, None, codes}
 use Rattle.http_header.specs.FieldValue.{FieldValue}
 use Rattle.headers.specs.LineMap.{Field, LineMap, set_all}
@@ -13,7 +13,7 @@ status_of (BadRequest fault) = 400
 status_of UpgradeRequired = 426
 status_of Forbidden = 403
 
--- Upgrade and Connection as a change of protocol has them (RFC 9110, section 7.8), and further fields
+-- Upgrade and Connection of a change of protocol (RFC 9110, section 7.8), and further fields
 abbrev pub upgrading : List Field → List Field
 upgrading fields =
     (codes "upgrade", codes "websocket" ∷ []) ∷ (codes "connection", codes "upgrade" ∷ []) ∷ fields
@@ -22,12 +22,12 @@ upgrading fields =
 abbrev pub version_field : Field
 version_field = (codes "sec-websocket-version", codes "13" ∷ [])
 
--- the field lines of the subprotocol that is taken
+-- the field lines of the selected subprotocol
 abbrev pub taken_lines : Option FieldValue → List Line
 taken_lines None = []
 taken_lines (Some protocol) = protocol.bytes ∷ []
 
--- the fields of a handshake with this key, which offers no subprotocol and no extension
+-- the fields of a handshake with this key, without subprotocols and extensions
 abbrev pub request_fields : Line → List Field
 request_fields key =
     upgrading (
@@ -46,7 +46,7 @@ answer_fields (BadRequest fault) = []
 answer_fields UpgradeRequired = upgrading (version_field ∷ [])
 answer_fields Forbidden = []
 
--- the message has, under each name, what the map has once the fields are set in it
+-- for each name, the message has what the map has once the fields are set in it
 abbrev pub Carries : List Field → LineMap → LineMap → Type 0
 Carries fields map message = (name : List ℕ) → message name ≡ set_all map fields name
 
@@ -55,12 +55,12 @@ abbrev pub is_offer : List ℕ → Bool
 is_offer name =
     bytes_eq name (codes "sec-websocket-protocol") || bytes_eq name (codes "sec-websocket-extensions")
 
--- the same but for what the handshake offers
+-- the same, except for the offers of the handshake
 abbrev pub CarriesButOffers : List Field → LineMap → LineMap → Type 0
 CarriesButOffers fields map message =
     (name : List ℕ) → is_offer name ≡ false → message name ≡ set_all map fields name
 
--- the answer takes no subprotocol, or one that this handshake asks for
+-- the answer selects no subprotocol, or one that this handshake offers
 abbrev pub FitsProtocol : LineMap → Answer → Type 0
 FitsProtocol sent (Switch accept None) = ⊤
 FitsProtocol sent (Switch accept (Some protocol)) = AsksFor sent protocol.bytes

@@ -8,7 +8,7 @@ use Rattle.headers.specs.Lines.{Line, only_line}
 use Rattle.headers_handshake.specs.declared.origins.Origins.{Origins}
 use Rattle.headers_handshake.specs.declared.origins.Origins.TheVariants.{Any, Listed}
 
--- one of the origins is this text, but for the case of ASCII letters
+-- one of the origins is this text, ignoring the case of ASCII letters
 abbrev pub lists_origin : List FieldValue → Line → Bool
 lists_origin origins text = list_any (λ origin. bytes_eq (lowercase origin.bytes) (lowercase text)) origins
 
@@ -17,7 +17,7 @@ abbrev pub NamesListed : List FieldValue → LineMap → Type 0
 NamesListed origins request =
     IsSomeAnd (only_line (request (codes "origin"))) (λ text. IsTrue (lists_origin origins text))
 
--- A request without Origin comes from no browser (section 4.2.1), and it's the scripts in browsers that are kept out.
+-- A request without Origin is from no browser (section 4.2.1), and only scripts in browsers are to be kept out.
 abbrev pub AllowsOrigin : Origins → LineMap → Type 0
 AllowsOrigin Any request = ⊤
 AllowsOrigin (Listed origins) request = (request (codes "origin") ≡ []) ⊎ NamesListed origins.items request

@@ -1,4 +1,4 @@
--- Subprotocols: what a handshake asks for, what a server takes, and what a response uses (RFC 6455, sections 4.1, 4.2.2
+-- Subprotocols: what a handshake offers, what a server selects, and what a response uses (RFC 6455, sections 4.1, 4.2.2
 -- and 4.3).
 use Rattle.std.specs.Prelude.{◌≡◌, ◌⊎◌, ℕ, Bool, true, false, List, [], Option, IsSomeAnd, IsTrue, bytes_eq, codes}
 use Rattle.std.specs.Prelude.{find}
@@ -12,7 +12,7 @@ use Rattle.headers_fields.specs.Scan.{Member}
 use Rattle.headers_fields.specs.Scan.Member.{Whole, Malformed}
 use Rattle.headers_handshake.specs.Fields.{AbsentOr, HasMember}
 
--- 1#token: a member at least, and each is a token
+-- 1#token: at least one member, and each is a token
 pub record IsTokenList (lines : List Line) : Type 0 where
   pub some : HasMember lines
   pub tokens : IsTrue (list_all is_token_member (field_members true lines))
@@ -34,16 +34,16 @@ lists_protocol protocol map = list_any (is_text protocol) (field_members true (p
 abbrev pub OffersProtocols : LineMap → Type 0
 OffersProtocols request = AbsentOr IsTokenList (protocol_lines request)
 
--- what a server takes: the first of its own that the request lists, or none
+-- the server's choice: the first of its own that the request lists, or none
 abbrev pub taken : LineMap → List FieldValue → Option FieldValue
 taken request own = find (λ protocol. lists_protocol protocol.bytes request) own
 
--- the handshake asks for this subprotocol
+-- the handshake offers this subprotocol
 pub record AsksFor (sent : LineMap) (protocol : List ℕ) : Type 0 where
   pub well_formed : IsTokenList (protocol_lines sent)
   pub listed : IsTrue (lists_protocol protocol sent)
 
--- Sec-WebSocket-Protocol-Server = token: no subprotocol is in use, or the only line is one that was asked for
+-- Sec-WebSocket-Protocol-Server = token: no subprotocol is in use, or the only line is one that was offered
 abbrev pub UsesAskedProtocol : LineMap → LineMap → Type 0
 UsesAskedProtocol sent response =
     (protocol_lines response ≡ []) ⊎ IsSomeAnd (only_line (protocol_lines response)) (AsksFor sent)

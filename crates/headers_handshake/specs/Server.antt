@@ -1,4 +1,4 @@
--- What a server answers to an opening handshake (RFC 6455, sections 4.2.1 and 4.2.2).
+-- A server's answer to an opening handshake (RFC 6455, sections 4.2.1 and 4.2.2).
 use Rattle.std.specs.Prelude.{◌≡◌, ◌⊎◌, ⊤, ℕ, List, Option, Some, codes}
 use Rattle.http.specs.declared.version.Version.{Version}
 use Rattle.http.specs.declared.version.TheConstants.Version.{HTTP_11, HTTP_2, HTTP_3}
@@ -31,7 +31,7 @@ IsGet method = method ≡ codes "GET"
 abbrev pub IsRecent : Version → Type 0
 IsRecent version = (version ≡ HTTP_11) ⊎ ((version ≡ HTTP_2) ⊎ (version ≡ HTTP_3))
 
--- The version has the status 101: HTTP/2 has none (RFC 9113, section 8.6), and HTTP/3 neither (RFC 9114, section 4.5).
+-- The version has the status 101. HTTP/2 and HTTP/3 have none (RFC 9113, section 8.6; RFC 9114, section 4.5).
 abbrev pub IsHttp11 : Version → Type 0
 IsHttp11 version = version ≡ HTTP_11
 
@@ -62,7 +62,7 @@ pub record IsHandshake (method : List ℕ) (version : Version) (request : LineMa
 
 -- ---- the answers
 
--- the place of each rule in their order
+-- the place of each rule in the order of the section
 abbrev pub refusal_number : Refusal → ℕ
 refusal_number (Faulty NotGet) = 0
 refusal_number (Faulty OldHttp) = 1
@@ -77,7 +77,7 @@ refusal_number (Faulty MalformedExtensions) = 9
 refusal_number OtherOrigin = 10
 
 module _ (method : List ℕ) (version : Version) (request : LineMap) (origins : Origins) where
-  -- the rule that is broken where the server refuses; the last one is the server's own (section 4.2.2, 4)
+  -- the rule that is broken if the server rejects the request; the last one is the server's own (section 4.2.2, 4)
   abbrev pub Rule : Refusal → Type 0
   Rule (Faulty NotGet) = IsGet method
   Rule (Faulty OldHttp) = IsRecent version
@@ -94,7 +94,7 @@ module _ (method : List ℕ) (version : Version) (request : LineMap) (origins : 
   abbrev pub IsFirst : Refusal → Type 0
   IsFirst refusal = IsFirstBroken refusal_number Rule refusal
 
-  -- the request is an opening handshake with this key, from an origin that is allowed
+  -- the request is an opening handshake with this key, from an allowed origin
   pub record IsAccepted (key : Line) : Type 0 where
     pub handshake : IsHandshake method version request key
     pub origin : AllowsOrigin origins request

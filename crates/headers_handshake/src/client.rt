@@ -1,4 +1,4 @@
-//! The client's end (RFC 6455, section 4.1).
+//! The client's side of the handshake (RFC 6455, section 4.1).
 ghost use Rattle.std.specs.Prelude.{◌≡◌, IfOk};
 ghost use Rattle.std.specs.Bool.{MatchBool};
 ghost use Rattle.websocket.specs.Handshake.{IsValidKey, base64};
@@ -26,38 +26,38 @@ use websocket::handshake::derive_accept_key;
 /// 4.1).
 #[derive(Clone, Copy, Debug, PartialEq, Eq)]
 pub enum Flaw {
-    /// The status isn't 101. A client may follow it as HTTP says: a redirection, or a 401.
+    /// The status isn't 101. The client may handle it as HTTP says, such as a redirection or a 401.
     NotSwitched,
-    /// `Upgrade` isn't one field line, `websocket`.
+    /// `Upgrade` isn't one field line `websocket`.
     NoUpgrade,
     /// `Connection` doesn't list `upgrade`.
     NoConnection,
-    /// `Sec-WebSocket-Accept` isn't one field line, what the key that was sent calls for.
+    /// `Sec-WebSocket-Accept` isn't one field line with the accept value of the key that was sent.
     WrongAccept,
     /// `Sec-WebSocket-Extensions` breaks its grammar (section 9.1).
     MalformedExtensions,
-    /// `Sec-WebSocket-Extensions` names an extension that wasn't asked for.
+    /// `Sec-WebSocket-Extensions` names an extension that the client didn't offer.
     UnaskedExtension,
-    /// `Sec-WebSocket-Protocol` has several field lines, or one that isn't a subprotocol that was
-    /// asked for.
+    /// `Sec-WebSocket-Protocol` has several field lines, or one that isn't a subprotocol that the
+    /// client offered.
     UnaskedProtocol,
 }
 
-/// What a client finds in a response.
+/// The client's result: the connection is open, or it must be failed.
 #[derive(Clone, Copy, Debug, PartialEq, Eq)]
 pub enum Checked {
     /// The connection is open.
     Open,
-    /// The connection must be failed.
+    /// The client must fail the connection, for this reason.
     Fail(Flaw),
 }
 
-/// The fields of an opening handshake that offers no subprotocol and no extension (RFC 6455, section
-/// 4.1): `headers::set_all` sets them in a request's map, and removes old offers. The request is a
+/// Makes the fields of an opening handshake without subprotocols and extensions (RFC 6455, section
+/// 4.1). `headers::set_all` sets them in a request's map, and removes old offers. The request is a
 /// GET of HTTP/1.1, and has a Host field. To offer something, append it to the map afterwards.
 ///
 /// The nonce is sixteen bytes, drawn at random for each connection. The key that is made of it is
-/// marked as sensitive, so that it stays out of logs.
+/// marked sensitive, so that logs leave it out. Fails only if an allocation fails.
 pub fn request(alloc: Global, nonce: [u8; 16]) -> Result<Vec<Encoded>, AllocError>
     ensures key { IfOk result (λ _. IsValidKey (base64 nonce)) }
     ensures fields { IfOk result (λ fields. fields_of fields.items ≡ request_fields (base64 nonce)) }
@@ -80,11 +80,11 @@ fn key_of(alloc: Global, nonce: [u8; 16]) -> Result<HeaderValue, AllocError>
     Ok(key)
 }
 
-/// Looks at the response to an opening handshake whose header map, `sent`, has the key and what the
-/// handshake asked for (RFC 6455, section 4.1). It allocates nothing.
+/// Checks the response to an opening handshake (RFC 6455, section 4.1). It never fails or
+/// allocates. `sent` is the header map of the request, with its key and its offers.
 ///
-/// Of an extension only the name is compared, with case; what its parameters say is for the
-/// extension to look at. If `sent` breaks the grammar of its offers, it asks for nothing.
+/// Only the name of an extension is compared, with case; its parameters are for the extension to
+/// check. If the offers in `sent` are malformed, it offers nothing.
 pub fn check(sent: &HeaderMap, status: StatusCode, response: &HeaderMap) -> Checked
     ensures { Checks (lines_at sent.now) status (lines_at response.now) result }
 {

@@ -1,4 +1,4 @@
-//! Fields that both ends look at and set.
+//! Fields that both sides check and set.
 ghost use Rattle.std.specs.Prelude.{◌≡◌, ◌∷◌, [], IfOk, codes, true};
 ghost use Rattle.std.specs.Bool.{MatchBool};
 ghost use Rattle.std.specs.List.{list_all};

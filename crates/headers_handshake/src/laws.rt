@@ -1,4 +1,4 @@
-//! What follows from the definitions alone. A proof cites a law by calling it.
+//! Theorems about the definitions alone. To cite one in a proof, call it.
 ghost use Rattle.std.specs.Prelude.{◌≡◌, ◌↔◌, ℕ, List, codes};
 ghost use Rattle.http.specs.declared.version.Version.{Version};
 ghost use Rattle.http.specs.declared.version.TheConstants.Version.{HTTP_11};
@@ -16,8 +16,8 @@ ghost use Rattle.headers_handshake.specs.declared.client.Checked.{Checked};
 ghost use Rattle.headers_handshake.specs.declared.origins.Origins.{Origins};
 ghost use Rattle.headers_handshake.specs.declared.server.Answer.{Answer};
 
-/// A request has exactly one answer. That it has one is said by a double negation, since no test of
-/// a key's base64 is in the definitions.
+/// Theorem: a request has exactly one answer. That it has one is stated by a double negation, since
+/// the definitions have no test of a key's base64.
 pub fn request_has_one_answer()
     ensures some { (method : List ℕ) (version : Version) (request : LineMap) (origins : Origins)
         (own : List FieldValue) → ¬ (¬ ((answer : Answer) × Answers method version request origins own answer)) }
@@ -26,7 +26,8 @@ pub fn request_has_one_answer()
         → Answers method version request origins own b → a ≡ b }
 {}
 
-/// A server switches exactly if the request is an opening handshake from an origin that is allowed.
+/// Theorem: a server switches exactly if the request is an opening handshake from an allowed
+/// origin.
 pub fn switches_for_handshakes()
     ensures only { (method : List ℕ) (version : Version) (request : LineMap) (origins : Origins)
         (own : List FieldValue) (a : Answer) → Answers method version request origins own a → IsSwitch a
@@ -36,9 +37,9 @@ pub fn switches_for_handshakes()
         → IsAccepted method version request origins key → IsSwitch a }
 {}
 
-/// A GET of HTTP/1.1 that has a Host field, and in which the fields of `request` were set, is an
-/// opening handshake with the key that `request` makes; also if it was then given lists of
-/// subprotocols and extensions.
+/// Theorem: a request with the fields of `request` is an opening handshake with the key that
+/// `request` makes. It must be a GET of HTTP/1.1 with a Host field. Lists of subprotocols and
+/// extensions may be added to it.
 pub fn requests_are_handshakes()
     ensures bare { (key : Line) (map request : LineMap) → IsValidKey key → HasHost map
         → Carries (request_fields key) map request → IsHandshake (codes "GET") HTTP_11 request key }
@@ -47,7 +48,7 @@ pub fn requests_are_handshakes()
         → IsHandshake (codes "GET") HTTP_11 request key }
 {}
 
-/// A response has exactly one result. That it has one is said by a double negation.
+/// Theorem: a response has exactly one result. That it has one is stated by a double negation.
 pub fn response_has_one_result()
     ensures some { (sent : LineMap) (status : ℕ) (response : LineMap)
         → ¬ (¬ ((result : Checked) × Checks sent status response result)) }
@@ -55,11 +56,11 @@ pub fn response_has_one_result()
         → Checks sent status response a → Checks sent status response b → a ≡ b }
 {}
 
-/// What a server answers to a request opens the connection for the client that sent it. For one that
-/// sent another handshake it opens one exactly if both keys call for the same accept value and the
-/// subprotocol that was taken, if one was, is among those that it asked for. This is so for every
-/// response in which the fields of the answer were set, whatever it had before. An answer that
-/// doesn't switch opens no connection.
+/// Theorem: a server's answer opens the connection for the client that sent the request. For a
+/// client that sent another handshake, it opens one exactly if both keys have the same accept
+/// value, and the selected subprotocol, if any, is one that this client offered. This holds for
+/// every response in which the fields of the answer were set, whatever it had before. An answer
+/// that doesn't switch opens no connection.
 pub fn ends_agree()
     ensures own { (method : List ℕ) (version : Version) (request : LineMap) (origins : Origins)
         (own : List FieldValue) (a : Answer) (map response : LineMap)

@@ -1,5 +1,5 @@
-//! The opening handshake of a WebSocket, both ends: what a server answers to a request, and whether
-//! a client takes the response (RFC 6455, sections 4.1 and 4.2).
+//! The opening handshake of a WebSocket, both sides: a server's answer to a request, and a client's
+//! check of the response (RFC 6455, sections 4.1 and 4.2).
 #![tactic(auto)]
 
 mod client;

@@ -8,18 +8,18 @@ use headers::{HeaderMap, HeaderValue};
 use headers_fields::{has_line, only_value};
 use http_header::ORIGIN;
 
-/// The origins from which a server takes handshakes (RFC 6455, section 10.2).
+/// The origins from which a server accepts handshakes (RFC 6455, section 10.2).
 ///
 /// A browser names the origin of the script that opens a connection in `Origin`, and sends the
-/// user's cookies along. A server that relies on cookies lists its own origins, or any site's script
-/// acts for its users (cross-site WebSocket hijacking).
+/// user's cookies along. A server that relies on cookies must list its own origins. Otherwise any
+/// site's script acts for its users (cross-site WebSocket hijacking).
 #[derive(Debug, Drop)]
 pub enum Origins {
     /// Any origin.
     Any,
     /// These origins, serialized as in `Origin`, such as `https://example.com`. They are compared
-    /// ignoring the case of ASCII letters. A request without `Origin`, which no browser sends, is
-    /// allowed too.
+    /// without the case of ASCII letters. A request without `Origin`, which no browser sends, is
+    /// allowed as well.
     Listed(Vec<HeaderValue>),
 }
 

@@ -1,4 +1,4 @@
-//! The server's end (RFC 6455, section 4.2).
+//! The server's side of the handshake (RFC 6455, section 4.2).
 ghost use Rattle.std.specs.Prelude.{◌≡◌, ◌≢◌, [], IfErr, IfOk, MatchOption, MatchResult, codes, option_map};
 ghost use Rattle.std.specs.Bool.{MatchBool};
 ghost use Rattle.websocket.specs.Handshake.{accept_key_of};
@@ -33,8 +33,8 @@ pub enum Fault {
     NotGet,
     /// The version is older than HTTP/1.1.
     OldHttp,
-    /// The version is HTTP/2 or HTTP/3, which have no 101 (RFC 9113, section 8.6; RFC 9114, section
-    /// 4.5). A WebSocket over them begins with a CONNECT (RFC 8441, RFC 9220).
+    /// The version is HTTP/2 or HTTP/3, which have no status 101 (RFC 9113, section 8.6; RFC 9114,
+    /// section 4.5). A WebSocket over them begins with a CONNECT (RFC 8441, RFC 9220).
     NotHttp11,
     /// There is no Host field.
     NoHost,
@@ -42,7 +42,7 @@ pub enum Fault {
     NoUpgrade,
     /// `Connection` doesn't list `upgrade`.
     NoConnection,
-    /// `Sec-WebSocket-Key` isn't one field line, the base64 of sixteen bytes.
+    /// `Sec-WebSocket-Key` isn't one field line that is the base64 of sixteen bytes.
     NoKey,
     /// `Sec-WebSocket-Protocol` isn't a list of tokens (section 4.3).
     MalformedProtocols,
@@ -50,17 +50,17 @@ pub enum Fault {
     MalformedExtensions,
 }
 
-/// What a server answers to an opening handshake (RFC 6455, section 4.2.2).
+/// A server's answer to an opening handshake (RFC 6455, section 4.2.2).
 #[derive(Debug, Drop, PartialEq)]
 pub enum Answer {
-    /// The connection changes to the WebSocket protocol: the answer is 101, with this value of
-    /// `Sec-WebSocket-Accept`, and with the subprotocol that is taken, if one is.
+    /// 101: the connection changes to the WebSocket protocol, with this value of
+    /// `Sec-WebSocket-Accept`, and with the selected subprotocol, if any.
     Switch(HeaderValue, Option<HeaderValue>),
-    /// The request is no opening handshake: the answer is 400.
+    /// 400: the request is no opening handshake.
     BadRequest(Fault),
-    /// The handshake is for another version than 13: the answer is 426, and says so.
+    /// 426: the handshake is for another version than 13.
     UpgradeRequired,
-    /// The handshake is from an origin that isn't allowed: the answer is 403.
+    /// 403: the handshake is from an origin that isn't allowed.
     Forbidden,
 }
 
@@ -75,7 +75,7 @@ pub(crate) enum Refusal {
 }
 
 impl Answer {
-    /// The status of the response: 101, 400, 403 or 426.
+    /// Returns the status of the response: 101, 400, 403 or 426.
     pub fn status(&self) -> StatusCode
         ensures { result ≡ status_of self.now }
     {
@@ -87,9 +87,10 @@ impl Answer {
         }
     }
 
-    /// The fields of the response: `headers::set_all` sets them in its map. A 101 also removes each
-    /// field line of `Sec-WebSocket-Protocol` and `Sec-WebSocket-Extensions` that isn't its own. A
-    /// 400 and a 403 have no fields, and allocate nothing.
+    /// Returns the fields of the response, which `headers::set_all` sets in its map. A 101 also
+    /// removes each field line of `Sec-WebSocket-Protocol` and `Sec-WebSocket-Extensions` that
+    /// isn't its own. A 400 and a 403 have no fields, and allocate nothing. Fails only if an
+    /// allocation fails.
     pub fn fields(&self, alloc: Global) -> Result<Vec<Encoded>, AllocError>
         ensures fields { IfOk result (λ fields. fields_of fields.items ≡ answer_fields self.now) }
         ensures memory { IfErr result (λ _. answer_fields self.now ≢ []) }
@@ -139,18 +140,19 @@ fn version_fields(alloc: Global) -> Result<Vec<Encoded>, AllocError>
     Ok(vec![in alloc; upgrade, connection, version]?)
 }
 
-/// Reads a client's opening handshake, and says what to answer (RFC 6455, sections 4.2.1 and
-/// 4.2.2). A server that has no resource under the request's target answers that instead.
+/// Decides the answer to a client's opening handshake (RFC 6455, sections 4.2.1 and 4.2.2). A
+/// server without a resource at the request's target answers that instead.
 ///
-/// The rules are looked at in their order. `Upgrade` and `Connection` are lists, over all their
-/// field lines. Of `Sec-WebSocket-Key` and `Sec-WebSocket-Version` there must be one field line. A
-/// `Sec-WebSocket-Protocol` or `Sec-WebSocket-Extensions` that breaks its grammar is a fault.
+/// The rules are checked in order. `Upgrade` and `Connection` are lists, over all their field
+/// lines. `Sec-WebSocket-Key` and `Sec-WebSocket-Version` must have one field line. A malformed
+/// `Sec-WebSocket-Protocol` or `Sec-WebSocket-Extensions` is a fault.
 ///
-/// The server's own subprotocols are tokens, the most wanted first. The first that the request asks
-/// for is taken, compared with case; one that isn't a token never is. No extension is taken.
+/// The server's own subprotocols are tokens, the preferred one first. The first that the request
+/// offers is selected, compared with case; one that isn't a token never is. No extension is
+/// selected.
 ///
-/// Only a 101 allocates: the call may be out of memory only if the request is an opening handshake
-/// from an origin that is allowed.
+/// Only a 101 allocates: the call can run out of memory only if the request is an opening handshake
+/// from an allowed origin.
 pub fn accept(
     alloc: Global,
     method: &Method,

@@ -1,4 +1,4 @@
--- Which of a server's offers, the most wanted first, is chosen (RFC 9110, sections 12.1 and 12.4).
+-- Which of a server's offers is chosen; its preferred one is the first (RFC 9110, sections 12.1 and 12.4).
 use Rattle.std.specs.Prelude.{◌≡◌, ℕ, ◌<◌, ◌≤◌, List, [], ◌∷◌, length, get_or, Option, Some, None, nat_lt}
 use Rattle.std.specs.Prelude.{if◌then◌else◌}
 use Rattle.http_header.specs.FieldValue.{FieldValue}
@@ -7,14 +7,14 @@ use Rattle.headers_negotiation.specs.declared.choice.Leader.{Leader}
 use Rattle.headers_negotiation.specs.declared.acceptability.Quality.{Quality}
 
 module _ {A : Type 0} (score : A → ℕ) (xs : List A) where
-  -- what is at this place has a score, nothing has a greater one, and what is before it has a lesser one
+  -- the item at this place has a score, no item has a greater one, and each item before it has a lesser one
   pub record IsFirstOfGreatest (place : ℕ) : Type 0 where
     pub within : place < length xs
     pub positive : (other : A) → 0 < score (get_or xs place other)
     pub greatest : (k : ℕ) (other : A) → k < length xs → score (get_or xs k other) ≤ score (get_or xs place other)
     pub first : (k : ℕ) (other : A) → k < place → score (get_or xs k other) < score (get_or xs place other)
 
-  -- the place of what is chosen by its score, or none, if nothing has a score
+  -- the place of the item that is chosen by its score, or none if no item has a score
   abbrev pub Picks : Option ℕ → Type 0
   Picks None = (k : ℕ) (other : A) → k < length xs → score (get_or xs k other) ≡ 0
   Picks (Some place) = IsFirstOfGreatest place
@@ -30,7 +30,7 @@ Chooses quality offers choice = Picks (offer_rank quality) offers choice
 
 -- ---- how it is found
 
--- who leads once one more score is known
+-- the first place with the greatest score, after one more score
 abbrev pub led : Leader → Option ℕ → ℕ → Leader
 led leader place score = if nat_lt leader.score score then record { place = place; score = score } else leader
 

@@ -38,8 +38,8 @@ coding_says coding member = option_and_then (says_of coding) (bare_element_of me
 abbrev pub are_elements : List Member → Bool
 are_elements field = list_all (λ member. is_some (bare_element_of member)) field
 
--- A coding that no element matches isn't acceptable, but for `identity`, if each member is an element: nobody can say
--- whether a malformed one excludes it.
+-- A coding that no element matches isn't acceptable, except `identity`, if each member is an element: a malformed one
+-- may exclude it.
 abbrev pub unlisted : List Member → List ℕ → Quality
 unlisted field coding =
     if same_name coding (codes "identity") && are_elements field then Unlisted else NotAcceptable
@@ -57,8 +57,8 @@ abbrev pub member_quality : List Member → Member → Quality
 member_quality field (Whole coding) = coding_quality field coding
 member_quality field Malformed = NotAcceptable
 
--- Content with several codings is acceptable if each of them is, so its quality is the least of theirs. Content with
--- none is `identity`.
+-- Content with several codings is acceptable if each of them is, so its quality is the least of theirs. Content without
+-- a coding is `identity`.
 abbrev pub quality_of_all : List Member → List Member → Quality
 quality_of_all field [] = coding_quality field (codes "identity")
 quality_of_all field (coding ∷ codings) =

@@ -36,7 +36,7 @@ others_of (Malformed ∷ others) = []
 unfoldable pub value_of : List ℕ → List ℕ
 value_of text = first_of (between_semicolons text)
 
--- what is between the others, but for what is empty
+-- the members between the other semicolons that aren't empty
 unfoldable pub members_after : List ℕ → List Member
 members_after text = others_of (between_semicolons text)
 
@@ -53,12 +53,12 @@ parameters_of text = filter_map parameter_of (members_after text)
 
 -- ---- weights
 
--- the weight that a value is, in thousandths, if it is one: no quoted-string is
+-- the weight that a value is, in thousandths, if it is one; a quoted-string is none
 abbrev pub weight_of : ValueParts → Option ℕ
 weight_of (TokenText text) = weight text
 weight_of (QuotedText text) = None
 
--- the weight among parameters: the first that is named so, or 1 if none is
+-- the weight among parameters: the first one named `q`, or 1 if there is none
 abbrev pub weight_in : List ParameterParts → Option ℕ
 weight_in parameters = option_map_or (λ p. weight_of p.value) (find is_weight parameters) (Some 1000)
 
@@ -67,7 +67,7 @@ weight_in parameters = option_map_or (λ p. weight_of p.value) (find is_weight p
 pub record ElementParts : Type 0 where
   -- what is before the first semicolon
   pub range : List ℕ
-  -- the parameters but for the weight
+  -- the parameters except the weight
   pub parameters : List ParameterParts
   -- in thousandths
   pub weight : ℕ
@@ -76,7 +76,7 @@ pub record ElementParts : Type 0 where
 abbrev pub own_parameters : List ℕ → List ParameterParts
 own_parameters text = filter (λ p. not (is_weight p)) (parameters_of text)
 
--- what an `Element` shows
+-- the parts of an `Element`
 abbrev pub element_parts : Element → ElementParts
 element_parts e =
     record { range = e.range.now; parameters = own_parameters e.text.now; weight = e.weight }
@@ -90,7 +90,7 @@ element_in text =
     (weight_in (parameters_of text))
     else None
 
--- the element is a range and maybe a weight, as those of Accept-Encoding and Accept-Language are (sections 12.5.3 and
+-- the element is a range and perhaps a weight, like those of Accept-Encoding and Accept-Language (sections 12.5.3 and
 -- 12.5.4)
 abbrev pub is_bare : ElementParts → Bool
 is_bare e = length e.parameters == 0 && is_token e.range

@@ -12,19 +12,19 @@ use Rattle.headers_negotiation.specs.declared.preference.Preference.{Preference}
 abbrev pub hyphen : ℕ
 hyphen = 45
 
--- the first text is the second, or a prefix of it that a hyphen follows
+-- the first text is the second, or a prefix of it before a hyphen
 abbrev pub is_front : List ℕ → List ℕ → Bool
 is_front [] [] = true
 is_front [] (b ∷ text) = b == hyphen
 is_front (a ∷ front) [] = false
 is_front (a ∷ front) (b ∷ text) = a == b && is_front front text
 
--- Basic filtering (RFC 4647, section 3.3.1): a range matches a tag if it is equal to the tag, in any case, or to a
--- prefix of it that a hyphen follows.
+-- Basic filtering (RFC 4647, section 3.3.1): a range matches a tag if the tag is equal to it, in any case, or begins
+-- with it and a hyphen.
 abbrev pub covers : List ℕ → List ℕ → Bool
 covers range tag = is_front (lowercase range) (lowercase tag)
 
--- a star matches each tag, and any other range those that it covers: of two that do, the longer one is more specific
+-- a star matches each tag, and any other range the tags that it covers; of two ranges the longer is more specific
 abbrev pub says_of : List ℕ → ElementParts → Option Preference
 says_of tag e =
     if is_star e.range then Some (record { names = 0; extent = 0; quality = e.weight })

@@ -1,4 +1,4 @@
--- What the definitions say, in the words of the RFCs.
+-- Theorems about the definitions, in the words of the RFCs.
 use Rattle.std.specs.Prelude.{⊤, ◌≡◌, ◌⊎◌, ◌↔◌, ℕ, ◌≤◌, ◌<◌, true, List, [], ◌∷◌, ◌++◌, Any, Contains, filter_map}
 use Rattle.std.specs.Prelude.{codes}
 use Rattle.std.specs.Prelude.{Option, Some, get_or, length}
@@ -24,8 +24,7 @@ use Rattle.headers_negotiation.specs.declared.preference.Preference.{Preference}
 
 -- ---- which element decides (RFC 9110, section 12.5.1)
 
--- what decides about an offer is the strongest of all that is said of it, and any other strongest one gives the same
--- quality
+-- the strongest of all preferences decides about an offer, and any other strongest one gives the same quality
 pub record MostSpecificDecides : Type 0 where
   pub decides : (says : Member → Option Preference) (field : List Member)
       → IsBest (filter_map says field) (strongest says field)
@@ -50,7 +49,7 @@ TakesTheFirst gives = (offers : List FieldValue) (choice : Option ℕ) → Choos
 abbrev pub IsStarOrSame : List ℕ → List ℕ → Type 0
 IsStarOrSame name other = (name ≡ codes "*") ⊎ SameButForCase name other
 
--- the parameters have one name, and values that mean the same octets, but for case
+-- the parameters have one name, and values that mean the same octets, ignoring case
 pub record IsSameParameter (p q : ParameterParts) : Type 0 where
   pub name : SameButForCase p.name q.name
   pub value : SameButForCase (octets_of p.value) (octets_of q.value)
@@ -60,7 +59,7 @@ pub record Matches (r : MediaRangeParts) (t : MediaTypeParts) : Type 0 where
   pub subtype : IsStarOrSame r.names.subtype t.names.subtype
   pub parameters : (p : ParameterParts) → Contains r.parameters p → Any (IsSameParameter p) t.parameters
 
--- a range matches a media type exactly if type and subtype are equal or a star, and each parameter of the range is had
+-- a range matches a media type exactly if type and subtype are equal or a star, and it has each parameter of the range
 abbrev pub RangesMatch : Type 0
 RangesMatch = (r : MediaRangeParts) (t : MediaTypeParts) → (matches r t ≡ true) ↔ Matches r t
 
@@ -84,21 +83,21 @@ pub record HasTwoNames : Type 0 where
   pub compress : (field : List Member)
       → coding_quality field (codes "x-compress") ≡ coding_quality field (codes "compress")
 
--- where content without a coding is chosen though no element matches it, no offer is listed with a weight above 0
+-- if content without a coding is chosen although no element matches it, no offer is listed with a weight above 0
 abbrev pub ListedComesFirst : Type 0
 ListedComesFirst = (lines : List Line) (offers : List FieldValue) (place k : ℕ) (offer other : FieldValue)
     → Chooses (quality_in encoding_quality lines) offers (Some place)
     → quality_in encoding_quality lines (get_or offers place offer).bytes ≡ Unlisted → k < length offers
     → rank (quality_in encoding_quality lines (get_or offers k other).bytes) ≤ rank Unlisted
 
--- content with several codings is no more acceptable than each of them
+-- content with several codings is at most as acceptable as each of them
 abbrev pub EachCodingIsAccepted : Type 0
 EachCodingIsAccepted = (field : List Member) (offer : List ℕ) (coding : Member) → Contains (members true offer) coding
     → rank (encoding_quality field offer) ≤ rank (member_quality field coding)
 
 -- ---- languages (RFC 4647, sections 3.3.1 and 3.4)
 
--- a range matches a tag exactly if it is equal to it, or to a prefix that a hyphen follows
+-- a range matches a tag exactly if the tag is equal to it, or begins with it and a hyphen
 abbrev pub RangesCover : Type 0
 RangesCover = (range tag : List ℕ) → (covers range tag ≡ true)
     ↔ ((lowercase tag ≡ lowercase range) ⊎ ((rest : List ℕ) × (lowercase tag ≡ lowercase range ++ hyphen ∷ rest)))

@@ -22,8 +22,8 @@ use Rattle.headers_negotiation.specs.declared.preference.Preference.{Preference}
 abbrev pub ends_single : List ℕ → Bool
 ends_single tag = length tag == 1 || (nat_le 2 (length tag) && slice_index tag (length tag - 2) == hyphen)
 
--- A range is truncated from its end, subtag by subtag; a subtag that is a single letter or digit goes with the one
--- behind it. The tag is the range, or one of the texts that are left.
+-- A range is truncated from its end, subtag by subtag; a subtag that is a single letter or digit is removed together
+-- with the one after it. The tag is the range, or one of the truncated texts.
 abbrev pub is_truncation : List ℕ → List ℕ → Bool
 is_truncation range tag = same_name range tag || (covers tag range && not (ends_single tag))
 
@@ -34,7 +34,7 @@ excludes p = p.names == 1 && p.quality == 0
 abbrev pub is_excluded : List Member → List ℕ → Bool
 is_excluded field tag = option_map_or excludes (strongest (language_says tag) field) false
 
--- how near a tag is to a range: the longer the text that is left of the range, the nearer; with no range all are alike
+-- how near a tag is to a range: the longer the truncated range, the nearer; without a range all tags are equally near
 abbrev pub nearness : List Member → Option (List ℕ) → List ℕ → ℕ
 nearness field None tag = if is_excluded field tag then 0 else 1
 nearness field (Some range) tag = if is_truncation range tag && not (is_excluded field tag) then length tag else 0
@@ -53,8 +53,8 @@ weight_if_found field offers e = if not (is_star e.range) && finds field offers 
 abbrev pub range_weight : List Member → List FieldValue → Member → ℕ
 range_weight field offers member = option_map_or (weight_if_found field offers) (bare_element_of member) 0
 
--- the ranges are considered by their weights, and those of one weight in their order: the first that finds an offer
--- finds this one, the nearest to it
+-- The ranges are tried by their weights, and those of one weight in their order. The first that finds an offer finds
+-- this one, the nearest to it.
 pub record IsLookedUp (field : List Member) (offers : List FieldValue) (place : ℕ) : Type 0 where
   pub index : ℕ
   pub element : ElementParts
@@ -62,7 +62,7 @@ pub record IsLookedUp (field : List Member) (offers : List FieldValue) (place : 
   pub is : (other : Member) → bare_element_of (get_or field index other) ≡ Some element
   pub nearest : IsFirstOfGreatest (offer_nearness field (Some element.range)) offers place
 
--- what the ranges find
+-- the result of the ranges
 abbrev pub Finds : List Member → List FieldValue → Option ℕ → Type 0
 Finds field offers None = Picks (range_weight field offers) field None
 Finds field offers (Some place) = IsLookedUp field offers place
@@ -74,7 +74,7 @@ is_any e = is_star e.range && not (e.weight == 0)
 abbrev pub accepts_any : List Member → Bool
 accepts_any field = list_any (λ member. option_map_or is_any (bare_element_of member) false) field
 
--- what is given if no range finds an offer: with a star the default, which is the first that isn't excluded
+-- the result if no range finds an offer: with a star the default, which is the first that isn't excluded
 abbrev pub IsDefault : List Member → List FieldValue → Option ℕ → Type 0
 IsDefault field offers choice =
     MatchBool (accepts_any field) (Picks (offer_nearness field None) offers choice) (choice ≡ None)
@@ -83,14 +83,14 @@ abbrev pub LooksUpIn : List Member → List FieldValue → Option ℕ → Type 0
 LooksUpIn field offers choice =
     IsSomeAnd choice (IsLookedUp field offers) ⊎ (Finds field offers None × IsDefault field offers choice)
 
--- what lookup gives by all lines of the field; without a line the first offer
+-- the result of lookup by all lines of the field; without a line the first offer
 abbrev pub LooksUp : List Line → List FieldValue → Option ℕ → Type 0
 LooksUp [] offers choice = choice ≡ first_place offers
 LooksUp (line ∷ lines) offers choice = LooksUpIn (field_members true (line ∷ lines)) offers choice
 
 -- ---- how it is found
 
--- what one member finds
+-- the result of one member
 pub record FoundBy (field : List Member) (offers : List FieldValue) (member : Member) (found : Leader) : Type 0 where
   pub score : found.score ≡ range_weight field offers member
   pub place : 0 < found.score

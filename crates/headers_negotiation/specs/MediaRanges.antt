@@ -20,14 +20,14 @@ pub record NamesParts : Type 0 where
   pub type_name : List ℕ
   pub subtype : List ℕ
 
--- what `Names` shows
+-- the parts of `Names`
 abbrev pub names_parts : Names → NamesParts
 names_parts n = record { type_name = n.type_name.now; subtype = n.subtype.now }
 
 abbrev pub is_slash : ℕ → Bool
 is_slash b = b == 47
 
--- the names that a text is, if it is type "/" subtype, two tokens
+-- the type and subtype of a text, if it is type "/" subtype, two tokens
 unfoldable pub names_in : List ℕ → Option NamesParts
 names_in text =
     if is_token (before_first is_slash text) && is_token (after_first is_slash text)
@@ -37,7 +37,7 @@ names_in text =
 abbrev pub is_star : List ℕ → Bool
 is_star name = bytes_eq name (codes "*")
 
--- a range has a star in the place of the subtype, or of both: `*/html` is none
+-- a range may have a star as its subtype, or as both; `*/html` is no range
 abbrev pub is_range : NamesParts → Bool
 is_range n = not (is_star n.type_name) || is_star n.subtype
 
@@ -45,7 +45,7 @@ is_range n = not (is_star n.type_name) || is_star n.subtype
 abbrev pub is_star_or_same : List ℕ → List ℕ → Bool
 is_star_or_same name other = is_star name || same_name name other
 
--- how many names it gives
+-- how many names a range gives
 abbrev pub given : List ℕ → ℕ
 given name = if is_star name then 0 else 1
 
@@ -57,17 +57,17 @@ pub record MediaTypeParts : Type 0 where
 
 pub record MediaRangeParts : Type 0 where
   pub names : NamesParts
-  -- but for the weight
+  -- the parameters except the weight
   pub parameters : List ParameterParts
-  -- in thousandths
+  -- the weight, in thousandths
   pub weight : ℕ
 
--- what a `MediaRange` shows
+-- the parts of a `MediaRange`
 abbrev pub media_range_parts : MediaRange → MediaRangeParts
 media_range_parts r =
     record { names = names_parts r.names; parameters = own_parameters r.text.now; weight = r.weight }
 
--- what a `MediaType` shows
+-- the parts of a `MediaType`
 abbrev pub media_type_parts : MediaType → MediaTypeParts
 media_type_parts t = record { names = names_parts t.names; parameters = parameters_of t.text.now }
 
@@ -87,7 +87,7 @@ if_range e names =
 unfoldable pub media_range_in : List ℕ → Option MediaRangeParts
 media_range_in text = option_and_then (λ e. option_and_then (if_range e) (names_in e.range)) (element_in text)
 
--- each parameter of a range is one of the media type
+-- the media type has each parameter of a range
 abbrev pub are_had : List ParameterParts → List ParameterParts → Bool
 are_had wanted parameters = list_all (λ p. list_any (is_same_parameter p) parameters) wanted
 
@@ -98,7 +98,7 @@ matches r t =
     is_star_or_same r.names.type_name t.names.type_name
     && (is_star_or_same r.names.subtype t.names.subtype && are_had r.parameters t.parameters)
 
--- ---- what an element says of a media type
+-- ---- the preference of an element for a media type
 
 abbrev pub says_of : MediaRangeParts → MediaTypeParts → Option Preference
 says_of r t =

@@ -11,7 +11,7 @@ pub record ParameterParts : Type 0 where
   pub name : List ℕ
   pub value : ValueParts
 
--- what a `Parameter` shows
+-- the parts of a `Parameter`
 abbrev pub parameter_parts : Parameter → ParameterParts
 parameter_parts p = record { name = p.name.now; value = value_parts p.value }
 
@@ -28,10 +28,10 @@ parameter_of Malformed = None
 abbrev pub is_weight : ParameterParts → Bool
 is_weight p = same_name p.name (codes "q")
 
--- both mean the same octets, in whichever form they are written, but for the case of letters
+-- both mean the same octets, as tokens or as quoted-strings, ignoring the case of letters
 abbrev pub is_same_value : ValueParts → ValueParts → Bool
 is_same_value v w = same_name (octets_of v) (octets_of w)
 
--- name and value are equal, but for the case of letters
+-- name and value are equal, ignoring the case of letters
 abbrev pub is_same_parameter : ParameterParts → ParameterParts → Bool
 is_same_parameter p q = same_name p.name q.name && is_same_value p.value q.value

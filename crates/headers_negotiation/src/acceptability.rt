@@ -4,22 +4,21 @@ ghost use Rattle.headers_negotiation.specs.Qualities.{least, preferred, rank, we
 
 use crate::preference::Preference;
 
-/// How acceptable an offer is, the least first.
+/// How acceptable an offer is to a client, the least first (RFC 9110, section 12.4).
 #[derive(Clone, Copy, Debug, PartialEq, Eq)]
 pub enum Quality {
     /// Not acceptable: no element matches the offer, or the one that decides has the weight 0 (RFC
     /// 9110, section 12.4.2).
     NotAcceptable,
-    /// Acceptable though no element matches it: content without a coding (section 12.5.3). Each
-    /// coding that is listed comes before it, whatever its weight.
+    /// Acceptable although no element matches it: content without a coding (RFC 9110, section
+    /// 12.5.3). Each coding that is listed is preferred to it, whatever its weight.
     Unlisted,
     /// Acceptable with this weight, 1 to 1000 thousandths.
     Weight(u16),
 }
 
 impl Quality {
-    /// Its place in the order: a quality of a greater rank is preferred, and rank 0 is not
-    /// acceptable.
+    /// Returns the rank of the quality: a greater rank is preferred, and rank 0 is not acceptable.
     pub fn rank(self) -> u32
         ensures { result ≡ rank self }
     {
@@ -31,7 +30,7 @@ impl Quality {
     }
 }
 
-/// What a weight means.
+/// Returns the quality of a weight, in thousandths.
 pub(crate) fn weighed(thousandths: u16) -> Quality
     ensures { result ≡ weighed thousandths }
 {
@@ -42,7 +41,7 @@ pub(crate) fn weighed(thousandths: u16) -> Quality
     }
 }
 
-/// The lesser of two.
+/// Returns the lesser of two qualities.
 pub(crate) fn least(one: Quality, other: Quality) -> Quality
     ensures { result ≡ least one other }
 {
@@ -53,7 +52,7 @@ pub(crate) fn least(one: Quality, other: Quality) -> Quality
     }
 }
 
-/// The quality of an offer of which this is said most specifically, if anything is.
+/// Returns the quality of an offer by the most specific preference, if any.
 pub(crate) fn preferred(said: Option<Preference>) -> Quality
     ensures { result ≡ preferred said }
 {

@@ -1,8 +1,8 @@
-//! The first of the greatest score.
+//! The first item with the greatest score.
 ghost use Rattle.std.specs.Prelude.{◌≡◌};
 ghost use Rattle.headers_negotiation.specs.Choice.{led};
 
-/// A place of the greatest score so far, if there is any score, and the score.
+/// The first place with the greatest score so far, if there is any score, and the score.
 #[derive(Clone, Copy)]
 pub(crate) struct Leader {
     pub(crate) place: Option<usize>,
@@ -10,14 +10,14 @@ pub(crate) struct Leader {
 }
 
 impl Leader {
-    /// Nothing leads yet.
+    /// No place so far.
     pub(crate) const NONE: Leader = Leader {
         place: None,
         score: 0,
     };
 }
 
-/// Who leads once one more score is known.
+/// Returns the first place with the greatest score, after one more score.
 pub(crate) fn led(leader: Leader, place: Option<usize>, score: u64) -> Leader
     ensures { result ≡ led leader place score }
 {

@@ -15,12 +15,13 @@ use crate::preference::{Preference, Ranges, strongest};
 use headers_fields::{FieldMembers, Malformed, Members};
 use http_header::{ACCEPT_ENCODING, GetAll, HeaderName, HeaderValue};
 
-/// Accept-Encoding: the content codings that a client accepts (RFC 9110, section 12.5.3). An offer
-/// is a value of Content-Encoding, or `identity` for content without a coding.
+/// The dimension of Accept-Encoding: the content codings that a client accepts (RFC 9110, section
+/// 12.5.3). An offer is a value of Content-Encoding, or `identity` for content without a coding.
 ///
-/// An element matches the coding that it names, in any case, and `*` each one; `x-gzip` is `gzip`
-/// and `x-compress` is `compress` (section 8.4.1). Content with several codings has the least of
-/// their qualities. `identity` that no element matches is acceptable, if no element is malformed.
+/// An element matches the coding that it names, in any case, and `*` matches each coding; `x-gzip`
+/// is `gzip` and `x-compress` is `compress` (section 8.4.1). Content with several codings has the
+/// least of their qualities. `identity` that no element matches is acceptable, if no element is
+/// malformed.
 #[derive(Clone, Copy, Debug)]
 pub struct AcceptEncoding;
 

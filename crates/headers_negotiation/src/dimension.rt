@@ -1,4 +1,4 @@
-//! Which of a server's offers a request is served.
+//! The choice among a server's offers.
 ghost use Rattle.std.specs.Prelude.{◌≡◌, ℕ, true, List};
 ghost use Rattle.http_header.specs.FieldValue.{plain_value};
 ghost use Rattle.http_header.specs.HeaderMap.{get_all};
@@ -13,8 +13,8 @@ use crate::acceptability::Quality;
 use crate::choice::{Leader, led};
 use http_header::{GetAll, HeaderMap, HeaderName, HeaderValue};
 
-/// A dimension in which the representations of a resource differ, with the field that says what a
-/// client prefers there (RFC 9110, section 12.5).
+/// A dimension in which the representations of a resource differ, and the field with a client's
+/// preferences for it (RFC 9110, section 12.5).
 pub trait Dimension {
     // The name of the field, in lower case.
     ghost NAME: { List ℕ };
@@ -22,10 +22,10 @@ pub trait Dimension {
     // The quality that the members of the field give to an offer.
     ghost gives: { List Member → List ℕ → Quality };
 
-    /// The name of the field.
+    /// The field name.
     const NAME: HeaderName;
 
-    /// The quality that a field gives to an offer, by all its lines.
+    /// Returns the quality that a field gives to an offer, by all its lines.
     fn quality(field: &GetAll<'_, HeaderValue>, offer: &[u8]) -> Quality
         ensures { result ≡ gives (field_members true (lines_of field.now)) offer.now };
 }
@@ -40,17 +40,17 @@ fn quality_in<D: Dimension>(field: &GetAll<'_, HeaderValue>, offer: &[u8]) -> Qu
     }
 }
 
-/// The quality of an offer for a request. Without the field each offer has the weight 1000.
+/// Returns the quality of an offer for a request. Without the field each offer has the weight 1000.
 pub fn quality<D: Dimension>(request: &HeaderMap, offer: &[u8]) -> Quality
     ensures { result ≡ quality_in D.gives (lines_of (get_all request.now D.NAME)) offer.now }
 {
     quality_in::<D>(&request.get_all(D::NAME), offer)
 }
 
-/// The place of the offer that a request is served, of a server's offers with the most wanted first:
-/// of those of the greatest quality the first. Without the field that is the first of all. `None` if
-/// no offer is acceptable: the answer is then 406, or an offer all the same (RFC 9110, section
-/// 12.4.1).
+/// Returns the place of the offer that a request prefers (RFC 9110, section 12.4). The offers are
+/// the server's, with its preferred one first. Of those with the greatest quality the first is
+/// chosen; without the field, the first of all. `None` if no offer is acceptable: the server then
+/// responds with 406, or sends an offer all the same (section 12.4.1).
 pub fn negotiate<D: Dimension>(request: &HeaderMap, offers: &[HeaderValue]) -> Option<usize>
     ensures { Chooses (quality_in D.gives (lines_of (get_all request.now D.NAME))) offers.now result }
 {
@@ -63,8 +63,8 @@ pub fn negotiate<D: Dimension>(request: &HeaderMap, offers: &[HeaderValue]) -> O
     leader.place
 }
 
-/// What the answer of a negotiation varies by: the name of the field, as a line of Vary that is
-/// added to those that the response has (RFC 9110, section 12.5.5).
+/// Returns the field name of the dimension as a field line of Vary, to be added to the response
+/// (RFC 9110, section 12.5.5).
 pub fn varies_by<D: Dimension>() -> HeaderValue
     ensures { result ≡ plain_value D.NAME }
 {

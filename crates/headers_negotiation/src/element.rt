@@ -12,18 +12,18 @@ ghost use Rattle.headers_negotiation.specs.Parameters.{is_same_parameter, parame
 use crate::parameter::{Parameter, parameter_of};
 use headers_fields::{Malformed, Members, Parameterized, Value, is_token, weight};
 
-/// An element of a field.
+/// An element of a field: a range, its parameters and its weight.
 #[derive(Clone, Copy)]
 pub(crate) struct Element<'a> {
-    /// What stands before the first semicolon.
+    /// What is before the first semicolon.
     pub(crate) range: &'a [u8],
-    /// All of it.
+    /// The whole text of the element.
     pub(crate) text: &'a [u8],
-    /// In thousandths.
+    /// The weight, in thousandths.
     pub(crate) weight: u16,
 }
 
-/// What stands before the first semicolon of a text.
+/// Returns what is before the first semicolon of a text.
 pub(crate) fn value_of(text: &[u8]) -> &[u8]
     ensures { result.now ≡ value_of text.now }
 {
@@ -49,7 +49,7 @@ fn is_parameter(member: Result<&[u8], Malformed>) -> bool
     parameter_of(member).is_some()
 }
 
-/// Whether a text has nothing but parameters after its first semicolon.
+/// Returns whether a text has nothing but parameters after its first semicolon.
 pub(crate) fn has_only_parameters(text: &[u8]) -> bool
     ensures { result ≡ has_only_parameters text.now }
 {
@@ -80,7 +80,7 @@ fn weight_in(text: &[u8]) -> Option<u16>
     Some(1000)
 }
 
-/// The element that a text is. `None` if a parameter is malformed, or the weight is.
+/// Parses a text as an element. `None` if a parameter or the weight is malformed.
 #[tactic(auto, unfolding(crate::specs::Elements::element_in))]
 pub(crate) fn element_in(text: &[u8]) -> Option<Element<'_>>
     ensures { option_map element_parts result ≡ element_in text.now }
@@ -98,7 +98,7 @@ pub(crate) fn element_in(text: &[u8]) -> Option<Element<'_>>
     }
 }
 
-/// How many parameters a text has but for the weight.
+/// Returns the number of parameters in a text, without the weight.
 pub(crate) fn parameter_count(text: &[u8]) -> usize
     ensures { result ≡ length (own_parameters text.now) }
 {
@@ -127,7 +127,7 @@ fn has_parameter(text: &[u8], wanted: &Parameter<'_>) -> bool
     false
 }
 
-/// Whether a text has each parameter of an element.
+/// Returns whether a text has each parameter of an element.
 pub(crate) fn has_parameters_of(text: &[u8], element: &[u8]) -> bool
     ensures { result ≡ are_had (own_parameters element.now) (parameters_of text.now) }
 {
@@ -148,7 +148,7 @@ fn is_bare(element: &Element<'_>) -> bool
     parameter_count(element.text) == 0 && is_token(element.range)
 }
 
-/// The element without parameters that a member of a field is.
+/// Parses a member of a field as an element without parameters.
 pub(crate) fn bare_element_of<'a>(member: Result<&'a [u8], Malformed>) -> Option<Element<'a>>
     ensures { option_map element_parts result ≡ bare_element_of (member_of member.entry) }
 {

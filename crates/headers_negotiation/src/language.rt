@@ -11,15 +11,15 @@ use crate::preference::{Preference, Ranges, strongest};
 use headers_fields::Malformed;
 use http_header::{ACCEPT_LANGUAGE, GetAll, HeaderName, HeaderValue};
 
-/// Accept-Language: the languages that a client prefers (RFC 9110, section 12.5.4), by basic
-/// filtering (RFC 4647, section 3.3.1). An offer is a language tag.
+/// The dimension of Accept-Language: the languages that a client prefers (RFC 9110, section
+/// 12.5.4), by basic filtering (RFC 4647, section 3.3.1). An offer is a language tag.
 ///
-/// A range matches a tag that it is equal to, in any case, or of which it is a prefix that a hyphen
-/// follows, and `*` matches each tag. The longest range that matches decides.
+/// A range matches a tag that is equal to it, in any case, or that begins with it and a hyphen, and
+/// `*` matches each tag. The longest range that matches decides.
 #[derive(Clone, Copy, Debug)]
 pub struct AcceptLanguage;
 
-/// Whether the range is the tag, or a prefix of it that a hyphen follows.
+/// Returns whether the range is the tag, or a prefix of the tag before a hyphen.
 pub(crate) fn covers(range: &[u8], tag: &[u8]) -> bool
     ensures { result ≡ covers range.now tag.now }
 {

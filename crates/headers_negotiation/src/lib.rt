@@ -1,5 +1,5 @@
 //! Content negotiation: which of a server's offers a client prefers, by `Accept`, `Accept-Encoding`
-//! and `Accept-Language` (RFC 9110, section 12). Nothing allocates.
+//! and `Accept-Language` (RFC 9110, section 12). No call allocates.
 #![tactic(auto)]
 
 mod acceptability;

@@ -170,13 +170,13 @@ fn first_place(offers: &[HeaderValue]) -> Option<usize>
     }
 }
 
-/// The place of the language tag that lookup finds for a request (RFC 4647, section 3.4), of a
-/// server's tags with the most wanted first: where `en-GB` is asked for, `en` is found.
+/// Returns the place of the language tag that lookup finds for a request (RFC 4647, section 3.4).
+/// The tags are the server's, with its preferred one first. A request for `en-GB` finds `en`.
 ///
-/// The ranges of Accept-Language are considered by their weights, and those of one weight in their
-/// order; each is truncated from its end until it is one of the tags. A tag that a range excludes by
-/// the weight 0 isn't found. If none is, and the field has `*`, the first tag that isn't excluded is
-/// given. Without the field the first of all is.
+/// The ranges of Accept-Language are tried by their weights, and those of one weight in their
+/// order. Each is truncated from its end until it is one of the tags. A tag that a range excludes
+/// by the weight 0 isn't found. If no range finds a tag and the field has `*`, the first tag that
+/// isn't excluded is found. Without the field it is the first of all. `None` if no tag is found.
 pub fn look_up(request: &HeaderMap, offers: &[HeaderValue]) -> Option<usize>
     ensures { LooksUp (lines_of (get_all request.now (codes "accept-language"))) offers.now result }
 {

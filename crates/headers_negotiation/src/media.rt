@@ -14,12 +14,12 @@ use crate::preference::{Preference, Ranges, strongest};
 use headers_fields::{Malformed, is_token};
 use http_header::{ACCEPT, GetAll, HeaderName, HeaderValue};
 
-/// Accept: the media types that a client accepts (RFC 9110, section 12.5.1). An offer is a media
-/// type with its parameters.
+/// The dimension of Accept: the media types that a client accepts (RFC 9110, section 12.5.1). An
+/// offer is a media type with its parameters.
 ///
 /// A range matches a media type if type and subtype are equal or a star in the range, and the media
-/// type has each parameter of the range. Names and values are compared without case. The range that
-/// gives more of the names decides, then the one with more parameters.
+/// type has each parameter of the range. Names and values are compared without case. The range
+/// without a star decides over one with a star, and then the one with more parameters.
 #[derive(Clone, Copy, Debug)]
 pub struct Accept;
 
@@ -70,7 +70,7 @@ fn names_in(text: &[u8]) -> Option<Names<'_>>
     }
 }
 
-/// Whether a name is the star.
+/// Returns whether a name is the star.
 pub(crate) fn is_star(name: &[u8]) -> bool
     ensures { result ≡ is_star name.now }
 {

@@ -8,7 +8,7 @@ ghost use Rattle.headers_negotiation.specs.Parameters.{parameter_parts, with_val
 
 use headers_fields::{Directive, Malformed, Value, directive_in};
 
-/// A name and a value.
+/// A parameter: a name and a value.
 #[derive(Clone, Copy)]
 pub(crate) struct Parameter<'a> {
     pub(crate) name: &'a [u8],
@@ -28,7 +28,7 @@ fn with_value(directive: Directive<'_>) -> Option<Parameter<'_>>
     }
 }
 
-/// The parameter that a member of an element is.
+/// Parses a member of an element as a parameter.
 pub(crate) fn parameter_of<'a>(member: Result<&'a [u8], Malformed>) -> Option<Parameter<'a>>
     ensures { option_map parameter_parts result ≡ parameter_of (member_of member.entry) }
 {
@@ -56,14 +56,14 @@ fn is_same_value(one: &Value<'_>, other: &Value<'_>) -> bool
 }
 
 impl<'a> Parameter<'a> {
-    /// Whether it is a weight (section 12.4.2).
+    /// Returns whether the parameter is a weight (RFC 9110, section 12.4.2).
     pub(crate) fn is_weight(&self) -> bool
         ensures { result ≡ is_weight (parameter_parts self.now) }
     {
         self.name.eq_ignore_ascii_case(b"q")
     }
 
-    /// Whether name and value are equal but for case.
+    /// Returns whether name and value are equal, ignoring case.
     pub(crate) fn is_same(&self, other: &Parameter<'_>) -> bool
         ensures { result ≡ is_same_parameter (parameter_parts self.now) (parameter_parts other.now) }
     {

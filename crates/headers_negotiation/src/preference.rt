@@ -1,4 +1,4 @@
-//! What elements say of an offer, and which of them decides.
+//! The preferences of elements for an offer, and which of them decides.
 ghost use Rattle.std.specs.Prelude.{◌≡◌, true, List, ℕ, Option};
 ghost use Rattle.headers_syntax.specs.Lines.{lines_of};
 ghost use Rattle.headers_fields.specs.Members.{field_members, member_of};
@@ -9,24 +9,24 @@ ghost use Rattle.headers_negotiation.specs.declared.preference.Preference.{Prefe
 use headers_fields::{FieldMembers, Malformed};
 use http_header::{GetAll, HeaderValue};
 
-/// What an element of a field says of an offer that its range matches.
+/// The preference of an element of a field for an offer that its range matches.
 #[derive(Clone, Copy)]
 pub(crate) struct Preference {
-    /// How many names of the offer the range gives: 0 for `*` and `*/*`, 1 for `text/*`, `gzip` and
-    /// `en`, 2 for `text/html`.
+    /// How many names the range gives: 0 for `*` and `*/*`, 1 for `text/*`, `gzip` and `en`, 2 for
+    /// `text/html`.
     pub(crate) names: u8,
-    /// How much else it gives: the number of its parameters, or the length of a language range.
+    /// What else the range gives: the number of its parameters, or the length of a language range.
     pub(crate) extent: usize,
     /// The weight of the element, in thousandths.
     pub(crate) quality: u16,
 }
 
-/// Ranges that are matched with offers.
+/// The ranges of a field, which are matched with offers.
 pub(crate) trait Ranges {
     // What a member of the field says of an offer, if it matches.
     ghost says: { List ℕ → Member → Option Preference };
 
-    /// What a member of the field says of an offer. `None` if it is malformed or doesn't match.
+    /// Returns the preference of a member for an offer. `None` if it is malformed or doesn't match.
     fn preference(offer: &[u8], member: Result<&[u8], Malformed>) -> Option<Preference>
         ensures { result ≡ says offer.now (member_of member.entry) };
 }
@@ -53,7 +53,7 @@ fn stronger(best: Option<Preference>, said: Preference) -> Option<Preference>
     }
 }
 
-/// The strongest of what the members of a field say of an offer.
+/// Returns the preference that decides about an offer, by all members of a field.
 pub(crate) fn strongest<R: Ranges>(
     field: &GetAll<'_, HeaderValue>,
     offer: &[u8],

@@ -8,7 +8,7 @@ use Rattle.headers_preconditions.specs.declared.limits.RangeLimits.{RangeLimits}
 abbrev pub is_divisible : Content → Bool
 is_divisible content = is_some content.len && is_some content.ranges
 
--- how many bytes ranges are sent of; Range is ignored if there is none
+-- the length of which ranges are taken; Range is ignored if it is 0
 abbrev pub len_of : Option ℕ → Option RangeLimits → ℕ
 len_of (Some len) (Some limits) = len
 len_of (Some len) None = 0

@@ -1,4 +1,4 @@
--- The status and the fields of an answer (RFC 9110).
+-- The status and the fields of a response (RFC 9110).
 use Rattle.std.specs.Prelude.{◌≡◌, ◌≢◌, ℕ, ◌+◌, ◌^◌, ◌<◌, ◌≤◌, ⊤, Bool, nat_lt, List, [], ◌∷◌, length, All, Option}
 use Rattle.std.specs.Prelude.{Some, None, codes, decimal, option_map, true, false, not}
 use Rattle.std.specs.Prelude.{if◌then◌else◌}
@@ -34,7 +34,7 @@ etag_of (Current validators) = validators.etag
 
 -- ---- which values are sent
 
--- the request names in If-Range what its client knows
+-- the request names in If-Range a representation that its client knows
 abbrev pub is_known_by : LineMap → Bool
 is_known_by request = nat_lt 0 (length (request (codes "if-range")))
 
@@ -66,7 +66,7 @@ modified_sent NotModified is_known etag modified = modified_without etag modifie
 modified_sent Failed is_known etag modified = None
 modified_sent Unsatisfiable is_known etag modified = None
 
--- Accept-Ranges (section 14.3): of the answers that a range could have changed, if the server sends ranges
+-- Accept-Ranges (section 14.3): of the responses that a range could have changed, if the server sends ranges
 abbrev pub units_sent : Plan → Bool → Option Line
 units_sent Full divisible = if divisible then Some (codes "bytes") else None
 units_sent (Single part) divisible = if divisible then Some (codes "bytes") else None
@@ -75,15 +75,15 @@ units_sent NotModified divisible = None
 units_sent Failed divisible = None
 units_sent Unsatisfiable divisible = if divisible then Some (codes "bytes") else None
 
--- what Content-Range says of a part, and that none is sent, in a whole of this length
+-- the Content-Range of a part, and that of no part, in a representation of this length
 abbrev pub range_of : Part → ℕ → ContentBytes
 range_of part len = record { range = Some (part.first, part.last); length = Some len }
 
 abbrev pub no_range : ℕ → ContentBytes
 no_range len = record { range = None; length = Some len }
 
--- Content-Range (section 14.4): of 206 with one part, which it names, and of 416, where it has the length alone. There
--- is none beside several parts (section 15.3.7.2).
+-- Content-Range (section 14.4): of 206 with one part, which it names, and of 416, where it has the length alone. A
+-- response with several parts has none (section 15.3.7.2).
 abbrev pub range_sent : Plan → Option ℕ → Option ContentBytes
 range_sent Full len = None
 range_sent (Single part) len = option_map (range_of part) len
@@ -102,8 +102,8 @@ length_sent NotModified len = None
 length_sent Failed len = Some 0
 length_sent Unsatisfiable len = Some 0
 
--- Content-Encoding stays as the server set it where the answer has the header fields of the representation: in a 200,
--- and in a 206 unless the client knows them (section 15.3.7). A 304 has those fields alone by which a cache is updated
+-- Content-Encoding stays as the server set it if the response has the header fields of the representation: in a 200,
+-- and in a 206 unless the client knows them (section 15.3.7). A 304 has only those fields by which a cache is updated
 -- (section 15.4.5), and in a 412 and a 416 nothing is encoded (section 8.4).
 abbrev pub keeps_encoding : Plan → Bool → Bool
 keeps_encoding Full is_known = true
@@ -130,12 +130,12 @@ abbrev pub lines_sent : {V : Type 0} → (V → Line) → Option V → List Line
 lines_sent text None = []
 lines_sent text (Some value) = text value ∷ []
 
--- Content-Encoding without field lines, unless the answer keeps it
+-- Content-Encoding without field lines, unless it stays
 abbrev pub encoding_removed : Plan → Bool → List Field
 encoding_removed plan is_known = if keeps_encoding plan is_known then [] else (codes "content-encoding", []) ∷ []
 
--- The fields of an answer with this plan, each by its section above. One without field lines is absent from the answer:
--- a server that has set it removes it. `multipart` is the type of several parts.
+-- The fields of a response with this plan, each by its section above. One without field lines is absent from the
+-- response: a server that has set it removes it. `multipart` is the type of several parts.
 abbrev pub fields_sent : Plan → Bool → Resource → Content → FieldValue → List Field
 fields_sent plan is_known resource content multipart =
     (codes "etag", lines_sent (λ (tag : FieldValue). tag.bytes) (etag_sent plan (etag_of resource)))
@@ -152,14 +152,14 @@ fields_sent plan is_known resource content multipart =
     )
     ∷ encoding_removed plan is_known
 
--- the names of the fields that an answer sets or removes
+-- the names of the fields that a response sets or removes
 abbrev pub sent_names : List (List ℕ)
 sent_names =
     codes "content-encoding" ∷ codes "etag" ∷ codes "last-modified" ∷ codes "accept-ranges" ∷ codes "content-range"
     ∷ codes "content-length" ∷ codes "content-type" ∷ []
 
--- A server's fields with those of an answer in their place: each field of the answer has its own field lines alone,
--- Content-Encoding is kept or gone, and each other field is as it was.
+-- A server's fields after those of a response are set: each field of the response has exactly its own field lines,
+-- Content-Encoding stays or is removed, and each other field is unchanged.
 pub record SendsFields (plan : Plan) (is_known : Bool) (resource : Resource) (content : Content)
     (multipart : FieldValue) (before after : LineMap) : Type 0 where
   pub etag : after (codes "etag") ≡ lines_sent (λ (tag : FieldValue). tag.bytes) (etag_sent plan (etag_of resource))

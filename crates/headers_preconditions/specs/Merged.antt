@@ -1,8 +1,8 @@
--- Parts in order of their first positions, with those joined between which at most `gap` positions lie.
+-- Parts in order of their first positions; two with at most `gap` positions between them are joined.
 use Rattle.std.specs.Prelude.{ℕ, ◌+◌, nat_le, max, List, [], ◌∷◌, if◌then◌else◌}
 use Rattle.headers_preconditions.specs.declared.part.Part.{Part}
 
--- the part grows as long as the next one begins inside it or close behind it
+-- the part grows as long as the next one begins inside it or close after it
 abbrev pub merged_from : ℕ → Part → List Part → List Part
 merged_from gap part [] = part ∷ []
 merged_from gap part (next ∷ rest) =

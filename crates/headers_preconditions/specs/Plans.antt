@@ -1,4 +1,4 @@
--- How a request for a representation is answered (RFC 9110, sections 13.2.2, 14.2 and 15).
+-- The response to a request for a representation (RFC 9110, sections 13.2.2, 14.2 and 15).
 use Rattle.std.specs.Prelude.{◌≡◌, ◌≢◌, ◌⊎◌, ⊤, ℕ, ◌<◌, false, List, [], ◌∷◌, length, Option, Some, None}
 use Rattle.headers.specs.LineMap.{LineMap}
 use Rattle.headers_preconditions.specs.Fields.{status_of}
@@ -18,7 +18,7 @@ use Rattle.headers_preconditions.specs.declared.selection.Selection.{Selection}
 use Rattle.headers_preconditions.specs.declared.selection.Selection.TheVariants as selection
 
 module _ (present : ℕ) (method : List ℕ) (request : LineMap) (resource : Resource) where
-  -- the preconditions let the method go on, and it reads this current representation
+  -- the preconditions let the method pass, and it reads this current representation
   pub record Reads (current : Validators) : Type 0 where
     pub performs : Answers present request resource method precondition.Perform
     pub is_read : IsGetOrHead method
@@ -31,8 +31,8 @@ module _ (present : ℕ) (method : List ℕ) (request : LineMap) (resource : Res
       pub asks : AsksFor present method request current len limits set parts
       pub few : are_too_many limits len parts ≡ false
 
-    -- Which facts give each answer: 412, 304, and of a read that goes on 200, 206 of one part, 206 of more than one,
-    -- and 416.
+    -- Which facts give each response: 412, 304, and of a read that passes 200, 206 with one part, 206 with more than
+    -- one, and 416.
     abbrev pub IsPlan : Plan → Type 0
     IsPlan Failed = Answers present request resource method precondition.Failed
     IsPlan NotModified = Answers present request resource method precondition.NotModified
@@ -45,15 +45,15 @@ module _ (present : ℕ) (method : List ℕ) (request : LineMap) (resource : Res
         (current : Validators) × Reads current
         × Selects present method request current len limits selection.Unsatisfiable
 
-    -- there is no plan exactly for what the server performs and answers by itself: a method that is no read, or a read
-    -- of what is missing, whose preconditions let it
+    -- There is no plan exactly for requests that the server performs and answers by itself, and whose preconditions are
+    -- true: a method that is no read, or a read of what is missing.
     abbrev pub IsPlanned : Option Plan → Type 0
     IsPlanned None =
         Answers present request resource method precondition.Perform
         × ((resource ≡ Missing) ⊎ ¬ (IsGetOrHead method))
     IsPlanned (Some plan) = IsPlan plan
 
-    -- the request has a plan, or none; a read that goes on has one by its selection
+    -- the request has a plan, or none; a read that passes has one by its selection
     abbrev pub HasPlan : Type 0
     HasPlan = IsPlan Failed ⊎ (IsPlan NotModified ⊎ (IsPlanned None
         ⊎ ((current : Validators) × Reads current × HasSelection present method request current len limits)))
@@ -63,7 +63,7 @@ module _ (present : ℕ) (method : List ℕ) (request : LineMap) (resource : Res
     ReadsSome =
         (current : Validators) × Reads current × AsksForSome present method request current len limits
 
--- how a selection is sent: as all, as one part, as several, or not at all
+-- how a selection is sent: all, one part, several parts, or nothing
 abbrev pub IsSentAs : Selection → Plan → Type 0
 IsSentAs selection.Whole plan = plan ≡ Full
 IsSentAs selection.Unsatisfiable plan = plan ≡ Unsatisfiable

@@ -1,4 +1,4 @@
--- What the preconditions of a request come to (RFC 9110, section 13.2.2).
+-- The result of the preconditions of a request (RFC 9110, section 13.2.2).
 use Rattle.std.specs.Prelude.{◌≡◌, ◌⊎◌, ℕ, List, codes}
 use Rattle.headers.specs.LineMap.{LineMap}
 use Rattle.headers_preconditions.specs.Conditions.{IsPresent, IfMatchIsTrue, IfNoneMatchIsFalse}
@@ -23,21 +23,21 @@ HasIfMatch request = IsPresent (codes "if-match") request
 abbrev pub HasIfNoneMatch : LineMap → Type 0
 HasIfNoneMatch request = IsPresent (codes "if-none-match") request
 
--- step 3 of GET and HEAD: If-None-Match is there and false
+-- step 3 of GET and HEAD: If-None-Match is present and false
 abbrev pub IsStoredByTag : LineMap → Resource → Type 0
 IsStoredByTag request resource = HasIfNoneMatch request × IfNoneMatchIsFalse request resource
 
--- step 3 of other methods: If-None-Match is there, and it is false or may be
+-- step 3 of other methods: If-None-Match is present, and it is false or may be
 abbrev pub MayBeThere : LineMap → Resource → Type 0
 MayBeThere request resource = HasIfNoneMatch request × IfNoneMatchMayBeFalse request resource
 
 module _ (present : ℕ) (request : LineMap) (resource : Resource) where
-  -- Steps 1 and 2 answer 412: If-Match is there and false; or it is absent, and If-Unmodified-Since is false.
+  -- Steps 1 and 2 give 412: If-Match is present and false; or it is absent, and If-Unmodified-Since is false.
   abbrev pub StateIsLost : Type 0
   StateIsLost = (HasIfMatch request × ¬ (IfMatchIsTrue request resource))
       ⊎ ((¬ (HasIfMatch request)) × UnmodifiedSinceIsFalse present request resource)
 
-  -- they let the request go on to step 3
+  -- steps 1 and 2 let the request pass to step 3
   abbrev pub StateIsKept : Type 0
   StateIsKept = (HasIfMatch request → IfMatchIsTrue request resource)
       × ((¬ (HasIfMatch request)) → UnmodifiedSinceLets present request resource)
@@ -51,15 +51,15 @@ module _ (present : ℕ) (request : LineMap) (resource : Resource) where
     pub by_tag : HasIfNoneMatch request → ¬ (IfNoneMatchIsFalse request resource)
     pub by_date : (¬ (HasIfNoneMatch request)) → ModifiedSinceLets present request resource
 
-  -- Which facts give each answer: 412, 304, or the method is performed, by steps 5 and 6. A malformed If-None-Match
-  -- makes neither a 304 of a read nor a write of what is there.
+  -- Which facts give each result: 412, 304, or the method is performed, by steps 5 and 6. A malformed If-None-Match
+  -- gives neither a 304 of a read nor a write of an existing representation.
   abbrev pub StepsAnswer : List ℕ → Precondition → Type 0
   StepsAnswer method Failed = StateIsLost ⊎ (StateIsKept × (¬ (IsGetOrHead method)) × MayBeThere request resource)
   StepsAnswer method NotModified = StateIsKept × IsGetOrHead method × (IsStoredByTag request resource ⊎ IsStoredByDate)
   StepsAnswer method Perform = StateIsKept × (IsGetOrHead method → IsRead)
       × ((¬ (IsGetOrHead method)) → ¬ (MayBeThere request resource))
 
-  -- the answer of a request: preconditions don't count, or the steps give it
+  -- the result for a request: preconditions don't count, or the steps give it
   pub record Answers (method : List ℕ) (answer : Precondition) : Type 0 where
     pub unconditional : IsUnconditional method → answer ≡ Perform
     pub conditional : (¬ (IsUnconditional method)) → StepsAnswer method answer

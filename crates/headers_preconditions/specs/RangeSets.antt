@@ -1,4 +1,4 @@
--- What a range-set asks for, in bytes (RFC 9110, sections 14.1.1 and 14.1.2).
+-- The byte ranges in a range-set (RFC 9110, sections 14.1.1 and 14.1.2).
 use Rattle.std.specs.Prelude.{ℕ, ◌+◌, ◌-◌, ◌^◌, ◌<◌, ◌≤◌, Bool, ◌&&◌, ◌==◌, nat_lt, nat_le, min, List, [], ◌∷◌}
 use Rattle.std.specs.Prelude.{length}
 use Rattle.std.specs.Prelude.{Option, Some, None, if◌then◌else◌, is_some}
@@ -23,7 +23,7 @@ comma = 44
 abbrev pub is_numeral : List ℕ → Bool
 is_numeral text = nat_lt 0 (length text) && list_all is_ascii_digit text
 
--- An int-range, which says its last position or goes on to the end, or a suffix-range. The numbers have no limit.
+-- An int-range, with a last position or up to the end, or a suffix-range. The numbers have no limit.
 pub data RangeSpec : Type 0 where
   Between : ℕ → ℕ → RangeSpec
   From : ℕ → RangeSpec
@@ -59,7 +59,7 @@ element_of piece = if length (trim piece) == 0 then None else Some (trim piece)
 abbrev pub elements : List ℕ → List (List ℕ)
 elements text = filter_map element_of (pieces text)
 
--- what an iterator has left: the pieces of a rest, if there is one, and their elements
+-- what an iterator has left: the pieces of the rest, if there is one, and their elements
 abbrev pub pieces_left : Option (Bor (List ℕ)) → List (List ℕ)
 pieces_left None = []
 pieces_left (Some rest) = pieces rest.now
@@ -69,7 +69,7 @@ elements_left rest = filter_map element_of (pieces_left rest)
 
 -- ---- a range-set
 
--- one range-spec at least, and each of them valid
+-- at least one range-spec, and all are valid
 abbrev pub is_range_set : List ℕ → Bool
 is_range_set text = nat_lt 0 (length (elements text)) && list_all is_range_spec (elements text)
 
@@ -109,6 +109,6 @@ selects_some len element = is_some (part_in len element)
 abbrev pub greatest : ℕ
 greatest = 2 ^ 64 - 1
 
--- the number of some digits, or the greatest one in place of what is greater
+-- the number of some digits, or the greatest one if it is greater
 abbrev pub capped : List ℕ → ℕ
 capped digits = min (digits_value 10 digits) greatest

@@ -1,4 +1,4 @@
--- The answer to a request for a representation.
+-- The response to a request for a representation.
 use Rattle.std.specs.Prelude.{◌≡◌, ◌⊎◌, ℕ, List, Option, Some, None}
 use Rattle.http_header.specs.FieldValue.{FieldValue}
 use Rattle.headers.specs.LineMap.{LineMap, fields_of}
@@ -10,7 +10,7 @@ use Rattle.headers_preconditions.specs.declared.plan.Plan.{Plan}
 use Rattle.headers_preconditions.specs.declared.response.Response.{Response}
 use Rattle.headers_preconditions.specs.declared.resource.Resource.{Resource}
 
--- it has the plan of the request, and the status and the fields of the plan
+-- the response has the plan of the request, and the status and the fields of the plan
 pub record IsResponse (present : ℕ) (method : List ℕ) (request : LineMap) (resource : Resource) (content : Content)
     (multipart : FieldValue) (response : Response) : Type 0 where
   pub plan : IsPlanned present method request resource (divisible_len content) (limits_of content) (Some response.plan)

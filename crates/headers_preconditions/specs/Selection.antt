@@ -1,4 +1,4 @@
--- Which part of a representation a request selects (RFC 9110, sections 13.1.5 and 14.2).
+-- The part of a representation that a request selects (RFC 9110, sections 13.1.5 and 14.2).
 use Rattle.std.specs.Prelude.{◌≡◌, ◌↔◌, ◌⊎◌, ℕ, ◌+◌, ◌<◌, Bool, true, false, ◌&&◌, ◌==◌, List, length}
 use Rattle.std.specs.Prelude.{Option, Some, None, Any, map, take, drop, bytes_eq, codes, nat_le, ⊤}
 use Rattle.std.specs.Prelude.{if◌then◌else◌}
@@ -29,8 +29,8 @@ has_bytes_unit text = nat_le 6 (length text) && bytes_eq (map to_ascii_lowercase
 abbrev pub range_set_of : List ℕ → Option (List ℕ)
 range_set_of text = if has_bytes_unit text && is_range_set (drop 6 text) then Some (drop 6 text) else None
 
--- The range-set that a request asks for: that of the only line of Range. Of several lines, which are no
--- ranges-specifier together, none counts.
+-- The range-set that a request asks for: that of the only line of Range. Several lines are no ranges-specifier
+-- together, and none of them counts.
 abbrev pub set_asked : LineMap → Option (List ℕ)
 set_asked request = option_and_then range_set_of (only_text (request (codes "range")))
 
@@ -40,14 +40,14 @@ is_modified_at None modified = false
 is_modified_at (Some date) None = false
 is_modified_at (Some date) (Some modified) = date == unix_epoch + modified
 
--- The condition of If-Range (section 13.1.5): the tags are strongly equal, or the date is a strong validator and the
--- one of the representation, exactly.
+-- The condition of If-Range (section 13.1.5): the tags are strongly equal, or the date is a strong validator and
+-- exactly that of the representation.
 abbrev pub is_exactly : ℕ → Validators → Line → Bool
 is_exactly present current text =
     if is_tag text then is_tag_of Strong current.etag text
     else current.is_date_strong && is_modified_at (timestamp present text) current.last_modified
 
--- If-Range is absent, or its only line is true; of several lines none is
+-- If-Range is absent, or its only line is true; if it has several lines, it isn't
 abbrev pub if_range_lets : ℕ → LineMap → Validators → Bool
 if_range_lets present request current =
     if length (request (codes "if-range")) == 0 then true
@@ -55,7 +55,7 @@ if_range_lets present request current =
 
 module _ (present : ℕ) (method : List ℕ) (request : LineMap) (current : Validators) (len : ℕ) where
   -- Range applies to the request, and this is its range-set: the method is GET, the unit is bytes, the set is valid,
-  -- If-Range lets it, and the representation has content
+  -- If-Range is absent or true, and the representation has content
   pub record Applies (set : List ℕ) : Type 0 where
     pub is_get : method ≡ codes "GET"
     pub asked : set_asked request ≡ Some set
@@ -66,8 +66,8 @@ module _ (present : ℕ) (method : List ℕ) (request : LineMap) (current : Vali
 abbrev pub IsAsked : ℕ → List ℕ → ℕ → Type 0
 IsAsked len set p = Any (Covers len p) (specs set)
 
--- The parts are coalesced, and there is one at least. They hold just the positions that are asked for, and those of the
--- gaps that are too small to make two parts.
+-- The parts are coalesced, and there is at least one. They contain exactly the requested positions, and those of gaps
+-- that are too small to make two parts.
 pub record ArePartsAsked (len gap : ℕ) (set : List ℕ) (parts : List Part) : Type 0 where
   pub coalesced : AreCoalesced len gap parts
   pub some : 0 < length parts
@@ -88,8 +88,8 @@ module _ (present : ℕ) (method : List ℕ) (request : LineMap) (current : Vali
   abbrev pub AsksForTooMany : Type 0
   AsksForTooMany = (set : List ℕ) × (parts : List Part) × AsksFor set parts × (are_too_many limits len parts ≡ true)
 
-  -- The whole representation, if Range is absent or ignored, as section 14.2 lets a server do with a set of many small
-  -- ranges. Else the parts that are asked for, or the answer 416 if no position of the representation is.
+  -- The whole representation, if Range is absent or ignored, as section 14.2 allows for a set of many small ranges.
+  -- Else the requested parts, or 416 if the representation has no requested position.
   abbrev pub Selects : Selection → Type 0
   Selects Whole = IsIgnored ⊎ AsksForTooMany
   Selects Unsatisfiable =
@@ -107,7 +107,7 @@ module _ (present : ℕ) (method : List ℕ) (request : LineMap) (current : Vali
   AsksForSome =
       (set : List ℕ) × Applies present method request current len set × ((p : ℕ) × IsAsked len set p)
 
--- both are the same answer, with the same parts
+-- both are the same selection, with the same parts
 abbrev pub IsSameSelection : Selection → Selection → Type 0
 IsSameSelection Whole Whole = ⊤
 IsSameSelection Unsatisfiable Unsatisfiable = ⊤

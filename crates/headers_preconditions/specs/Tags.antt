@@ -1,4 +1,4 @@
--- Entity tags that a request names (RFC 9110, sections 8.8.3, 13.1.1 and 13.1.2).
+-- Entity tags in a request (RFC 9110, sections 8.8.3, 13.1.1 and 13.1.2).
 use Rattle.std.specs.Prelude.{Bool, false, ◌&&◌, ◌||◌, not, List, Option, Some, None, bytes_eq}
 use Rattle.std.specs.List.{list_all, list_any}
 use Rattle.std.specs.Option.{option_map_or}
@@ -40,7 +40,7 @@ abbrev pub is_equal_member : Comparison → Option FieldValue → Member → Boo
 is_equal_member comparison etag (Whole text) = is_tag_of comparison etag text
 is_equal_member comparison etag Malformed = false
 
--- each member of each line is an entity tag, whose opaque part may have bytes past ASCII
+-- each member of each line is an entity tag, whose opaque part may have bytes outside ASCII
 abbrev pub are_tags : List Line → Bool
 are_tags lines = list_all is_tag_member (field_members false lines)
 
@@ -52,13 +52,13 @@ lists comparison etag lines = list_any (is_equal_member comparison etag) (field_
 abbrev pub is_malformed : List Line → Bool
 is_malformed lines = not (is_star lines) && not (are_tags lines)
 
--- the field names the current representation: it is `*`, or a list that has its tag
+-- the field matches the current representation: it is `*`, or a list with its tag
 abbrev pub names : Comparison → List Line → Resource → Bool
 names comparison lines Missing = false
 names comparison lines (Current validators) =
     is_star lines || (are_tags lines && lists comparison validators.etag lines)
 
--- The field names the current representation, or nobody can say, since it is malformed.
+-- the field matches the current representation, or is malformed and so may match it
 abbrev pub may_name : Comparison → List Line → Resource → Bool
 may_name comparison lines Missing = false
 may_name comparison lines (Current validators) =

@@ -1,4 +1,4 @@
-//! What stands between several parts.
+//! The boundary between several parts.
 ghost use Rattle.std.specs.Prelude.{◌≡◌, ◌↔◌, IfOk, true, false};
 ghost use Rattle.std.specs.List.{list_all};
 ghost use Rattle.headers.specs.Refusal.{IsInvalid};
@@ -10,9 +10,9 @@ use std::alloc::{AllocError, Global};
 use std::fmt;
 use std::marker::Model;
 
-/// The boundary between the parts of a `multipart/byteranges` (RFC 2046, section 5.1.1): 1 to 70
-/// letters, digits, or `'`, `+`, `-`, `.`, `_`, which need no quotes. No part that is sent may hold
-/// it: that is the caller's to see to.
+/// The boundary between the parts of a `multipart/byteranges` (RFC 2046, section 5.1.1). It has 1
+/// to 70 letters, digits, or `'`, `+`, `-`, `.`, `_`, which need no quotes. The caller must make
+/// sure that no part that is sent contains it.
 #[derive(Debug, Drop)]
 pub struct Boundary {
     content_type: HeaderValue,
@@ -28,7 +28,7 @@ impl Model for Boundary {
     ghost inverse = { λ value. record { content_type = value } };
 }
 
-/// The text is no boundary.
+/// The error of a text that is no boundary.
 #[derive(Clone, Copy, Debug, PartialEq, Eq)]
 pub struct InvalidBoundary;
 
@@ -47,8 +47,8 @@ impl fmt::Display for InvalidBoundary {
 impl std::error::Error for InvalidBoundary {}
 
 impl Boundary {
-    /// The boundary of a text. `InvalidBoundary` if it is empty, longer than 70 bytes, or has
-    /// another byte.
+    /// Makes a boundary of a text. `Invalid` if it is empty, longer than 70 bytes, or has another
+    /// byte; `Memory` if an allocation fails.
     pub fn new(alloc: Global, text: &str) -> Result<Boundary, Refused<InvalidBoundary>>
         ensures value { IfOk result (λ boundary. boundary.bytes ≡ multipart_type text.now) }
         ensures valid { IfOk result (λ boundary. is_boundary text.now ≡ true) }
@@ -65,7 +65,7 @@ impl Boundary {
         }
     }
 
-    /// The line of `Content-Type` that names it.
+    /// Returns the field line of `Content-Type` that names the boundary.
     pub fn content_type(&self) -> &HeaderValue
         ensures { result.now ≡ self.now }
     {

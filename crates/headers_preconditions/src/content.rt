@@ -1,18 +1,18 @@
-//! What an answer carries.
+//! The content of a representation.
 ghost use Rattle.std.specs.Prelude.{◌≡◌};
 ghost use Rattle.headers_preconditions.specs.Contents.{divisible_len, is_divisible, limits_of};
 
 use crate::limits::RangeLimits;
 use headers::HeaderValue;
 
-/// The content of a current representation.
+/// The content of a current representation: its length, its media type, and which ranges are sent.
 #[derive(Debug, Drop)]
 pub struct Content {
-    /// How many bytes it has, if that is known.
+    /// The length in bytes, if it is known.
     pub len: Option<u64>,
-    /// Its media type, as the line of `Content-Type`, if it is known.
+    /// The media type, as the field line of `Content-Type`, if it is known.
     pub media_type: Option<HeaderValue>,
-    /// Which ranges of it are sent, if any are. If its length isn't known, none is.
+    /// Which ranges are sent, if any. If the length isn't known, none are.
     pub ranges: Option<RangeLimits>,
 }
 

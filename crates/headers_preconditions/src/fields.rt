@@ -1,4 +1,4 @@
-//! The fields of an answer.
+//! The fields of a response.
 ghost use Rattle.std.specs.Prelude.{◌≡◌, [], IfOk, codes, decimal, option_copied};
 ghost use Rattle.http_header.specs.FieldValue.{FieldValue};
 ghost use Rattle.headers.specs.ContentBytes.{content_text};
@@ -43,11 +43,11 @@ fn field<H: Header>(alloc: Global, header: Option<&H>) -> Result<Encoded, AllocE
 }
 
 impl Plan {
-    /// The fields of the answer (RFC 9110, sections 14.3, 14.4, 15.3.7, 15.4.5 and 15.5.17): ETag,
-    /// Last-Modified, Accept-Ranges, Content-Range, Content-Length and Content-Type, and
-    /// Content-Encoding, without field lines, unless the answer has the header fields of the
-    /// representation. A client that knows the representation isn't told its date, its type and its
-    /// coding again.
+    /// Returns the fields of a response with this plan (RFC 9110, sections 14.3, 14.4, 15.3.7,
+    /// 15.4.5 and 15.5.17). They are ETag, Last-Modified, Accept-Ranges, Content-Range,
+    /// Content-Length and Content-Type, and Content-Encoding without field lines unless the
+    /// response has the header fields of the representation. A client that knows the representation
+    /// isn't sent its date, its type and its coding again.
     pub(crate) fn fields(
         &self,
         alloc: Global,

@@ -1,4 +1,4 @@
-//! What follows from the definitions alone. A proof cites a law by calling it.
+//! Theorems about the definitions alone. To cite one in a proof, call it.
 ghost use Rattle.std.specs.Prelude.{◌≡◌, ◌+◌, ◌*◌, ◌<◌, ◌≤◌, ◌↔◌, ℕ, Bool, List, Option, [], ◌∷◌, IsTrue, codes, false};
 ghost use Rattle.std.specs.Prelude.{length, sum_by, true};
 ghost use Rattle.headers.specs.EntityTag.{AreTags, StronglyEqual, WeaklyEqual};
@@ -26,8 +26,8 @@ ghost use Rattle.headers_preconditions.specs.declared.resource.Validators.{Valid
 ghost use Rattle.headers_preconditions.specs.declared.tags.Comparison.{Comparison};
 ghost use Rattle.headers_preconditions.specs.declared.tags.Comparison.TheVariants.{Strong, Weak};
 
-/// Every request has an answer, and no other: the rows of `Answers` exclude each other. `evaluate`
-/// gives it.
+/// Theorem: every request has exactly one answer by the definition `Answers`; `evaluate` returns
+/// it.
 pub fn request_has_one_answer()
     ensures some { (present : ℕ) (request : LineMap) (resource : Resource) (method : List ℕ)
         → (answer : Precondition) × Answers present request resource method answer }
@@ -35,7 +35,7 @@ pub fn request_has_one_answer()
         → Answers present request resource method a → Answers present request resource method b → a ≡ b }
 {}
 
-/// A request without the four fields is performed.
+/// Theorem: a request without the four fields is performed.
 #[tactic(auto, using(crate::proofs::PreconditionLemmas::unconditional))]
 pub fn unconditional_is_performed()
     ensures { (present : ℕ) (request : LineMap) (resource : Resource) (method : List ℕ)
@@ -44,8 +44,8 @@ pub fn unconditional_is_performed()
         → Answers present request resource method Perform }
 {}
 
-/// `If-Match: *` is true exactly if there is a current representation, and `If-None-Match: *`
-/// exactly if there is none.
+/// Theorem: `If-Match: *` is true exactly if there is a current representation, and `If-None-Match:
+/// *` exactly if there is none.
 #[tactic(auto, using(crate::proofs::PreconditionLemmas::star_names))]
 pub fn star_goes_by_existence()
     ensures missing { (comparison : Comparison) (lines : List Line) → names comparison lines Missing ≡ false }
@@ -53,20 +53,21 @@ pub fn star_goes_by_existence()
         → names comparison (star ∷ []) (Current validators) ≡ true }
 {}
 
-/// Tags are compared as RFC 9110 says (section 8.8.3.2): strongly, neither is weak and their opaque
-/// parts are equal; weakly, their opaque parts are equal.
+/// Theorem: entity tags are compared by their parts (RFC 9110, section 8.8.3.2). Strongly, neither
+/// is weak and their opaque parts are equal; weakly, their opaque parts are equal.
 pub fn tags_are_compared_by_their_parts()
     ensures strong { (a b : Line) → IsTrue (are_equal Strong a b) ↔ AreTags StronglyEqual a b }
     ensures weak { (a b : Line) → IsTrue (are_equal Weak a b) ↔ AreTags WeaklyEqual a b }
 {}
 
-/// Coalesced parts together have no more bytes than the whole, however many ranges were asked for.
+/// Theorem: the parts together have at most as many bytes as the whole, whatever ranges were asked
+/// for.
 pub fn parts_fit_the_whole()
     ensures { (len gap : ℕ) (parts : List Part) → AreCoalesced len gap parts → sum_by part_size parts ≤ len }
 {}
 
-/// No answer is longer than twice the representation, however many ranges are asked for: several
-/// parts, each with as many bytes beside its own as the limits say, aren't longer.
+/// Theorem: no response with several parts is longer than twice the representation, whatever ranges
+/// were asked for. This holds if each part costs at most as many further bytes as the limits say.
 pub fn parts_fit_twice_the_whole()
     ensures { (present : ℕ) (method : List ℕ) (request : LineMap) (current : Validators) (len : ℕ)
         (limits : RangeLimits) (set : List ℕ) (parts : List Part)
@@ -74,8 +75,8 @@ pub fn parts_fit_twice_the_whole()
         → 1 < length parts → sum_by part_size parts + length parts * limits.head ≤ len + len }
 {}
 
-/// Every request has a selection, and no other: the parts are the only ones that are coalesced and
-/// hold the positions that are asked for, and those of small gaps.
+/// Theorem: every request has exactly one selection. Its parts are the only ones that are coalesced
+/// and that contain exactly the requested positions and those of small gaps.
 pub fn request_has_one_selection()
     ensures some { (present : ℕ) (method : List ℕ) (request : LineMap) (current : Validators) (len : ℕ)
         (limits : RangeLimits) → HasSelection present method request current len limits }
@@ -85,8 +86,8 @@ pub fn request_has_one_selection()
         → IsSameSelection s t }
 {}
 
-/// Every request has a plan, or goes on to its method, and it has no two plans of other statuses or
-/// parts.
+/// Theorem: every request has a plan, or the server performs its method; and no two plans of a
+/// request differ in status or parts.
 pub fn request_has_one_plan()
     ensures some { (present : ℕ) (method : List ℕ) (request : LineMap) (resource : Resource) (len : ℕ)
         (limits : RangeLimits) → HasPlan present method request resource len limits }
@@ -96,8 +97,8 @@ pub fn request_has_one_plan()
         → IsPlanned present method request resource len limits q → IsSamePlan p q }
 {}
 
-/// A HEAD has the plan that a GET of the same request without Range has, and no other. So it has the
-/// same status and fields, which are determined by the plan.
+/// Theorem: a HEAD has exactly the plan of the same GET without Range. So it has the same status
+/// and fields, which are determined by the plan.
 #[tactic(auto, using(crate::proofs::HeadLemmas::head_as_get))]
 pub fn head_is_planned_as_get()
     ensures { (present : ℕ) (request : LineMap) (resource : Resource) (len : ℕ) (limits : RangeLimits)
@@ -106,10 +107,10 @@ pub fn head_is_planned_as_get()
         ↔ IsPlanned present (codes "GET") (remove request (codes "range")) resource len limits plan }
 {}
 
-/// After `set_all` of a response's fields, whatever fields the server had set, ETag, Last-Modified,
-/// Accept-Ranges, Content-Range, Content-Length and Content-Type have the field lines that RFC 9110
-/// wants of the plan, and no other; Content-Encoding is kept or gone; and each other field is as it
-/// was.
+/// Theorem: `set_all` of a response's fields sets them, whatever fields the server had set. ETag,
+/// Last-Modified, Accept-Ranges, Content-Range, Content-Length and Content-Type have exactly the
+/// field lines that RFC 9110 requires of the plan. Content-Encoding stays or is removed. Each other
+/// field is unchanged.
 pub fn response_sets_its_fields()
     ensures { (plan : Plan) (is_known : Bool) (resource : Resource) (content : Content) (multipart : FieldValue)
         (before : LineMap) → SendsFields plan is_known resource content multipart before

@@ -1,5 +1,5 @@
-//! Conditional and range requests: what the preconditions of a request come to (RFC 9110, section
-//! 13.2.2), which part of a representation it selects (section 14.2), and how it is answered.
+//! Conditional and range requests: the result of the preconditions (RFC 9110, section 13.2.2), the
+//! selected part of a representation (section 14.2), and the response.
 #![tactic(auto)]
 
 mod boundary;

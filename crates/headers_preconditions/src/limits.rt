@@ -1,4 +1,4 @@
-//! Limits on the parts of an answer.
+//! Limits on the parts of a response.
 ghost use Rattle.std.specs.Prelude.{◌≡◌};
 ghost use Rattle.headers_preconditions.specs.Limits.{usual_limits};
 
@@ -7,18 +7,19 @@ ghost use Rattle.headers_preconditions.specs.Limits.{usual_limits};
 pub struct RangeLimits {
     /// Ranges with at most this many bytes between them are sent as one part.
     pub gap: u64,
-    /// How many bytes a part adds, at most, to a `multipart/byteranges` beside its own: the boundary,
-    /// its header lines, and its share of the last boundary. Range is ignored if those of all parts
-    /// together are more than the representation has bytes.
+    /// The greatest number of bytes that a part adds to a `multipart/byteranges` beside its own
+    /// bytes. These are the boundary, its header fields, and its share of the last boundary. Range
+    /// is ignored if those of all parts together are more than the length of the representation.
     pub head: u64,
-    /// Range is ignored if there are more parts than this.
+    /// The greatest number of parts. Range is ignored if there are more.
     pub parts: u64,
 }
 
 impl RangeLimits {
-    /// Limits that suit most servers: a gap of 80 bytes, which is less than what a part costs; 512
-    /// bytes a part, which is enough for each `Boundary` and a media type of up to 255 bytes; and
-    /// 100 parts. So no answer is longer than twice the representation.
+    /// Returns limits that suit most servers, so that no response is longer than twice the
+    /// representation. The gap is 80 bytes, which is less than the cost of a part. A part costs 512
+    /// bytes, which is enough for each `Boundary` and a media type of up to 255 bytes. There are at
+    /// most 100 parts.
     pub fn usual() -> RangeLimits
         ensures { result ≡ usual_limits }
     {

@@ -8,17 +8,17 @@ use headers::ContentRange;
 use std::alloc::{AllocError, Global};
 use std::ops::Bound;
 
-/// A part of a representation: its bytes from one position to another, both included.
+/// A part of a representation: the bytes from one position to another, both included.
 #[derive(Clone, Copy, Debug, PartialEq, Eq)]
 pub struct Part {
-    /// The first position.
+    /// The first position, counted in bytes from 0.
     pub first: u64,
-    /// The last position.
+    /// The last position, counted in bytes from 0.
     pub last: u64,
 }
 
 impl Part {
-    /// How many bytes it has.
+    /// Returns the number of bytes in the part.
     pub fn size(&self) -> u64
         requires ordered { self.now.first ≤ self.now.last }
         requires fits { self.now.last + 1 < 2 ^ 64 }
@@ -27,7 +27,7 @@ impl Part {
         self.last + 1 - self.first
     }
 
-    /// What `Content-Range` says of it, in a whole of this length.
+    /// Returns the `Content-Range` of the part in a representation of this length.
     pub fn content_range(&self, complete_length: u64) -> ContentRange
         ensures { result ≡ record { range = Some (self.now.first, self.now.last); length = Some complete_length } }
     {

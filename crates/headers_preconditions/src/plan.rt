@@ -1,4 +1,4 @@
-//! How a request for a representation is answered.
+//! What the response to a request for a representation has.
 ghost use Rattle.std.specs.Prelude.{◌≡◌, IfOk, OnErr};
 ghost use Rattle.headers.specs.LineMap.{lines_at};
 ghost use Rattle.headers_preconditions.specs.Plans.{IsPlanned, IsSentAs, ReadsSome};
@@ -13,26 +13,26 @@ use headers::HeaderMap;
 use http::{Method, StatusCode};
 use std::alloc::{AllocError, Global};
 
-/// How a request for a representation is answered.
+/// What the response to a request for a representation has: its status, and which parts are sent.
 #[derive(Debug, Drop)]
 pub enum Plan {
     /// 200, with all of the representation.
     Full,
     /// 206, with this part.
     Single(Part),
-    /// 206, with these parts as `multipart/byteranges`. There are two at least, in order, and no
-    /// two of them overlap or are close.
+    /// 206, with these parts as `multipart/byteranges`. They are at least two, in order, and no two
+    /// overlap or are close to each other.
     Multiple(Vec<Part>),
     /// 304, without content.
     NotModified,
     /// 412: a precondition is false.
     Failed,
-    /// 416: no byte that is asked for is there.
+    /// 416: no requested byte exists.
     Unsatisfiable,
 }
 
 impl Plan {
-    /// The status of the answer.
+    /// Returns the status of the response.
     pub fn status(&self) -> StatusCode
         ensures { result ≡ status_of self.now }
     {
@@ -46,13 +46,13 @@ impl Plan {
     }
 }
 
-/// How a request is answered by its preconditions and its ranges (RFC 9110, sections 13.2.2 and
-/// 14.2). `present` is the time, in seconds since the start of 1970. Ranges are sent of `len` bytes:
-/// the length of the current representation, or 0 if the server sends no ranges of it.
+/// Decides the response to a request by its preconditions and its ranges (RFC 9110, sections 13.2.2
+/// and 14.2). `present` is the time, in seconds since 1970. Ranges are taken of `len` bytes: the
+/// length of the current representation, or 0 if the server sends no ranges of it.
 ///
-/// `None` if the preconditions let a request go on that isn't a GET or a HEAD of a current
-/// representation: the server performs its method, and answers it as it does without preconditions.
-/// A call can run out of memory only if Range asks for some byte.
+/// `Ok(None)` if the preconditions let a request pass that isn't a GET or a HEAD of a current
+/// representation: the server performs its method, and answers as it does without preconditions.
+/// The call can run out of memory only if Range asks for some byte.
 pub fn plan_answer(
     alloc: Global,
     method: &Method,

@@ -18,26 +18,26 @@ use headers_fields::has_line;
 use http::Method;
 use http_header::{GetAll, IF_MATCH, IF_MODIFIED_SINCE, IF_NONE_MATCH, IF_UNMODIFIED_SINCE};
 
-/// What the preconditions of a request come to.
+/// The result of the preconditions of a request.
 #[derive(Clone, Copy, Debug, PartialEq, Eq)]
 pub enum Precondition {
-    /// The method is performed. For a GET, `select` says which part is sent.
+    /// The server performs the method. For a GET, `select` says which part is sent.
     Perform,
-    /// The answer is 304: the client's stored representation is still current.
+    /// The response is 304: the client's stored representation is still current.
     NotModified,
-    /// The answer is 412: a precondition is false.
+    /// The response is 412: a precondition is false.
     Failed,
 }
 
-/// Evaluates the preconditions of a request on a resource, in their order of precedence (RFC 9110,
-/// section 13.2.2). A server calls this once it knows that it would otherwise answer with success,
-/// and before it performs the method (section 13.2.1). `present` is the time, in seconds since the
-/// start of 1970: a year of two digits depends on it (section 5.6.7).
+/// Evaluates the preconditions of a request, in their order of precedence (RFC 9110, section
+/// 13.2.2). A server calls this when it knows that it would otherwise respond with success, and
+/// before it performs the method (section 13.2.1). `present` is the time, in seconds since 1970,
+/// which decides a year of two digits (section 5.6.7). The call never fails.
 ///
-/// Fields that the method doesn't use, dates that aren't valid, and dates of a resource without
-/// modification date are ignored; so are all four fields for CONNECT, OPTIONS and TRACE. A malformed
-/// If-Match is false. A malformed If-None-Match is true for GET and HEAD, which are answered with
-/// the representation, and false for other methods if there is a representation.
+/// Some fields are ignored: those that the method doesn't use, invalid dates, dates of a resource
+/// without modification date, and all four fields for CONNECT, OPTIONS and TRACE. A malformed
+/// If-Match is false. A malformed If-None-Match is true for GET and HEAD, so the representation is
+/// sent; for other methods it is false if there is a representation.
 pub fn evaluate(
     method: &Method,
     request: &HeaderMap,
@@ -83,8 +83,8 @@ fn evaluate_steps(
     Precondition::Perform
 }
 
-/// Whether the method is GET or HEAD, which read the representation (RFC 9110, sections 9.3.1 and
-/// 9.3.2).
+/// Returns whether the method is GET or HEAD, which read the representation (RFC 9110, sections
+/// 9.3.1 and 9.3.2).
 pub fn is_get_or_head(method: &Method) -> bool
     ensures { MatchBool result (IsGetOrHead method.now) (¬ (IsGetOrHead method.now)) }
 {

@@ -35,7 +35,8 @@ fn next_piece<'a>(rest: &mut Option<&'a [u8]>) -> Option<&'a [u8]>
     }
 }
 
-/// The elements of a range-set, without the blanks about them. Empty ones are passed over.
+/// An iterator over the elements of a range-set, without the blanks around them. Empty ones are
+/// skipped.
 #[derive(Drop)]
 pub(crate) struct Elements<'a> {
     rest: Option<&'a [u8]>,
@@ -191,7 +192,7 @@ fn are_range_specs(text: &[u8]) -> bool
     true
 }
 
-/// Whether a text is a range-set: it has one range-spec at least, and each of them is valid.
+/// Returns whether a text is a range-set: it has at least one range-spec, and all are valid.
 pub(crate) fn is_range_set(text: &[u8]) -> bool
     ensures { result ≡ is_range_set text.now }
 {
@@ -266,14 +267,14 @@ fn is_satisfiable(len: u64, set: &[u8]) -> bool
     false
 }
 
-/// Whether a range-set asks for no position of a representation of this length.
+/// Returns whether a range-set asks for no position of a representation of this length.
 pub(crate) fn is_unsatisfiable(len: u64, set: &[u8]) -> bool
     ensures { MatchBool result ((p : ℕ) → ¬ (IsAsked len set.now p)) ((p : ℕ) × IsAsked len set.now p) }
 {
     !is_satisfiable(len, set)
 }
 
-/// The parts that the range-specs of a range-set select, in their order.
+/// Returns the parts that the range-specs of a range-set select, in order.
 pub(crate) fn parts_in(alloc: Global, len: u64, set: &[u8]) -> Result<Vec<Part>, AllocError>
     ensures { IfOk result (λ parts. parts.items ≡ filter_map (part_in len) (elements set.now)) }
 {

@@ -1,4 +1,4 @@
-//! Answers to requests for a representation.
+//! Responses to requests for a representation.
 ghost use Rattle.std.specs.Prelude.{◌≡◌, IfOk, OnErr};
 ghost use Rattle.headers.specs.LineMap.{lines_at};
 ghost use Rattle.headers_preconditions.specs.Fields.{is_known_by};
@@ -14,32 +14,33 @@ use http::{Method, StatusCode};
 use http_header::IF_RANGE;
 use std::alloc::{AllocError, Global};
 
-/// The answer to a request for a representation.
+/// The response to a request for a representation: its plan, its status and its fields.
 #[derive(Debug, Drop)]
 pub struct Response {
-    /// What is sent.
+    /// Which parts are sent.
     pub plan: Plan,
-    /// The status.
+    /// The status code.
     pub status: StatusCode,
-    /// The fields, for `set_all` on those that the server has set: ETag, Last-Modified, Accept-Ranges,
-    /// Content-Range, Content-Length and Content-Type, each without field lines where the answer
-    /// doesn't have it, and Content-Encoding without field lines where it has to go.
+    /// The fields, for `set_all` on those that the server has set. They are ETag, Last-Modified,
+    /// Accept-Ranges, Content-Range, Content-Length and Content-Type, each without field lines if
+    /// the response doesn't have it, and Content-Encoding without field lines if it must be
+    /// removed.
     pub fields: Vec<Encoded>,
 }
 
-/// Answers a GET or a HEAD of a current representation, by its preconditions and its ranges (RFC
-/// 9110, sections 13.2.2 and 14.2), and any request whose preconditions are false. A HEAD is
-/// answered as a GET without `Range`, but for the content. `present` is the time, in seconds since
-/// the start of 1970.
+/// Responds to a GET or HEAD of a current representation, by its preconditions and ranges, and to
+/// any request whose preconditions are false (RFC 9110, sections 13.2.2 and 14.2). A HEAD is
+/// answered like a GET without `Range`, except for the content. `present` is the time, in seconds
+/// since 1970.
 ///
-/// The fields of the answer are those that RFC 9110 wants (sections 14.3, 14.4, 15.3.7, 15.4.5 and
-/// 15.5.17). After `set_all` each of the six has its own field lines alone, whatever the map had.
-/// Content-Encoding stays where the answer carries the representation, and goes where it doesn't.
-/// All other fields stay.
+/// The fields are those that RFC 9110 requires (sections 14.3, 14.4, 15.3.7, 15.4.5 and 15.5.17).
+/// After `set_all`, each of the six has exactly its own field lines, whatever the map had.
+/// Content-Encoding stays if the response has the representation, and is removed otherwise. All
+/// other fields stay.
 ///
-/// `None` if the preconditions let a request go on that isn't a GET or a HEAD of a current
-/// representation: the server performs its method, and answers it as it does without preconditions.
-/// A call that answers `None` never runs out of memory.
+/// `Ok(None)` if the preconditions let a request pass that isn't a GET or a HEAD of a current
+/// representation: the server performs its method, and answers as it does without preconditions.
+/// The call fails only if an allocation fails, and never if the result is `None`.
 pub fn respond(
     alloc: Global,
     method: &Method,
@@ -66,7 +67,7 @@ pub fn respond(
     }))
 }
 
-/// Whether the client of a request knows a representation, which it names in If-Range (RFC 9110,
+/// Returns whether the client already knows a representation, which it names in If-Range (RFC 9110,
 /// section 13.1.5).
 pub fn is_known_by(request: &HeaderMap) -> bool
     ensures { result ≡ is_known_by (lines_at request.now) }

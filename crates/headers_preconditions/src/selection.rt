@@ -1,4 +1,4 @@
-//! Which part of a representation a request selects.
+//! The part of a representation that a request selects.
 ghost use Rattle.std.specs.Prelude.{◌≡◌, ◌↔◌, ◌+◌, ◌*◌, ℕ, List, All, Any, IfOk, MatchOption, OnErr};
 ghost use Rattle.std.specs.Prelude.{bytes_eq, codes, map, nat_eq, nat_lt, option_map};
 ghost use Rattle.std.specs.Char.{to_ascii_lowercase};
@@ -22,24 +22,25 @@ use http::Method;
 use http_header::{IF_RANGE, RANGE};
 use std::alloc::{AllocError, Global};
 
-/// Which part of the current representation a request selects.
+/// The part of the current representation that a request selects.
 #[derive(Debug, Drop)]
 pub enum Selection {
-    /// All of it: the answer is 200.
+    /// All of it: the response is 200.
     Whole,
-    /// These parts, in order, no two of which overlap or are close: the answer is 206.
+    /// These parts, in order, no two of which overlap or are close to each other: the response is
+    /// 206.
     Parts(Vec<Part>),
-    /// None of it: the answer is 416, with `ContentRange::unsatisfied_bytes`.
+    /// None of it: the response is 416, with `ContentRange::unsatisfied_bytes`.
     Unsatisfiable,
 }
 
-/// Selects a part of the current representation, of `len` bytes, by `Range` and `If-Range` (RFC
-/// 9110, sections 13.2.2, step 5, and 14.2). A server calls this once `evaluate` says `Perform`.
-/// `present` is the time, in seconds since the start of 1970.
+/// Selects the part of a representation that a request asks for in `Range` and `If-Range` (RFC
+/// 9110, sections 13.2.2, step 5, and 14.2). The representation has `len` bytes. A server calls
+/// this when `evaluate` returns `Perform`. `present` is the time, in seconds since 1970.
 ///
 /// `Range` is ignored unless the method is GET, the field has one line, its unit is bytes, each of
 /// its ranges is valid, the representation has content, `If-Range` is absent or true, and the parts
-/// keep to the limits. A call can run out of memory only if Range asks for some byte.
+/// are within the limits. The call can run out of memory only if Range asks for some byte.
 pub fn select(
     alloc: Global,
     method: &Method,

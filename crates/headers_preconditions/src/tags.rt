@@ -1,4 +1,4 @@
-//! Entity tags that a request names (RFC 9110, sections 13.1.1 and 13.1.2).
+//! Entity tags in a request (RFC 9110, sections 13.1.1 and 13.1.2).
 ghost use Rattle.std.specs.Prelude.{◌≡◌, option_copied, option_map};
 ghost use Rattle.headers.specs.EntityTag.{is_tag};
 ghost use Rattle.headers.specs.Lines.{lines_of, only_line};
@@ -17,13 +17,13 @@ use http_header::GetAll;
 /// How two entity tags are compared (RFC 9110, section 8.8.3.2).
 #[derive(Clone, Copy)]
 pub(crate) enum Comparison {
-    /// Equal opaque parts of two tags neither of which is weak.
+    /// Strongly: neither is weak, and their opaque parts are equal.
     Strong,
-    /// Equal opaque parts.
+    /// Weakly: their opaque parts are equal.
     Weak,
 }
 
-/// The only value of a field, without the blanks at its ends.
+/// Returns the only field line of a field, without the blanks at its ends.
 pub(crate) fn only_text<'a>(field: &GetAll<'a, HeaderValue>) -> Option<&'a [u8]>
     ensures { option_map (λ text. text.now) result ≡ option_map trim (only_line (lines_of field.now)) }
 {
@@ -58,7 +58,7 @@ fn is_equal(comparison: Comparison, text: &[u8], etag: &ETag) -> bool
     }
 }
 
-/// Whether a text is an entity tag that is equal to that of a representation, if it has one.
+/// Returns whether a text is an entity tag that is equal to that of the representation.
 pub(crate) fn is_tag_of(comparison: Comparison, etag: Option<&ETag>, text: &[u8]) -> bool
     ensures { result ≡ is_tag_of comparison (option_copied etag.entry) text.now }
 {
@@ -118,7 +118,7 @@ fn is_malformed(field: &GetAll<'_, HeaderValue>) -> bool
     !is_star(field) && !are_tags(field)
 }
 
-/// Whether a field names the current representation: it is `*`, or a list that has its tag.
+/// Returns whether a field matches the current representation: it is `*`, or a list with its tag.
 pub(crate) fn names(
     comparison: Comparison,
     field: &GetAll<'_, HeaderValue>,
@@ -135,7 +135,7 @@ pub(crate) fn names(
     }
 }
 
-/// Whether a field names the current representation, or nobody can say, since it is malformed.
+/// Returns whether a field matches the current representation, or is malformed and so may match it.
 pub(crate) fn may_name(
     comparison: Comparison,
     field: &GetAll<'_, HeaderValue>,
