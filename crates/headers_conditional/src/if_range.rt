@@ -68,9 +68,9 @@ impl IfRange {
         }
     }
 
-    /// Returns whether a representation with this entity tag and modification time matches. A tag
-    /// matches a strongly equal tag. A date matches exactly that time, which must be a strong
-    /// validator (RFC 9110, section 8.8.2.2); if it is none, the caller passes no time.
+    /// Returns whether a representation with this entity tag and modification time matches (RFC 9110,
+    /// section 13.1.5). A tag matches a strongly equal tag. A date matches exactly that time, which
+    /// must be a strong validator (section 8.8.2.2); if it is none, the caller passes no time.
     pub fn matches(&self, etag: Option<&ETag>, last_modified: Option<&LastModified>) -> bool
         ensures { MatchBool result (ValidatorMatches self.now etag.entry last_modified.entry)
             (¬ (ValidatorMatches self.now etag.entry last_modified.entry)) }

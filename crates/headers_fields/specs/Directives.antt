@@ -125,7 +125,7 @@ abbrev pub is_same_token : List ℕ → Member → Bool
 is_same_token token (Whole s) = same_name s token
 is_same_token token Malformed = false
 
--- what stands before the first semicolon of an element, and the parameters behind it (RFC 9110, section 5.6.6)
+-- what is before the first semicolon of an element, and the parameters after it (RFC 9110, section 5.6.6)
 pub record HasParameters (element value : List ℕ) (parameters : List Member) : Type 0 where
   pub first : List ℕ
   pub others : List Member

@@ -15,7 +15,9 @@ use std::marker::Model;
 /// A parsed parameter of a media type. A quoted value includes its quotes.
 #[derive(Drop)]
 pub struct ParameterRef<'a> {
+    /// The name of the parameter.
     pub name: &'a [u8],
+    /// The value of the parameter, with its quotes if it is quoted.
     pub value: &'a [u8],
 }
 
