@@ -19,10 +19,10 @@ pub trait Credentials: Drop {
     // Whether two are the same value.
     ghost same: { Self → Self → Type 0 };
 
-    // Whether a line reads this value.
+    // Whether a field line decodes to this value.
     ghost reads: { Line → Self → Type 0 };
 
-    // The line that is written of a value.
+    // The field line that encodes a value.
     ghost writes: { Self → Line };
 
     /// The name of the scheme, with which each field line of its credentials begins.
@@ -44,9 +44,9 @@ pub trait Credentials: Drop {
     fn encode(&self, alloc: Global) -> Result<HeaderValue, AllocError>
         ensures { IfOk result (λ value. value.bytes ≡ writes self.now) };
 
-    // Being the same is an equivalence that reading and writing respect, a line reads one value at
-    // most, and what is written of a value that a line of the scheme reads has the scheme and reads
-    // as that value.
+    // The laws of credentials: `same` is an equivalence that decoding and encoding respect, a line
+    // decodes to at most one value, and the encoding of a decoded value has the scheme and decodes
+    // to it.
     ghost laws: { CredentialLaws scheme same reads writes };
 }
 

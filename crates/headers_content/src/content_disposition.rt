@@ -91,7 +91,7 @@ impl FormHeader for ContentDisposition {
     }
 }
 
-// What stands before the first semicolon, or all if there is none.
+// What is before the first semicolon, or all if there is none.
 fn before_semicolon(text: &str) -> &str
     ensures { result.now ≡ before_first (λ b. b == semicolon) text.now }
 {

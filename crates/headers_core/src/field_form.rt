@@ -17,10 +17,10 @@ pub trait FieldForm: Drop {
     // Whether `read_lines` never runs out of memory.
     ghost free: { Bool };
 
-    // What a value is, once its representation is set aside.
+    // The abstract value, without its representation.
     ghost Kept: { Type 0 };
 
-    // Which value the lines of a field read, if any, and which lines are written of a value.
+    // Which value field lines decode to, if any, and which field lines encode a value.
     ghost grammar: { Grammar Self Kept };
 
     /// Decodes the field lines: `Invalid` if they encode no value, `Memory` if an allocation fails.
@@ -39,6 +39,6 @@ pub trait FieldForm: Drop {
         ensures ok { OnOk result (Appends values.old.items values.new.items (written_by grammar self.now)) }
         ensures err { OnErr result (values.new.items ≡ values.old.items) };
 
-    // What is written of a value that lines read, reads as that value.
+    // Round trip: the encoding of a decoded value decodes to that value.
     ghost reads_back: { ReadsBack grammar };
 }

@@ -18,7 +18,7 @@ pub trait FormHeader: Drop {
     /// The field name of the header.
     const NAME: HeaderName;
 
-    // What a value keeps.
+    // The encoding shape of a header.
     ghost form: { Self → Self.Form };
 
     /// Makes the header of its encoding shape.

@@ -122,7 +122,7 @@ impl CorsPolicy {
         push_vary(alloc, fields, response)
     }
 
-    // The fields but for Vary, if this is the line of Access-Control-Allow-Origin.
+    // The fields except Vary, for this line of Access-Control-Allow-Origin.
     fn grant_fields(
         &self,
         alloc: Global,

@@ -10,7 +10,7 @@ use crate::rules::{Allowed, AllowedNames, CorsRules};
 use headers::HeaderName;
 use http::Method;
 
-// Why browsers don't read the rules as they are meant, if they don't.
+// Why browsers would take the rules in another sense than they mean, if they would.
 pub(crate) fn refusal(rules: &CorsRules) -> Option<RulesError>
     ensures { RefusesReading rules.now result }
 {

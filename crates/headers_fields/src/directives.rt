@@ -36,7 +36,7 @@ fn token_len(bytes: &[u8]) -> usize
     bytes.len()
 }
 
-// The argument that stands behind a name.
+// The argument after a name.
 fn read_argument(text: &[u8]) -> Result<Option<Value<'_>>, Malformed>
     ensures { MatchResult result (λ argument. IsArgument text.now (option_map value_parts argument))
         (λ _. (argument : Option ValueParts) → IsArgument text.now argument → ⊥) }

@@ -64,7 +64,8 @@ fn is_qdtext(byte: u8) -> bool
     is_value_byte(byte) && byte != b'"' && byte != b'\\'
 }
 
-// Whether the byte behind this one is just behind a backslash, if this one may stand here.
+// Whether the next byte follows the backslash of a quoted-pair; none if this byte isn't allowed
+// here.
 fn escape_after(escaped: bool, byte: u8) -> Option<bool>
     ensures { result ≡ escape_after escaped byte }
 {
@@ -95,7 +96,7 @@ fn is_quoted_text(text: &[u8]) -> bool
     !escaped
 }
 
-// What stands between a quote at the start and one at the end.
+// What is between a quote at the start and one at the end.
 fn between_quotes(text: &[u8]) -> Option<&[u8]>
     ensures { MatchOption result ((s : List ℕ) → text.now ≢ quote ∷ (s ++ quote ∷ []))
         (λ s. text.now ≡ quote ∷ (s.now ++ quote ∷ [])) }
@@ -162,7 +163,7 @@ impl<'a> Value<'a> {
     }
 }
 
-// What stands behind the backslash of a quoted-pair, if the text begins with one.
+// What follows the backslash of a quoted-pair, if the text begins with one.
 fn behind_backslash(is_quoted: bool, text: &[u8]) -> &[u8]
     ensures { octets_after false is_quoted text.now ≡ octets_after true is_quoted result.now }
 {

@@ -5,7 +5,7 @@ ghost use Rattle.headers_fields.specs.Weights.{fraction, one, thousandths, weigh
 use crate::numbers::number_within;
 use crate::values::Value;
 
-// At most three digits behind a point, as thousandths.
+// At most three digits after a point, as thousandths.
 fn thousandths(digits: &[u8]) -> Option<u16>
     ensures value { result ≡ thousandths digits.now }
     ensures within { IfSome result (λ n. n ≤ 999) }
@@ -29,7 +29,7 @@ fn thousandths(digits: &[u8]) -> Option<u16>
     }
 }
 
-// What stands behind the first digit of a weight, as thousandths.
+// What follows the first digit of a weight, as thousandths.
 fn fraction(text: &[u8]) -> Option<u16>
     ensures value { result ≡ fraction text.now }
     ensures within { IfSome result (λ n. n ≤ 999) }

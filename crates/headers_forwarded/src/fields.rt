@@ -158,7 +158,7 @@ fn first_told(
     Ok(lines)
 }
 
-// The Host with which the request came, if it is written.
+// The Host of the request, if the gateway sends it.
 fn own_host(writes: bool, host: Option<&HeaderValue>) -> Result<Option<HeaderValue>, AllocError>
     ensures { IfOk result (λ own. option_to_list (option_map (λ line. line.bytes) own)
         ≡ (if writes then option_to_list (option_map (λ value. value.now.bytes) host.entry) else [])) }
@@ -169,7 +169,7 @@ fn own_host(writes: bool, host: Option<&HeaderValue>) -> Result<Option<HeaderVal
     }
 }
 
-// The scheme by which the request came, if it is written.
+// The scheme of the request, if the gateway sends it.
 fn own_scheme(writes: bool, scheme: Scheme) -> Option<HeaderValue>
     ensures { option_to_list (option_map (λ line. line.bytes) result)
         ≡ (if writes then scheme_text scheme ∷ [] else []) }

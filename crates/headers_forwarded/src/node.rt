@@ -100,7 +100,7 @@ fn push_number(alloc: Global, port: u16, text: &mut Vec<u8>) -> Result<(), Alloc
     text.extend_from_slice(format!(in alloc; ":{port}")?.as_bytes())
 }
 
-// Appends the port, behind a colon.
+// Appends the port, after a colon.
 fn push_port(alloc: Global, port: &Option<NodePort>, text: &mut Vec<u8>) -> Result<(), AllocError>
     ensures added { OnOk result (text.new.items ≡ text.old.items ++ port_text port.now) }
     ensures valid { OnOk result (IsFieldValue (port_text port.now)) }

@@ -102,7 +102,7 @@ impl Mime {
         ]
     }
 
-    // The constant of a text, which takes no memory. `None` if there is none.
+    // The constant of a text, without allocation. `None` if there is none.
     fn known(text: &str) -> Option<Mime>
         ensures same { IfSome result (λ mime. mime ≡ text.now) }
         ensures known { IfSome result (λ _. IsTrue (is_known text.now)) }

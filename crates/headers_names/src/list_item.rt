@@ -14,10 +14,10 @@ pub trait ListItem: Drop {
     // The bytes of a value.
     ghost bytes_of: { Self → List ℕ };
 
-    // How an item reads as a value.
+    // What an item parses as.
     ghost value_of: { Reading };
 
-    // The values that may want for memory.
+    // The values for which memory may be allocated.
     ghost wants: { List ℕ → Type 0 };
 
     /// Parses an item of a list. `None` if it is no such value, `Some(Err(..))` if an allocation

@@ -33,7 +33,7 @@ pub(crate) fn value_of(text: &[u8]) -> &[u8]
     }
 }
 
-// What stands between the other semicolons.
+// What is between the other semicolons.
 fn members_after(text: &[u8]) -> Members<'_>
     ensures { members_left result ≡ members_after text.now }
 {
@@ -141,7 +141,7 @@ pub(crate) fn has_parameters_of(text: &[u8], element: &[u8]) -> bool
     true
 }
 
-// Whether an element is a range and maybe a weight.
+// Whether an element is a range and perhaps a weight.
 fn is_bare(element: &Element<'_>) -> bool
     ensures { result ≡ is_bare (element_parts element.now) }
 {

@@ -41,7 +41,7 @@ pub(crate) fn parameter_of<'a>(member: Result<&'a [u8], Malformed>) -> Option<Pa
     }
 }
 
-// Whether both values mean the same octets but for case, in whichever form they are written.
+// Whether both values mean the same octets, as tokens or as quoted-strings, ignoring case.
 fn is_same_value(one: &Value<'_>, other: &Value<'_>) -> bool
     ensures { result ≡ is_same_value (value_parts one.now) (value_parts other.now) }
 {

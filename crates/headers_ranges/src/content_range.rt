@@ -185,7 +185,7 @@ impl ContentRange {
         ContentRange::in_bytes(unit, rest)
     }
 
-    // The line that is written.
+    // The encoding.
     fn to_value(&self, alloc: Global) -> Result<HeaderValue, AllocError>
         ensures { IfOk result (λ value. value ≡ plain_value (content_text self.now)) }
     {

@@ -28,8 +28,8 @@ fn is_row(line: &str) -> bool
     }
 }
 
-// A call, ` = ` and the answer. If the port has to answer otherwise than the Rust crate, ` ! `, the
-// kind and the port's answer follow. What is left out is empty, which no answer is.
+// A call, ` = ` and the answer. If the answer must differ from upstream's, ` ! `, the kind and this
+// answer follow. A part that is left out is empty, which no answer is.
 fn read_row(line: &str) -> Row<'_> {
     let (call, answers) = line.split_once(" = ").unwrap_or((line, ""));
     match answers.split_once(" ! ") {
@@ -49,8 +49,8 @@ fn read_row(line: &str) -> Row<'_> {
     }
 }
 
-// Makes the call of a row at a place, counts it, and prints it if the answer isn't the wanted one. A
-// call that wants for memory is made once more.
+// Runs the test case at a place of a file, counts it, and prints it if its answer isn't the
+// expected one. If an allocation fails, the call is made once more.
 fn replay_row<C: Calls, W: Write>(
     alloc: Global,
     file: &str,

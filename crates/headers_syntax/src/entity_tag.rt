@@ -31,7 +31,7 @@ fn is_tag_byte(byte: u8) -> bool
     byte == 0x21 || (byte >= 0x23 && byte <= 0x7e) || byte >= 0x80
 }
 
-// What stands between the quotes, if the bytes begin and end with one.
+// What is between the quotes, if the bytes begin and end with one.
 fn quoted(bytes: &[u8]) -> Option<&[u8]>
     ensures { FindsQuoted bytes.now result }
 {
@@ -183,7 +183,7 @@ impl EntityTag {
     pub fn weak_eq_bytes(&self, bytes: &[u8]) -> bool
         ensures { IsTrue result ↔ AreTags WeaklyEqual bytes.now self.now.bytes }
     {
-        // If a tag's opaque part stands between the quotes, the bytes are a tag.
+        // If the text between the quotes is a tag's opaque part, the bytes are a tag.
         match shaped(bytes) {
             Some(other) => other.weak_eq(&self.view()),
             None => false,

@@ -10,7 +10,7 @@ use headers::{
 };
 use std::alloc::Global;
 
-// The age that a value writes reads as that age.
+// An age survives a round trip.
 fn round_trip(alloc: Global, seconds: u64) -> Result<Age, Refused<Error>>
     ensures { IfOk result (λ age. age ≡ seconds) }
 {
