@@ -8,8 +8,8 @@ ghost use Rattle.headers_items.specs.Places.{comma, items};
 ghost use Rattle.headers_connection.specs.Chunked.{IsChunked, is_comma};
 
 use headers_core::{Comma, FlatCsv, FormHeader, trim};
+use headers_syntax::after_last;
 use http_header::{HeaderName, TRANSFER_ENCODING};
-use memchr::memrchr;
 use std::alloc::{AllocError, Global};
 use std::marker::Model;
 
@@ -29,21 +29,11 @@ impl Model for TransferEncoding {
     ghost inverse = { λ bytes. record { codings = bytes } };
 }
 
-// What follows the last comma, quoted or not, or the whole text if it has none.
-fn after_last_comma(text: &[u8]) -> &[u8]
-    ensures { result.now ≡ after_last is_comma text.now }
-{
-    match memrchr(b',', text) {
-        Some(comma) => &text[comma + 1..],
-        None => text,
-    }
-}
-
 // Whether what follows the last comma is the word, trimmed.
 fn ends_in_chunked(text: &str) -> bool
     ensures { IsTrue result ↔ (trim (after_last is_comma text.now) ≡ codes "chunked") }
 {
-    trim(after_last_comma(text.as_bytes())) == b"chunked".as_slice()
+    trim(after_last(text.as_bytes(), b',')) == b"chunked".as_slice()
 }
 
 impl TransferEncoding {

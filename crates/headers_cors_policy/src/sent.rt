@@ -1,23 +1,13 @@
 //! Which texts browsers send as origins.
 ghost use Rattle.std.specs.Prelude.{◌≡◌, option_map};
-ghost use Rattle.std.specs.List.{after_last, list_all};
+ghost use Rattle.std.specs.List.{list_all};
 ghost use Rattle.headers.specs.Lines.{lines_of};
-ghost use Rattle.headers_cors_policy.specs.SentOrigins.{are_sent, has_leading_zero, has_sent_port, is_colon};
+ghost use Rattle.headers_cors_policy.specs.SentOrigins.{are_sent, has_leading_zero, has_sent_port};
 ghost use Rattle.headers_cors_policy.specs.SentOrigins.{is_default_port, is_port, is_sent, is_sent_byte};
 
 use headers::HeaderValue;
 use headers_fields::number;
-use memchr::memrchr;
-
-// What follows the last colon, or the whole text if it has none.
-fn after_last_colon(text: &[u8]) -> &[u8]
-    ensures { result.now ≡ after_last is_colon text.now }
-{
-    match memrchr(b':', text) {
-        Some(colon) => &text[colon + 1..],
-        None => text,
-    }
-}
+use headers_syntax::after_last;
 
 fn is_sent_byte(byte: u8) -> bool
     ensures { result ≡ is_sent_byte byte }
@@ -68,7 +58,7 @@ fn is_sent(text: &[u8]) -> bool
     if text == b"null".as_slice() {
         return true;
     }
-    has_sent_bytes(text) && has_sent_port(text, after_last_colon(text))
+    has_sent_bytes(text) && has_sent_port(text, after_last(text, b':'))
 }
 
 fn lines_are_sent(lines: &[HeaderValue]) -> bool

@@ -23,6 +23,6 @@ pub use crate::item::AsHeaderValue;
 pub use crate::lines::{first, first_word, just_one, only_word, push_clone};
 pub use crate::number::{numbers_read_back, parse_number, read_number};
 pub use crate::seconds::{Seconds, only_seconds};
-pub use crate::text::{read_text, trim_text, unquoted};
+pub use crate::text::{after_last, read_text, trim_text, unquoted};
 pub use crate::trimming::{trim, trim_start, trimmed};
 pub use crate::value_string::HeaderValueString;

@@ -1,11 +1,13 @@
 //! Header values as text, and text without blanks or quotes at its ends.
-ghost use Rattle.std.specs.Prelude.{◌≡◌, true, false, MatchOption};
+ghost use Rattle.std.specs.Prelude.{◌≡◌, ◌==◌, true, false, MatchOption};
+ghost use Rattle.std.specs.List.{after_last};
 ghost use Rattle.std.specs.Option.{option_copied};
 ghost use Rattle.headers_syntax.specs.Text.{is_text};
 ghost use Rattle.headers_syntax.specs.Text.{trim, without_quotes};
 ghost use Rattle.headers_syntax.specs.Shapes.{text_line};
 
 use http_header::HeaderValue;
+use memchr::memrchr;
 
 const BLANKS: [char; 2] = ['\t', ' '];
 
@@ -21,6 +23,16 @@ pub fn read_text(value: &HeaderValue) -> Option<&str>
     match value.to_str() {
         Ok(text) => Some(text),
         Err(_) => None,
+    }
+}
+
+/// Returns the bytes after the last occurrence of a byte, or the whole text if it has none.
+pub fn after_last(text: &[u8], byte: u8) -> &[u8]
+    ensures { result.now ≡ after_last (λ b. b == byte) text.now }
+{
+    match memrchr(byte, text) {
+        Some(place) => &text[place + 1..],
+        None => text,
     }
 }
 
