@@ -1,4 +1,4 @@
-"""Middleware for ASGI: conditional requests and ranges, and requests from other origins.
+"""Middleware for ASGI: conditional requests and ranges, requests from other origins, and a shared cache.
 
 >>> import asyncio
 >>> from typed_headers import CorsPolicy
@@ -17,14 +17,18 @@
 b'01234'
 """
 
+import time
 from typing import Any, Awaitable, Callable, Dict, Iterable, List, MutableMapping, Optional, Tuple
+from urllib.parse import quote
 
+from ._cached import Ask, Reply, Rules, Step, Turn
 from ._exchange import CONDITIONS, ORIGINS, Cutter, Fields, Response, length_of, respond, tagged
+from .caching import Cache
 from .cors import CorsKind, CorsPolicy
 from .errors import HeaderError
 from .headers import Headers
 
-__all__ = ["ConditionalRequests", "Cors"]
+__all__ = ["Cached", "ConditionalRequests", "Cors"]
 
 Message = MutableMapping[str, Any]
 Scope = MutableMapping[str, Any]
@@ -184,3 +188,145 @@ class Cors:
             await send(message)
 
         await self.application(scope, receive, add)
+
+
+class Cached:
+    """A shared cache (RFC 9111) in front of an application.
+
+    A GET or HEAD is answered by what is stored for its URI, if that is fresh. If it is stale, the application is asked
+    whether it is still good, by `If-None-Match` and `If-Modified-Since`. `stale-while-revalidate` and `stale-if-error`
+    (RFC 5861) are followed: the application is asked after the response, and an exception or a 500, 502, 503 or 504 of
+    it is an error. A response that may be stored is passed on as it comes, and stored once all of it came, if it has at
+    most `largest` bytes. One with Set-Cookie isn't stored. A request that isn't safe removes what is stored for its URI,
+    and for the URIs of Location and Content-Location at the same host.
+
+    If a response states no lifetime, at most `guess` seconds are guessed (section 4.2.2). `clock` gives the seconds
+    since 1970.
+    """
+
+    def __init__(
+        self,
+        application: Application,
+        cache: Cache,
+        *,
+        guess: int = 0,
+        largest: int = 8 * 1024 * 1024,
+        clock: Callable[[], float] = time.time,
+    ) -> None:
+        self.application, self.rules = application, Rules(cache, guess, largest, clock)
+
+    async def __call__(self, scope: Scope, receive: Receive, send: Send) -> None:
+        if scope["type"] != "http":
+            await self.application(scope, receive, send)
+            return
+        try:
+            request = Headers([(name, value) for name, value in scope["headers"]])
+        except HeaderError:
+            await _answer(send, 400, [("content-length", "0")])
+            return
+        turn = Turn(self.rules, scope["method"], _uri(scope), request)
+        step: Optional[Step] = turn.start()
+        given = _Given(receive)
+        while isinstance(step, Ask):
+            step = await self._asked(turn, step, scope, given, send)
+        if isinstance(step, Reply):
+            await _reply(send, turn.method, step)
+            ask = turn.revalidate() if turn.revalidates else None
+            if ask is not None:
+                await self._asked(turn, ask, scope, given, None)
+
+    async def _asked(
+        self, turn: Turn, ask: Ask, scope: Scope, given: "_Given", send: Optional[Send]
+    ) -> Optional[Step]:
+        """Asks the application, and returns what is done then, if its response isn't passed on."""
+        passing = _Passing(turn, send)
+        given.rewind()
+        try:
+            await self.application(_asking(scope, ask), given, passing)
+        except Exception:
+            step = None if passing.is_passed else turn.failed()
+            turn.end()
+            if step is None:
+                raise
+            return step
+        turn.end()
+        return passing.step
+
+
+class _Given:
+    """The messages of a request, which are given again if the application is asked again."""
+
+    def __init__(self, receive: Receive) -> None:
+        self.receive, self.place = receive, 0
+        self.messages: List[Message] = []
+
+    def rewind(self) -> None:
+        self.place = 0
+
+    async def __call__(self) -> Message:
+        if self.place == len(self.messages):
+            self.messages.append(await self.receive())
+        self.place += 1
+        return self.messages[self.place - 1]
+
+
+class _Passing:
+    """Stands for the server's `send`: it passes a response on, and stores it, unless it is one for the cache alone."""
+
+    def __init__(self, turn: Turn, send: Optional[Send]) -> None:
+        self.turn, self.send = turn, send
+        self.step: Optional[Step] = None
+        self.is_passed = False
+        self.pieces: List[bytes] = []
+        self.left = turn.rules.largest
+
+    async def __call__(self, message: Message) -> None:
+        if message["type"] == "http.response.start":
+            self.step = self.turn.came(message["status"], _fields(message))
+            self.is_passed = self.step is None
+            if message.get("trailers"):
+                self.turn.end()
+        if not self.is_passed:
+            return
+        if message["type"] == "http.response.body" and self.turn.came_as is not None:
+            self._take(bytes(message.get("body", b"")), bool(message.get("more_body", False)))
+        if self.send is not None:
+            await self.send(message)
+
+    def _take(self, body: bytes, has_more: bool) -> None:
+        self.left -= len(body)
+        if self.left < 0:
+            self.pieces = []
+            self.turn.end()
+            return
+        self.pieces.append(body)
+        if not has_more:
+            self.turn.keep(b"".join(self.pieces))
+
+
+async def _reply(send: Send, method: str, reply: Reply) -> None:
+    fields, content = reply.fields, reply.content
+    has_length = any(name == "content-length" for name, _ in fields)
+    if content is not None and not has_length and reply.status not in (204, 304):
+        fields = [*fields, ("content-length", str(len(content)))]
+    await send({"type": "http.response.start", "status": reply.status, "headers": _encoded(fields)})
+    await send({"type": "http.response.body", "body": b"" if method == "HEAD" else content or b""})
+
+
+def _uri(scope: Scope) -> str:
+    """The target URI, with its host in lower case."""
+    hosts = [bytes(value).decode("latin-1") for name, value in scope["headers"] if bytes(name).lower() == b"host"]
+    host = hosts[0] if hosts else ":".join(map(str, scope.get("server") or ()))
+    raw = scope.get("raw_path")
+    path = bytes(raw).partition(b"?")[0].decode("latin-1") if raw else quote(scope.get("path") or "/")
+    query = bytes(scope.get("query_string") or b"").decode("latin-1")
+    return f"{scope.get('scheme', 'http')}://{host.lower()}{path}{'?' if query else ''}{query}"
+
+
+def _asking(scope: Scope, ask: Ask) -> Scope:
+    """The request as the application is asked it. What it sends has to pass here, so it gets no other way."""
+    gone = {name.encode("ascii") for name in ask.without}
+    fields = [(name, value) for name, value in scope["headers"] if bytes(name).lower() not in gone]
+    extensions: Dict[str, Any] = scope.get("extensions") or {}
+    kept = {name: it for name, it in extensions.items() if name not in _CONTENT_EXTENSIONS}
+    return {**scope, "headers": [*fields, *_encoded(list(ask.fields))], "extensions": kept}

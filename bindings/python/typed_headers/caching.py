@@ -306,6 +306,8 @@ class Cache:
             shared,
         )
         _library.check(status, lambda: HeaderError("a new cache is open"))
+        #: Whether it serves several users.
+        self.shared = shared
         self._lock, self._is_open = threading.Lock(), True
 
     def __enter__(self) -> "Cache":

@@ -1,5 +1,5 @@
-"""Middleware for WSGI (PEP 3333): conditional requests and ranges, and requests from other origins; and an application
-that answers for resources.
+"""Middleware for WSGI (PEP 3333): conditional requests and ranges, requests from other origins, and a shared cache; and
+an application that answers for resources.
 
 >>> from typed_headers import CorsPolicy
 >>> from typed_headers.wsgi import ConditionalRequests, Cors
@@ -21,10 +21,12 @@ b'01234'
 
 import os
 import secrets
+import time
 from dataclasses import dataclass, field, replace
 from http import HTTPStatus
 from types import TracebackType
 from typing import Any, Callable, Dict, Iterable, Iterator, List, Mapping, Optional, Sequence, Tuple, Type, Union
+from urllib.parse import quote
 
 from ._exchange import (
     CONDITIONS,
@@ -39,12 +41,14 @@ from ._exchange import (
     size_of,
     tagged,
 )
+from ._cached import Ask, Reply, Rules, Step, Turn
+from .caching import Cache
 from .cors import CorsKind, CorsPolicy
 from .errors import HeaderError
 from .headers import Headers
 from .resource import Answer, Representation, Resource, Sends
 
-__all__ = ["ConditionalRequests", "Cors", "Result", "Served", "Serves", "list_alternatives"]
+__all__ = ["Cached", "ConditionalRequests", "Cors", "Result", "Served", "Serves", "list_alternatives"]
 
 Environ = Dict[str, Any]
 ExcInfo = Union[
@@ -238,6 +242,173 @@ class Cors:
             return start_response(line, answer.apply(fields), *exc_info)
 
         return self.application(environ, start)
+
+
+class Cached:
+    """A shared cache (RFC 9111) in front of an application.
+
+    A GET or HEAD is answered by what is stored for its URI, if that is fresh. If it is stale, the application is asked
+    whether it is still good, by `If-None-Match` and `If-Modified-Since`. `stale-while-revalidate` and `stale-if-error`
+    (RFC 5861) are followed: the application is asked once the response is closed, and an exception or a 500, 502, 503 or
+    504 of it is an error. A response that may be stored is passed on as it comes, and stored once all of it came, if it
+    has at most `largest` bytes. One with Set-Cookie isn't stored. A request that isn't safe removes what is stored for
+    its URI, and for the URIs of Location and Content-Location at the same host.
+
+    If a response states no lifetime, at most `guess` seconds are guessed (section 4.2.2). `clock` gives the seconds
+    since 1970.
+
+    >>> from typed_headers import Cache
+    >>> def application(environ, start_response):
+    ...     start_response("200 OK", [("Content-Type", "text/plain"), ("Cache-Control", "max-age=60")])
+    ...     print("asked")
+    ...     return [b"hello"]
+    >>> application = Cached(application, Cache(shared=True))
+    >>> environ = {"REQUEST_METHOD": "GET", "HTTP_HOST": "a.example", "PATH_INFO": "/", "wsgi.url_scheme": "http"}
+    >>> def ask(**more):
+    ...     seen = []
+    ...     content = application({**environ, **more}, lambda status, fields: seen.append(status))
+    ...     return seen[0], b"".join(content)
+    >>> ask()
+    asked
+    ('200 OK', b'hello')
+    >>> ask()
+    ('200 OK', b'hello')
+    >>> ask(HTTP_RANGE="bytes=1-2")
+    ('206 Partial Content', b'el')
+    """
+
+    def __init__(
+        self,
+        application: Application,
+        cache: Cache,
+        *,
+        guess: int = 0,
+        largest: int = 8 * 1024 * 1024,
+        clock: Callable[[], float] = time.time,
+    ) -> None:
+        self.application, self.rules = application, Rules(cache, guess, largest, clock)
+
+    def __call__(self, environ: Environ, start_response: StartResponse) -> Iterable[bytes]:
+        request = _whole_request(environ)
+        if request is None:
+            return _bad_request(start_response)
+        turn = Turn(self.rules, environ["REQUEST_METHOD"], _uri(environ), request)
+        step: Optional[Step] = turn.start()
+        while isinstance(step, Ask):
+            started = _Started(start_response)
+            try:
+                content = self.application(_asking(environ, step), started)
+                if not started.is_called:
+                    content = _Ahead(content)
+            except Exception:
+                step = turn.failed()
+                if step is None:
+                    raise
+                continue
+            if started.is_sent or not started.is_called:
+                turn.end()
+                return content
+            step = turn.came(started.status, started.fields)
+            if step is None:
+                started.send(started.line, started.fields)
+                return self._passed(turn, content)
+            _close(content)
+        assert isinstance(step, Reply)
+        replied = _start(start_response, turn.method, step.status, step.fields, step.content)
+        return _Then(replied, lambda: self._revalidate(turn, environ)) if turn.revalidates else replied
+
+    def _passed(self, turn: Turn, content: Iterable[bytes]) -> Iterable[bytes]:
+        if turn.came_as is None:
+            return content
+        if isinstance(content, (list, tuple)):
+            turn.keep(b"".join(content))
+            return content
+        return _Kept(turn, content)
+
+    def _revalidate(self, turn: Turn, environ: Environ) -> None:
+        ask = turn.revalidate()
+        if ask is None:
+            return
+        started = _Started(lambda *_: _ignore)
+        try:
+            content = self.application(_asking(environ, ask), started)
+            if not started.is_called:
+                content = _Ahead(content)
+        except Exception:
+            turn.failed()
+            raise
+        if started.is_sent or not started.is_called or turn.came(started.status, started.fields) is not None:
+            turn.end()
+        else:
+            turn.keep(b"".join(content))
+        _close(content)
+
+
+def _ignore(content: bytes) -> None:
+    """Takes what nobody reads."""
+
+
+class _Kept:
+    """Content that is stored once all of it was passed on."""
+
+    def __init__(self, turn: Turn, content: Iterable[bytes]) -> None:
+        self.turn, self.content = turn, content
+
+    def __iter__(self) -> Iterator[bytes]:
+        pieces, left = [], self.turn.rules.largest
+        for piece in self.content:
+            left -= len(piece)
+            if left >= 0:
+                pieces.append(piece)
+            else:
+                pieces = []
+            yield piece
+        self.turn.keep(b"".join(pieces) if left >= 0 else None)
+
+    def close(self) -> None:
+        self.turn.end()
+        _close(self.content)
+
+
+class _Then:
+    """Content after which something is done."""
+
+    def __init__(self, content: Iterable[bytes], after: Callable[[], None]) -> None:
+        self.content, self.after = content, after
+
+    def __iter__(self) -> Iterator[bytes]:
+        return iter(self.content)
+
+    def close(self) -> None:
+        _close(self.content)
+        self.after()
+
+
+def _whole_request(environ: Environ) -> Optional[Headers]:
+    """All fields of the request, or `None` if a value has a byte that no field value has."""
+    fields = [(key[5:].replace("_", "-"), value) for key, value in environ.items() if key.startswith("HTTP_")]
+    if environ.get("CONTENT_TYPE"):
+        fields.append(("content-type", environ["CONTENT_TYPE"]))
+    try:
+        return Headers(fields)
+    except HeaderError:
+        return None
+
+
+def _uri(environ: Environ) -> str:
+    """The target URI, with its host in lower case."""
+    scheme = environ.get("wsgi.url_scheme", "http")
+    host = environ.get("HTTP_HOST") or f"{environ.get('SERVER_NAME', '')}:{environ.get('SERVER_PORT', '')}"
+    path = quote(environ.get("SCRIPT_NAME", "") + environ.get("PATH_INFO", ""), "/;=,@:!$&'()*+~", "latin-1") or "/"
+    query = environ.get("QUERY_STRING", "")
+    return f"{scheme}://{host.lower()}{path}{'?' if query else ''}{query}"
+
+
+def _asking(environ: Environ, ask: Ask) -> Environ:
+    """The request as the application is asked it."""
+    gone = {f"HTTP_{name.upper().replace('-', '_')}" for name in ask.without}
+    fields = {f"HTTP_{name.upper().replace('-', '_')}": value for name, value in ask.fields}
+    return {**{key: value for key, value in environ.items() if key not in gone}, **fields}
 
 
 #: The content of a response: all of it, or its pieces.

@@ -86,6 +86,20 @@ pub enum Decision {
     Fetch,
 }
 
+impl Decision {
+    pub(crate) fn of(number: u8) -> Decision {
+        match number {
+            0 => Decision::Serve,
+            1 => Decision::ServeAndRevalidate,
+            2 => Decision::ServeStale,
+            3 => Decision::Revalidate,
+            4 => Decision::RevalidateOrServe,
+            5 => Decision::Unavailable,
+            _ => Decision::Fetch,
+        }
+    }
+}
+
 /// What a cache does with a request, by a response that it has stored for the same URI (RFC 9111, section 4, and RFC
 /// 5861). `stored` is the request that the response answered; each request is a method and its fields.
 pub fn decide(
@@ -118,15 +132,7 @@ pub fn decide(
             &mut decision,
         )
     })?;
-    Ok(match decision {
-        0 => Decision::Serve,
-        1 => Decision::ServeAndRevalidate,
-        2 => Decision::ServeStale,
-        3 => Decision::Revalidate,
-        4 => Decision::RevalidateOrServe,
-        5 => Decision::Unavailable,
-        _ => Decision::Fetch,
-    })
+    Ok(Decision::of(decision))
 }
 
 /// The fields by which the origin is asked whether a stored response that came at the second `received` is still good

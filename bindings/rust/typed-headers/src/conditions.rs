@@ -48,7 +48,11 @@ impl<'a> Target<'a> {
         Target { is_date_strong: true, ..self }
     }
 
-    fn given(&self, now: u64) -> sys::Target {
+    pub(crate) fn etag_text(&self) -> &'a [u8] {
+        self.etag
+    }
+
+    pub(crate) fn given(&self, now: u64) -> sys::Target {
         sys::Target {
             last_modified: self.last_modified.unwrap_or(0),
             present: now,

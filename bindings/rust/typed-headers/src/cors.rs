@@ -4,7 +4,7 @@ use core::cell::Cell;
 use typed_headers_sys as sys;
 
 use crate::error::Error;
-use crate::text::{joined, written, Section};
+use crate::text::{joined, text, written, Section};
 use crate::Keys;
 
 /// The fields of a response that are the rules' alone.
@@ -60,6 +60,21 @@ pub struct CorsAnswer {
 }
 
 impl CorsRules<'_> {
+    // Makes a call with the rules as the library takes them.
+    pub(crate) fn given<T>(&self, call: impl FnOnce(&sys::CorsRules) -> Result<T, Error>) -> Result<T, Error> {
+        let lists = [joined(self.origins)?, joined(self.methods)?, joined(self.headers)?, joined(self.exposed)?];
+        let [origins, methods, headers, exposed] = lists.each_ref().map(|it| text(it));
+        call(&sys::CorsRules {
+            origins,
+            methods,
+            headers,
+            exposed,
+            max_age: self.max_age.unwrap_or(0),
+            has_max_age: self.max_age.is_some(),
+            credentials: self.credentials,
+        })
+    }
+
     /// What a server with these rules answers a request (Fetch standard, section 3.3). `response` has the fields of the
     /// response as its handler left it, of which Vary counts. [`Error::Rejected`] also if no browser reads the rules as
     /// they are meant, as any origin with credentials.
@@ -81,37 +96,26 @@ impl CorsRules<'_> {
         response: &Section,
         keys: Keys,
     ) -> Result<CorsAnswer, Error> {
-        let method = method.as_ref();
-        let lists = [joined(self.origins)?, joined(self.methods)?, joined(self.headers)?, joined(self.exposed)?];
-        let [origins, methods, headers, exposed] =
-            lists.each_ref().map(|text| sys::Text { bytes: text.as_ptr(), length: text.len() });
-        let given = sys::CorsRules {
-            origins,
-            methods,
-            headers,
-            exposed,
-            max_age: self.max_age.unwrap_or(0),
-            has_max_age: self.max_age.is_some(),
-            credentials: self.credentials,
-        };
-        let (request, response) = (request.as_bytes(), response.as_bytes());
+        let (method, request, response) = (method.as_ref(), request.as_bytes(), response.as_bytes());
         let facts = Cell::new(sys::CorsFacts::default());
-        // SAFETY: these are pointers and counts of slices and of values, which don't overlap.
-        let found = written(512, |room: *mut u8, room_length, count| unsafe {
-            sys::typed_headers_cors_answer(
-                &given,
-                method.as_ptr(),
-                method.len(),
-                request.as_ptr(),
-                request.len(),
-                response.as_ptr(),
-                response.len(),
-                &keys.0,
-                facts.as_ptr(),
-                room,
-                room_length,
-                count,
-            )
+        let found = self.given(|rules| {
+            // SAFETY: these are pointers and counts of slices and of values, which don't overlap.
+            written(512, |room: *mut u8, room_length, count| unsafe {
+                sys::typed_headers_cors_answer(
+                    rules,
+                    method.as_ptr(),
+                    method.len(),
+                    request.as_ptr(),
+                    request.len(),
+                    response.as_ptr(),
+                    response.len(),
+                    &keys.0,
+                    facts.as_ptr(),
+                    room,
+                    room_length,
+                    count,
+                )
+            })
         })?;
         Ok(CorsAnswer {
             kind: match facts.get().kind {

@@ -26,7 +26,12 @@ mod conditions;
 mod cors;
 mod error;
 mod fields;
+mod gateway;
+mod handshake;
 mod negotiation;
+mod resource;
+mod response;
+mod store;
 mod text;
 
 pub use caching::{current_age, decide, lifetime, may_store, validators, Decision, Times};
@@ -37,10 +42,17 @@ pub use fields::{
     age, cache_control, canonical_field, content_length, date, essence, expires, format_content_range, format_date,
     format_etag, last_modified, media_type, ranges, strong_eq, weak_eq, websocket_accept, CacheControl, Canonical,
 };
+pub use gateway::{framing, Framing, Gateway, Hop, Rejection, RequestOutcome, ResponseOutcome};
+pub use handshake::{websocket_check, websocket_request, websocket_respond, Fault, Flaw, HandshakeAnswer, Version};
 pub use negotiation::{
     choose_coding, choose_language, choose_type, coding_quality, language_quality, look_up_language, type_quality,
     Quality,
 };
+pub use resource::{
+    Method, Reason, Representation, RequestContent, Resource, ResourceAnswer, ResourceRequest, Sends, State,
+};
+pub use response::{respond, Content, Response};
+pub use store::{Cache, CacheOptions, CacheRequest, CacheResponse, Freshened, Lookup, Stored, StoredAnswer};
 pub use text::Section;
 
 use typed_headers_sys as sys;
@@ -124,6 +136,57 @@ mod tests {
         let directives = cache_control(["no-cache, max-age=60"]).unwrap().unwrap();
         assert_eq!((directives.no_cache, directives.no_store, directives.max_age), (true, false, Some(60)));
         assert_eq!(cache_control(NONE), Ok(None));
+    }
+
+    #[test]
+    fn rooms_that_grow() {
+        let long = alloc::format!("text/plain; a={}", "x".repeat(600));
+        let content = Content { media_type: &long, length: Some(1_000_000), sends_ranges: true };
+        let ranges = (0..12).map(|it| alloc::format!("{}-{}", it * 80_000, it * 80_000)).collect::<Vec<_>>().join(",");
+        let request = Section::from_bytes(alloc::format!("Range: bytes={ranges}\n"));
+        let target = Target::new().etag(r#""a""#);
+        let found = respond("GET", &request, &target, &content, "cut", NOW, KEYS).unwrap().unwrap();
+        assert_eq!((found.status, found.parts.len()), (206, 12));
+        let one = Section::from_bytes("Range: bytes=0-0\n");
+        let found = respond("GET", &one, &target, &content, "cut", NOW, KEYS).unwrap().unwrap();
+        assert!(found.fields.as_bytes().len() > 600);
+        let full = respond("GET", &Section::new(), &target, &content, "cut", NOW, KEYS).unwrap().unwrap();
+        assert_eq!((full.status, full.parts.len()), (200, 0));
+        assert_eq!(respond("PUT", &Section::new(), &target, &content, "cut", NOW, KEYS), Ok(None));
+    }
+
+    #[test]
+    fn a_cache_over_time() {
+        let mut cache = Cache::new(CacheOptions::shared(), KEYS).unwrap();
+        let (none, stale) = (Section::new(), Section::from_bytes("Cache-Control: max-age=10\nETag: \"1\"\n"));
+        let request = CacheRequest { method: "GET", target: "/", fields: &none };
+        let response = CacheResponse {
+            status: 200,
+            fields: &stale,
+            content: b"hello",
+            is_complete: true,
+            requested: 1000,
+            received: 1000,
+        };
+        assert_eq!(cache.store(&request, &response), Ok(true));
+        let found = cache.look_up(&request, 1020, 0).unwrap();
+        assert_eq!(
+            (found.decision, found.fields.as_bytes()),
+            (Decision::Revalidate, b"if-none-match: \"1\"\n".as_slice())
+        );
+        assert_eq!(cache.freshen(&request, &stale, 1020, 1020), Ok(Freshened::Updated(0)));
+        let asked = Section::from_bytes("Range: bytes=-2\n");
+        let ranged = CacheRequest { fields: &asked, ..request };
+        assert_eq!(cache.answer(&ranged, 0, 1021, true), Ok(Some(StoredAnswer::Part(3, 4))));
+        assert_eq!(cache.content("/", 0, 3, 2), Ok(Some(b"lo".to_vec())));
+        assert_eq!(cache.content("/", 1, 0, 9), Ok(None));
+        assert_eq!(cache.response("/", 0, 1025).unwrap().unwrap().0.age, 5);
+        assert_eq!(cache.invalidate("/", "PUT", 204), Ok(()));
+        assert_eq!(cache.look_up(&request, 1021, 0).unwrap().decision, Decision::Fetch);
+        assert_eq!(cache.freshen_by_head(&CacheRequest { method: "HEAD", ..request }, &stale, 1, 1), Ok(()));
+        assert_eq!(cache.remove("/"), Ok(()));
+        let cache = std::thread::spawn(move || cache).join();
+        assert!(cache.is_ok());
     }
 
     #[test]

@@ -1,6 +1,14 @@
 use alloc::vec::Vec;
 
+use typed_headers_sys as sys;
+
 use crate::error::{check, status, Error};
+use crate::ByteRange;
+
+/// Bytes as the library takes them in a struct.
+pub(crate) fn text(bytes: &[u8]) -> sys::Text {
+    sys::Text { bytes: bytes.as_ptr(), length: bytes.len() }
+}
 
 /// Field lines as the library takes them: one text, in which each ends in LF.
 pub(crate) fn joined<I>(lines: I) -> Result<Vec<u8>, Error>
@@ -36,6 +44,45 @@ pub(crate) fn written<T: Clone + Default>(
             }));
         }
         items.resize(count, T::default());
+    }
+}
+
+/// A room for items, and how many a call writes, or would.
+pub(crate) struct Room<T> {
+    pub(crate) items: Vec<T>,
+    pub(crate) count: usize,
+}
+
+impl<T: Clone + Default> Room<T> {
+    fn new(length: usize) -> Room<T> {
+        Room { items: alloc::vec![T::default(); length], count: 0 }
+    }
+
+    fn grow(&mut self) {
+        self.items.resize(self.count.max(self.items.len()), T::default());
+    }
+
+    fn taken(mut self) -> Vec<T> {
+        self.items.truncate(self.count);
+        self.items
+    }
+}
+
+// The ranges and the bytes that a call wrote.
+type Both = (Vec<ByteRange>, Vec<u8>);
+
+/// The ranges and the bytes that a call writes. It is called again with more room if they don't fit.
+pub(crate) fn written_both(
+    call: impl Fn(&mut Room<ByteRange>, &mut Room<u8>) -> u8,
+) -> Result<Option<Both>, Error> {
+    let (mut parts, mut room) = (Room::new(8), Room::new(512));
+    loop {
+        let status = call(&mut parts, &mut room);
+        if status != status::NO_ROOM {
+            return Ok(check(status)?.then(|| (parts.taken(), room.taken())));
+        }
+        parts.grow();
+        room.grow();
     }
 }
 
