@@ -16,14 +16,13 @@
 //! Expect if it is removed. `connection close|no trailers|no UPGRADE` and `forwarding kept|no WRITES
 //! CLIENT INTERFACE HOST https|no trusted|no FIELDS` answer the fields that are written: those of the
 //! connection, and those that tell who made a request. `WRITES` is `forwarded`, `x`, `both` or `none`, a
-//! node is a name and a port or `(none)`. `send GATEWAY CREDENTIALS SERVER kept|no WRITES CLIENT METHOD
-//! FIELDS` answers what is sent on a next connection that is closed then.
+//! node is a name and a port or `(none)`.
 //!
 //! Each gateway protects X-Client. Credentials for a proxy are `consumed` or `relayed`. A version is `1.0` or `1.1`.
 #![tactic(auto)]
 
 mod calls;
-mod hops;
+mod words;
 
 use crate::calls::Gateways;
 use headers_rows::replay_files;
