@@ -15,11 +15,11 @@ use Rattle.headers_cache_policy.specs.Freshness.{HasHeuristic, HasLifetime}
 use Rattle.headers_cache_policy.specs.Requests.{Request}
 use Rattle.headers_cache_policy.specs.Storing.{MayStore}
 use Rattle.headers_cache_policy.specs.Validating.{validation_fields}
-use Rattle.headers_cache_policy.specs.declared.age.Times.{Times}
+use Rattle.headers_cache_policy.specs.declared.Times.{Times}
 use Rattle.headers_cache_policy.specs.declared.decision.Decision.{Decision}
 use Rattle.headers_cache_policy.specs.declared.decision.Decision.TheVariants as Decided
-use Rattle.headers_cache_policy.specs.declared.kind.Kind.{Kind}
-use Rattle.headers_cache_policy.specs.declared.kind.Kind.TheVariants.{Shared, Private}
+use Rattle.headers_cache_policy.specs.declared.Kind.{Kind}
+use Rattle.headers_cache_policy.specs.declared.Kind.TheVariants.{Shared, Private}
 use Rattle.headers_c_decisions.specs.FieldLines.{fields_text}
 use Rattle.headers_c_decisions.specs.Methods.{IsMethodOf}
 use Rattle.headers_c_decisions.specs.StatusCodes.{IsStatusOf}

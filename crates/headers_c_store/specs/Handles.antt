@@ -1,7 +1,7 @@
 -- Calls on the handle of a cache.
 use Rattle.std.specs.Prelude.{◌≡◌, Bool, true, false, [], Option, Some, None, Result, Ok, Err}
-use Rattle.headers_cache_policy.specs.declared.kind.Kind.{Kind}
-use Rattle.headers_cache_policy.specs.declared.kind.Kind.TheVariants.{Shared, Private}
+use Rattle.headers_cache_policy.specs.declared.Kind.{Kind}
+use Rattle.headers_cache_policy.specs.declared.Kind.TheVariants.{Shared, Private}
 use Rattle.headers_cache_policy.specs.Policies.{plain}
 use Rattle.headers_cache.specs.Kept.{contents_of, policy_of_store}
 use Rattle.headers_cache.specs.declared.limits.Limits.{Limits}

@@ -8,7 +8,7 @@ use Rattle.headers_cache_policy.specs.Freshness.{HasExpires}
 use Rattle.headers_cache_policy.specs.Policies.{MayStoreUnder, Policy}
 use Rattle.headers_cache_policy.specs.Storing.{IsSuited, StoresBy}
 use Rattle.headers_cache_policy.specs.Targets.{governing}
-use Rattle.headers_cache_policy.specs.declared.governing.Governing.{Governing}
+use Rattle.headers_cache_policy.specs.declared.Governing.{Governing}
 use Rattle.headers_cache_rules.proofs.StoringLemmas.{expires_stays, governing_stays}
 use Rattle.headers_cache_rules.specs.Stored.{fields_of_stored, request_of_stored}
 use Rattle.headers_cache_rules.specs.declared.storing.Reception.{Reception}

@@ -1,6 +1,6 @@
 -- What a store's fields are.
 use Rattle.headers_cache_policy.specs.Policies.{Policy}
-use Rattle.headers_cache_policy.specs.declared.kind.Kind.{Kind}
+use Rattle.headers_cache_policy.specs.declared.Kind.{Kind}
 use Rattle.headers_cache.specs.Contents.{Contents, shown}
 use Rattle.headers_cache.specs.declared.making.Options.{Options}
 use Rattle.headers_cache.specs.declared.store.Store.{Store}

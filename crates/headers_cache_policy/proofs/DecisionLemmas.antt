@@ -2,23 +2,23 @@
 use Rattle.std.proofs.Common.{◌≡◌, ℕ, ◌+◌, ◌-◌, ◌<◌, ◌≤◌, min, Option, Some, None, refl, subst, arith, inl, inr}
 use Rattle.std.specs.Prelude.{◌⊎◌, IfSome, IsSomeAnd, unwrap_or}
 use Rattle.headers.specs.LineMap.{LineMap}
-use Rattle.headers_cache_policy.specs.Age.{age_at, corrected_initial_age}
+use Rattle.headers_cache_fields.specs.Age.{age_at, corrected_initial_age}
 use Rattle.headers_cache_policy.specs.Decisions.{Answers, AnswersUnstored, Decides, DecidesBy, DecidesMatched}
 use Rattle.headers_cache_policy.specs.Decisions.{IsFromStore, IsGoodEnough, IsServable}
 use Rattle.headers_cache_policy.specs.Decisions.{IsServedMeanwhile, IsTakenStale, MayServeMeanwhile, MustBeFresh}
 use Rattle.headers_cache_policy.specs.Decisions.{freshness_at}
-use Rattle.headers_cache_policy.specs.Directives.{directed}
-use Rattle.headers_cache_policy.specs.Fields.{capped, greatest}
+use Rattle.headers_cache_fields.specs.Directives.{directed}
+use Rattle.headers_cache_fields.specs.Fields.{capped, greatest}
 use Rattle.headers_cache_policy.specs.Requests.{Request}
-use Rattle.headers_cache_policy.specs.declared.age.Times.{Times}
+use Rattle.headers_cache_fields.specs.declared.age.Times.{Times}
 use Rattle.headers_cache_policy.specs.declared.decision.Decision.{Decision}
 use Rattle.headers_cache_policy.specs.declared.decision.Decision.TheVariants.{Serve, ServeAndRevalidate, ServeStale}
 use Rattle.headers_cache_policy.specs.declared.decision.Decision.TheVariants.{Revalidate, RevalidateOrServe}
 use Rattle.headers_cache_policy.specs.declared.decision.Decision.TheVariants.{Unavailable, Fetch}
 use Rattle.headers_cache_policy.specs.declared.decision.Freshness.{Freshness}
-use Rattle.headers_cache_policy.specs.declared.directives.Directives.{Directives}
-use Rattle.headers_cache_policy.specs.declared.kind.Kind.{Kind}
-use Rattle.headers_cache_policy.proofs.FreshnessLemmas.{one_lifetime}
+use Rattle.headers_cache_fields.specs.declared.directives.Directives.{Directives}
+use Rattle.headers_cache_fields.specs.declared.kind.Kind.{Kind}
+use Rattle.headers_cache_fields.proofs.FreshnessLemmas.{one_lifetime}
 
 module _ (kind : Kind) (asks tells : Directives) (freshness : Freshness) where
   -- an answer from the store is good enough

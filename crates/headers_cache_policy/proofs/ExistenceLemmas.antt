@@ -14,22 +14,22 @@ use Rattle.headers_cache_policy.specs.Decisions.{Answers, AnswersUnstored, Decid
 use Rattle.headers_cache_policy.specs.Decisions.{IsFresh, IsGoodEnough, IsServable}
 use Rattle.headers_cache_policy.specs.Decisions.{MayServeMeanwhile, MayServeOnError, MayServeStale}
 use Rattle.headers_cache_policy.specs.Decisions.{MustBeFresh, freshness_at, staleness}
-use Rattle.headers_cache_policy.specs.Directives.{directed}
-use Rattle.headers_cache_policy.specs.Fields.{IsPresent, capped, date_in, dated}
-use Rattle.headers_cache_policy.specs.Freshness.{HasHeuristic, HasLifetime, MayGuess, by_itself}
-use Rattle.headers_cache_policy.specs.Freshness.{StatesNoAge, is_heuristic, shared_age}
+use Rattle.headers_cache_fields.specs.Directives.{directed}
+use Rattle.headers_cache_fields.specs.Fields.{IsPresent, capped, date_in, dated}
+use Rattle.headers_cache_fields.specs.Freshness.{HasHeuristic, HasLifetime, MayGuess, by_itself}
+use Rattle.headers_cache_fields.specs.Freshness.{StatesNoAge, is_heuristic, shared_age}
 use Rattle.headers_cache_policy.specs.Requests.{AllowsMethod, IsGetOrHead, IsSafe, Request}
 use Rattle.headers_cache_policy.specs.Varying.{Agree, AreSame, HaveSameMembers, SayTheSame, Suits, has_pairs}
 use Rattle.headers_cache_policy.specs.Varying.{is_list_name}
-use Rattle.headers_cache_policy.specs.declared.age.Times.{Times}
+use Rattle.headers_cache_fields.specs.declared.age.Times.{Times}
 use Rattle.headers_cache_policy.specs.declared.decision.Decision.{Decision}
 use Rattle.headers_cache_policy.specs.declared.decision.Decision.TheVariants.{Serve, ServeAndRevalidate, ServeStale}
 use Rattle.headers_cache_policy.specs.declared.decision.Decision.TheVariants.{Revalidate, RevalidateOrServe}
 use Rattle.headers_cache_policy.specs.declared.decision.Decision.TheVariants.{Unavailable, Fetch}
 use Rattle.headers_cache_policy.specs.declared.decision.Freshness.{Freshness}
-use Rattle.headers_cache_policy.specs.declared.directives.Directives.{Directives}
-use Rattle.headers_cache_policy.specs.declared.kind.Kind.{Kind}
-use Rattle.headers_cache_policy.specs.declared.kind.Kind.TheVariants.{Shared, Private}
+use Rattle.headers_cache_fields.specs.declared.directives.Directives.{Directives}
+use Rattle.headers_cache_fields.specs.declared.kind.Kind.{Kind}
+use Rattle.headers_cache_fields.specs.declared.kind.Kind.TheVariants.{Shared, Private}
 use Rattle.headers_cache_policy.proofs.DecidableLemmas.{IsDecidable, decide_All, decide_Bool, decide_IfSome}
 use Rattle.headers_cache_policy.proofs.DecidableLemmas.{decide_IsSome, decide_IsSomeAnd, decide_both, decide_bytes}
 use Rattle.headers_cache_policy.proofs.DecidableLemmas.{decide_either, decide_five, decide_if, decide_le, decide_list}

@@ -1,12 +1,8 @@
 pub mod DecidableLemmas
 pub mod DecisionLemmas
-pub mod DirectiveLemmas
 pub mod ExistenceLemmas
-pub mod FieldLemmas
 pub mod FresheningLemmas
-pub mod FreshnessLemmas
 pub mod PolicyLemmas
 pub mod StrictLemmas
-pub mod TargetLemmas
 pub mod ValidatingLemmas
 pub mod VaryLemmas

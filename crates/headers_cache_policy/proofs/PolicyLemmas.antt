@@ -5,17 +5,17 @@ use Rattle.std.proofs.lemmas.Bool.{le-ltb}
 use Rattle.headers.specs.LineMap.{LineMap}
 use Rattle.headers_cache_policy.specs.Decisions.{Answers, AnswersUnstored, Decides, IsFromStore, IsServedMeanwhile, IsTakenStale}
 use Rattle.headers_cache_policy.specs.Decisions.{MayComeFromStore, MustBeFresh, counted}
-use Rattle.headers_cache_policy.specs.Directives.{directed}
+use Rattle.headers_cache_fields.specs.Directives.{directed}
 use Rattle.headers_cache_policy.specs.Policies.{DecidesByUnder, DecidesUnder, Policy, asks, plain, tells}
 use Rattle.headers_cache_policy.specs.Requests.{Request}
-use Rattle.headers_cache_policy.specs.declared.age.Times.{Times}
+use Rattle.headers_cache_fields.specs.declared.age.Times.{Times}
 use Rattle.headers_cache_policy.specs.declared.decision.Decision.{Decision}
 use Rattle.headers_cache_policy.specs.declared.decision.Decision.TheVariants.{Serve, ServeAndRevalidate, ServeStale}
 use Rattle.headers_cache_policy.specs.declared.decision.Decision.TheVariants.{Revalidate, RevalidateOrServe}
 use Rattle.headers_cache_policy.specs.declared.decision.Decision.TheVariants.{Unavailable, Fetch}
 use Rattle.headers_cache_policy.specs.declared.decision.Freshness.{Freshness}
-use Rattle.headers_cache_policy.specs.declared.directives.Directives.{Directives}
-use Rattle.headers_cache_policy.specs.declared.kind.Kind.{Kind}
+use Rattle.headers_cache_fields.specs.declared.directives.Directives.{Directives}
+use Rattle.headers_cache_fields.specs.declared.kind.Kind.{Kind}
 use Rattle.headers_cache_policy.proofs.DecisionLemmas.{stale_where_let, unstored_not_from_store}
 
 -- ---- no options

@@ -3,8 +3,8 @@ use Rattle.std.proofs.Common.{◌≡◌, ℕ, true, false, List, Option, Some, N
 use Rattle.std.specs.Prelude.{◌⊎◌}
 use Rattle.headers.specs.LineMap.{LineMap}
 use Rattle.headers_cache_policy.specs.Decisions.{Answers, AnswersUnstored, DecidesBy, MayComeFromStore}
-use Rattle.headers_cache_policy.specs.Directives.{IsMalformed, Says, directed, strictest}
-use Rattle.headers_cache_policy.specs.Freshness.{HasHeuristic, HasLifetime, StatesAge}
+use Rattle.headers_cache_fields.specs.Directives.{IsMalformed, Says, directed, strictest}
+use Rattle.headers_cache_fields.specs.Freshness.{HasHeuristic, HasLifetime, StatesAge}
 use Rattle.headers_cache_policy.specs.Requests.{AllowsMethod, IsGetOrHead, IsSafe, Request}
 use Rattle.headers_cache_policy.specs.Storing.{IsStorable, MayStore}
 use Rattle.headers_cache_policy.specs.declared.decision.Decision.{Decision}
@@ -12,12 +12,12 @@ use Rattle.headers_cache_policy.specs.declared.decision.Decision.TheVariants.{Se
 use Rattle.headers_cache_policy.specs.declared.decision.Decision.TheVariants.{Revalidate, RevalidateOrServe}
 use Rattle.headers_cache_policy.specs.declared.decision.Decision.TheVariants.{Unavailable, Fetch}
 use Rattle.headers_cache_policy.specs.declared.decision.Freshness.{Freshness}
-use Rattle.headers_cache_policy.specs.declared.directives.Directives.{Directives}
-use Rattle.headers_cache_policy.specs.declared.kind.Kind.{Kind}
-use Rattle.headers_cache_policy.specs.declared.kind.Kind.TheVariants.{Shared, Private}
-use Rattle.headers_cache_policy.proofs.DirectiveLemmas.{malformed_is_strictest, said_no_cache, said_no_store}
-use Rattle.headers_cache_policy.proofs.DirectiveLemmas.{said_private, unsaid_must_understand}
-use Rattle.headers_cache_policy.proofs.FreshnessLemmas.{one_lifetime}
+use Rattle.headers_cache_fields.specs.declared.directives.Directives.{Directives}
+use Rattle.headers_cache_fields.specs.declared.kind.Kind.{Kind}
+use Rattle.headers_cache_fields.specs.declared.kind.Kind.TheVariants.{Shared, Private}
+use Rattle.headers_cache_fields.proofs.DirectiveLemmas.{malformed_is_strictest, said_no_cache, said_no_store}
+use Rattle.headers_cache_fields.proofs.DirectiveLemmas.{said_private, unsaid_must_understand}
+use Rattle.headers_cache_fields.proofs.FreshnessLemmas.{one_lifetime}
 
 -- ---- storing
 

@@ -3,16 +3,16 @@ use Rattle.std.specs.Prelude.{◌≡◌, ◌⊎◌, ⊤, ℕ, ◌+◌, ◌-◌, 
 use Rattle.std.specs.Prelude.{if◌then◌else◌}
 use Rattle.std.specs.Prelude.{IsSomeAnd, unwrap_or}
 use Rattle.headers.specs.LineMap.{LineMap}
-use Rattle.headers_cache_policy.specs.Age.{age_at}
-use Rattle.headers_cache_policy.specs.Directives.{directed}
-use Rattle.headers_cache_policy.specs.Fields.{capped}
-use Rattle.headers_cache_policy.specs.Freshness.{HasLifetime}
+use Rattle.headers_cache_fields.specs.Age.{age_at}
+use Rattle.headers_cache_fields.specs.Directives.{directed}
+use Rattle.headers_cache_fields.specs.Fields.{capped}
+use Rattle.headers_cache_fields.specs.Freshness.{HasLifetime}
 use Rattle.headers_cache_policy.specs.Requests.{IsSafe, Request}
 use Rattle.headers_cache_policy.specs.Varying.{Suits}
-use Rattle.headers_cache_policy.specs.declared.age.Times.{Times}
-use Rattle.headers_cache_policy.specs.declared.directives.Directives.{Directives}
-use Rattle.headers_cache_policy.specs.declared.kind.Kind.{Kind}
-use Rattle.headers_cache_policy.specs.declared.kind.Kind.TheVariants.{Shared, Private}
+use Rattle.headers_cache_fields.specs.declared.age.Times.{Times}
+use Rattle.headers_cache_fields.specs.declared.directives.Directives.{Directives}
+use Rattle.headers_cache_fields.specs.declared.kind.Kind.{Kind}
+use Rattle.headers_cache_fields.specs.declared.kind.Kind.TheVariants.{Shared, Private}
 use Rattle.headers_cache_policy.specs.declared.decision.Decision.{Decision}
 use Rattle.headers_cache_policy.specs.declared.decision.Decision.TheVariants.{Serve, ServeAndRevalidate, ServeStale}
 use Rattle.headers_cache_policy.specs.declared.decision.Decision.TheVariants.{Revalidate, RevalidateOrServe}

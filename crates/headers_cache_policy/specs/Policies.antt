@@ -2,17 +2,17 @@
 use Rattle.std.specs.Prelude.{◌⊎◌, ℕ, Bool, false, List, [], Option}
 use Rattle.headers.specs.LineMap.{LineMap}
 use Rattle.headers_cache_policy.specs.Decisions.{Answers, AnswersUnstored, counted, freshness_at}
-use Rattle.headers_cache_policy.specs.Directives.{directed}
-use Rattle.headers_cache_policy.specs.Freshness.{HasHeuristicBy, HasLifetimeBy}
+use Rattle.headers_cache_fields.specs.Directives.{directed}
+use Rattle.headers_cache_fields.specs.Freshness.{HasHeuristicBy, HasLifetimeBy}
 use Rattle.headers_cache_policy.specs.Requests.{Request}
 use Rattle.headers_cache_policy.specs.Storing.{StoresBy}
-use Rattle.headers_cache_policy.specs.Targets.{governing}
+use Rattle.headers_cache_fields.specs.Targets.{governing}
 use Rattle.headers_cache_policy.specs.Varying.{Suits}
-use Rattle.headers_cache_policy.specs.declared.age.Times.{Times}
+use Rattle.headers_cache_fields.specs.declared.age.Times.{Times}
 use Rattle.headers_cache_policy.specs.declared.decision.Decision.{Decision}
 use Rattle.headers_cache_policy.specs.declared.decision.Freshness.{Freshness}
-use Rattle.headers_cache_policy.specs.declared.directives.Directives.{Directives}
-use Rattle.headers_cache_policy.specs.declared.kind.Kind.{Kind}
+use Rattle.headers_cache_fields.specs.declared.directives.Directives.{Directives}
+use Rattle.headers_cache_fields.specs.declared.kind.Kind.{Kind}
 use Rattle.headers_cache_policy.specs.declared.policy.Policy.{Policy as Given}
 
 -- Whom a cache serves; whether `immutable` counts; and the names of its targeted fields, the first of which comes first.

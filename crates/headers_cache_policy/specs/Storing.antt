@@ -1,14 +1,14 @@
 -- What a cache may store (RFC 9111, section 3).
 use Rattle.std.specs.Prelude.{◌≡◌, ◌≢◌, ◌⊎◌, ⊤, ℕ, ◌≤◌, true, false, IsSome, codes}
 use Rattle.headers.specs.LineMap.{LineMap}
-use Rattle.headers_cache_policy.specs.Directives.{directed}
-use Rattle.headers_cache_policy.specs.Fields.{IsPresent}
-use Rattle.headers_cache_policy.specs.Freshness.{HasExpires, IsHeuristic, by_itself}
+use Rattle.headers_cache_fields.specs.Directives.{directed}
+use Rattle.headers_cache_fields.specs.Fields.{IsPresent}
+use Rattle.headers_cache_fields.specs.Freshness.{HasExpires, IsHeuristic, by_itself}
 use Rattle.headers_cache_policy.specs.Requests.{IsGetOrHead, Request}
-use Rattle.headers_cache_policy.specs.declared.directives.Directives.{Directives}
-use Rattle.headers_cache_policy.specs.declared.governing.Governing.{Governing}
-use Rattle.headers_cache_policy.specs.declared.kind.Kind.{Kind}
-use Rattle.headers_cache_policy.specs.declared.kind.Kind.TheVariants.{Shared, Private}
+use Rattle.headers_cache_fields.specs.declared.directives.Directives.{Directives}
+use Rattle.headers_cache_fields.specs.declared.governing.Governing.{Governing}
+use Rattle.headers_cache_fields.specs.declared.kind.Kind.{Kind}
+use Rattle.headers_cache_fields.specs.declared.kind.Kind.TheVariants.{Shared, Private}
 
 -- The status is final, the response is no part of another one, and the cache understands the status if
 -- `must-understand` is there. It understands those that are heuristically cacheable.

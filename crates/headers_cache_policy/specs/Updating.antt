@@ -6,7 +6,7 @@ use Rattle.headers.specs.LineMap.{LineMap}
 use Rattle.headers.specs.Lines.{Line, only_line}
 use Rattle.headers_fields.specs.Directives.{is_token_member}
 use Rattle.headers_fields.specs.Members.{field_members}
-use Rattle.headers_cache_policy.specs.Fields.{IsPresent}
+use Rattle.headers_cache_fields.specs.Fields.{IsPresent}
 
 -- an entity tag is weak if it begins with `W/` (RFC 9110, section 8.8.3)
 abbrev pub is_weak : Line → Bool

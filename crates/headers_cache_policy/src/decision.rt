@@ -3,21 +3,18 @@ ghost use Rattle.std.specs.Prelude.{◌≡◌, ◌≤◌, IfSome};
 ghost use Rattle.std.specs.Bool.{MatchBool};
 ghost use Rattle.headers.specs.LineMap.{lines_at};
 ghost use Rattle.headers_cache_policy.specs.Decisions.{Answers, AnswersUnstored, Decides, DecidesBy, counted};
-ghost use Rattle.headers_cache_policy.specs.Directives.{directed};
+ghost use Rattle.headers_cache_fields.specs.Directives.{directed};
 ghost use Rattle.headers_cache_policy.specs.Policies.{DecidesByUnder, DecidesMatchedUnder, DecidesUnder, policy_of};
 ghost use Rattle.headers_cache_policy.specs.Decisions.{IsNotRefused, IsServable};
 ghost use Rattle.headers_cache_policy.specs.Decisions.{IsGoodEnough, IsUsable, IsWanted, staleness};
 ghost use Rattle.headers_cache_policy.specs.Decisions.{MayServeMeanwhile, MayServeOnError, MayServeStale, MustBeFresh};
 ghost use Rattle.headers_cache_policy.specs.Requests.{request_of};
 
-use crate::age::{Times, current_age};
-use crate::directives::{Directives, read_directives};
-use crate::freshness::lifetime_by;
-use crate::kind::Kind;
 use crate::policy::Policy;
 use crate::request::{RequestHead, is_safe};
 use crate::vary::matches;
 use headers::HeaderMap;
+use headers_cache_fields::{Directives, Kind, Times, current_age, lifetime_by, read_directives};
 
 /// What a cache does with a request that a stored response could answer.
 #[derive(Clone, Copy, Debug, PartialEq, Eq)]

@@ -3,25 +3,25 @@ ghost use Rattle.std.specs.Prelude.{◌≡◌, ◌⊎◌, ◌↔◌, ◌≤◌, 
 ghost use Rattle.http_header.specs.FieldValue.{FieldValue};
 ghost use Rattle.http_header.specs.HeaderMap.{Entries, IsHeaderMap};
 ghost use Rattle.headers.specs.LineMap.{LineMap, lines_at, set_all};
-ghost use Rattle.headers_cache_policy.specs.Age.{age_at};
+ghost use Rattle.headers_cache_fields.specs.Age.{age_at};
 ghost use Rattle.headers_cache_policy.specs.Decisions.{Answers, AnswersUnstored, Decides, DecidesBy, IsFromStore};
 ghost use Rattle.headers_cache_policy.specs.Decisions.{IsServedMeanwhile, IsTakenStale, MayComeFromStore, MustBeFresh};
-ghost use Rattle.headers_cache_policy.specs.Directives.{IsMalformed, Says, directed};
-ghost use Rattle.headers_cache_policy.specs.Fields.{capped, greatest};
+ghost use Rattle.headers_cache_fields.specs.Directives.{IsMalformed, Says, directed};
+ghost use Rattle.headers_cache_fields.specs.Fields.{capped, greatest};
 ghost use Rattle.headers_cache_policy.specs.Freshening.{freshened, freshening_fields};
-ghost use Rattle.headers_cache_policy.specs.Freshness.{HasHeuristic, HasLifetime, by_itself};
+ghost use Rattle.headers_cache_fields.specs.Freshness.{HasHeuristic, HasLifetime, by_itself};
 ghost use Rattle.headers_cache_policy.specs.Policies.{DecidesByUnder, Policy, asks, tells};
 ghost use Rattle.headers_cache_policy.specs.Requests.{IsSafe, Request};
 ghost use Rattle.headers_cache_policy.specs.Storing.{MayStore};
-ghost use Rattle.headers_cache_policy.specs.Targets.{governing, told_by};
+ghost use Rattle.headers_cache_fields.specs.Targets.{governing, told_by};
 ghost use Rattle.headers_cache_policy.specs.Validating.{IsConditional, validation_fields};
-ghost use Rattle.headers_cache_policy.specs.declared.age.Times.{Times};
+ghost use Rattle.headers_cache_fields.specs.declared.age.Times.{Times};
 ghost use Rattle.headers_cache_policy.specs.declared.decision.Decision.{Decision};
 ghost use Rattle.headers_cache_policy.specs.declared.decision.Decision.TheVariants.{Fetch, Serve};
 ghost use Rattle.headers_cache_policy.specs.declared.decision.Freshness.{Freshness};
-ghost use Rattle.headers_cache_policy.specs.declared.directives.Directives.{Directives};
-ghost use Rattle.headers_cache_policy.specs.declared.kind.Kind.{Kind};
-ghost use Rattle.headers_cache_policy.specs.declared.kind.Kind.TheVariants.{Shared};
+ghost use Rattle.headers_cache_fields.specs.declared.directives.Directives.{Directives};
+ghost use Rattle.headers_cache_fields.specs.declared.kind.Kind.{Kind};
+ghost use Rattle.headers_cache_fields.specs.declared.kind.Kind.TheVariants.{Shared};
 
 /// Each response has exactly one lifetime, or none by exactly one reading: the cases of
 /// `HasLifetime` cover each response and exclude each other. `lifetime` returns it.

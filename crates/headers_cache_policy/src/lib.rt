@@ -6,34 +6,27 @@
 //! Only `validation_fields` and `freshening_fields` allocate.
 #![tactic(auto)]
 
-mod age;
 mod decision;
-mod directives;
 mod fields;
 mod freshening;
 mod freshness;
-mod governing;
-mod kind;
 pub mod laws;
 mod policy;
 mod request;
 mod storing;
-mod targets;
 mod updating;
 mod validating;
 mod vary;
 
-pub use crate::age::{Times, current_age};
 pub use crate::decision::{Decision, Freshness, decide, decide_by, decide_unstored};
-pub use crate::directives::{Directives, read_directives};
-pub use crate::fields::date;
 pub use crate::freshening::freshening_fields;
 pub use crate::freshness::{heuristic_lifetime, lifetime};
-pub use crate::governing::Governing;
-pub use crate::kind::Kind;
 pub use crate::policy::Policy;
 pub use crate::request::RequestHead;
 pub use crate::storing::may_store;
 pub use crate::updating::{has_strong_tag, has_validator, is_updated};
 pub use crate::validating::validation_fields;
 pub use crate::vary::matches;
+pub use headers_cache_fields::{
+    Directives, Governing, Kind, Times, current_age, date, read_directives,
+};

@@ -1,7 +1,11 @@
 //! The policy of a cache.
+ghost use Rattle.std.specs.Prelude.{◌≡◌};
+ghost use Rattle.headers.specs.LineMap.{lines_at};
+ghost use Rattle.headers_cache_fields.specs.Targets.{governing};
+ghost use Rattle.headers_cache_policy.specs.Policies.{policy_of};
 
-use crate::kind::Kind;
-use headers::HeaderName;
+use headers::{HeaderMap, HeaderName};
+use headers_cache_fields::{Governing, Kind, read_governing};
 
 /// How a cache decides: whom it serves, and what it does beyond RFC 9111. The functions of this crate
 /// that take a `Kind` decide without the options; the methods here decide with them.
@@ -16,4 +20,14 @@ pub struct Policy<'a> {
     /// 9213): the first one that a response has, valid and not empty, counts in place of its
     /// Cache-Control and Expires.
     pub targets: &'a [HeaderName],
+}
+
+impl Policy<'_> {
+    /// What governs a response: the first targeted field of the policy that it has, valid and not empty,
+    /// or else its Cache-Control and Expires (RFC 9213, section 2.2).
+    pub fn read_governing(&self, response: &HeaderMap) -> Governing
+        ensures { result ≡ governing (policy_of self.now).targets (lines_at response.now) }
+    {
+        read_governing(self.targets, response)
+    }
 }

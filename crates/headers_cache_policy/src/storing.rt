@@ -4,17 +4,16 @@ ghost use Rattle.std.specs.Bool.{MatchBool};
 ghost use Rattle.headers.specs.LineMap.{lines_at};
 ghost use Rattle.headers_cache_policy.specs.Storing.{IsShareable, IsStatusStored, IsStorable, IsSuited};
 ghost use Rattle.headers_cache_policy.specs.Storing.{MayStore, StoresBy};
-ghost use Rattle.headers_cache_policy.specs.Directives.{directed};
+ghost use Rattle.headers_cache_fields.specs.Directives.{directed};
 ghost use Rattle.headers_cache_policy.specs.Policies.{MayStoreUnder, policy_of};
 ghost use Rattle.headers_cache_policy.specs.Requests.{request_of};
 
-use crate::directives::{Directives, read_directives};
-use crate::freshness::{has_expires, is_heuristic};
-use crate::governing::Governing;
-use crate::kind::Kind;
 use crate::policy::Policy;
 use crate::request::{RequestHead, is_get_or_head};
 use headers::HeaderMap;
+use headers_cache_fields::{
+    Directives, Governing, Kind, has_expires, is_heuristic, read_directives,
+};
 use headers_fields::has_line;
 use http::StatusCode;
 use http_header::AUTHORIZATION;

@@ -17,8 +17,8 @@ use Rattle.headers_fields.specs.Members.{field_members}
 use Rattle.headers_cache_policy.specs.Directives.{directed_by_members}
 use Rattle.headers_cache_policy.specs.Freshness.{by_itself}
 use Rattle.headers_cache_policy.specs.Targets.{governing, told, told_by}
-use Rattle.headers_cache_policy.specs.declared.directives.Directives.{Directives}
-use Rattle.headers_cache_policy.specs.declared.governing.Governing.{Governing}
+use Rattle.headers_cache_policy.specs.declared.Directives.{Directives}
+use Rattle.headers_cache_policy.specs.declared.Governing.{Governing}
 use Rattle.headers_gateway.specs.HopByHop.{connection_options, is_hop_by_hop, is_named}
 use Rattle.headers_cache_rules.specs.Storing.{HasFairOptions, IsAsStored, IsHopByHop, LacksDate, date_lines}
 use Rattle.headers_cache_rules.specs.Storing.{is_lost, or_date, removals, reuse_names}

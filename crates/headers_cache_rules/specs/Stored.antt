@@ -4,7 +4,7 @@ use Rattle.headers.specs.LineMap.{LineMap, lines_at}
 use Rattle.headers_dates.specs.Calendar.{unix_epoch}
 use Rattle.headers_cache_policy.specs.Fields.{capped, date_in}
 use Rattle.headers_cache_policy.specs.Requests.{Request}
-use Rattle.headers_cache_policy.specs.declared.age.Times.{Times}
+use Rattle.headers_cache_policy.specs.declared.Times.{Times}
 use Rattle.headers_cache_rules.specs.declared.stored.StoredResponse.{StoredResponse}
 
 -- the request that it answered

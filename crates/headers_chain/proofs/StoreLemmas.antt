@@ -27,9 +27,9 @@ use Rattle.headers_cache_policy.specs.Fields.{age_of, age_value, capped, greates
 use Rattle.headers_cache_policy.specs.Requests.{AllowsMethod, Request as Asked}
 use Rattle.headers_cache_policy.specs.Storing.{IsShareable}
 use Rattle.headers_cache_policy.specs.Targets.{governing}
-use Rattle.headers_cache_policy.specs.declared.governing.Governing.{Governing}
-use Rattle.headers_cache_policy.specs.declared.kind.Kind.{Kind}
-use Rattle.headers_cache_policy.specs.declared.kind.Kind.TheVariants.{Private, Shared}
+use Rattle.headers_cache_policy.specs.declared.Governing.{Governing}
+use Rattle.headers_cache_policy.specs.declared.Kind.{Kind}
+use Rattle.headers_cache_policy.specs.declared.Kind.TheVariants.{Private, Shared}
 use Rattle.headers_cache_policy.specs.Varying.{Agree, SayTheSame, Suits}
 use Rattle.headers_cache_policy.specs.Policies.{AnswersUnder, Policy, asks as counted_of, tells}
 use Rattle.headers_cache_rules.proofs.StoringLemmas.{governed_alike}

@@ -6,7 +6,7 @@ ghost use Rattle.headers_cache_policy.specs.Varying.{Suits};
 ghost use Rattle.headers_cache_policy.specs.Fields.{IsPresent, greatest};
 ghost use Rattle.headers_cache_policy.specs.Policies.{Policy, tells};
 ghost use Rattle.headers_cache_policy.specs.Storing.{IsOpen};
-ghost use Rattle.headers_cache_policy.specs.declared.kind.Kind.TheVariants.{Shared};
+ghost use Rattle.headers_cache_policy.specs.declared.Kind.TheVariants.{Shared};
 ghost use Rattle.headers_cache.specs.declared.limits.Limits.{Limits};
 ghost use Rattle.headers_chain.specs.Caches.{IsFromStore, Reply, asked};
 ghost use Rattle.headers_chain.specs.Chains.{Hop, IsForwardedBack, IsOwn, IsSteady, IsTold, Server, behind, meant};

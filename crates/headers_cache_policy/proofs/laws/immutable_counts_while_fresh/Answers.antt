@@ -1,4 +1,4 @@
-use Rattle.headers_cache_policy.specs.Directives.{directed}
+use Rattle.headers_cache_fields.specs.Directives.{directed}
 use Rattle.headers_cache_policy.specs.Policies.{tells}
 use Rattle.headers_cache_policy.proofs.PolicyLemmas.{counted-stale, no_cache_asks, stale_where_allowed}
 use Rattle.headers_cache_policy.proofs.laws.immutable_counts_while_fresh.Goals as goal

@@ -1,5 +1,5 @@
 use Rattle.headers_cache_policy.proofs.ExistenceLemmas.{some_heuristic}
-use Rattle.headers_cache_policy.proofs.FreshnessLemmas.{one_heuristic}
+use Rattle.headers_cache_fields.proofs.FreshnessLemmas.{one_heuristic}
 use Rattle.headers_cache_policy.proofs.laws.response_has_one_heuristic.Goals as goal
 
 pub returns-clause-some : goal.returns-clause-some

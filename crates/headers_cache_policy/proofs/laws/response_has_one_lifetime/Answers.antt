@@ -1,5 +1,5 @@
 use Rattle.headers_cache_policy.proofs.ExistenceLemmas.{some_lifetime}
-use Rattle.headers_cache_policy.proofs.FreshnessLemmas.{one_lifetime}
+use Rattle.headers_cache_fields.proofs.FreshnessLemmas.{one_lifetime}
 use Rattle.headers_cache_policy.proofs.laws.response_has_one_lifetime.Goals as goal
 
 pub returns-clause-some : goal.returns-clause-some

@@ -1,7 +1,7 @@
 use Rattle.std.proofs.Common.{subst}
 use Rattle.headers_cache_policy.specs.Policies.{tells}
 use Rattle.headers_cache_policy.specs.Storing.{IsShareable}
-use Rattle.headers_cache_policy.specs.declared.kind.Kind.{Kind}
+use Rattle.headers_cache_policy.specs.declared.Kind.{Kind}
 use Rattle.headers_chain.specs.Chains.{behind}
 use Rattle.headers_chain.proofs.StoreLemmas.{StoreLaws, content_is, from, shareable}
 use Rattle.headers_chain.proofs.laws.shared_caches_serve_nothing_private.Goals as goal

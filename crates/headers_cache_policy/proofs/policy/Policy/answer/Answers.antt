@@ -1,8 +1,8 @@
 use Rattle.std.proofs.Common.{◌∙◌, ap, refl}
 use Rattle.headers.specs.LineMap.{lines_at}
 use Rattle.headers_cache_policy.specs.Decisions.{counted}
-use Rattle.headers_cache_policy.specs.Directives.{directed}
-use Rattle.headers_cache_policy.specs.declared.directives.Directives.{Directives}
+use Rattle.headers_cache_fields.specs.Directives.{directed}
+use Rattle.headers_cache_fields.specs.declared.directives.Directives.{Directives}
 use Rattle.headers_cache_policy.proofs.DecisionLemmas.{Answers-at}
 use Rattle.headers_cache_policy.proofs.policy.Policy.answer.Goals as goal
 

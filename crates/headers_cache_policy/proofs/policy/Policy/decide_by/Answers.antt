@@ -1,8 +1,8 @@
 use Rattle.std.proofs.Common.{inl, subst}
 use Rattle.headers.specs.LineMap.{lines_at}
 use Rattle.headers_cache_policy.specs.Decisions.{Answers, counted}
-use Rattle.headers_cache_policy.specs.Directives.{directed}
-use Rattle.headers_cache_policy.specs.declared.governing.Governing.{Governing}
+use Rattle.headers_cache_fields.specs.Directives.{directed}
+use Rattle.headers_cache_fields.specs.declared.governing.Governing.{Governing}
 use Rattle.headers_cache_policy.proofs.policy.Policy.decide_by.Goals as goal
 
 pub returns-then-matches : goal.returns-then-matches

@@ -1,9 +1,9 @@
 use Rattle.std.proofs.Common.{subst}
 use Rattle.headers.specs.LineMap.{lines_at}
 use Rattle.headers_cache_policy.specs.Decisions.{Answers, counted}
-use Rattle.headers_cache_policy.specs.Directives.{directed}
-use Rattle.headers_cache_policy.specs.Freshness.{HasLifetimeBy}
-use Rattle.headers_cache_policy.specs.declared.governing.Governing.{Governing}
+use Rattle.headers_cache_fields.specs.Directives.{directed}
+use Rattle.headers_cache_fields.specs.Freshness.{HasLifetimeBy}
+use Rattle.headers_cache_fields.specs.declared.governing.Governing.{Governing}
 use Rattle.headers_cache_policy.proofs.policy.Policy.decide_matched.Goals as goal
 
 pub returns : goal.returns

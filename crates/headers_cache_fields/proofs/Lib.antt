@@ -1,0 +1,4 @@
+pub mod DirectiveLemmas
+pub mod FieldLemmas
+pub mod FreshnessLemmas
+pub mod TargetLemmas

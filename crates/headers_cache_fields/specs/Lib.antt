@@ -1,0 +1,5 @@
+pub mod Age
+pub mod Directives
+pub mod Fields
+pub mod Freshness
+pub mod Targets
