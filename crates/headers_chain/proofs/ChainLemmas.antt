@@ -1,34 +1,35 @@
 -- What a client receives through gateways and caches is what the resource says.
 use Rattle.std.proofs.Common.{◌≡◌, ◌≢◌, ◌⊎◌, ℕ, ◌-◌, ◌≤◌, Bool, true, false, List, [], ◌∷◌, Some, None}
 use Rattle.std.proofs.Common.{refl, sym, ◌∙◌, ap, subst, inl, inr, arith}
-use Rattle.std.specs.Prelude.{All, Contains, ◌||◌, bytes_eq, codes}
+use Rattle.std.specs.Prelude.{All, Contains, bytes_eq, codes}
 use Rattle.std.specs.List.{list_any}
 use Rattle.std.proofs.lemmas.Bool.{cases_Bool}
+use Rattle.http_header.specs.Token.{lowercase}
 use Rattle.headers.specs.LineMap.{fields_of, set_all}
 use Rattle.headers.specs.Lines.{Line}
 use Rattle.headers_cache.specs.Lookups.{freshness_of}
-use Rattle.headers_cache.specs.declared.limits.Limits.{Limits}
-use Rattle.headers_cache_policy.specs.Fields.{age_of, greatest}
-use Rattle.headers_cache_policy.specs.Policies.{Policy}
+use Rattle.headers_cache_policy.specs.Fields.{age_of, capped}
 use Rattle.headers_cache_rules.specs.Stored.{fields_of_stored}
-use Rattle.headers_chain.specs.Caches.{HasComeFrom, IsFromStore, IsPlain, Origin, Reply}
-use Rattle.headers_chain.specs.Chains.{Hop, IsCarried, IsForwardedBack, IsGoodAt, IsOwn, IsSteady}
-use Rattle.headers_chain.specs.Chains.{IsTold, Server, behind, meant, own_statuses}
+use Rattle.headers_chain.specs.Caches.{Caching, HasComeFrom, IsFromStore, IsPlain, Origin, Reply}
+use Rattle.headers_chain.specs.Chains.{Hop, IsForwardedBack, IsGoodAt, IsOwn, IsTold, behind, meant, own_statuses}
 use Rattle.headers_chain.specs.Chains.Hop.{Forwards, Stores}
-use Rattle.headers_chain.specs.Responses.{HasNoOptions}
+use Rattle.headers_chain.specs.Servers.{IsCarried, SaysCloseAtMost, Server, sent_of, unless_head}
 use Rattle.headers_chain.specs.Ways.{end_to_end_lines, sent_directly}
 use Rattle.headers_fields.specs.Members.{field_members}
 use Rattle.headers_fields.specs.Scan.{Member}
 use Rattle.headers_gateway.specs.Forwarding.{IsHopByHop, own_names}
-use Rattle.headers_gateway.specs.HopByHop.{connection_options, hop_by_hop_fields, is_hop_by_hop, is_known, proxy_fields}
+use Rattle.headers_gateway.specs.HopByHop.{connection_options, is_hop_by_hop, is_known}
 use Rattle.headers_gateway.specs.declared.gateway.Gateway.{Gateway}
 use Rattle.headers_gateway.specs.declared.protocol.Protocol.TheVariants.{Http11}
 use Rattle.headers_resource.specs.Answers.{AreSame, IsAnswer}
 use Rattle.headers_resource.specs.Requests.{Request}
 use Rattle.headers_resource.specs.declared.answer.Answer.{Answer}
+use Rattle.headers_resource.specs.declared.answer.Sends.{Sends}
 use Rattle.headers_resource.specs.declared.resource.Resource.{Resource}
-use Rattle.headers_chain.proofs.StoreLemmas.{StoreLaws, age_is, come, content_is, counted, counts, from, lacks}
-use Rattle.headers_chain.proofs.StoreLemmas.{plain_alike, quiet, right, stored_as, suits}
+use Rattle.headers_chain.proofs.ConnectionLemmas.{crosses_if}
+use Rattle.headers_chain.proofs.ServerLemmas.{same_sent, says_close_at_most}
+use Rattle.headers_chain.proofs.StoreLemmas.{StoreLaws, age_is, alike_first, come, content_is, counted, counts, from}
+use Rattle.headers_chain.proofs.StoreLemmas.{lacks, plain_first, quiet, right, shown, stored_as, suits}
 use Rattle.headers_chain.proofs.SuitLemmas.{MembersSelect, VaryIsSound, suited}
 use Rattle.headers_chain.proofs.WayLemmas.{ReadsNoMore, alike, apart, choose_alike, choose_direct, crosses, differs}
 use Rattle.headers_chain.proofs.WayLemmas.{direct, no_options, same_lines}
@@ -36,20 +37,17 @@ use Rattle.headers_chain.proofs.WayLemmas.{direct, no_options, same_lines}
 -- ---- carried fields
 
 carried : (name : List ℕ) → is_known true name ≡ false → list_any (bytes_eq name) own_names ≡ false
-    → name ≢ codes "age" → IsCarried name
-carried name end_to_end not_own not_age =
-    record { end_to_end = end_to_end; not_own = differs name own_names not_own; not_age = not_age }
+    → name ≢ codes "age" → lowercase name ≢ codes "close" → IsCarried name
+carried name end_to_end not_own not_age not_close =
+    record {
+      end_to_end = end_to_end;
+      not_own = differs name own_names not_own;
+      not_age = not_age;
+      not_close = not_close;
+    }
 
 vary_carried : IsCarried (codes "vary")
-vary_carried = carried (codes "vary") refl refl (λ e. absurd (cc e))
-
-known_by : (consumes : Bool) (name : List ℕ) → is_known true name ≡ false → is_known consumes name ≡ false
-known_by true name e = e
-known_by false name e = by (list_any (bytes_eq name) hop_by_hop_fields) e
-  where
-    by : (b : Bool) → (b || list_any (bytes_eq name) proxy_fields) ≡ false → (b || false) ≡ false
-    by true h = h
-    by false h = refl
+vary_carried = carried (codes "vary") refl refl (λ e. absurd (cc e)) (λ e. absurd (cc e))
 
 coding_not_carried : (name : List ℕ) → IsCarried name → name ≢ codes "transfer-encoding"
 coding_not_carried name h e = h.not_own 6 [] (omega arith) (sym e)
@@ -63,6 +61,7 @@ date_not_carried name h e = h.not_own 2 [] (omega arith) (sym e)
 record Stands (r s : Request) : Type 0 where
   answers : (present : ℕ) (resource : Resource) (answer : Answer) → IsAnswer present resource r answer
       → IsAnswer present resource s answer
+  method : r.method ≡ s.method
   directs : r.fields (codes "cache-control") ≡ s.fields (codes "cache-control")
 
 -- both ways
@@ -73,8 +72,8 @@ record Same (r s : Request) : Type 0 where
 stays : (r : Request) → Same r r
 stays r =
     record {
-      there = record { answers = λ present resource answer h. h; directs = refl };
-      back = record { answers = λ present resource answer h. h; directs = refl };
+      there = record { answers = λ present resource answer h. h; method = refl; directs = refl };
+      back = record { answers = λ present resource answer h. h; method = refl; directs = refl };
     }
 
 module _ (server : Server) (now : ℕ) (reply : Reply) where
@@ -87,16 +86,22 @@ module _ (server : Server) (now : ℕ) (reply : Reply) where
               answer = t.said.answer;
               is = h.answers t.time (server.resource t.time) t.said.answer t.said.is;
               status = t.said.status;
-              content = t.said.content;
+              content =
+                  t.said.content
+                  ∙ ap
+                  (λ (m : List ℕ). unless_head m
+                  (server.content t.time reply.status (sent_of t.said.answer.sends)))
+                  h.method;
               fields = t.said.fields;
             };
         past = t.past;
         aged = t.aged;
         good = good_as t.good;
-        no_options = t.no_options;
+        connection = t.connection;
       }
     where
-      good_as : (t.time ≡ now) ⊎ IsGoodAt (now - t.time) r reply → (t.time ≡ now) ⊎ IsGoodAt (now - t.time) s reply
+      good_as : (t.time ≡ now) ⊎ IsGoodAt (capped (now - t.time)) r reply
+          → (t.time ≡ now) ⊎ IsGoodAt (capped (now - t.time)) s reply
       good_as (inl e) = inl e
       good_as (inr g) =
           inr (
@@ -119,7 +124,7 @@ module _ (reads : ReadsNoMore) where
   as_meant : (request : Request) → request.protocol ≡ Http11 → request.authority ≡ None
       → connection_options request.fields ≡ [] → (hops : List Hop) → Same (meant hops request) request
   as_meant request modern origin none [] = stays request
-  as_meant request modern origin none (Stores policy limits ∷ hops) = as_meant request modern origin none hops
+  as_meant request modern origin none (Stores caching ∷ hops) = as_meant request modern origin none hops
   as_meant request modern origin none (Forwards gateway ∷ hops) =
       let both = λ (present : ℕ) (resource : Resource) (answer : Answer).
       reads present resource request (sent_directly gateway request) answer (direct gateway request modern origin none)
@@ -130,20 +135,27 @@ module _ (reads : ReadsNoMore) where
         there =
             record {
               answers = λ present resource answer h. (both present resource answer).1 h;
+              method = refl;
               directs = sym line;
             };
-        back = record { answers = λ present resource answer h. (both present resource answer).0 h; directs = line };
+        back =
+            record {
+              answers = λ present resource answer h. (both present resource answer).0 h;
+              method = refl;
+              directs = line;
+            };
       }
 
-  plain_meant : (host : List Line) (request : Request) → IsPlain host request → (hops : List Hop)
+  plain_meant : (target : List ℕ) (request : Request) → IsPlain target request → (hops : List Hop)
       → Same (meant hops request) request
-  plain_meant host request h hops =
-      as_meant request h.protocol h.authority (ap (λ (lines : List Line). field_members true lines) h.connection) hops
+  plain_meant target request h hops =
+      as_meant request h.get.protocol h.get.authority
+      (ap (λ (lines : List Line). field_members true lines) (h.without 0 [] (omega arith))) hops
 
   -- ---- a gateway
 
-  module _ (server : Server) (gateway : Gateway) (origin : Origin) (now : ℕ) (request : Request) (reply : Reply)
-      (f : IsForwardedBack gateway origin now request reply) where
+  module _ (server : Server) (gateway : Gateway) (origin : Origin) (now : ℕ) (target : List ℕ) (request : Request)
+      (reply : Reply) (f : IsForwardedBack gateway origin now target request reply) where
     -- what a gateway forwards is the request that is meant for the server
     forwards : Stands f.next (sent_directly gateway request)
     forwards =
@@ -152,20 +164,24 @@ module _ (reads : ReadsNoMore) where
               (reads present resource (sent_directly gateway request) f.next answer
               (alike gateway request f.next f.sent f.forwarded f.passed)
               (choose_alike gateway request f.next f.sent f.forwarded f.passed)).1 h;
+          method = sym f.passed.method;
           directs =
               sym
               (same_lines gateway request f.next f.sent f.forwarded f.passed (codes "cache-control") refl refl refl);
         }
 
-    comes : (name : List ℕ) → HasNoOptions f.behind.fields → is_known true name ≡ false
-        → All (λ own. own ≢ name) own_names → reply.fields name ≡ f.behind.fields name
-    comes name none end_to_end not_own =
-        let options : connection_options f.response.fields ≡ []
-        = ap (λ (lines : List Line). field_members true lines) (f.response_fields (codes "connection") ∙ none) in
+    passes : SaysCloseAtMost f.behind.fields → (name : List ℕ) → is_known true name ≡ false
+        → lowercase name ≢ codes "close" → All (λ own. own ≢ name) own_names
+        → reply.fields name ≡ f.behind.fields name
+    passes at_most name end_to_end not_close not_own =
         let crossing : is_hop_by_hop gateway.consumes_credentials (connection_options f.response.fields) name ≡ false
-        = ap (λ (members : List Member). is_hop_by_hop gateway.consumes_credentials members name) options
-        ∙ ap (λ (b : Bool). b || false) (known_by gateway.consumes_credentials name end_to_end) in
+        = crosses_if gateway.consumes_credentials f.response.fields
+        (at_most.0, f.response_fields (codes "connection") ∙ at_most.1) name end_to_end not_close in
         f.fields name ∙ f.forwarded_back.fields.end_to_end name crossing not_own ∙ f.response_fields name
+
+    comes : SaysCloseAtMost f.behind.fields → (name : List ℕ) → IsCarried name
+        → reply.fields name ≡ f.behind.fields name
+    comes at_most name c = passes at_most name c.end_to_end c.not_close c.not_own
 
     -- fields of one connection end here, those that connection options name too
     pub ends : (name : List ℕ) → IsHopByHop gateway f.behind.fields name → name ≢ codes "transfer-encoding"
@@ -209,33 +225,46 @@ module _ (reads : ReadsNoMore) where
                 answer = t.said.answer;
                 is = t.said.is;
                 status = t.said.status ∙ ap (λ (n : ℕ). Some n) (sym status);
-                content = f.content ∙ t.said.content;
+                content =
+                    f.content ∙ t.said.content
+                    ∙ ap
+                    (λ (n : ℕ). unless_head f.next.method (server.content t.time n (sent_of t.said.answer.sends)))
+                    (sym status);
                 fields = λ name c.
-                    comes name t.no_options c.end_to_end c.not_own ∙ t.said.fields name c
+                    comes t.connection name c ∙ t.said.fields name c
                     ∙ ap
                     (λ (n : ℕ). set_all (server.own t.time n) (fields_of t.said.answer.fields.items) name)
                     (sym status);
               };
           past = t.past;
           aged =
-              subst (λ (n : ℕ). now - t.time ≤ n)
-              (ap age_of (sym (comes (codes "age") t.no_options refl (differs (codes "age") own_names refl)))) t.aged;
+              subst (λ (n : ℕ). capped (now - t.time) ≤ n)
+              (
+              ap age_of
+              (
+              sym
+              (passes t.connection (codes "age") refl (λ e. absurd (cc e)) (differs (codes "age") own_names refl))
+              )
+              )
+              t.aged;
           good = good t.good;
-          no_options =
-              f.fields (codes "connection")
-              ∙ f.forwarded_back.fields.hop_by_hop (codes "connection") refl (apart (codes "connection") refl);
+          connection = (
+            false,
+            f.fields (codes "connection")
+                ∙ f.forwarded_back.fields.hop_by_hop (codes "connection") refl (apart (codes "connection") refl),
+          );
         } in
         told_as server now reply f.next (sent_directly gateway request) forwards told
       where
-        good : (t.time ≡ now) ⊎ IsGoodAt (now - t.time) f.next f.behind
-            → (t.time ≡ now) ⊎ IsGoodAt (now - t.time) f.next reply
+        good : (t.time ≡ now) ⊎ IsGoodAt (capped (now - t.time)) f.next f.behind
+            → (t.time ≡ now) ⊎ IsGoodAt (capped (now - t.time)) f.next reply
         good (inl e) = inl e
         good (inr g) =
             inr (
             record {
               policy = g.policy;
               stored = g.stored;
-              same = λ name c. comes name t.no_options c.end_to_end c.not_own ∙ g.same name c;
+              same = λ name c. comes t.connection name c ∙ g.same name c;
               asks = g.asks;
               directs = g.directs;
               most = g.most;
@@ -248,47 +277,50 @@ module _ (reads : ReadsNoMore) where
 
 -- ---- a cache
 
-module _ (sound : VaryIsSound) (members : MembersSelect) (law : StoreLaws) (server : Server)
-    (steady : IsSteady server) (policy : Policy) (limits : Limits) (origin : Origin) (target : List ℕ) (host : List Line)
-    (now : ℕ) (request : Request) (reply : Reply)
-    (f : IsFromStore policy limits origin target host now request reply) where
-  abbrev came : HasComeFrom origin host now (come law policy limits origin target host now request reply f).came
-  came = from law policy limits origin target host now request reply f
+module _ (sound : VaryIsSound) (members : MembersSelect) (law : StoreLaws) (server : Server) (caching : Caching)
+    (origin : Origin) (now : ℕ) (target : List ℕ) (request : Request) (reply : Reply)
+    (f : IsFromStore caching origin now target request reply) where
+  abbrev first : Request
+  first = (come law caching origin now target request reply f).request
+
+  abbrev came : HasComeFrom caching.clock origin now target first
+      (come law caching origin now target request reply f).came
+  came = from law caching origin now target request reply f
 
   status_is : reply.status ≡ came.reply.status
   status_is =
-      f.status ∙ (come law policy limits origin target host now request reply f).kept.status ∙ came.status
+      f.status ∙ (come law caching origin now target request reply f).kept.status ∙ came.noted.status
 
   own_stored : IsOwn came.reply → IsOwn reply
   own_stored own =
       record {
         status = subst (λ (n : ℕ). Contains own_statuses n) (sym status_is) own.status;
-        content = content_is law policy limits origin target host now request reply f ∙ own.content;
+        content = content_is law caching origin now target request reply f ∙ own.content;
         fields = λ name c.
-            lacks law policy limits origin target host now request reply f name c.not_age (date_not_carried name c)
+            lacks law caching origin now target request reply f name c.not_age (date_not_carried name c)
             (own.fields name c);
       }
 
-  from_store : now ≤ greatest → IsTold server came.time came.request came.reply → IsTold server now request reply
-  from_store fits t =
+  from_store : IsTold server came.time first came.reply → IsTold server now request reply
+  from_store t =
       let said = t.said in
-      let none = t.no_options in
+      let at_most = t.connection in
       let stored = λ (name : List ℕ) (c : IsCarried name).
-      stored_as law policy limits origin target host now request reply f none name c.end_to_end
+      stored_as law caching origin now target request reply f at_most name c.end_to_end c.not_close
       (date_not_carried name c) in
       let varies : fields_of_stored f.stored (codes "vary")
       ≡ set_all (server.own t.time came.reply.status) (fields_of said.answer.fields.items) (codes "vary")
       = stored (codes "vary") vary_carried ∙ said.fields (codes "vary") vary_carried in
-      let now_said = steady.answers t.time request in
+      let now_said = server.answers t.time request in
+      let both_alike = alike_first law caching origin now target request reply f in
       let same : AreSame said.answer now_said.0
-      = suited sound members t.time (server.resource t.time) came.request request said.answer now_said.0
-      (server.own t.time came.reply.status) said.is now_said.1
-      (plain_alike host came.request request came.plain f.plain)
-      (suits law policy limits origin target host now request reply f
+      = suited sound members t.time (server.resource t.time) first request said.answer now_said.0
+      (server.own t.time came.reply.status) said.is now_said.1 both_alike
+      (suits law caching origin now target request reply f
       (set_all (server.own t.time came.reply.status) (fields_of said.answer.fields.items)) varies) in
-      let aged : now - t.time ≤ counted law policy limits origin target host now request reply f
-      = counts law policy limits origin target host now request reply f none t.time t.past fits t.aged in
-      let known = right law policy limits origin target host now request reply f in
+      let aged : capped (now - t.time) ≤ counted law caching origin now target request reply f
+      = counts law caching origin now target request reply f at_most t.time t.past t.aged in
+      let known = right law caching origin now target request reply f in
       record {
         time = t.time;
         said =
@@ -297,10 +329,16 @@ module _ (sound : VaryIsSound) (members : MembersSelect) (law : StoreLaws) (serv
               is = now_said.1;
               status = sym same.status ∙ said.status ∙ ap (λ (n : ℕ). Some n) (sym status_is);
               content =
-                  f.content ∙ ap (λ c. c.items)
-                  (come law policy limits origin target host now request reply f).kept.content
-                  ∙ came.content ∙ said.content
-                  ∙ steady.same t.time said.answer.sends now_said.0.sends same.sends;
+                  content_is law caching origin now target request reply f ∙ said.content
+                  ∙ ap
+                  (λ (m : List ℕ). unless_head m
+                  (server.content t.time came.reply.status (sent_of said.answer.sends)))
+                  both_alike.method
+                  ∙ ap (λ (sent : _). unless_head request.method (server.content t.time came.reply.status sent))
+                  (same_sent said.answer.sends now_said.0.sends same.sends)
+                  ∙ ap
+                  (λ (n : ℕ). unless_head request.method (server.content t.time n (sent_of now_said.0.sends)))
+                  (sym status_is);
               fields = λ name c.
                   f.fields name c.not_age ∙ stored name c ∙ said.fields name c
                   ∙ ap (λ fields. set_all (server.own t.time came.reply.status) fields name) same.fields
@@ -310,33 +348,34 @@ module _ (sound : VaryIsSound) (members : MembersSelect) (law : StoreLaws) (serv
             };
         past = omega (arith, t.past, came.before, came.past);
         aged =
-            subst (λ (n : ℕ). now - t.time ≤ n)
-            (sym (age_is law policy limits origin target host now request reply f)) aged;
+            subst (λ (n : ℕ). capped (now - t.time) ≤ n)
+            (sym (age_is law caching origin now target request reply f)) aged;
         good =
             inr (
             record {
-              policy = policy;
+              policy = caching.policy;
               stored = f.stored;
               same = λ name c. f.fields name c.not_age;
               asks = request.fields;
               directs = refl;
-              most = f.most;
-              freshness = freshness_of known.lifetime f.stored now;
+              most = caching.most;
+              freshness =
+                  freshness_of known.lifetime f.stored (shown law caching origin now target request reply f);
               fresh_for = known.fresh_for;
               old = aged;
               good = known.good;
             }
             );
-        no_options = quiet law policy limits origin target host now request reply f;
+        connection = quiet law caching origin now target request reply f;
       }
 
 -- ---- a chain
 
 module _ (reads : ReadsNoMore) (sound : VaryIsSound) (members : MembersSelect) (law : StoreLaws)
-    (server : Server) (steady : IsSteady server) (target : List ℕ) (host : List Line) where
-  pub tells : (hops : List Hop) (now : ℕ) (request : Request) (reply : Reply) → now ≤ greatest
-      → behind server target host hops now request reply → IsTold server now (meant hops request) reply ⊎ IsOwn reply
-  tells [] now request reply fits h =
+    (site : List ℕ → Server) where
+  pub tells : (hops : List Hop) (now : ℕ) (target : List ℕ) (request : Request) (reply : Reply)
+      → behind site hops now target request reply → IsTold (site target) now (meant hops request) reply ⊎ IsOwn reply
+  tells [] now target request reply h =
       inl (
       record {
         time = now;
@@ -344,41 +383,41 @@ module _ (reads : ReadsNoMore) (sound : VaryIsSound) (members : MembersSelect) (
         past = omega arith;
         aged = omega arith;
         good = inl refl;
-        no_options = h.none;
+        connection = says_close_at_most (site target) now request reply h;
       }
       )
-  tells (Forwards gateway ∷ hops) now request reply fits (inr own) = inr own
-  tells (Forwards gateway ∷ hops) now request reply fits (inl f) =
-      elim (tells hops now f.next f.behind fits f.answered) [
+  tells (Forwards gateway ∷ hops) now target request reply (inr own) = inr own
+  tells (Forwards gateway ∷ hops) now target request reply (inl f) =
+      elim (tells hops now target f.next f.behind f.answered) [
         | inl t ↦
             let same : Same (meant hops f.next) f.next =
             as_meant reads f.next f.passed.protocol f.passed.authority
             (no_options gateway request f.next f.sent f.forwarded f.passed) hops in
             inl (
-            through reads server gateway (behind server target host hops) now request reply f
-            (told_as server now f.behind (meant hops f.next) f.next same.there t)
+            through reads (site target) gateway (behind site hops) now target request reply f
+            (told_as (site target) now f.behind (meant hops f.next) f.next same.there t)
             )
         | inr own ↦
-            inr (own_behind reads server gateway (behind server target host hops) now request reply f own)
+            inr (own_behind reads (site target) gateway (behind site hops) now target request reply f own)
       ]
-  tells (Stores policy limits ∷ hops) now request reply fits (inl h) = tells hops now request reply fits h
-  tells (Stores policy limits ∷ hops) now request reply fits (inr (inr own)) = inr own
-  tells (Stores policy limits ∷ hops) now request reply fits (inr (inl f)) =
-      let origin = behind server target host hops in
-      let first = came sound members law server steady policy limits origin target host now request reply f in
-      let early : first.time ≤ greatest = omega (arith, fits, first.before, first.past) in
-      elim (tells hops first.time first.request first.reply early first.answered) [
+  tells (Stores caching ∷ hops) now target request reply (inl h) = tells hops now target request reply h
+  tells (Stores caching ∷ hops) now target request reply (inr (inr own)) = inr own
+  tells (Stores caching ∷ hops) now target request reply (inr (inl f)) =
+      let origin = behind site hops in
+      let first = (come law caching origin now target request reply f).request in
+      let earlier = came sound members law (site target) caching origin now target request reply f in
+      elim (tells hops earlier.time target first earlier.reply earlier.answered) [
         | inl t ↦
-            let there : Same (meant hops first.request) first.request =
-            plain_meant reads host first.request first.plain hops in
-            let back : Same (meant hops request) request = plain_meant reads host request f.plain hops in
+            let there : Same (meant hops first) first =
+            plain_meant reads target first (plain_first law caching origin now target request reply f) hops in
+            let back : Same (meant hops request) request = plain_meant reads target request f.sought.plain hops in
             inl (
-            told_as server now reply request (meant hops request) back.back
+            told_as (site target) now reply request (meant hops request) back.back
             (
-            from_store sound members law server steady policy limits origin target host now request reply f fits
-            (told_as server first.time first.reply (meant hops first.request) first.request there.there t)
+            from_store sound members law (site target) caching origin now target request reply f
+            (told_as (site target) earlier.time earlier.reply (meant hops first) first there.there t)
             )
             )
         | inr own ↦
-            inr (own_stored sound members law server steady policy limits origin target host now request reply f own)
+            inr (own_stored sound members law (site target) caching origin now target request reply f own)
       ]

@@ -1,7 +1,9 @@
 mod AgeLemmas
 mod ChainLemmas
 mod CheckLemmas
+mod ConnectionLemmas
 mod ResponseLemmas
+mod ServerLemmas
 mod StoreLemmas
 mod SuitLemmas
 mod WayLemmas

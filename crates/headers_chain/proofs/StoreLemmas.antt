@@ -1,18 +1,20 @@
 -- What a cache serves from its store came from those behind it.
-use Rattle.std.proofs.Common.{◌≡◌, ◌≢◌, ◌⊎◌, ℕ, ◌-◌, ◌≤◌, Bool, true, false, List, [], ◌∷◌}
+use Rattle.std.proofs.Common.{◌≡◌, ◌≢◌, ◌⊎◌, ℕ, ◌+◌, ◌-◌, ◌≤◌, Bool, true, false, List, [], ◌∷◌, ◌++◌}
 use Rattle.std.proofs.Common.{refl, sym, ◌∙◌, ap, subst, inl, inr, arith}
-use Rattle.std.specs.Prelude.{slice_get, All, ◌||◌, codes, decimal}
-use Rattle.std.specs.List.{list_any}
-use Rattle.std.proofs.lemmas.Bool.{cases_Bool}
+use Rattle.std.specs.Prelude.{slice_get, All, ◌||◌, ◌==◌, not, codes, decimal, unwrap_or, max}
+use Rattle.std.specs.List.{list_all, list_any}
+use Rattle.std.proofs.lemmas.Bool.{and_parts, cases_Bool}
+use Rattle.std.proofs.lemmas.Bool.Decides.{nat_tests}
 use Rattle.std.proofs.lemmas.List.Elements.{All-weaker}
 use Rattle.std.proofs.lemmas.List.Folds.{list_any_at}
 use Rattle.http_header.specs.Token.{lowercase}
 use Rattle.headers.specs.LineMap.{Field, LineMap, lines_at}
-use Rattle.headers.specs.Lines.{Line}
+use Rattle.headers.specs.Lines.{Line, only_line}
+use Rattle.headers.specs.Text.{is_text}
 use Rattle.headers.specs.Typed.{HasLine}
 use Rattle.headers_cache.specs.Changes.{IsStoredAs, IsToStore}
 use Rattle.headers_cache.specs.Contents.{Contents, responses_at}
-use Rattle.headers_cache.specs.History.{Has, HasUnder, History, IsJustified, Run}
+use Rattle.headers_cache.specs.History.{HasUnder, History, IsJustified, Run}
 use Rattle.headers_cache.specs.Lookups.{IsAnswer, IsFreshFor, age_of_stored, freshness_of}
 use Rattle.headers_cache.specs.Served.{IsRightlyServed, Serves}
 use Rattle.headers_cache.specs.declared.limits.Limits.{Limits}
@@ -22,8 +24,8 @@ use Rattle.headers_cache.specs.declared.lookup.Lookup.TheVariants.{Unavailable, 
 use Rattle.headers_cache.proofs.HistoryLemmas.{Has-slice_get, HasUnder-responses_at}
 use Rattle.headers_cache_policy.specs.Decisions.{IsGoodEnough, MayServeOnError}
 use Rattle.headers_cache_policy.specs.declared.decision.Decision.TheVariants as decisions
-use Rattle.headers_cache_policy.specs.Age.{age_at}
-use Rattle.headers_cache_policy.specs.Fields.{age_of, age_value, capped, greatest}
+use Rattle.headers_cache_policy.specs.Age.{age_at, apparent_age}
+use Rattle.headers_cache_policy.specs.Fields.{age_of, age_value, capped}
 use Rattle.headers_cache_policy.specs.Requests.{AllowsMethod, Request as Asked}
 use Rattle.headers_cache_policy.specs.Storing.{IsShareable}
 use Rattle.headers_cache_policy.specs.Targets.{governing}
@@ -38,10 +40,10 @@ use Rattle.headers_cache_rules.specs.Stored.{fields_of_stored, times_of}
 use Rattle.headers_cache_rules.specs.Storing.{reuse_names}
 use Rattle.headers_cache_rules.specs.declared.storing.Reception.{Reception}
 use Rattle.headers_cache_rules.specs.declared.stored.StoredResponse.{StoredResponse}
-use Rattle.headers_chain.specs.Caches.{Event, HasComeFrom, IsFromStore, IsPlain}
-use Rattle.headers_chain.specs.Caches.{Origin, Reply, ServesOnError, asked, calls_of}
-use Rattle.headers_chain.specs.Caches.Event.{Sought, Came, Dropped}
-use Rattle.headers_chain.specs.Responses.{HasNoOptions}
+use Rattle.headers_chain.specs.Caches.{Act, Caching, HasAfter, HasComeFrom, IsFromStore, IsPlain}
+use Rattle.headers_chain.specs.Caches.{Origin, Reply, ServesOnError, asked, calls_of, key_of}
+use Rattle.headers_chain.specs.Caches.Act.{Looks, Takes, Drops}
+use Rattle.headers_chain.specs.Servers.{SaysCloseAtMost}
 use Rattle.headers_fields.specs.Members.{field_members}
 use Rattle.headers_fields.specs.Scan.{Member}
 use Rattle.headers_fields.specs.Scan.Member.{Whole, Malformed}
@@ -49,6 +51,7 @@ use Rattle.headers_gateway.specs.HopByHop.{connection_options, is_hop_by_hop, is
 use Rattle.headers_resource.specs.Requests.{Request}
 use Rattle.headers_resource.specs.Vary.{AreAlike}
 use Rattle.headers_chain.proofs.AgeLemmas.{age_of-decimal}
+use Rattle.headers_chain.proofs.ConnectionLemmas.{crosses_if}
 
 -- what a law of a store says
 abbrev pub ServesWhatIsJustified : Type 0
@@ -69,64 +72,116 @@ pub record StoreLaws : Type 0 where
   pub serves : ServesWhatIsJustified
   pub justifies : JustifiesWhatIsStored
 
+-- ---- keys
+
+no_slash : (b : ℕ) → not (b == 47) ≡ true → b ≢ 47
+no_slash b e = grind (arith, nat_tests, e)
+
+-- a host ends where the first slash is
+one_host : (h k p q : List ℕ) → list_all (λ b. not (b == 47)) h ≡ true → list_all (λ b. not (b == 47)) k ≡ true
+    → h ++ (47 ∷ p) ≡ k ++ (47 ∷ q) → (h ≡ k) × (p ≡ q)
+one_host [] [] p q x y e = (refl, cc e)
+one_host [] (c ∷ k) p q x y e =
+    let head : 47 ≡ c = cc e in
+    absurd (no_slash c (and_parts (not (c == 47)) (list_all (λ b. not (b == 47)) k) y).0 (sym head))
+one_host (b ∷ h) [] p q x y e =
+    let head : b ≡ 47 = cc e in
+    absurd (no_slash b (and_parts (not (b == 47)) (list_all (λ b. not (b == 47)) h) x).0 head)
+one_host (b ∷ h) (c ∷ k) p q x y e =
+    let rest = one_host h k p q (and_parts (not (b == 47)) (list_all (λ b. not (b == 47)) h) x).1
+    (and_parts (not (c == 47)) (list_all (λ b. not (b == 47)) k) y).1 (cc e) in
+    let head : b ≡ c = cc e in (cc (head, rest.0), rest.1)
+
+-- what one key is for
+pub record AreOne (t u : List ℕ) (r s : Request) : Type 0 where
+  pub target : t ≡ u
+  pub host : r.fields (codes "host") ≡ s.fields (codes "host")
+
+pub one_key : (t u : List ℕ) (r s : Request) → IsPlain t r → IsPlain u s → key_of t r ≡ key_of u s → AreOne t u r s
+one_key t u r s h k e =
+    let named = λ (q : Request) (host : Line) (lines : q.fields (codes "host") ≡ host ∷ []) (target : List ℕ).
+    ap (λ (ls : List Line). codes "http://" ++ (unwrap_or (only_line ls) [] ++ target)) lines in
+    let whole : codes "http://" ++ (h.host ++ (47 ∷ h.path)) ≡ codes "http://" ++ (k.host ++ (47 ∷ k.path))
+    = ap (λ (target : List ℕ). codes "http://" ++ (h.host ++ target)) (sym h.is_path)
+    ∙ sym (named r h.host h.has_host t) ∙ e ∙ named s k.host k.has_host u
+    ∙ ap (λ (target : List ℕ). codes "http://" ++ (k.host ++ target)) k.is_path in
+    let rest : h.host ++ (47 ∷ h.path) ≡ k.host ++ (47 ∷ k.path) = cc whole in
+    let one = one_host h.host k.host h.path k.path
+    (and_parts (is_text h.host) (list_all (λ b. not (b == 47)) h.host) h.bare).1
+    (and_parts (is_text k.host) (list_all (λ b. not (b == 47)) k.host) k.bare).1 rest in
+    record {
+      target = h.is_path ∙ ap (λ (path : List ℕ). 47 ∷ path) one.1 ∙ sym k.is_path;
+      host = h.has_host ∙ ap (λ (host : Line). host ∷ []) one.0 ∙ sym k.has_host;
+    }
+
 -- ---- how it came
 
-pub record HasCome (policy : Policy) (target : List ℕ) (events : List Event) (stored : StoredResponse) : Type 0 where
-  pub came : StoredResponse
-  pub reception : Reception
-  pub called : Has events (Came target came reception)
-  pub allowed : IsToStore policy came reception
-  pub kept : IsStoredAs came stored
+module _ (caching : Caching) (origin : Origin) (now : ℕ) where
+  -- the acts of a cache are calls of its store
+  runs : (acts : List Act) (contents : Contents) → HasAfter caching origin now acts contents
+      → Run caching.policy caching.limits (calls_of acts) contents
+  runs [] contents h = h
+  runs (Looks target request ∷ acts) contents h = (h.0, runs acts h.0 h.1, h.2.1)
+  runs (Takes target request came reception ∷ acts) contents h = (h.0, runs acts h.0 h.1, h.2.2)
+  runs (Drops key ∷ acts) contents h = (h.0, runs acts h.0 h.1, h.2)
 
-module _ (policy : Policy) (target : List ℕ) (stored : StoredResponse) where
-  later : (event : Event) (events : List Event) → HasCome policy target events stored
-      → HasCome policy target (event ∷ events) stored
-  later event events h =
-      record { came = h.came; reception = h.reception; called = inr h.called; allowed = h.allowed; kept = h.kept }
+  -- a stored response came for a plain request with this key
+  pub record HasCome (key : List ℕ) (stored : StoredResponse) : Type 0 where
+    pub target : List ℕ
+    pub request : Request
+    pub plain : IsPlain target request
+    pub came : StoredResponse
+    pub reception : Reception
+    pub from : HasComeFrom caching.clock origin now target request came
+    pub same : key_of target request ≡ key
+    pub allowed : IsToStore caching.policy came reception
+    pub kept : IsStoredAs came stored
 
-  has_come : (events : List Event) → IsJustified policy target (calls_of events) stored
-      → HasCome policy target events stored
-  has_come [] h = absurd h
-  has_come (Sought other ∷ events) h = later (Sought other) events (has_come events h)
-  has_come (Came other came reception ∷ events) (inl h) =
-      later (Came other came reception) events (has_come events h)
-  has_come (Came other came reception ∷ events) (inr h) =
+  has_come : (key : List ℕ) (stored : StoredResponse) (acts : List Act) (contents : Contents)
+      → HasAfter caching origin now acts contents → IsJustified caching.policy key (calls_of acts) stored
+      → HasCome key stored
+  has_come key stored [] contents h j = absurd j
+  has_come key stored (Looks target request ∷ acts) contents h j = has_come key stored acts h.0 h.1 j
+  has_come key stored (Takes target request came reception ∷ acts) contents h (inl j) =
+      has_come key stored acts h.0 h.1 j
+  has_come key stored (Takes target request came reception ∷ acts) contents h (inr j) =
       record {
+        target = target;
+        request = request;
+        plain = h.2.0;
         came = came;
         reception = reception;
-        called = inl (ap (λ (t : List ℕ). Came t came reception) h.0);
-        allowed = h.1;
-        kept = h.2;
+        from = h.2.1;
+        same = j.0;
+        allowed = j.1;
+        kept = j.2;
       }
-  has_come (Dropped other ∷ events) h = later (Dropped other) events (has_come events h.1)
+  has_come key stored (Drops other ∷ acts) contents h j = has_come key stored acts h.0 h.1 j.1
 
 -- ---- plain requests
 
-pub plain_alike : (host : List Line) (r s : Request) → IsPlain host r → IsPlain host s → AreAlike r s
-plain_alike host r s h k =
+pub plain_alike : (target : List ℕ) (r s : Request) → IsPlain target r → IsPlain target s
+    → r.fields (codes "host") ≡ s.fields (codes "host") → AreAlike r s
+plain_alike target r s h k host =
     record {
-      protocol = h.protocol ∙ sym k.protocol;
-      method = h.method ∙ sym k.method;
-      authority = h.authority ∙ sym k.authority;
-      host = h.has_host ∙ sym k.has_host;
-      expect = h.expect ∙ sym k.expect;
-      content = h.content ∙ sym k.content;
-      content_type = h.content_type ∙ sym k.content_type;
-      content_encoding = h.content_encoding ∙ sym k.content_encoding;
+      protocol = h.get.protocol ∙ sym k.get.protocol;
+      method = h.get.method ∙ sym k.get.method;
+      authority = h.get.authority ∙ sym k.get.authority;
+      host = host;
+      expect = h.without 3 [] (omega arith) ∙ sym (k.without 3 [] (omega arith));
+      content = h.get.content ∙ sym k.get.content;
+      content_type = h.without 1 [] (omega arith) ∙ sym (k.without 1 [] (omega arith));
+      content_encoding = h.without 2 [] (omega arith) ∙ sym (k.without 2 [] (omega arith));
       asks =
           record {
-            if_match = h.if_match ∙ sym k.if_match;
-            if_none_match = h.if_none_match ∙ sym k.if_none_match;
-            if_modified_since = h.if_modified_since ∙ sym k.if_modified_since;
-            if_unmodified_since = h.if_unmodified_since ∙ sym k.if_unmodified_since;
-            range = h.range ∙ sym k.range;
-            if_range = h.if_range ∙ sym k.if_range;
+            if_match = h.without 4 [] (omega arith) ∙ sym (k.without 4 [] (omega arith));
+            if_none_match = h.without 5 [] (omega arith) ∙ sym (k.without 5 [] (omega arith));
+            if_modified_since = h.without 6 [] (omega arith) ∙ sym (k.without 6 [] (omega arith));
+            if_unmodified_since = h.without 7 [] (omega arith) ∙ sym (k.without 7 [] (omega arith));
+            range = h.without 8 [] (omega arith) ∙ sym (k.without 8 [] (omega arith));
+            if_range = h.without 9 [] (omega arith) ∙ sym (k.without 9 [] (omega arith));
           };
     }
-
-got : (stored : List ℕ) (method : List ℕ) → AllowsMethod stored method → method ≡ codes "GET" → stored ≡ codes "GET"
-got stored method (inl h) e = h.0
-got stored method (inr h) e = absurd (cc (h.1, e))
 
 -- ---- what is served
 
@@ -145,19 +200,44 @@ pub record IsRight (policy : Policy) (most : ℕ) (target : List ℕ) (calls : H
       (tells policy (fields_of_stored stored)) (freshness_of lifetime stored now)
   pub aged : age ≡ age_of_stored stored now
 
-module _ (law : StoreLaws) (policy : Policy) (limits : Limits) (origin : Origin) (target : List ℕ)
-    (host : List Line) (now : ℕ) (request : Request) (reply : Reply)
-    (f : IsFromStore policy limits origin target host now request reply) where
+-- The age of a stored response is no less than the time since it was said: that by which it was old when it came, and
+-- the time since then by the clock.
+grows : (own given requested received shown start sent at came now time apparent : ℕ) → own ≡ given
+    → requested ≡ start → received ≡ start + (came - sent) → shown ≡ start + (now - sent) → time ≤ at → sent ≤ at
+    → at ≤ came → came ≤ now → capped (at - time) ≤ given
+    → capped (now - time) ≤ capped (max apparent (own + (received - requested)) + (shown - received))
+grows own given requested received shown start sent at came now time apparent same e f g past after before over aged =
+    omega (arith, same, e, f, g, past, after, before, over, aged)
+
+module _ (law : StoreLaws) (caching : Caching) (origin : Origin) (now : ℕ) (target : List ℕ)
+    (request : Request) (reply : Reply) (f : IsFromStore caching origin now target request reply) where
+  abbrev key : List ℕ
+  key = key_of target request
+
+  -- all that the cache did, the lookup that serves the response included
+  abbrev calls : History
+  calls = calls_of (Looks target request ∷ f.acts)
+
+  -- what its clock shows
+  abbrev pub shown : ℕ
+  shown = caching.clock.shows now
+
+  all_acts : HasAfter caching origin now (Looks target request ∷ f.acts) f.contents
+  all_acts = (f.before, f.has, (f.sought.plain, f.sought.looked))
+
+  run : Run caching.policy caching.limits calls f.contents
+  run = runs caching origin now (Looks target request ∷ f.acts) f.contents all_acts
+
   abbrev Right : StoredResponse → Type 0
   Right stored =
-      IsRight policy f.most target (calls_of f.events) request.fields (asked request) now stored f.age
+      IsRight caching.policy caching.most key calls request.fields (asked request) shown stored f.age
 
   at_once : Serves f.lookup f.place f.age → Right f.stored
   at_once serves =
-      let s : IsRightlyServed policy f.most target (calls_of f.events) (asked request) now
-      (responses_at target f.contents) f.place f.age
-      = law.serves policy limits (calls_of f.events) f.contents f.run target f.most (asked request) now f.lookup f.answer
-      f.place f.age serves in
+      let s : IsRightlyServed caching.policy caching.most key calls (asked request) shown
+      (responses_at key f.contents) f.place f.age
+      = law.serves caching.policy caching.limits calls f.contents run key caching.most (asked request) shown f.lookup
+      f.sought.answer f.place f.age serves in
       let same : s.response ≡ f.stored = cc (sym s.at ∙ f.at) in
       subst Right same
       (
@@ -171,30 +251,33 @@ module _ (law : StoreLaws) (policy : Policy) (limits : Limits) (origin : Origin)
       }
       )
 
-  under : IsJustified policy target (calls_of f.events) f.stored
+  under : IsJustified caching.policy key calls f.stored
   under =
-      law.justifies policy limits (calls_of f.events) f.contents f.run target f.stored
-      (HasUnder-responses_at target f.contents f.stored
-      (Has-slice_get (responses_at target f.contents) f.place f.stored f.at))
+      law.justifies caching.policy caching.limits calls f.contents run key f.stored
+      (HasUnder-responses_at key f.contents f.stored
+      (Has-slice_get (responses_at key f.contents) f.place f.stored f.at))
 
-  on_error : (lookup : Lookup) → IsAnswer policy f.most (asked request) now (responses_at target f.contents) lookup
-      → ServesOnError lookup f.place → f.age ≡ age_of_stored f.stored now → Right f.stored
+  on_error : (lookup : Lookup)
+      → IsAnswer caching.policy caching.most (asked request) shown (responses_at key f.contents) lookup
+      → ServesOnError lookup f.place → f.age ≡ age_of_stored f.stored shown → Right f.stored
   on_error (ValidateOrServe at fields) answer here aged =
       let found = answer.found in
       let selected = found.selected in
       let same : selected.response ≡ f.stored
-      = cc (sym selected.at ∙ ap (λ (p : ℕ). slice_get (responses_at target f.contents) p) here ∙ f.at) in
-      let decided : AnswersUnder policy request.fields (fields_of_stored f.stored)
-      (freshness_of found.lifetime f.stored now) decisions.RevalidateOrServe
+      = cc (sym selected.at ∙ ap (λ (p : ℕ). slice_get (responses_at key f.contents) p) here ∙ f.at) in
+      let decided : AnswersUnder caching.policy request.fields (fields_of_stored f.stored)
+      (freshness_of found.lifetime f.stored shown) decisions.RevalidateOrServe
       = subst
-      (λ (s : StoredResponse). AnswersUnder policy request.fields (fields_of_stored s)
-      (freshness_of found.lifetime s now) decisions.RevalidateOrServe)
+      (λ (s : StoredResponse). AnswersUnder caching.policy request.fields (fields_of_stored s)
+      (freshness_of found.lifetime s shown) decisions.RevalidateOrServe)
       same found.decided in
       record {
         justified = under;
         matches = subst (IsCandidate (asked request)) same selected.is;
         lifetime = found.lifetime;
-        fresh_for = subst (λ (s : StoredResponse). IsFreshFor policy f.most s found.lifetime) same found.fresh_for;
+        fresh_for =
+            subst (λ (s : StoredResponse). IsFreshFor caching.policy caching.most s found.lifetime) same
+            found.fresh_for;
         good = inr decided.2;
         aged = aged;
       }
@@ -207,60 +290,69 @@ module _ (law : StoreLaws) (policy : Policy) (limits : Limits) (origin : Origin)
   pub right : Right f.stored
   right = elim f.serves [
     | inl serves ↦ at_once serves
-    | inr h ↦ on_error f.lookup f.answer h.0 h.1
+    | inr h ↦ on_error f.lookup f.sought.answer h.0 h.1
   ]
 
   pub is_candidate : IsCandidate (asked request) f.stored
   is_candidate = right.matches
 
-  pub come : HasCome policy target f.events f.stored
-  come = has_come policy target f.stored f.events right.justified
+  pub come : HasCome caching origin now key f.stored
+  come =
+      has_come caching origin now key f.stored (Looks target request ∷ f.acts) f.contents all_acts right.justified
 
-  pub from : HasComeFrom origin host now come.came
+  -- it came for the same target and host
+  pub one : AreOne come.target target come.request request
+  one = one_key come.target target come.request request come.plain f.sought.plain come.same
+
+  pub plain_first : IsPlain target come.request
+  plain_first = subst (λ (t : List ℕ). IsPlain t come.request) one.target come.plain
+
+  pub from : HasComeFrom caching.clock origin now target come.request come.came
   from =
-      f.true_events come.came come.reception come.called
-      (sym come.kept.method ∙ got f.stored.method request.method is_candidate.method f.plain.method)
+      subst (λ (t : List ℕ). HasComeFrom caching.clock origin now t come.request come.came) one.target come.from
 
-  -- if no connection option came, what isn't for one connection is stored as it came, and what is isn't
-  module _ (none : HasNoOptions from.reply.fields) where
-    options : connection_options (fields_of_stored come.came) ≡ []
-    options = ap (λ (lines : List Line). field_members true lines) (from.fields (codes "connection") ∙ none)
+  pub alike_first : AreAlike come.request request
+  alike_first = plain_alike target come.request request plain_first f.sought.plain one.host
 
-    pub stored_as : (name : List ℕ) → is_known true name ≡ false → name ≢ codes "date"
-        → fields_of_stored f.stored name ≡ from.reply.fields name
-    stored_as name end_to_end not_date =
+  -- if at most the end of the connection was said of it, what isn't for one connection is stored as it came
+  module _ (at_most : SaysCloseAtMost from.reply.fields) where
+    pub stored_as : (name : List ℕ) → is_known true name ≡ false → lowercase name ≢ codes "close"
+        → name ≢ codes "date" → fields_of_stored f.stored name ≡ from.reply.fields name
+    stored_as name end_to_end not_close not_date =
         let crosses : is_hop_by_hop true (connection_options (fields_of_stored come.came)) name ≡ false
-        = ap (λ (members : List Member). is_hop_by_hop true members name) options
-        ∙ ap (λ (b : Bool). b || false) end_to_end in
-        come.kept.fields.end_to_end name (λ hop. absurd (cc (crosses, hop))) not_date ∙ from.fields name
+        = crosses_if true (fields_of_stored come.came)
+        (at_most.0, from.noted.fields (codes "connection") ∙ at_most.1) name end_to_end not_close in
+        come.kept.fields.end_to_end name (λ hop. absurd (cc (crosses, hop))) not_date ∙ from.noted.fields name
 
-  pub quiet : HasNoOptions reply.fields
-  quiet =
-      f.fields (codes "connection") (λ e. absurd (cc e))
-      ∙ come.kept.fields.hop_by_hop (codes "connection") refl (λ e. absurd (cc e))
+  pub quiet : SaysCloseAtMost reply.fields
+  quiet = (
+    false,
+    f.fields (codes "connection") (λ e. absurd (cc e))
+        ∙ come.kept.fields.hop_by_hop (codes "connection") refl (λ e. absurd (cc e)),
+  )
 
   -- the request that it answered, as the cache stored it
   pub suits : (response : LineMap) → fields_of_stored f.stored (codes "vary") ≡ response (codes "vary")
-      → Suits (asked from.request) (asked request) response
+      → Suits (asked come.request) (asked request) response
   suits response varies =
       let stored_lines = λ (name : List ℕ).
-      ap (λ m. lines_at m name) come.kept.request ∙ from.asked_fields name in
+      ap (λ m. lines_at m name) come.kept.request ∙ from.noted.asked_fields name in
       let each : (member : Member) → Agree (lines_at f.stored.request) request.fields member
-      → Agree from.request.fields request.fields member
+      → Agree come.request.fields request.fields member
       = agree stored_lines in
       record {
         method =
-            subst (λ (m : List ℕ). AllowsMethod m request.method) (come.kept.method ∙ from.method)
+            subst (λ (m : List ℕ). AllowsMethod m request.method) (come.kept.method ∙ from.noted.method)
             is_candidate.method;
         fields =
-            subst (λ (lines : List Line). All (Agree from.request.fields request.fields) (field_members true lines))
+            subst (λ (lines : List Line). All (Agree come.request.fields request.fields) (field_members true lines))
             varies
-            (All-weaker (Agree (lines_at f.stored.request) request.fields) (Agree from.request.fields request.fields)
+            (All-weaker (Agree (lines_at f.stored.request) request.fields) (Agree come.request.fields request.fields)
             each (field_members true (fields_of_stored f.stored (codes "vary"))) is_candidate.fields);
       }
     where
-      agree : ((name : List ℕ) → lines_at f.stored.request name ≡ from.request.fields name) → (member : Member)
-          → Agree (lines_at f.stored.request) request.fields member → Agree from.request.fields request.fields member
+      agree : ((name : List ℕ) → lines_at f.stored.request name ≡ come.request.fields name) → (member : Member)
+          → Agree (lines_at f.stored.request) request.fields member → Agree come.request.fields request.fields member
       agree lines (Whole name) h = (
         h.0,
         h.1,
@@ -271,32 +363,33 @@ module _ (law : StoreLaws) (policy : Policy) (limits : Limits) (origin : Origin)
 
   -- Age of the reply
   abbrev pub counted : ℕ
-  counted = capped (age_at (times_of f.stored now) (fields_of_stored f.stored))
+  counted = capped (age_at (times_of f.stored shown) (fields_of_stored f.stored))
 
   pub age_is : age_value reply.fields ≡ counted
   age_is =
       let line : reply.fields (codes "age") ≡ decimal counted ∷ []
       = f.has_age ∙ ap (λ (field : Field). field.1) right.aged in
-      ap age_of line ∙ age_of-decimal (age_at (times_of f.stored now) (fields_of_stored f.stored))
+      ap age_of line ∙ age_of-decimal (age_at (times_of f.stored shown) (fields_of_stored f.stored))
 
   -- it counts the time since the reply came, and its age by then
-  pub counts : HasNoOptions from.reply.fields → (time : ℕ) → time ≤ from.time → now ≤ greatest
-      → from.time - time ≤ age_value from.reply.fields → now - time ≤ counted
-  counts none time past fits aged =
+  pub counts : SaysCloseAtMost from.reply.fields → (time : ℕ) → time ≤ from.time
+      → capped (from.time - time) ≤ age_value from.reply.fields → capped (now - time) ≤ counted
+  counts at_most time past aged =
       let lines : age_value (fields_of_stored f.stored) ≡ age_value from.reply.fields
-      = ap age_of (stored_as none (codes "age") refl (λ e. absurd (cc e))) in
-      omega (
-        arith,
-        lines,
-        past,
-        fits,
-        aged,
-        from.after,
-        from.before,
-        from.past,
-        come.kept.requested,
-        come.kept.received,
-      )
+      = ap age_of (stored_as at_most (codes "age") refl (λ e. absurd (cc e)) (λ e. absurd (cc e))) in
+      let clock = caching.clock in
+      let early : from.sent ≤ now = omega (arith, from.after, from.before, from.past) in
+      let then : from.sent ≤ from.received = omega (arith, from.after, from.before) in
+      let requested : f.stored.requested ≡ clock.shows from.sent = come.kept.requested ∙ from.noted.requested_at in
+      let received : f.stored.received ≡ clock.shows from.received = come.kept.received ∙ from.noted.received_at in
+      let shows_then : clock.shows from.received ≡ clock.shows from.sent + (from.received - from.sent)
+      = clock.runs from.sent from.received from.set_before then in
+      let shows_now : shown ≡ clock.shows from.sent + (now - from.sent)
+      = clock.runs from.sent now from.set_before early in
+      grows (age_value (fields_of_stored f.stored)) (age_value from.reply.fields) f.stored.requested f.stored.received
+      shown (clock.shows from.sent) from.sent from.time from.received now time
+      (apparent_age (times_of f.stored shown) (fields_of_stored f.stored)) lines requested
+      (received ∙ shows_then) shows_now past from.after from.before from.past aged
 
   -- a field that didn't come isn't in the reply, but for those that a cache writes
   pub lacks : (name : List ℕ) → name ≢ codes "age" → name ≢ codes "date" → from.reply.fields name ≡ []
@@ -306,7 +399,8 @@ module _ (law : StoreLaws) (policy : Policy) (limits : Limits) (origin : Origin)
       ∙ elim (cases_Bool (is_hop_by_hop true (connection_options (fields_of_stored come.came)) name)) [
         | inl hop ↦ come.kept.fields.hop_by_hop name hop not_date
         | inr crosses ↦
-            come.kept.fields.end_to_end name (λ hop. absurd (cc (crosses, hop))) not_date ∙ from.fields name ∙ none
+            come.kept.fields.end_to_end name (λ hop. absurd (cc (crosses, hop))) not_date ∙ from.noted.fields name
+            ∙ none
       ]
 
   -- ---- what a cache never gives away
@@ -317,7 +411,7 @@ module _ (law : StoreLaws) (policy : Policy) (limits : Limits) (origin : Origin)
       let unnamed : is_named (connection_options (fields_of_stored come.came)) (codes "cache-control") ≡ false =
       unnamed_control (connection_options (fields_of_stored come.came)) fair.unnamed in
       come.kept.fields.end_to_end (codes "cache-control") (λ hop. absurd (cc (unnamed, hop))) (λ e. absurd (cc e))
-      ∙ from.fields (codes "cache-control")
+      ∙ from.noted.fields (codes "cache-control")
     where
       unnamed_control : (options : List Member) → list_any (is_named options) reuse_names ≡ false
           → is_named options (codes "cache-control") ≡ false
@@ -328,28 +422,28 @@ module _ (law : StoreLaws) (policy : Policy) (limits : Limits) (origin : Origin)
             | inr e ↦ e
           ]
 
-  governed_as : governing policy.targets reply.fields ≡ governing policy.targets (fields_of_stored come.came)
+  governed_as : governing caching.policy.targets reply.fields ≡ governing caching.policy.targets (fields_of_stored come.came)
   governed_as =
       governed_alike (fields_of_stored come.came) reply.fields (fields_of_stored come.came)
       (λ name hop age date. f.fields name age ∙ come.kept.fields.end_to_end name hop date)
       (
       f.fields (codes "cache-control") (λ e. absurd (cc e)) ∙ kept_control
-      ∙ sym (from.fields (codes "cache-control"))
+      ∙ sym (from.noted.fields (codes "cache-control"))
       )
-      policy.targets come.allowed.fair.targeted
+      caching.policy.targets come.allowed.fair.targeted
 
   pub content_is : reply.content ≡ from.reply.content
-  content_is = f.content ∙ ap (λ c. c.items) come.kept.content ∙ from.content
+  content_is = f.content ∙ ap (λ c. c.items) come.kept.content ∙ from.noted.content
 
-  pub shareable : IsShareable policy.kind from.request.fields (tells policy reply.fields)
+  pub shareable : IsShareable caching.policy.kind come.request.fields (tells caching.policy reply.fields)
   shareable =
-      subst (λ (g : Governing). IsShareable policy.kind from.request.fields g.directives) (sym governed_as)
-      (by policy.kind come.allowed.allowed.shareable)
+      subst (λ (g : Governing). IsShareable caching.policy.kind come.request.fields g.directives) (sym governed_as)
+      (by caching.policy.kind come.allowed.allowed.shareable)
     where
-      by : (k : Kind) → IsShareable k (lines_at come.came.request) (tells policy (fields_of_stored come.came))
-          → IsShareable k from.request.fields (tells policy (fields_of_stored come.came))
+      by : (k : Kind) → IsShareable k (lines_at come.came.request) (tells caching.policy (fields_of_stored come.came))
+          → IsShareable k come.request.fields (tells caching.policy (fields_of_stored come.came))
       by Private h = tt
-      by Shared h = (h.0, λ present. h.1 (subst HasLine (sym (from.asked_fields (codes "authorization"))) present))
+      by Shared h = (h.0, λ present. h.1 (subst HasLine (sym (from.noted.asked_fields (codes "authorization"))) present))
 
   -- fields of one connection are stored by no cache
   pub stores_none : (name : List ℕ) → is_known true name ≡ true → reply.fields name ≡ []

@@ -1,9 +1,12 @@
--- What a cache before other servers answers (RFC 9111).
-use Rattle.std.specs.Prelude.{◌≡◌, ◌≢◌, ◌⊎◌, ℕ, ◌≤◌, List, [], ◌∷◌, None, Some, codes, slice_get}
+-- A cache before other servers (RFC 9111): which requests it answers from its store, what it stores, and when.
+use Rattle.std.specs.Prelude.{◌≡◌, ◌≢◌, ◌⊎◌, ℕ, ◌+◌, ◌-◌, ◌≤◌, Bool, true, ◌&&◌, not, ◌==◌, List, [], ◌∷◌, ◌++◌, All, None}
+use Rattle.std.specs.Prelude.{Some, codes, slice_get, unwrap_or}
+use Rattle.std.specs.List.{list_all}
 use Rattle.headers.specs.LineMap.{Field, LineMap, lines_at}
-use Rattle.headers.specs.Lines.{Line}
+use Rattle.headers.specs.Lines.{Line, only_line}
+use Rattle.headers.specs.Text.{is_text}
 use Rattle.headers_cache.specs.Contents.{Contents, responses_at}
-use Rattle.headers_cache.specs.History.{Call, Has, History, Run}
+use Rattle.headers_cache.specs.History.{Call, History, Step}
 use Rattle.headers_cache.specs.History.Call.{Looked, Arrived, Removed}
 use Rattle.headers_cache.specs.Lookups.{IsAnswer, age_of_stored}
 use Rattle.headers_cache.specs.Served.{Serves}
@@ -26,75 +29,136 @@ pub record Reply : Type 0 where
   pub fields : LineMap
   pub content : List ℕ
 
--- those who answer requests: at a time, in seconds since 1970, they give a request this reply
+-- those who answer requests: at a time, in seconds since 1970, they give a request to a target this reply
 abbrev pub Origin : Type 1
-Origin = ℕ → Request → Reply → Type 0
+Origin = ℕ → List ℕ → Request → Reply → Type 0
 
 -- a request as a cache reads it
 abbrev pub asked : Request → Asked
 asked request = record { method = request.method; fields = request.fields }
 
--- A request that a cache may answer from its store: a GET in HTTP/1.1 to this host, without content, expectation,
--- condition or range, and without a connection option, which could name any field of it.
-pub record IsPlain (host : List Line) (request : Request) : Type 0 where
+-- ---- which requests
+
+-- The fields that a plain request doesn't have: connection options, which could name any field of it; those of content;
+-- expectations; conditions; and ranges.
+abbrev pub special_names : List (List ℕ)
+special_names =
+    codes "connection" ∷ codes "content-type" ∷ codes "content-encoding" ∷ codes "expect" ∷ codes "if-match"
+    ∷ codes "if-none-match" ∷ codes "if-modified-since" ∷ codes "if-unmodified-since" ∷ codes "range"
+    ∷ codes "if-range" ∷ []
+
+-- the host is text, and no slash is in it
+abbrev pub is_bare : Line → Bool
+is_bare host = is_text host && list_all (λ b. not (b == 47)) host
+
+-- a GET in HTTP/1.1 without content, whose target isn't in absolute-form
+pub record IsBareGet (request : Request) : Type 0 where
   pub method : request.method ≡ codes "GET"
   pub protocol : request.protocol ≡ Http11
   pub authority : request.authority ≡ None
-  pub has_host : request.fields (codes "host") ≡ host
-  pub connection : request.fields (codes "connection") ≡ []
   pub content : request.content ≡ Absent
-  pub content_type : request.fields (codes "content-type") ≡ []
-  pub content_encoding : request.fields (codes "content-encoding") ≡ []
-  pub expect : request.fields (codes "expect") ≡ []
-  pub if_match : request.fields (codes "if-match") ≡ []
-  pub if_none_match : request.fields (codes "if-none-match") ≡ []
-  pub if_modified_since : request.fields (codes "if-modified-since") ≡ []
-  pub if_unmodified_since : request.fields (codes "if-unmodified-since") ≡ []
-  pub range : request.fields (codes "range") ≡ []
-  pub if_range : request.fields (codes "if-range") ≡ []
 
--- ---- what a cache did
+-- A request that a cache may answer from its store: a bare GET for a path at one host, without the special fields.
+pub record IsPlain (target : List ℕ) (request : Request) : Type 0 where
+  pub get : IsBareGet request
+  pub path : List ℕ
+  pub is_path : target ≡ 47 ∷ path
+  pub host : Line
+  pub has_host : request.fields (codes "host") ≡ host ∷ []
+  pub bare : is_bare host ≡ true
+  pub without : All (λ name. request.fields name ≡ []) special_names
 
--- an event at a cache: it looked for a stored response, a response came for a request that it passed on, or it removed
--- what was stored, each for a target
-pub data Event : Type 0 where
-  Sought : List ℕ → Event
-  Came : List ℕ → StoredResponse → Reception → Event
-  Dropped : List ℕ → Event
+-- The key under which a cache stores the responses to a request: the URI of its target, of its host and its path (RFC
+-- 9111, section 2; RFC 9110, section 7.1).
+abbrev pub key_of : List ℕ → Request → List ℕ
+key_of target request = codes "http://" ++ (unwrap_or (only_line (request.fields (codes "host"))) [] ++ target)
 
--- the call of its store
-abbrev pub call_of : Event → Call
-call_of (Sought target) = Looked target
-call_of (Came target came reception) = Arrived target came reception
-call_of (Dropped target) = Removed target
+-- ---- the clock of a cache
 
--- the calls of its store, the latest first
-abbrev pub calls_of : List Event → History
+-- A clock, and what it shows at a time. It runs as time does from when it was set; it may be wrong.
+pub record Clock : Type 0 where
+  pub shows : ℕ → ℕ
+  pub set : ℕ
+  pub runs : (time later : ℕ) → set ≤ time → time ≤ later → shows later ≡ shows time + (later - time)
+
+-- ---- what a cache does
+
+-- a cache: its policy, how much it stores, how many seconds it guesses at most for a lifetime that nobody states, and
+-- its clock
+pub record Caching : Type 0 where
+  pub policy : Policy
+  pub limits : Limits
+  pub most : ℕ
+  pub clock : Clock
+
+-- an act of a cache on its store
+pub data Act : Type 0 where
+  -- it looks for a stored response to a request to a target
+  Looks : List ℕ → Request → Act
+  -- it takes the response to a request to a target that it sent on: so it is stored, if it is
+  Takes : List ℕ → Request → StoredResponse → Reception → Act
+  -- it removes what is stored under a key
+  Drops : List ℕ → Act
+
+-- what a cache writes down of a request, and of the response to it: all of it, and what its clock showed when it sent
+-- the request on and when the response came
+pub record IsNoted (request : Request) (requested : ℕ) (reply : Reply) (received : ℕ) (came : StoredResponse)
+    : Type 0 where
+  pub method : came.method ≡ request.method
+  pub asked_fields : (name : List ℕ) → lines_at came.request name ≡ request.fields name
+  pub status : came.status ≡ reply.status
+  pub fields : (name : List ℕ) → fields_of_stored came name ≡ reply.fields name
+  pub content : came.content.items ≡ reply.content
+  pub requested_at : came.requested ≡ requested
+  pub received_at : came.received ≡ received
+
+-- The response came from those behind the cache: they gave it after the cache sent the request on, and before it came.
+pub record HasComeFrom (clock : Clock) (origin : Origin) (now : ℕ) (target : List ℕ) (request : Request)
+    (came : StoredResponse) : Type 0 where
+  pub sent : ℕ
+  pub time : ℕ
+  pub received : ℕ
+  pub reply : Reply
+  pub answered : origin time target request reply
+  pub noted : IsNoted request (clock.shows sent) reply (clock.shows received) came
+  pub set_before : clock.set ≤ sent
+  pub after : sent ≤ time
+  pub before : time ≤ received
+  pub past : received ≤ now
+
+module _ (caching : Caching) (origin : Origin) (now : ℕ) where
+  -- What an act makes of what is stored. A cache looks for plain requests alone, and takes the responses to those that
+  -- it sent on.
+  abbrev pub Does : Act → Contents → Contents → Type 0
+  Does (Looks target request) old new =
+      IsPlain target request × Step caching.policy caching.limits (Looked (key_of target request)) old new
+  Does (Takes target request came reception) old new =
+      IsPlain target request × HasComeFrom caching.clock origin now target request came
+      × Step caching.policy caching.limits (Arrived (key_of target request) came reception) old new
+  Does (Drops key) old new = Step caching.policy caching.limits (Removed key) old new
+
+  -- a cache that was empty has this after these acts, the latest first
+  abbrev pub HasAfter : List Act → Contents → Type 0
+  HasAfter [] contents = contents ≡ []
+  HasAfter (act ∷ acts) contents = (before : Contents) × HasAfter acts before × Does act before contents
+
+-- the call of the store
+abbrev pub call_of : Act → Call
+call_of (Looks target request) = Looked (key_of target request)
+call_of (Takes target request came reception) = Arrived (key_of target request) came reception
+call_of (Drops key) = Removed key
+
+-- the calls of the store, the latest first
+abbrev pub calls_of : List Act → History
 calls_of [] = []
-calls_of (event ∷ events) = call_of event ∷ calls_of events
+calls_of (act ∷ acts) = call_of act ∷ calls_of acts
 
-module _ (origin : Origin) (host : List Line) (now : ℕ) where
-  -- The response came from the servers behind the cache in the past, for a plain request, and between the two times
-  -- that the cache wrote down.
-  pub record HasComeFrom (came : StoredResponse) : Type 0 where
-    pub time : ℕ
-    pub request : Request
-    pub reply : Reply
-    pub answered : origin time request reply
-    pub plain : IsPlain host request
-    pub after : came.requested ≤ time
-    pub before : time ≤ came.received
-    pub past : came.received ≤ now
-    pub method : came.method ≡ request.method
-    pub asked_fields : (name : List ℕ) → lines_at came.request name ≡ request.fields name
-    pub status : came.status ≡ reply.status
-    pub fields : (name : List ℕ) → fields_of_stored came name ≡ reply.fields name
-    pub content : came.content.items ≡ reply.content
-
-  -- what came for a GET to the target came so
-  abbrev pub AreTrue : List ℕ → List Event → Type 0
-  AreTrue target events = (came : StoredResponse) (reception : Reception) → Has events (Came target came reception)
-      → came.method ≡ codes "GET" → HasComeFrom came
+-- A cache of this policy asks its store for a plain request: this is the answer, and this is stored before and after.
+pub record IsSought (policy : Policy) (limits : Limits) (most : ℕ) (target : List ℕ) (request : Request) (now : ℕ)
+    (old new : Contents) (lookup : Lookup) : Type 0 where
+  pub plain : IsPlain target request
+  pub looked : Step policy limits (Looked (key_of target request)) old new
+  pub answer : IsAnswer policy most (asked request) now (responses_at (key_of target request) new) lookup
 
 -- the lookup lets the cache send the stored response at the place if the servers behind it fail (RFC 5861, section 4)
 abbrev pub ServesOnError : Lookup → ℕ → Type 0
@@ -106,22 +170,22 @@ ServesOnError Unavailable place = ⊥
 ServesOnError Forward place = ⊥
 
 -- The reply is the stored response that a lookup of the cache's store serves to a plain request, at once or as the
--- servers behind it fail, with its age. Where no lifetime is stated, the cache guesses so many seconds at most.
-pub record IsFromStore (policy : Policy) (limits : Limits) (origin : Origin) (target : List ℕ) (host : List Line)
-    (now : ℕ) (request : Request) (reply : Reply) : Type 0 where
-  pub plain : IsPlain host request
-  pub events : List Event
-  pub true_events : AreTrue origin host now target events
+-- servers behind it fail, with its age.
+pub record IsFromStore (caching : Caching) (origin : Origin) (now : ℕ) (target : List ℕ) (request : Request)
+    (reply : Reply) : Type 0 where
+  pub acts : List Act
+  pub before : Contents
+  pub has : HasAfter caching origin now acts before
   pub contents : Contents
-  pub run : Run policy limits (calls_of events) contents
-  pub most : ℕ
   pub lookup : Lookup
-  pub answer : IsAnswer policy most (asked request) now (responses_at target contents) lookup
+  pub sought : IsSought caching.policy caching.limits caching.most target request (caching.clock.shows now) before
+      contents lookup
   pub place : ℕ
   pub age : Field
   pub stored : StoredResponse
-  pub at : slice_get (responses_at target contents) place ≡ Some stored
-  pub serves : Serves lookup place age ⊎ (ServesOnError lookup place × (age ≡ age_of_stored stored now))
+  pub at : slice_get (responses_at (key_of target request) contents) place ≡ Some stored
+  pub serves : Serves lookup place age
+      ⊎ (ServesOnError lookup place × (age ≡ age_of_stored stored (caching.clock.shows now)))
   pub status : reply.status ≡ stored.status
   pub content : reply.content ≡ stored.content.items
   pub fields : (name : List ℕ) → name ≢ codes "age" → reply.fields name ≡ fields_of_stored stored name

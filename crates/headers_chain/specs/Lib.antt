@@ -1,4 +1,6 @@
 pub mod Caches
 pub mod Chains
 pub mod Responses
+pub mod Servers
+pub mod Serving
 pub mod Ways

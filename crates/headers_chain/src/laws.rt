@@ -1,15 +1,14 @@
 //! What follows from the definitions. A proof cites a law by calling it.
-ghost use Rattle.std.specs.Prelude.{◌≡◌, ◌≢◌, ◌↔◌, ◌⊎◌, ◌≤◌, ◌∷◌, [], ℕ, List, All, codes, false, true};
+ghost use Rattle.std.specs.Prelude.{◌≡◌, ◌≢◌, ◌↔◌, ◌⊎◌, ◌∷◌, [], ℕ, List, All, codes, false, true};
 ghost use Rattle.headers.specs.LineMap.{LineMap, fields_of, set_all};
-ghost use Rattle.headers.specs.Lines.{Line};
 ghost use Rattle.headers_cache_policy.specs.Varying.{Suits};
-ghost use Rattle.headers_cache_policy.specs.Fields.{IsPresent, greatest};
-ghost use Rattle.headers_cache_policy.specs.Policies.{Policy, tells};
+ghost use Rattle.headers_cache_policy.specs.Fields.{IsPresent};
+ghost use Rattle.headers_cache_policy.specs.Policies.{tells};
 ghost use Rattle.headers_cache_policy.specs.Storing.{IsOpen};
 ghost use Rattle.headers_cache_policy.specs.declared.Kind.TheVariants.{Shared};
-ghost use Rattle.headers_cache.specs.declared.limits.Limits.{Limits};
-ghost use Rattle.headers_chain.specs.Caches.{IsFromStore, Reply, asked};
-ghost use Rattle.headers_chain.specs.Chains.{Hop, IsForwardedBack, IsOwn, IsSteady, IsTold, Server, behind, meant};
+ghost use Rattle.headers_chain.specs.Caches.{Caching, IsFromStore, IsPlain, Reply, asked, key_of};
+ghost use Rattle.headers_chain.specs.Chains.{Hop, IsForwardedBack, IsOwn, IsTold, behind, meant};
+ghost use Rattle.headers_chain.specs.Servers.{IsSent, SaysCloseAtMost, Server};
 ghost use Rattle.headers_cors_policy.specs.Browser.{CorsCheck, Request as Sent};
 ghost use Rattle.headers_chain.specs.Responses.{HasNoOptions, Returns};
 ghost use Rattle.headers_chain.specs.Ways.{Reaches, sent_directly};
@@ -94,9 +93,9 @@ pub fn stored_answer_is_the_answer()
 /// directive allows. The status, the content and each field that neither a gateway nor a cache writes are
 /// the server's. An answer of their own has no content, and no such field.
 pub fn client_gets_what_the_resource_says()
-    ensures { (server : Server) (target : List ℕ) (host : List Line) (hops : List Hop) (now : ℕ) (request : Request)
-        (reply : Reply) → IsSteady server → now ≤ greatest → behind server target host hops now request reply
-        → IsTold server now (meant hops request) reply ⊎ IsOwn reply }
+    ensures { (site : List ℕ → Server) (hops : List Hop) (now : ℕ) (target : List ℕ) (request : Request)
+        (reply : Reply) → behind site hops now target request reply
+        → IsTold (site target) now (meant hops request) reply ⊎ IsOwn reply }
 {
     calls_justify_what_is_stored();
     lookups_serve_what_calls_justify();
@@ -105,21 +104,37 @@ pub fn client_gets_what_the_resource_says()
     other_fields_change_nothing();
 }
 
+/// A server says of its connection at most that it is closed: a resource sets no connection option (RFC 9110,
+/// section 7.6.1).
+pub fn servers_say_close_at_most()
+    ensures { (server : Server) (now : ℕ) (request : Request) (reply : Reply) → IsSent server now request reply
+        → SaysCloseAtMost reply.fields }
+{}
+
+/// A key is of one target: plain requests that a cache stores the responses to under one key are for the same
+/// path, and name the same host (RFC 9111, section 2).
+pub fn key_is_of_one_target()
+    ensures target { (target other : List ℕ) (r s : Request) → IsPlain target r → IsPlain other s
+        → key_of target r ≡ key_of other s → target ≡ other }
+    ensures host { (target other : List ℕ) (r s : Request) → IsPlain target r → IsPlain other s
+        → key_of target r ≡ key_of other s → r.fields (codes "host") ≡ s.fields (codes "host") }
+{}
+
 /// A shared cache gives away nothing that is for one client. What it serves from its store isn't `private`,
 /// by what governs the response under the policy of the cache: without targeted fields its Cache-Control. And
 /// it is the content of an answer to some request, which had no Authorization, or whose answer allows that
 /// others get it (RFC 9111, sections 3.5 and 5.2.2.7).
 pub fn shared_caches_serve_nothing_private()
-    ensures private { (server : Server) (hops : List Hop) (policy : Policy) (limits : Limits) (target : List ℕ)
-        (host : List Line) (now : ℕ) (request : Request) (reply : Reply) → policy.kind ≡ Shared
-        → IsFromStore policy limits (behind server target host hops) target host now request reply
-        → (tells policy reply.fields).private ≡ false }
-    ensures credentials { (server : Server) (hops : List Hop) (policy : Policy) (limits : Limits) (target : List ℕ)
-        (host : List Line) (now : ℕ) (request : Request) (reply : Reply) → policy.kind ≡ Shared
-        → IsFromStore policy limits (behind server target host hops) target host now request reply
-        → (time : ℕ) × (first : Request) × (came : Reply) × behind server target host hops time first came
+    ensures private { (site : List ℕ → Server) (hops : List Hop) (caching : Caching) (now : ℕ) (target : List ℕ)
+        (request : Request) (reply : Reply) → caching.policy.kind ≡ Shared
+        → IsFromStore caching (behind site hops) now target request reply
+        → (tells caching.policy reply.fields).private ≡ false }
+    ensures credentials { (site : List ℕ → Server) (hops : List Hop) (caching : Caching) (now : ℕ)
+        (target : List ℕ) (request : Request) (reply : Reply) → caching.policy.kind ≡ Shared
+        → IsFromStore caching (behind site hops) now target request reply
+        → (time : ℕ) × (first : Request) × (came : Reply) × behind site hops time target first came
         × (reply.content ≡ came.content)
-        × (IsPresent (codes "authorization") first.fields → IsOpen (tells policy reply.fields)) }
+        × (IsPresent (codes "authorization") first.fields → IsOpen (tells caching.policy reply.fields)) }
 {
     calls_justify_what_is_stored();
     lookups_serve_what_calls_justify();
@@ -128,14 +143,14 @@ pub fn shared_caches_serve_nothing_private()
 /// No field of one connection crosses: a gateway forwards none of a response but its own Transfer-Encoding,
 /// those that Connection names included, and none comes from a store (RFC 9110, section 7.6.1).
 pub fn no_connection_field_crosses()
-    ensures forwarded { (server : Server) (hops : List Hop) (gateway : Gateway) (target : List ℕ) (host : List Line)
-        (now : ℕ) (request : Request) (reply : Reply) (name : List ℕ)
-        → (f : IsForwardedBack gateway (behind server target host hops) now request reply)
+    ensures forwarded { (site : List ℕ → Server) (hops : List Hop) (gateway : Gateway) (now : ℕ)
+        (target : List ℕ) (request : Request) (reply : Reply) (name : List ℕ)
+        → (f : IsForwardedBack gateway (behind site hops) now target request reply)
         → IsHopByHop gateway f.behind.fields name → name ≢ codes "transfer-encoding" → reply.fields name ≡ [] }
-    ensures stored { (server : Server) (hops : List Hop) (policy : Policy) (limits : Limits) (target : List ℕ)
-        (host : List Line) (now : ℕ) (request : Request) (reply : Reply) (name : List ℕ)
-        → IsFromStore policy limits (behind server target host hops) target host now request reply
-        → is_known true name ≡ true → reply.fields name ≡ [] }
+    ensures stored { (site : List ℕ → Server) (hops : List Hop) (caching : Caching) (now : ℕ) (target : List ℕ)
+        (request : Request) (reply : Reply) (name : List ℕ)
+        → IsFromStore caching (behind site hops) now target request reply → is_known true name ≡ true
+        → reply.fields name ≡ [] }
 {
     calls_justify_what_is_stored();
     lookups_serve_what_calls_justify();

@@ -3,11 +3,11 @@ use Rattle.headers_chain.proofs.StoreLemmas.{StoreLaws}
 use Rattle.headers_chain.proofs.laws.client_gets_what_the_resource_says.Goals as goal
 
 pub returns : goal.returns
-returns c server target host hops now request reply steady fits h =
+returns c site hops now target request reply h =
     let law : StoreLaws =
     record {
       serves = c.lookups_serve_what_calls_justify.ensures;
       justifies = c.calls_justify_what_is_stored.ensures;
     } in
-    tells c.other_fields_change_nothing.ensures c.vary_is_sound.ensures c.members_alone_select.ensures law server steady
-    target host hops now request reply fits h
+    tells c.other_fields_change_nothing.ensures c.vary_is_sound.ensures c.members_alone_select.ensures law site hops now
+    target request reply h

@@ -1,0 +1,80 @@
+-- What the calls of a cache do: answering a request from its store, and taking the response to one that it sent on.
+use Rattle.std.specs.Prelude.{◌≡◌, ◌⊎◌, ⊤, ℕ, Bool, true, false, List, [], ◌∷◌, codes, string_bytes}
+use Rattle.std.specs.List.{list_any}
+use Rattle.headers.specs.LineMap.{LineMap, field_of, lines_at}
+use Rattle.headers.specs.Lines.{Line}
+use Rattle.headers_cache.specs.Contents.{Contents}
+use Rattle.headers_cache.specs.History.{Step}
+use Rattle.headers_cache.specs.History.Call.{Arrived}
+use Rattle.headers_cache.specs.declared.limits.Limits.{Limits}
+use Rattle.headers_cache.specs.declared.lookup.Lookup.{Lookup}
+use Rattle.headers_cache.specs.declared.lookup.Lookup.TheVariants as lookup
+use Rattle.headers_cache_policy.specs.Policies.{Policy}
+use Rattle.headers_cache_rules.specs.declared.storing.Reception.{Reception}
+use Rattle.headers_cache_rules.specs.declared.stored.StoredResponse.{StoredResponse}
+use Rattle.headers_chain.specs.Caches.{IsNoted, IsPlain, IsSought, Reply, is_bare, key_of, special_names}
+use Rattle.headers_chain.specs.declared.cache.Action.{Action}
+use Rattle.headers_chain.specs.declared.cache.Action.TheVariants.{Serve, ServeAndFetch, Fetch, FetchOrServe, Unavailable}
+use Rattle.headers_chain.specs.declared.cache.Action.TheVariants.{Forward}
+use Rattle.headers_chain.specs.declared.cache.Pending.{Pending}
+use Rattle.headers_chain.specs.declared.cache.Received.{Received}
+use Rattle.headers_resource.specs.Requests.{Request}
+
+-- ---- tests
+
+abbrev pub is_there : List Line → Bool
+is_there [] = false
+is_there (line ∷ lines) = true
+
+-- the message has a field that a plain request doesn't have
+abbrev pub has_special : LineMap → Bool
+has_special fields = list_any (λ name. is_there (fields name)) special_names
+
+-- the message has one field line of Host, with this bare host
+pub record HasBareHost (fields : LineMap) (host : Line) : Type 0 where
+  pub is : fields (codes "host") ≡ host ∷ []
+  pub bare : is_bare host ≡ true
+
+-- ---- calls
+
+-- the request that the cache sent on at that time, of its clock
+pub record IsPending (target : List ℕ) (request : Request) (requested : ℕ) (pending : Pending) : Type 0 where
+  pub plain : IsPlain target request
+  pub key : string_bytes pending.key ≡ key_of target request
+  pub fields : (name : List ℕ) → lines_at pending.fields name ≡ request.fields name
+  pub at : pending.requested ≡ requested
+
+module _ (target : List ℕ) (request : Request) (now : ℕ) where
+  -- what a cache does by a lookup: it sends the stored response at once, or sends the request on
+  abbrev pub IsActionOf : Lookup → Action → Type 0
+  IsActionOf (lookup.Serve at age) (Serve place line) = (place ≡ at) × (field_of line ≡ field_of age)
+  IsActionOf (lookup.ServeAndRevalidate at age) (ServeAndFetch place line pending) =
+      (place ≡ at) × (field_of line ≡ field_of age) × IsPending target request now pending
+  IsActionOf (lookup.Validate at fields) (Fetch pending) = IsPending target request now pending
+  IsActionOf (lookup.ValidateOrServe at fields) (FetchOrServe place pending) =
+      (place ≡ at) × IsPending target request now pending
+  IsActionOf lookup.Unavailable Unavailable = ⊤
+  IsActionOf lookup.Forward (Fetch pending) = IsPending target request now pending
+  IsActionOf found action = ⊥
+
+  -- a cache asks its store for a plain request, and does what that says; any other request is sent on as it is
+  abbrev pub IsAction : Policy → Limits → ℕ → Contents → Contents → Action → Type 0
+  IsAction policy limits most old new action =
+      ((found : Lookup) × IsSought policy limits most target request now old new found × IsActionOf found action)
+      ⊎ ((¬ (IsPlain target request)) × (new ≡ old) × (action ≡ Forward))
+
+-- a response as it is received
+abbrev pub reply_of : Received → Reply
+reply_of received =
+    record {
+      status = received.status;
+      fields = lines_at received.fields;
+      content = received.content.items;
+    }
+
+-- the response to the request is stored, if it is, as it came then, with the times of both
+pub record IsTaken (policy : Policy) (limits : Limits) (target : List ℕ) (request : Request) (requested : ℕ)
+    (reply : Reply) (reception : Reception) (now : ℕ) (old new : Contents) : Type 0 where
+  pub came : StoredResponse
+  pub noted : IsNoted request requested reply now came
+  pub arrived : Step policy limits (Arrived (key_of target request) came reception) old new
