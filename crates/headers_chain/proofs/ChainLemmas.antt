@@ -1,5 +1,5 @@
 -- What a client receives through gateways and caches is what the resource says.
-use Rattle.std.proofs.Common.{◌≡◌, ◌≢◌, ◌⊎◌, ℕ, ◌-◌, ◌≤◌, Bool, true, false, List, [], ◌∷◌, Some, None}
+use Rattle.std.proofs.Common.{◌≡◌, ◌≢◌, ◌⊎◌, ℕ, ◌-◌, ◌≤◌, true, false, List, [], ◌∷◌, Some, None}
 use Rattle.std.proofs.Common.{refl, sym, ◌∙◌, ap, subst, inl, inr, arith}
 use Rattle.std.specs.Prelude.{All, Contains, bytes_eq, codes}
 use Rattle.std.specs.List.{list_any}
@@ -24,7 +24,6 @@ use Rattle.headers_gateway.specs.declared.protocol.Protocol.TheVariants.{Http11}
 use Rattle.headers_resource.specs.Answers.{AreSame, IsAnswer}
 use Rattle.headers_resource.specs.Requests.{Request}
 use Rattle.headers_resource.specs.declared.answer.Answer.{Answer}
-use Rattle.headers_resource.specs.declared.answer.Sends.{Sends}
 use Rattle.headers_resource.specs.declared.resource.Resource.{Resource}
 use Rattle.headers_chain.proofs.ConnectionLemmas.{crosses_if}
 use Rattle.headers_chain.proofs.ServerLemmas.{same_sent, says_close_at_most}

@@ -4,6 +4,7 @@ mod CheckLemmas
 mod ConnectionLemmas
 mod ResponseLemmas
 mod ServerLemmas
+mod ServingLemmas
 mod StoreLemmas
 mod SuitLemmas
 mod WayLemmas

@@ -1,7 +1,6 @@
 -- A resource sets no connection option, and what a server sends for the same is the same.
-use Rattle.std.proofs.Common.{◌≡◌, ℕ, Bool, true, false, List, [], ◌∷◌, ◌++◌, Option, Some, None, refl, sym, ◌∙◌, ap}
-use Rattle.std.proofs.Common.{subst}
-use Rattle.std.specs.Prelude.{◌&&◌, bytes_eq, codes, if◌then◌else◌, is_some, not}
+use Rattle.std.proofs.Common.{◌≡◌, ℕ, Bool, true, false, List, [], ◌∷◌, ◌++◌, Option, Some, None, refl, ◌∙◌, ap}
+use Rattle.std.specs.Prelude.{bytes_eq, codes, if◌then◌else◌, is_some, not}
 use Rattle.std.specs.List.{list_all}
 use Rattle.std.proofs.lemmas.Bool.{and_from, and_parts}
 use Rattle.http_header.specs.FieldValue.{FieldValue}
@@ -21,8 +20,8 @@ use Rattle.headers_preconditions.specs.declared.response.Response.{Response}
 use Rattle.headers_resource.specs.Answers.{AreSent, GivesIf, IsAnswer, IsShared, at_place, content_of, is_admitted}
 use Rattle.headers_resource.specs.Answers.{response_fields, target_of}
 use Rattle.headers_resource.specs.Applies.{rule, rule_for}
-use Rattle.headers_resource.specs.Fields.{accept_encoding_fields, accept_fields, location_fields, metadata_fields}
-use Rattle.headers_resource.specs.Fields.{offered_fields, reason_fields, types_fields, vary_fields, vary_lines}
+use Rattle.headers_resource.specs.Fields.{accept_encoding_fields, location_fields, metadata_fields}
+use Rattle.headers_resource.specs.Fields.{reason_fields, types_fields, vary_fields, vary_lines}
 use Rattle.headers_resource.specs.Requests.{Request}
 use Rattle.headers_resource.specs.declared.answer.Answer.{Answer}
 use Rattle.headers_resource.specs.declared.answer.Sends.{Sends}

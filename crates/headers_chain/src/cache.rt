@@ -104,6 +104,14 @@ fn is_bare(host: &[u8]) -> bool
     host.iter().all(|byte| *byte != b'/')
 }
 
+// Whether a target begins with a slash.
+fn is_path(target: &str) -> bool
+    ensures { MatchBool result ((path : List ℕ) × (target.now ≡ 47 ∷ path))
+        (¬ ((path : List ℕ) × (target.now ≡ 47 ∷ path))) }
+{
+    matches!(target.as_bytes(), [b'/', ..])
+}
+
 // The only host, if it is bare.
 fn bare_host(fields: &HeaderMap) -> Option<&str>
     ensures { MatchOption result ((host : Line) → ¬ (HasBareHost (lines_at fields.now) host))
@@ -128,13 +136,11 @@ fn plain_host<'a>(target: &str, request: &RequestHead<'a>) -> Option<&'a str>
         (λ host. IsPlain target.now (request_of request.now)
         × (lines_at request.now.fields.now (codes "host") ≡ host.now ∷ [])) }
 {
-    if !is_bare_get(request)
-        || !target.as_bytes().starts_with(b"/")
-        || has_special(request.fields)
-    {
+    if !is_bare_get(request) || !is_path(target) || has_special(request.fields) {
         return None;
     }
-    bare_host(request.fields)
+    let host = bare_host(request.fields)?;
+    Some(host)
 }
 
 // The key of the responses to requests for a path at a host.
@@ -214,7 +220,8 @@ pub fn answer_from_store(
         fields: request.fields,
     };
     let lookup = store.lookup_guessing(alloc, &key, &head, now, most)?;
-    acted(lookup, key, request, now)
+    let action = acted(lookup, key, request, now)?;
+    Ok(action)
 }
 
 /// Stores the response to a plain request that was sent on, if it may be stored (RFC 9111, section 3). Returns

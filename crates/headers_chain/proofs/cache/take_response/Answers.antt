@@ -1,0 +1,35 @@
+use Rattle.std.proofs.Common.{◌∙◌, sym, refl, ℕ, List, codes, subst}
+use Rattle.headers_cache.specs.History.{Step}
+use Rattle.headers_cache.specs.History.Call.{Arrived}
+use Rattle.headers_cache.specs.Kept.{contents_of, policy_of_store}
+use Rattle.headers_cache_rules.specs.declared.stored.StoredResponse.{StoredResponse}
+use Rattle.headers_chain.proofs.cache.take_response.Goals as goal
+
+pub returns-clause-taken : goal.returns-clause-taken
+returns-clause-taken c = λ target request requested p.
+    let came : StoredResponse = record {
+      method = codes "GET";
+      request = c.args.pending.fields;
+      status = c.args.received.status;
+      response = c.args.received.fields;
+      content = c.args.received.content;
+      requested = c.args.pending.requested;
+      received = c.args.now;
+    } in
+    record {
+      came = came;
+      noted = record {
+        method = sym p.plain.get.method;
+        asked_fields = p.fields;
+        status = refl;
+        fields = λ name. refl;
+        content = refl;
+        requested_at = p.at;
+        received_at = refl;
+      };
+      arrived =
+          subst
+          (λ (key : List ℕ). Step (policy_of_store c.args.store.now) c.args.store.now.limits
+          (Arrived key came c.args.reception) (contents_of c.args.store.now) (contents_of c.store.new.self))
+          (c.deref.ensures ∙ p.key) c.store.ensures.step;
+    }
