@@ -1,9 +1,11 @@
 -- What the calls of a cache do: answering a request from its store, and taking the response to one that it sent on.
-use Rattle.std.specs.Prelude.{◌≡◌, ◌⊎◌, ⊤, ℕ, Bool, true, false, List, [], ◌∷◌, codes, string_bytes}
+use Rattle.std.specs.Prelude.{◌≡◌, ◌⊎◌, ⊤, ℕ, Bool, true, false, List, [], ◌∷◌, OnErr, Result, Ok, codes}
+use Rattle.std.specs.Prelude.{string_bytes}
 use Rattle.std.specs.List.{list_any}
 use Rattle.headers.specs.LineMap.{LineMap, field_of, lines_at}
 use Rattle.headers.specs.Lines.{Line}
-use Rattle.headers_cache.specs.Contents.{Contents}
+use Rattle.headers_cache.specs.Changes.{FitsAlone, IsInserted, IsStoredAs, IsToStore}
+use Rattle.headers_cache.specs.Contents.{Contents, size_of}
 use Rattle.headers_cache.specs.History.{Step}
 use Rattle.headers_cache.specs.History.Call.{Arrived}
 use Rattle.headers_cache.specs.declared.limits.Limits.{Limits}
@@ -72,9 +74,16 @@ reply_of received =
       content = received.content.items;
     }
 
--- the response to the request is stored, if it is, as it came then, with the times of both
-pub record IsTaken (policy : Policy) (limits : Limits) (target : List ℕ) (request : Request) (requested : ℕ)
-    (reply : Reply) (reception : Reception) (now : ℕ) (old new : Contents) : Type 0 where
+-- What becomes of the response: it is stored as it came, with the times of both, or it isn't, since it may not be or is
+-- too large; or an allocation fails.
+pub record IsTaken {E : Type 0} (policy : Policy) (limits : Limits) (target : List ℕ) (request : Request) (requested : ℕ)
+    (reply : Reply) (reception : Reception) (now : ℕ) (result : Result Bool E) (old new : Contents)
+    : Type 0 where
   pub came : StoredResponse
   pub noted : IsNoted request requested reply now came
   pub arrived : Step policy limits (Arrived (key_of target request) came reception) old new
+  pub stored : result ≡ Ok true → (kept : StoredResponse) × IsToStore policy came reception × IsStoredAs came kept
+      × IsInserted limits (key_of target request) kept old new
+  pub unstored : result ≡ Ok false
+      → ((¬ (IsToStore policy came reception)) ⊎ (¬ (FitsAlone limits 1 (size_of came)))) × (new ≡ old)
+  pub memory : OnErr result (IsToStore policy came reception × FitsAlone limits 1 (size_of came))

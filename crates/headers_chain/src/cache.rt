@@ -240,7 +240,7 @@ pub fn take_response(
     ensures taken { (target : List ℕ) (request : Request) (requested : ℕ)
         → IsPending target request requested pending
         → IsTaken (policy_of_store store.old) store.old.limits target request requested (reply_of received)
-        reception now (contents_of store.old) (contents_of store.new) }
+        reception now result (contents_of store.old) (contents_of store.new) }
     ensures policy { policy_of_store store.new ≡ policy_of_store store.old }
     ensures limits { store.new.limits ≡ store.old.limits }
 {

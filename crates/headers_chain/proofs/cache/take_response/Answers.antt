@@ -1,4 +1,5 @@
 use Rattle.std.proofs.Common.{◌∙◌, sym, refl, ℕ, List, codes, subst}
+use Rattle.headers_cache.specs.Changes.{IsInserted, IsStoredAs, IsToStore}
 use Rattle.headers_cache.specs.History.{Step}
 use Rattle.headers_cache.specs.History.Call.{Arrived}
 use Rattle.headers_cache.specs.Kept.{contents_of, policy_of_store}
@@ -32,4 +33,13 @@ returns-clause-taken c = λ target request requested p.
           (λ (key : List ℕ). Step (policy_of_store c.args.store.now) c.args.store.now.limits
           (Arrived key came c.args.reception) (contents_of c.args.store.now) (contents_of c.store.new.self))
           (c.deref.ensures ∙ p.key) c.store.ensures.step;
+      stored = λ ok.
+          subst
+          (λ (key : List ℕ). (kept : StoredResponse)
+          × IsToStore (policy_of_store c.args.store.now) came c.args.reception × IsStoredAs came kept
+          × IsInserted c.args.store.now.limits key kept (contents_of c.args.store.now)
+          (contents_of c.store.new.self))
+          (c.deref.ensures ∙ p.key) (c.store.ensures.stored ok);
+      unstored = c.store.ensures.unstored;
+      memory = c.store.ensures.memory;
     }
