@@ -7,7 +7,7 @@
 #include <Python.h>
 #include <typed_headers.h>
 
-enum { SHORT_TEXT = 1024, FEW_RANGES = 16 };
+enum { SHORT_TEXT = 1024, SHORT_LINE = 64, FEW_RANGES = 16 };
 
 /* Bytes that no sender of field names can guess. */
 static struct typed_headers_keys keys;
@@ -69,11 +69,14 @@ static PyObject *with_number(uint8_t status, uint64_t number) {
  */
 struct lines {
     struct text text;
-    /* What has the bytes: an object of Python, or memory. */
+    /* What has the bytes: an object of Python, or memory; else the place of a short line. */
     PyObject *owner;
     uint8_t *joined;
     bool is_rejected;
+    uint8_t line[SHORT_LINE];
 };
+
+#define NO_LINES {{NULL, 0}, NULL, NULL, false, {0}}
 
 /* The bytes of a text, or NULL if it has none. */
 static PyObject *bytes_of(PyObject *text) {
@@ -116,9 +119,34 @@ static bool join(struct lines *lines, const char *bytes, size_t length) {
     return true;
 }
 
+/* Whether a text is a short line, which is copied without an object of its own. */
+static bool read_short(PyObject *text, struct lines *lines) {
+    Py_UCS4 characters[SHORT_LINE];
+    const Py_ssize_t length = PyUnicode_Check(text) ? PyUnicode_GetLength(text) : 0;
+    if (length < 1 || length > SHORT_LINE || !PyUnicode_AsUCS4(text, characters, SHORT_LINE, 0)) {
+        return false;
+    }
+    for (Py_ssize_t place = 0; place < length; place++) {
+        if (characters[place] > 255 || characters[place] == '\n' || characters[place] == '\r') {
+            return false;
+        }
+        lines->line[place] = (uint8_t)characters[place];
+    }
+    lines->text = (struct text){lines->line, length};
+    return true;
+}
+
+static void clear_lines(struct lines *lines) {
+    lines->text = (struct text){(const uint8_t *)"", 0};
+    lines->owner = NULL, lines->joined = NULL, lines->is_rejected = false;
+}
+
 static bool read_lines(PyObject *given, struct lines *lines) {
-    *lines = (struct lines){{(const uint8_t *)"", 0}, NULL, NULL, false};
+    clear_lines(lines);
     Py_ssize_t count = PyTuple_Size(given);
+    if (count == 1 && read_short(PyTuple_GetItem(given, 0), lines)) {
+        return true;
+    }
     for (Py_ssize_t place = 0; place < count; place++) {
         char *bytes;
         Py_ssize_t length;
@@ -145,6 +173,21 @@ static bool read_lines(PyObject *given, struct lines *lines) {
     return !PyErr_Occurred();
 }
 
+/* Reads a tuple of lines, or a line alone. */
+static bool read_line_or_lines(PyObject *given, struct lines *lines) {
+    if (PyTuple_Check(given)) {
+        return read_lines(given, lines);
+    }
+    clear_lines(lines);
+    if (read_short(given, lines)) {
+        return true;
+    }
+    PyObject *alone = PyTuple_Pack(1, given);
+    const bool is_read = alone && read_lines(alone, lines);
+    Py_XDECREF(alone);
+    return is_read;
+}
+
 /* Reads the field lines that are the only argument. */
 static bool read_only_lines(PyObject *arguments, struct lines *lines) {
     PyObject *given;
@@ -156,7 +199,7 @@ static bool read_only_lines(PyObject *arguments, struct lines *lines) {
 typedef uint8_t number_call(const uint8_t *, size_t, uint64_t *);
 
 static PyObject *number(number_call *call, PyObject *arguments) {
-    struct lines lines = {{NULL, 0}, NULL, NULL, false};
+    struct lines lines = NO_LINES;
     uint64_t found = 0;
     if (!read_only_lines(arguments, &lines)) {
         free_lines(&lines);
@@ -210,7 +253,7 @@ static PyObject *with_text(text_call *call, const void *given) {
 }
 
 static PyObject *text_of_lines(text_call *call, PyObject *arguments) {
-    struct lines lines = {{NULL, 0}, NULL, NULL, false};
+    struct lines lines = NO_LINES;
     PyObject *found = NULL;
     if (read_only_lines(arguments, &lines)) {
         found = lines.is_rejected ? Py_BuildValue("By", TYPED_HEADERS_REFUSED, "") : with_text(call, &lines.text);
@@ -244,7 +287,7 @@ static uint8_t write_field(const void *given, uint8_t *room, size_t room_length,
 
 static PyObject *field(PyObject *module, PyObject *arguments) {
     struct named_lines it;
-    struct lines lines = {{NULL, 0}, NULL, NULL, false};
+    struct lines lines = NO_LINES;
     PyObject *given, *found = NULL;
     (void)module;
     if (PyArg_ParseTuple(arguments, TEXT "O", INTO(it.name), &given) && read_lines(given, &lines)) {
@@ -323,14 +366,15 @@ static PyObject *etag_value(PyObject *type, const struct tag_parts *parts) {
 }
 
 static PyObject *etag(PyObject *module, PyObject *arguments) {
-    struct lines lines = {{NULL, 0}, NULL, NULL, false};
+    struct lines lines = NO_LINES;
     struct tag_parts parts;
     PyObject *type, *given, *found = NULL;
     uint8_t status = TYPED_HEADERS_REFUSED;
     (void)module;
     type = PyTuple_GetItem(arguments, 0), given = PyTuple_GetItem(arguments, 1);
-    if (type && given && read_lines(given, &lines)) {
-        if (!lines.is_rejected && PyTuple_Size(given) == 1 && split_tag(lines.text, &parts)) {
+    if (type && given && read_line_or_lines(given, &lines)) {
+        const bool is_one = !PyTuple_Check(given) || PyTuple_Size(given) == 1;
+        if (!lines.is_rejected && is_one && split_tag(lines.text, &parts)) {
             status = tag_status(lines.text, &parts);
         }
         found = status == TYPED_HEADERS_DONE ? etag_value(type, &parts) : PyLong_FromLong(status);
@@ -379,7 +423,7 @@ static PyObject *content_range_value(PyObject *type, PyObject *range_type, const
 
 static PyObject *content_range(PyObject *module, PyObject *arguments) {
     static const char name[] = "content-range";
-    struct lines lines = {{NULL, 0}, NULL, NULL, false};
+    struct lines lines = NO_LINES;
     PyObject *type, *range_type, *given, *found = NULL;
     /* (the longest canonical line, and its end) */
     uint8_t line[sizeof "bytes 18446744073709551615-18446744073709551615/18446744073709551615\n"];
@@ -449,7 +493,7 @@ static PyObject *media_type_value(PyObject *type, PyObject *text) {
 }
 
 static PyObject *media_type_as(PyObject *module, PyObject *arguments) {
-    struct lines lines = {{NULL, 0}, NULL, NULL, false};
+    struct lines lines = NO_LINES;
     PyObject *type, *given, *text = NULL, *found = NULL;
     uint8_t status = TYPED_HEADERS_REFUSED;
     (void)module;
@@ -588,7 +632,7 @@ static PyObject *canonical(PyObject *module, PyObject *arguments) {
 typedef uint8_t tags_call(const uint8_t *, size_t, const uint8_t *, size_t, uint8_t *);
 
 static PyObject *compare(tags_call *call, PyObject *arguments) {
-    struct lines one = {{NULL, 0}, NULL, NULL, false}, other = one;
+    struct lines one = NO_LINES, other = NO_LINES;
     PyObject *texts[2], *found = NULL;
     uint8_t equal = 0, status = TYPED_HEADERS_REFUSED;
     if (PyArg_ParseTuple(arguments, "OO", &texts[0], &texts[1]) && read_lines(texts[0], &one) &&
@@ -614,7 +658,7 @@ static PyObject *weak_eq(PyObject *module, PyObject *arguments) {
 }
 
 static PyObject *cache_control(PyObject *module, PyObject *arguments) {
-    struct lines lines = {{NULL, 0}, NULL, NULL, false};
+    struct lines lines = NO_LINES;
     struct typed_headers_cache_directives it = {0};
     (void)module;
     if (!read_only_lines(arguments, &lines)) {
@@ -694,7 +738,7 @@ static bool read_number(PyObject *argument, uint64_t *number) {
 }
 
 static PyObject *ranges(PyObject *module, PyObject *arguments) {
-    struct lines lines = {{NULL, 0}, NULL, NULL, false};
+    struct lines lines = NO_LINES;
     struct ranges_of it;
     PyObject *given, *length, *found = NULL;
     uint8_t status = TYPED_HEADERS_REFUSED;
@@ -709,7 +753,7 @@ static PyObject *ranges(PyObject *module, PyObject *arguments) {
 }
 
 static PyObject *ranges_as(PyObject *module, PyObject *arguments) {
-    struct lines lines = {{NULL, 0}, NULL, NULL, false};
+    struct lines lines = NO_LINES;
     struct ranges_of it;
     PyObject *type, *given, *length, *found = NULL;
     uint8_t status = TYPED_HEADERS_REFUSED;
@@ -1388,7 +1432,7 @@ static PyObject *choose(PyObject *module, PyObject *arguments) {
     static uint8_t (*const calls[])(const uint8_t *, size_t, const uint8_t *, size_t, size_t *) = {
         typed_headers_choose_type, typed_headers_choose_coding, typed_headers_choose_language,
         typed_headers_look_up_language};
-    struct lines lines = {{NULL, 0}, NULL, NULL, false};
+    struct lines lines = NO_LINES;
     struct text offers;
     PyObject *given, *found = NULL;
     uint8_t status = TYPED_HEADERS_REFUSED;
@@ -1409,7 +1453,7 @@ static PyObject *rate(PyObject *module, PyObject *arguments) {
     static uint8_t (*const calls[])(const uint8_t *, size_t, const uint8_t *, size_t,
                                     struct typed_headers_quality *) = {
         typed_headers_type_quality, typed_headers_coding_quality, typed_headers_language_quality};
-    struct lines lines = {{NULL, 0}, NULL, NULL, false};
+    struct lines lines = NO_LINES;
     struct typed_headers_quality quality = {0, 0};
     struct text offer;
     PyObject *given, *found = NULL;

@@ -428,8 +428,9 @@ def _value(cls: Type[Value], **members: Any) -> Value:
     return value
 
 
-def etag(cls: Type[Value], lines: Lines) -> Union[Value, int]:
-    """An entity tag as an instance of the class, or the status."""
+def etag(cls: Type[Value], given: Union[Text, Lines]) -> Union[Value, int]:
+    """An entity tag of the lines, or of a line alone, as an instance of the class, or the status."""
+    lines = given if isinstance(given, tuple) else (given,)
     status = weak_eq(lines, lines)[0] if len(lines) == 1 else _REFUSED
     if status:
         return status

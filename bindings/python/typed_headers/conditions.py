@@ -93,10 +93,12 @@ RESPONSE_FIELDS = ("etag", "last-modified", "accept-ranges", "content-range", "c
 
 _Request = Tuple[bytes, bytes, bytes, Optional[int], int, bool, bool]
 
+_evaluate, _to_bytes = _library.calls.evaluate, _library.to_bytes
+
 
 def _request(method: Text, request: HeadersLike, target: Target, now: Optional[Time]) -> _Request:
-    verb, section = _library.to_bytes(method, "method"), section_of(request)
-    tag = b"" if target.etag is None else _library.to_bytes(str(target.etag), "etag")
+    verb, section, etag = _to_bytes(method, "method"), section_of(request), target.etag
+    tag = b"" if etag is None else _to_bytes(str(etag), "etag")
     modified = None if target.last_modified is None else _library.to_seconds(target.last_modified, "last_modified")
     present = int(time.time()) if now is None else _library.to_seconds(now, "now")
     return verb, section, tag, modified, present, target.exists, target.is_date_strong
@@ -131,7 +133,7 @@ def evaluate(
     >>> evaluate("PUT", {"If-Match": "*"}, Target(exists=False))
     <Precondition.FAILED: 412>
     """
-    status, answer = _library.calls.evaluate(*_request(method, request, target, now))
+    status, answer = _evaluate(*_request(method, request, target, now))
     if status:
         _library.check(status, lambda: _refused(method, request, target))
     return _PRECONDITIONS[answer]

@@ -61,6 +61,7 @@ def canonical_section(section: "HeadersLike") -> str:
     return _library.to_str(_library.canonical_text(Headers(section).section))
 
 
+_section = _library.calls.section
 # A line of a section as it is made of a name and a value.
 _FIELD = re.compile(rb"[^:\r\n]+: [\t -~\x80-\xff]*\n")
 
@@ -221,7 +222,7 @@ class Headers:
 
 def section_of(fields: "HeadersLike") -> bytes:
     """The header section as bytes, as `Headers` has it."""
-    return _library.calls.section(fields) or Headers(fields).section
+    return _section(fields) or Headers(fields).section
 
 
 def _values(given: Union[Text, Iterable[Text]]) -> Iterable[Text]:

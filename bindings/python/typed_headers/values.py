@@ -150,11 +150,10 @@ class ETag:
     @classmethod
     def parse(cls, line: Text, *more: Text) -> "ETag":
         """The entity tag that the only field line of `ETag` is."""
-        lines = (line, *more) if more else (line,)
-        found = _read_etag(cls, lines)
-        if isinstance(found, int):
-            raise _library.failed(found, "etag", lines)
-        return found
+        found = _read_etag(cls, (line, *more) if more else line)
+        if isinstance(found, ETag):
+            return found
+        raise _library.failed(found, "etag", (line, *more))
 
     def __str__(self) -> str:
         return f'W/"{self.opaque}"' if self.weak else f'"{self.opaque}"'
