@@ -1,4 +1,4 @@
-//! How old a response is.
+//! The age of a response.
 ghost use Rattle.std.specs.Prelude.{◌≡◌};
 ghost use Rattle.headers_map.specs.LineMap.{lines_at};
 ghost use Rattle.headers_cache_fields.specs.Age.{age_at, apparent_age};
@@ -7,20 +7,20 @@ ghost use Rattle.headers_cache_fields.specs.Fields.{capped};
 use crate::fields::{age_value, date};
 use http_header::{DATE, HeaderMap};
 
-/// What a cache knows of the times of a response, in seconds since 1970 by its own clock (RFC 9111,
-/// section 4.2.3).
+/// The times of a response, in seconds since 1970 by the cache's own clock (RFC 9111, section
+/// 4.2.3).
 #[derive(Clone, Copy, Debug, PartialEq, Eq)]
 pub struct Times {
     /// When the request was made that the response answered.
     pub request: u64,
-    /// When that response came.
+    /// When the response was received.
     pub response: u64,
     /// The present.
     pub now: u64,
 }
 
-/// How many seconds old a response is at `times.now` (RFC 9111, section 4.2.3). An age past
-/// 2^64 - 1 counts as that, and a difference below zero as none.
+/// Returns the age of a response in seconds at `times.now` (RFC 9111, section 4.2.3). An age past
+/// 2^64 - 1 is replaced by that, and a negative difference counts as 0.
 pub fn current_age(response: &HeaderMap, times: Times) -> u64
     ensures { result ≡ capped (age_at times (lines_at response.now)) }
 {

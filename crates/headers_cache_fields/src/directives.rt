@@ -1,4 +1,4 @@
-//! What Cache-Control directs a cache.
+//! The directives of Cache-Control, for a cache.
 ghost use Rattle.std.specs.Prelude.{◌≡◌, ◌||◌, option_map};
 ghost use Rattle.headers_map.specs.LineMap.{lines_at};
 ghost use Rattle.headers_fields.specs.Directives.{directive_parts};
@@ -12,11 +12,12 @@ ghost use Rattle.headers_cache_fields.specs.Directives.{strictest, with_later};
 use headers_fields::{Directive, FieldMembers, Malformed, directive_in};
 use http_header::{CACHE_CONTROL, HeaderMap};
 
-/// What Cache-Control directs a cache (RFC 9111, section 5.2, RFC 5861 and RFC 8246). Numbers are seconds.
+/// The directives of Cache-Control, for a cache (RFC 9111, section 5.2, RFC 5861 and RFC 8246).
+/// Numbers are seconds.
 ///
-/// The names of directives ignore case. Of a directive that is given twice the first counts. An
-/// argument is a token or a quoted-string, which mean the same. `no-cache` and `private` that name
-/// fields count as if they named none.
+/// The names of directives ignore case. If a directive is given twice, the first counts. An
+/// argument is a token or a quoted-string, which mean the same. `no-cache` and `private` with field
+/// names count as if they had none.
 #[derive(Clone, Copy, Debug, PartialEq, Eq)]
 pub struct Directives {
     /// `no-cache`: no answer without asking the origin.
@@ -51,11 +52,11 @@ pub struct Directives {
     pub stale_if_error: Option<u64>,
 }
 
-/// What Cache-Control of a message directs, by all its field lines. Without one nothing is directed.
+/// Parses all field lines of Cache-Control of a message. Without a line no directive is set.
 ///
-/// If a line is malformed, or a member is no directive, the field directs `no-cache`, `no-store`,
-/// `private`, `must-revalidate` and `max-age=0`, and nothing else. A directive that isn't known is
-/// ignored (RFC 9111, section 5.2.3).
+/// If a line is malformed, or a member is no directive, exactly `no-cache`, `no-store`, `private`,
+/// `must-revalidate` and `max-age=0` are set. An unknown directive is ignored (RFC 9111, section
+/// 5.2.3).
 pub fn read_directives(message: &HeaderMap) -> Directives
     ensures { result ≡ directed (lines_at message.now) }
 {

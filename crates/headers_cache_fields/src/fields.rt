@@ -8,8 +8,8 @@ use headers_fields::{number, only_value};
 use headers_syntax::trim;
 use http_header::{AGE, HeaderMap, HeaderName, HeaderValue};
 
-/// The date of a field, if its only field line is one (RFC 9110, section 5.6.7). `now` resolves a year
-/// of two digits.
+/// Parses a field that has exactly one field line as a date (RFC 9110, section 5.6.7). `now`
+/// decides a year of two digits.
 pub fn date(message: &HeaderMap, name: HeaderName, now: u64) -> Option<Timestamp>
     ensures { result ≡ date_in now name (lines_at message.now) }
 {

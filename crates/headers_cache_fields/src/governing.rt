@@ -1,4 +1,4 @@
-//! What governs a response.
+//! The directives that govern a response.
 ghost use Rattle.std.specs.Prelude.{◌≡◌};
 ghost use Rattle.headers_map.specs.LineMap.{lines_at};
 ghost use Rattle.headers_cache_fields.specs.Freshness.{by_itself};
@@ -8,13 +8,13 @@ use crate::directives::{Directives, read_directives};
 use crate::targets::told;
 use http_header::{HeaderMap, HeaderName};
 
-/// What governs a response in a cache: its Cache-Control and Expires, or a targeted field in place of
-/// them (RFC 9213, section 2.2).
+/// What governs a response in a cache: its Cache-Control and Expires, or a targeted field instead
+/// of them (RFC 9213, section 2.2).
 #[derive(Clone, Copy, Debug)]
 pub struct Governing {
     /// The directives.
     pub directives: Directives,
-    /// Whether Expires counts: no targeted field takes its place.
+    /// Whether Expires counts, since no targeted field replaces it.
     pub by_expires: bool,
 }
 

@@ -1,4 +1,4 @@
-//! What a cache does with a request that a stored response could answer.
+//! What a cache does with a request, by one stored response.
 ghost use Rattle.std.specs.Prelude.{◌≡◌, ◌≤◌, IfSome};
 ghost use Rattle.std.specs.Bool.{MatchBool};
 ghost use Rattle.headers.specs.LineMap.{lines_at};
@@ -16,41 +16,41 @@ use crate::vary::matches;
 use headers::HeaderMap;
 use headers_cache_fields::{Directives, Kind, Times, current_age, lifetime_by, read_directives};
 
-/// What a cache does with a request that a stored response could answer.
+/// What a cache does with a request that a stored response may answer.
 #[derive(Clone, Copy, Debug, PartialEq, Eq)]
 pub enum Decision {
-    /// The stored response is the answer. It is fresh.
+    /// Serve the stored response, which is fresh.
     Serve,
-    /// The stored response is the answer. It is stale, and is to be revalidated after that
+    /// Serve the stored response, which is stale, and revalidate it after that
     /// (`stale-while-revalidate`).
     ServeAndRevalidate,
-    /// The stored response is the answer. It is stale, and the request takes that (`max-stale`).
+    /// Serve the stored response, which is stale, and which the request accepts (`max-stale`).
     ServeStale,
-    /// The origin has to say that the stored response is still good.
+    /// Ask the origin whether the stored response is still good.
     Revalidate,
-    /// The same, but if the origin can't be reached or answers 500, 502, 503 or 504, the stored
-    /// response may be the answer (`stale-if-error`).
+    /// Ask the origin; if it can't be reached or responds with 500, 502, 503 or 504, the stored
+    /// response may be served (`stale-if-error`).
     RevalidateOrServe,
-    /// The answer is 504: the stored response isn't good enough, and the request forbids to ask on
-    /// (`only-if-cached`).
+    /// Respond with 504: the stored response isn't good enough, and the request forbids to ask the
+    /// origin (`only-if-cached`).
     Unavailable,
-    /// The origin has to answer: no stored response suits the request, or its method isn't safe.
+    /// Forward the request: no stored response matches it, or its method isn't safe.
     Fetch,
 }
 
-/// How long a stored response is fresh, and how old it is, in seconds.
+/// The lifetime and the age of a stored response, in seconds.
 #[derive(Clone, Copy, Debug, PartialEq, Eq)]
 pub struct Freshness {
-    /// Until which age it is fresh.
+    /// The age up to which the response is fresh.
     pub lifetime: u64,
-    /// Its current age.
+    /// The current age of the response.
     pub age: u64,
 }
 
-/// What a cache does with a request, by a response that it has stored under the same URI (RFC 9111,
-/// section 4), with the lifetime that its origin states. `stored` is the request that the response
-/// answered: if its method or Vary keeps the response from answering the new one, the answer is that
-/// of `decide_unstored`.
+/// Decides what a cache does with a request, by a response stored under the same URI (RFC 9111,
+/// section 4). It uses the lifetime that the origin states. `stored` is the request that the
+/// response answered: if its method or Vary keeps the response from answering the new request, the
+/// result is that of `decide_unstored`.
 ///
 /// Without a stated lifetime the response isn't fresh: to guess one, see `heuristic_lifetime` and
 /// `decide_by`.
@@ -71,7 +71,7 @@ pub fn decide(
     policy.decide(stored, request, response, times)
 }
 
-/// The same as `decide`, by a lifetime and an age of the caller's.
+/// Decides what a cache does with a request, as `decide` does, by a given lifetime and age.
 pub fn decide_by(
     stored: &RequestHead<'_>,
     request: &RequestHead<'_>,
@@ -90,8 +90,8 @@ pub fn decide_by(
 }
 
 impl Policy<'_> {
-    /// What a cache does with a request, by a response that it has stored under the same URI: the
-    /// function `decide`, by this policy.
+    /// Decides what a cache does with a request, by a response stored under the same URI and this
+    /// policy.
     pub fn decide(
         &self,
         stored: &RequestHead<'_>,
@@ -109,7 +109,7 @@ impl Policy<'_> {
         }
     }
 
-    /// The same as `decide`, by a lifetime and an age of the caller's.
+    /// Decides what a cache does with a request by this policy, and by a given lifetime and age.
     pub fn decide_by(
         &self,
         stored: &RequestHead<'_>,
@@ -171,9 +171,9 @@ fn counted(
     }
 }
 
-/// What a cache does with a request that no stored response suits: `Fetch`, or `Unavailable` if the
-/// request says `only-if-cached` (RFC 9111, section 5.2.1.7). A request whose method isn't safe is
-/// written through to the origin in any case (section 4).
+/// Decides what a cache does with a request that no stored response matches: `Fetch`, or
+/// `Unavailable` if the request has `only-if-cached` (RFC 9111, section 5.2.1.7). A request whose
+/// method isn't safe is written through to the origin in any case (section 4).
 pub fn decide_unstored(request: &RequestHead<'_>) -> Decision
     ensures { AnswersUnstored (request_of request.now) result }
 {

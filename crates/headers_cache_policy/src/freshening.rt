@@ -1,4 +1,4 @@
-//! What a 304 changes of a stored response.
+//! What a 304 changes in a stored response.
 ghost use Rattle.std.specs.Prelude.{◌≡◌, ◌≢◌, [], IfOk, OnErr, option_map};
 ghost use Rattle.headers.specs.LineMap.{field_of, fields_of, lines_at};
 ghost use Rattle.headers_cache_policy.specs.Freshening.{FreshensIf, freshening_fields, is_kept, is_kept_name};
@@ -12,18 +12,18 @@ use headers_fields::contains_token;
 use http_header::CONNECTION;
 use std::alloc::{AllocError, Global};
 
-/// The fields by which a 304 freshens a stored response (RFC 9111, sections 3.2 and 4.3.4), for
-/// `set_all` on the stored fields: each field of the 304 replaces the stored one. `None` if the 304
-/// isn't about this stored response: it has a validator that the response doesn't have, or has none
+/// Returns the fields by which a 304 updates a stored response, for `set_all` on the stored fields
+/// (RFC 9111, sections 3.2 and 4.3.4). Each field of the 304 replaces the stored one. `None` if the
+/// 304 isn't about this response: it has a validator that the response doesn't have, or has none
 /// and the response has one, or its Connection is malformed. Such a 304 updates nothing, and the
-/// request has to be sent anew without conditions.
+/// request has to be sent again without conditions.
 ///
-/// Connection, the fields that it names in the 304 and others of a connection stay as they are, as
-/// those for a proxy do, and Content-Length, Content-Encoding and Content-Range, which describe the
+/// Connection, the fields that it names in the 304, other fields of a connection or for a proxy
+/// stay as they are; so do Content-Length, Content-Encoding and Content-Range, which describe the
 /// stored content.
 ///
-/// Fails only if it runs out of memory, which needs a 304 that is about this response and has a field
-/// that doesn't stay as it is.
+/// Fails only if an allocation fails, which needs a 304 that is about this response and changes a
+/// field.
 pub fn freshening_fields(
     alloc: Global,
     stored: &HeaderMap,

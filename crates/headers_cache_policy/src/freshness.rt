@@ -8,12 +8,12 @@ use headers::HeaderMap;
 use headers_cache_fields::{Kind, heuristic_by, lifetime_by};
 use http::StatusCode;
 
-/// How many seconds a response is fresh, if its origin says so (RFC 9111, section 4.2.1): `s-maxage`
-/// in a shared cache, else `max-age`, else Expires less Date. An Expires that isn't one valid date
-/// has passed.
+/// Returns the lifetime that the origin states, in seconds (RFC 9111, section 4.2.1): `s-maxage` in
+/// a shared cache, else `max-age`, else Expires less Date. An Expires that isn't one valid date
+/// means that the response is stale. `None` if the origin states no lifetime.
 ///
-/// `received` is when the response came, in seconds since 1970: it replaces a Date that is missing
-/// or invalid, and dates with years of two digits are near it.
+/// `received` is when the response was received, in seconds since 1970: it replaces a missing or
+/// invalid Date, and decides years of two digits.
 pub fn lifetime(response: &HeaderMap, received: u64, kind: Kind) -> Option<u64>
     ensures { HasLifetime kind received (lines_at response.now) result }
 {
@@ -25,9 +25,9 @@ pub fn lifetime(response: &HeaderMap, received: u64, kind: Kind) -> Option<u64>
     policy.lifetime(response, received)
 }
 
-/// How many seconds a response may be taken as fresh if its origin doesn't say so: a tenth of the
-/// time from its last modification to its Date (RFC 9111, section 4.2.2). `None` if the origin says
-/// so, if the status and Cache-Control let no cache guess, or if no last modification is known.
+/// Returns a guess of the lifetime, in seconds: a tenth of the time from the last modification to
+/// Date (RFC 9111, section 4.2.2). `None` if the origin states a lifetime, if the status and
+/// Cache-Control don't allow a guess, or if no last modification is known.
 pub fn heuristic_lifetime(
     status: StatusCode,
     response: &HeaderMap,
@@ -45,8 +45,8 @@ pub fn heuristic_lifetime(
 }
 
 impl Policy<'_> {
-    /// How many seconds a response is fresh, if its origin says so: the function `lifetime`, by this
-    /// policy.
+    /// Returns the lifetime that the origin states, in seconds, by this policy; see the function
+    /// `lifetime`.
     pub fn lifetime(&self, response: &HeaderMap, received: u64) -> Option<u64>
         ensures { HasLifetimeUnder (policy_of self.now) received (lines_at response.now) result }
     {
@@ -58,8 +58,8 @@ impl Policy<'_> {
         )
     }
 
-    /// How many seconds a response may be taken as fresh if its origin doesn't say so: the function
-    /// `heuristic_lifetime`, by this policy.
+    /// Returns a guess of the lifetime, in seconds, by this policy; see the function
+    /// `heuristic_lifetime`.
     pub fn heuristic_lifetime(
         &self,
         status: StatusCode,

@@ -1,4 +1,4 @@
-//! What follows from the definitions alone. A proof cites a law by calling it.
+//! Theorems about the definitions alone. To cite one in a proof, call it.
 ghost use Rattle.std.specs.Prelude.{◌≡◌, ◌⊎◌, ◌↔◌, ◌≤◌, ◌∷◌, [], ℕ, List, Option, Some, None, codes, true, false};
 ghost use Rattle.http_header.specs.FieldValue.{FieldValue};
 ghost use Rattle.http_header.specs.HeaderMap.{Entries, IsHeaderMap};
@@ -23,8 +23,8 @@ ghost use Rattle.headers_cache_fields.specs.declared.directives.Directives.{Dire
 ghost use Rattle.headers_cache_fields.specs.declared.kind.Kind.{Kind};
 ghost use Rattle.headers_cache_fields.specs.declared.kind.Kind.TheVariants.{Shared};
 
-/// Each response has exactly one lifetime, or none by exactly one reading: the cases of
-/// `HasLifetime` cover each response and exclude each other. `lifetime` returns it.
+/// Theorem: each response has exactly one lifetime, or exactly none; `lifetime` returns it. The
+/// cases of `HasLifetime` cover each response, and exclude each other.
 pub fn response_has_one_lifetime()
     ensures some { (kind : Kind) (received : ℕ) (response : LineMap)
         → (stated : Option ℕ) × HasLifetime kind received response stated }
@@ -32,7 +32,8 @@ pub fn response_has_one_lifetime()
         → HasLifetime kind received response a → HasLifetime kind received response b → a ≡ b }
 {}
 
-/// Each response has exactly one guess of its lifetime, or none. `heuristic_lifetime` returns it.
+/// Theorem: each response has exactly one guess of its lifetime, or none; `heuristic_lifetime`
+/// returns it.
 pub fn response_has_one_heuristic()
     ensures some { (kind : Kind) (status received : ℕ) (response : LineMap)
         → (guess : Option ℕ) × HasHeuristic kind status received response guess }
@@ -40,8 +41,8 @@ pub fn response_has_one_heuristic()
         → HasHeuristic kind status received response a → HasHeuristic kind status received response b → a ≡ b }
 {}
 
-/// Each request has exactly one decision: the cases of the definitions cover each request and exclude
-/// each other. `decide`, `decide_by` and `decide_unstored` return it.
+/// Theorem: each request has exactly one decision; `decide`, `decide_by` and `decide_unstored`
+/// return it. The cases of the definitions cover each request, and exclude each other.
 pub fn request_has_one_decision()
     ensures some { (kind : Kind) (stored request : Request) (response : LineMap) (times : Times)
         → (decision : Decision) × Decides kind stored request response times decision }
@@ -57,8 +58,8 @@ pub fn request_has_one_decision()
         → AnswersUnstored request a → AnswersUnstored request b → a ≡ b }
 {}
 
-/// A request whose method isn't safe is written through to the origin, whatever is stored. The stored
-/// response to a HEAD is never the answer to a GET.
+/// Theorem: a request whose method isn't safe is written through to the origin, whatever is stored,
+/// and the stored response to a HEAD is never the answer to a GET.
 pub fn methods_bound_reuse()
     ensures written { (kind : Kind) (stored request : Request) (response : LineMap) (freshness : Freshness)
         (decision : Decision) → ¬ (IsSafe request.method)
@@ -70,8 +71,9 @@ pub fn methods_bound_reuse()
         → DecidesBy kind stored request response freshness decision → AnswersUnstored request decision }
 {}
 
-/// A response whose Cache-Control is malformed is stored by no cache, is stale from the start, has no
-/// guessed lifetime, and is never an answer without the origin's word, also if the origin fails.
+/// Theorem: a response with a malformed Cache-Control is stored by no cache, is stale from the
+/// start, has no guessed lifetime, and is never served without asking the origin, even if the
+/// origin fails.
 pub fn malformed_response_is_strict()
     ensures stored { (kind : Kind) (request : Request) (status : ℕ) (response : LineMap) → IsMalformed response
         → ¬ (MayStore kind request status response) }
@@ -84,8 +86,8 @@ pub fn malformed_response_is_strict()
         → DecidesBy kind stored request response freshness decision → ¬ (MayComeFromStore decision) }
 {}
 
-/// The response to a request whose Cache-Control is malformed is stored by no cache, and such a
-/// request gets no stored response without the origin's word, also if the origin fails.
+/// Theorem: for a request with a malformed Cache-Control no response is stored, and no stored
+/// response is served without asking the origin, even if the origin fails.
 pub fn malformed_request_is_strict()
     ensures stored { (kind : Kind) (request : Request) (status : ℕ) (response : LineMap)
         → IsMalformed request.fields → ¬ (MayStore kind request status response) }
@@ -94,10 +96,9 @@ pub fn malformed_request_is_strict()
         → DecidesBy kind stored request response freshness decision → ¬ (MayComeFromStore decision) }
 {}
 
-/// Nothing beside a directive hides it, be it well formed or not: where `no-store` is among the
-/// members of Cache-Control, nothing is stored, unless `must-understand` is one of them too; where
-/// `private` is, no shared cache stores the response; and where `no-cache` is, the origin has its
-/// word.
+/// Theorem: no other member of Cache-Control hides a directive, well formed or not. If `no-store`
+/// is a member, nothing is stored, unless `must-understand` is one as well. If `private` is, no
+/// shared cache stores the response. If `no-cache` is, the origin is asked.
 pub fn no_directive_is_hidden()
     ensures request_no_store { (kind : Kind) (request : Request) (status : ℕ) (response : LineMap)
         → Says (codes "no-store") request.fields → ¬ (MayStore kind request status response) }
@@ -111,8 +112,8 @@ pub fn no_directive_is_hidden()
         → DecidesBy kind stored request response freshness decision → ¬ (MayComeFromStore decision) }
 {}
 
-/// A response that isn't fresh is an answer only where the response doesn't forbid it, and
-/// `max-stale` of the request or `stale-while-revalidate` of the response allows it.
+/// Theorem: a stale response is served only if it doesn't forbid that, and `max-stale` of the
+/// request or `stale-while-revalidate` of the response allows it.
 #[tactic(auto, using(crate::proofs::DecisionLemmas::stale_where_let))]
 pub fn stale_only_where_let()
     ensures { (kind : Kind) (asks tells : Directives) (freshness : Freshness) (decision : Decision)
@@ -121,8 +122,8 @@ pub fn stale_only_where_let()
         → (¬ (MustBeFresh kind tells)) × (IsTakenStale asks freshness ⊎ IsServedMeanwhile tells freshness) }
 {}
 
-/// As time goes on, no answer gets better: what is an answer later was one before, and what is
-/// fresh later was fresh before. So at no later time `Revalidate` turns into `Serve`.
+/// Theorem: as time passes, no answer gets better: what is served later was served before, and what
+/// is fresh later was fresh before. So `Revalidate` never becomes `Serve`.
 pub fn no_answer_gets_better()
     ensures stored { (kind : Kind) (stored request : Request) (response : LineMap) (times : Times) (later : ℕ)
         (a b : Decision) → times.now ≤ later → Decides kind stored request response times a
@@ -132,8 +133,8 @@ pub fn no_answer_gets_better()
         → Decides kind stored request response (record times { now = later }) Serve → a ≡ Serve }
 {}
 
-/// No sum of an age wraps: it is exact up to 2^64 - 1, where it stays. As time goes on it never
-/// falls.
+/// Theorem: the age never wraps: it is exact up to 2^64 - 1, where it stays. As time passes it
+/// never falls.
 #[tactic(auto, using(crate::proofs::DecisionLemmas::age_grows))]
 pub fn age_never_wraps()
     ensures exact { (times : Times) (response : LineMap) → age_at times response ≤ greatest
@@ -144,9 +145,9 @@ pub fn age_never_wraps()
         → capped (age_at times response) ≤ capped (age_at (record times { now = later }) response) }
 {}
 
-/// Under a policy in which `immutable` counts (RFC 8246), nothing stale is served that wouldn't be served
-/// without it, and `no-cache` of a request or a response still asks the origin. While a response isn't
-/// fresh, each directive of a request counts.
+/// Theorem: if `immutable` counts (RFC 8246), nothing stale is served that wouldn't be served
+/// without it, and `no-cache` of a request or a response still asks the origin. While a response
+/// isn't fresh, each directive of a request counts.
 pub fn immutable_counts_while_fresh()
     ensures stale { (policy : Policy) (request response : LineMap) (freshness : Freshness)
         → freshness.lifetime ≤ freshness.age → asks policy request response freshness ≡ directed request }
@@ -161,9 +162,9 @@ pub fn immutable_counts_while_fresh()
         → DecidesByUnder policy stored request response freshness decision → ¬ (MayComeFromStore decision) }
 {}
 
-/// The first targeted field that is there, valid and not empty governs a response in place of its
-/// Cache-Control and Expires. One that isn't counts for nothing, and without one the response is governed
-/// as in a cache without targeted fields (RFC 9213, section 2.2).
+/// Theorem: the first targeted field that is present, valid and not empty governs a response
+/// instead of Cache-Control and Expires. Other targeted fields don't count, and without one the
+/// response is governed as in a cache without targeted fields (RFC 9213, section 2.2).
 pub fn first_valid_target_governs()
     ensures first { (name : List ℕ) (names : List (List ℕ)) (response : LineMap) (said : Directives)
         → told_by (response name) ≡ Some said
@@ -173,15 +174,16 @@ pub fn first_valid_target_governs()
     ensures none { (response : LineMap) → governing [] response ≡ by_itself response }
 {}
 
-/// After `set_all` of the validation fields a request has the validators of the response under
-/// If-None-Match and If-Modified-Since, and no other, and each other field as it was.
+/// Theorem: after `set_all` of the validation fields a request has exactly the response's
+/// validators in If-None-Match and If-Modified-Since, and each other field is unchanged.
 pub fn validation_makes_requests_conditional()
     ensures { (received : ℕ) (request response : LineMap)
         → IsConditional received request response (set_all request (validation_fields received response)) }
 {}
 
-/// After `set_all` of the freshening fields a stored response has each field of the 304 in place of
-/// its own, but for those that no update changes. (`HeaderMap` ensures `IsHeaderMap` of each map.)
+/// Theorem: after `set_all` of the freshening fields a stored response has each field of the 304
+/// instead of its own, except those that no update changes. (`HeaderMap` ensures `IsHeaderMap` of
+/// each map.)
 pub fn freshening_replaces_each_field()
     ensures { (stored : LineMap) (update : Entries FieldValue) → IsHeaderMap update → (name : List ℕ)
         → set_all stored (freshening_fields update) name ≡ freshened stored (lines_at update) name }

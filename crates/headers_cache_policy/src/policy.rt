@@ -7,11 +7,11 @@ ghost use Rattle.headers_cache_policy.specs.Policies.{policy_of};
 use headers::{HeaderMap, HeaderName};
 use headers_cache_fields::{Governing, Kind, read_governing};
 
-/// How a cache decides: whom it serves, and what it does beyond RFC 9111. The functions of this crate
+/// The policy of a cache: its kind, and what it does beyond RFC 9111. The functions of this crate
 /// that take a `Kind` decide without the options; the methods here decide with them.
 #[derive(Clone, Copy)]
 pub struct Policy<'a> {
-    /// Whom the cache serves.
+    /// The kind of the cache.
     pub kind: Kind,
     /// Whether `immutable` of a response counts (RFC 8246): while the response is fresh, `max-age` of a
     /// request isn't a reason to validate it. `no-cache` is.

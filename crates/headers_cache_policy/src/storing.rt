@@ -18,10 +18,10 @@ use headers_fields::has_line;
 use http::StatusCode;
 use http_header::AUTHORIZATION;
 
-/// Whether a cache may store the response to a request (RFC 9111, sections 3 and 3.5).
+/// Returns whether a cache may store the response to a request (RFC 9111, sections 3 and 3.5).
 ///
-/// Only responses to GET and HEAD are stored, and no 206 or 304, which are parts of others. Under
-/// `must-understand` the statuses that are heuristically cacheable are stored. If Cache-Control of
+/// Only responses to GET and HEAD are stored, and no 206 or 304, which are parts of others. With
+/// `must-understand` only statuses that are heuristically cacheable are stored. If Cache-Control of
 /// one of the messages is malformed, the response isn't stored.
 pub fn may_store(
     request: &RequestHead<'_>,
@@ -41,7 +41,8 @@ pub fn may_store(
 }
 
 impl Policy<'_> {
-    /// Whether a cache may store the response to a request: the function `may_store`, by this policy.
+    /// Returns whether a cache may store the response to a request, by this policy; see the
+    /// function `may_store`.
     pub fn may_store(
         &self,
         request: &RequestHead<'_>,

@@ -10,8 +10,8 @@ use headers::HeaderMap;
 use headers_fields::{are_tokens, has_line, only_value};
 use http_header::{CONNECTION, ETAG, LAST_MODIFIED};
 
-/// Whether a 304 is about a stored response (RFC 9111, section 4.3.4): it has validators of that
-/// response, or neither has one.
+/// Returns whether a 304 is about a stored response (RFC 9111, section 4.3.4): it has validators of
+/// that response, or neither has one.
 pub fn is_updated(stored: &HeaderMap, update: &HeaderMap) -> bool
     ensures { MatchBool result (IsUpdated (lines_at stored.now) (lines_at update.now))
         (¬ (IsUpdated (lines_at stored.now) (lines_at update.now))) }
@@ -22,7 +22,7 @@ pub fn is_updated(stored: &HeaderMap, update: &HeaderMap) -> bool
         && has_options(update)
 }
 
-/// Whether a message has a validator, valid or not (RFC 9110, section 8.8).
+/// Returns whether a message has a validator, valid or not (RFC 9110, section 8.8).
 pub fn has_validator(message: &HeaderMap) -> bool
     ensures { MatchBool result (HasValidator (lines_at message.now)) (¬ (HasValidator (lines_at message.now))) }
 {
@@ -68,7 +68,8 @@ fn have_same_dates(stored: &HeaderMap, update: &HeaderMap) -> bool
     )
 }
 
-/// Whether a message has one entity tag, which is strong (RFC 9110, section 8.8.1).
+/// Returns whether a message has exactly one entity tag, and it is strong (RFC 9110, section
+/// 8.8.1).
 pub fn has_strong_tag(update: &HeaderMap) -> bool
     ensures { MatchBool result (HasStrongTag (lines_at update.now)) (¬ (HasStrongTag (lines_at update.now))) }
 {

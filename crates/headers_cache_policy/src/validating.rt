@@ -1,4 +1,4 @@
-//! How the origin is asked whether a stored response is still good.
+//! Conditional requests to validate a stored response.
 ghost use Rattle.std.specs.Prelude.{◌≡◌, ◌∷◌, [], IfOk, codes, option_map};
 ghost use Rattle.headers.specs.LineMap.{field_of, fields_of, lines_at};
 ghost use Rattle.headers.specs.Lines.{lines_of};
@@ -17,13 +17,13 @@ use std::alloc::{AllocError, Global};
 // The first second of the year 10000, since 1970.
 const END_OF_DATES: u64 = 253_402_300_800;
 
-/// The fields of a request by which the origin is asked whether a stored response is still good (RFC
-/// 9111, section 4.3.1), for `set_all` on the request's own: If-None-Match has the entity tag of the
-/// response, If-Modified-Since the date of its Last-Modified. `received` is the time of receipt, in
-/// seconds since 1970, by which a year of two digits is resolved.
+/// Returns the fields that make a request validate a stored response (RFC 9111, section 4.3.1), for
+/// `set_all` on the request's own. If-None-Match has the entity tag of the response,
+/// If-Modified-Since the date of its Last-Modified. `received` is when the response was received,
+/// in seconds since 1970, which decides a year of two digits.
 ///
 /// A validator that the response doesn't have, or that can't be parsed, is a field without field
-/// lines. So the request's own two fields are replaced or removed, and 304 is about the stored
+/// lines. So the request's own two fields are replaced or removed, and a 304 is about the stored
 /// response alone. A date before 1970 is sent as it came, any other as an IMF-fixdate.
 pub fn validation_fields(
     alloc: Global,

@@ -9,9 +9,9 @@ use headers_cache_policy::{Times, current_age};
 use http_header::AGE;
 use std::alloc::{AllocError, Global};
 
-/// The field Age of a stored response that answers a request without validation, for `set_all` on its
-/// fields (RFC 9111, section 5.1): its current age in seconds. An age past 2^64 - 1 counts as that
-/// (section 1.2.2), so it never wraps.
+/// Returns the field Age of a stored response that is served without validation, for `set_all` on
+/// its fields: its current age in seconds (RFC 9111, section 5.1). An age past 2^64 - 1 is replaced
+/// by that (section 1.2.2), so it never wraps. Fails only if an allocation fails.
 pub fn age_field(alloc: Global, response: &HeaderMap, times: Times) -> Result<Encoded, AllocError>
     ensures { IfOk result (λ field.
         field_of field ≡ (codes "age", decimal (capped (age_at times (lines_at response.now))) ∷ [])) }

@@ -1,4 +1,4 @@
-//! What the conditions of a client come to on a stored response.
+//! The conditions of a client, for a stored response.
 ghost use Rattle.std.specs.Prelude.{◌≡◌, ◌≢◌, IfOk, OnErr, codes, option_map};
 ghost use Rattle.std.specs.Bool.{MatchBool};
 ghost use Rattle.headers.specs.LineMap.{lines_at};
@@ -23,10 +23,10 @@ use std::alloc::{AllocError, Global};
 // The first second of the year 10000, since 1970.
 const END_OF_DATES: u64 = 253_402_300_800;
 
-/// How a stored response answers a request, by the conditions and the ranges of that.
+/// How a stored response answers the conditions and the ranges of a request.
 #[derive(Clone, Copy, Debug, PartialEq, Eq)]
 pub enum StoredAnswer {
-    /// As it is.
+    /// The whole stored response.
     Whole,
     /// 206, with this part of its content.
     Part(Part),
@@ -34,17 +34,17 @@ pub enum StoredAnswer {
     NotModified,
     /// 416: no byte that is asked for is there.
     Unsatisfiable,
-    /// Not at all: the request has a condition that the origin has to evaluate.
+    /// The origin has to answer, since the request has a condition that only the origin evaluates.
     Forward,
 }
 
-/// How a stored response answers a GET or a HEAD that may reuse it, by its preconditions and its ranges
-/// (RFC 9111, section 4.3.2; RFC 9110, sections 13.2.2 and 14.2). `now` is the present, in seconds since
-/// 1970. `ranges` says whether ranges are answered; several ranges are answered with the whole.
+/// Decides how a stored response answers the conditions and ranges of a GET or HEAD that may reuse
+/// it (RFC 9111, section 4.3.2; RFC 9110, sections 13.2.2 and 14.2). `now` is the present, in
+/// seconds since 1970. `ranges` says whether ranges are answered; several ranges get the whole.
 ///
 /// If-None-Match and If-Modified-Since are evaluated by the validators of a stored 200. Without
-/// Last-Modified its Date counts. The conditions of a stored response with another status don't count.
-/// If-Match and If-Unmodified-Since apply to an origin server alone: a request that has one is
+/// Last-Modified its Date counts. The conditions don't count for a stored response with another
+/// status. If-Match and If-Unmodified-Since are for origin servers alone: a request that has one is
 /// forwarded. A date in If-Range is no strong validator, so it gets the whole.
 pub fn answer_conditions(
     alloc: Global,

@@ -5,9 +5,10 @@ ghost use Rattle.headers_cache_rules.specs.Errors.{Failed, ServesOnError};
 use headers_cache_policy::Decision;
 use http::StatusCode;
 
-/// Whether a stored response answers the request for which the origin was asked, because that failed
-/// (RFC 5861, section 4): `decision` is the decision of the time of the failure, which is
-/// `RevalidateOrServe`, and the origin gave no response, or one with 500, 502, 503 or 504.
+/// Returns whether a stored response answers the request although the origin was to be asked,
+/// because that failed (RFC 5861, section 4). `decision` is the decision at the time of the
+/// failure, which is `RevalidateOrServe`, and the origin sent no response, or one with 500, 502,
+/// 503 or 504.
 pub fn serves_on_error(decision: Decision, status: Option<StatusCode>) -> bool
     ensures { MatchBool result (ServesOnError decision status) (¬ (ServesOnError decision status)) }
 {

@@ -1,4 +1,4 @@
-//! What a response that validates a stored one makes of it.
+//! Updates of a stored response by a validating one.
 ghost use Rattle.std.specs.Prelude.{◌≡◌, ◌∷◌, [], ℕ, List, IfOk, OnErr, OnOk, codes};
 ghost use Rattle.std.specs.Bool.{MatchBool};
 ghost use Rattle.headers.specs.LineMap.{fields_of, lines_at, set_all};
@@ -20,7 +20,7 @@ use headers_cache_policy::{Policy, RequestHead, freshening_fields, is_updated};
 use http_header::{AGE, CONTENT_LENGTH, GetAll, LAST_MODIFIED};
 use std::alloc::{AllocError, Global};
 
-/// When a request was made and when its response came, in seconds since 1970.
+/// When a request was made and when its response was received, in seconds since 1970.
 #[derive(Clone, Copy, Debug, PartialEq, Eq)]
 pub struct Exchange {
     /// When the request was made.
@@ -29,16 +29,16 @@ pub struct Exchange {
     pub received: u64,
 }
 
-/// What a validating response makes of a stored one.
+/// The result of a validating response for a stored one.
 #[derive(Debug, Drop)]
 pub enum Freshened {
-    /// It isn't about the stored response, which is as it was. The request has to be sent anew without
-    /// conditions.
+    /// The validating response isn't about the stored one, which is unchanged. Send the request
+    /// again without conditions.
     Unchanged(StoredResponse),
-    /// The stored response, updated. It stays stored.
+    /// The stored response, updated, which stays stored.
     Stored(StoredResponse),
-    /// The stored response, updated. It may answer the request that validated it, but is stored no
-    /// longer: its new fields forbid that, or the reuse for this request.
+    /// The stored response, updated, which is no longer stored: its new fields forbid that, or the
+    /// reuse for this request. It may answer the request that validated it.
     Once(StoredResponse),
 }
 
@@ -163,11 +163,12 @@ fn says_as_before(own: &GetAll<'_, HeaderValue>, other: &GetAll<'_, HeaderValue>
     }
 }
 
-/// Whether a 200 to HEAD is about a stored response to GET (RFC 9111, section 4.3.5): then `freshen`
-/// updates it, and else it is to be removed. `head` has the fields of the 200.
+/// Returns whether a 200 to HEAD is about a stored response to GET (RFC 9111, section 4.3.5). If it
+/// is, `freshen` updates the stored response, and else it is to be removed. `head` has the fields
+/// of the 200.
 ///
-/// The HEAD has the validators of the stored response, if it has Last-Modified and Content-Length they
-/// are those that are stored, and it has a validator if that has one.
+/// The HEAD has the validators of the stored response; its Last-Modified and Content-Length, if it
+/// has them, are the stored ones; and it has a validator if the stored response has one.
 pub fn is_head_of(stored: &StoredResponse, head: &HeaderMap) -> bool
     ensures { MatchBool result (IsHeadOf (fields_of_stored stored.now) (lines_at head.now))
         (¬ (IsHeadOf (fields_of_stored stored.now) (lines_at head.now))) }

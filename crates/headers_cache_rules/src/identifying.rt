@@ -12,12 +12,12 @@ use headers::HeaderMap;
 use headers_cache_policy::{RequestHead, has_strong_tag, has_validator};
 use std::alloc::{AllocError, Global};
 
-/// The places of the stored responses that a 304 to a request updates (RFC 9111, section 4.3.4),
-/// ascending. Of those that match the request, and that the 304 is about, it is each one if the 304 has
-/// a strong validator, and the most recent one if it has weak validators alone. If it has none, it is
-/// the only one that matches the request, if that has none either.
+/// Returns the places of the stored responses that a 304 to a request updates, ascending (RFC 9111,
+/// section 4.3.4). Of those that match the request and that the 304 is about, these are all if the
+/// 304 has a strong validator, and the most recent one if it has only weak validators. If it has
+/// none, it is the only one that matches the request, if that has none either.
 ///
-/// Fails only if it runs out of memory, which needs such a stored response.
+/// Fails only if an allocation fails, which needs such a stored response.
 pub fn updated_by(
     alloc: Global,
     stored: &[StoredResponse],
@@ -38,9 +38,8 @@ pub fn updated_by(
     }
 }
 
-/// The place of the stored response that answers a request to which the origin sent a 304 (RFC 9111,
-/// section 4.3.3), once that has updated it: the most recent one of those that the 304 updates
-/// (section 4.3.4).
+/// Returns the place of the updated response that answers a request to which the origin sent a 304
+/// (RFC 9111, section 4.3.3): the most recent one of those that the 304 updates (section 4.3.4).
 pub fn select_updated(
     stored: &[StoredResponse],
     request: &RequestHead<'_>,

@@ -17,9 +17,9 @@ struct Newest {
     made: Timestamp,
 }
 
-/// The place of the stored response that answers a request, as far as its method and Vary go (RFC
-/// 9111, sections 4 and 4.1): of those that match, the most recent by Date. Of those that are as
-/// recent it is the last.
+/// Returns the place of the stored response that answers a request, by method and Vary (RFC 9111,
+/// sections 4 and 4.1): of those that match, the most recent by Date. Of several equally recent
+/// ones it is the last.
 pub fn select(stored: &[StoredResponse], request: &RequestHead<'_>) -> Option<usize>
     ensures { IsSelected (IsCandidate (request_of request.now)) stored.now result }
 {

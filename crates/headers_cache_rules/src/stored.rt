@@ -21,7 +21,7 @@ pub struct StoredResponse {
     pub status: StatusCode,
     /// The fields of the response, as they are stored.
     pub response: HeaderMap,
-    /// The content, all of it. No rule depends on more of it than its length.
+    /// The whole content. Rules depend only on its length.
     pub content: Vec<u8>,
     /// When the request was made that the response answered, or that validated it last.
     pub requested: u64,
@@ -30,7 +30,7 @@ pub struct StoredResponse {
 }
 
 impl StoredResponse {
-    /// The request that the response answered.
+    /// Returns the request that the response answered.
     pub fn head(&self) -> RequestHead<'_>
         ensures { request_of result ≡ request_of_stored self.now }
     {
@@ -40,7 +40,7 @@ impl StoredResponse {
         }
     }
 
-    /// What the cache knows of its times at a present (RFC 9111, section 4.2.3).
+    /// Returns the times of the response, with this present (RFC 9111, section 4.2.3).
     pub fn times(&self, now: u64) -> Times
         ensures { result ≡ times_of self.now now }
     {

@@ -1,4 +1,4 @@
-//! What is stored of a response.
+//! What a cache stores of a response.
 ghost use Rattle.std.specs.Prelude.{◌≡◌, ◌∷◌, ◌++◌, [], IfOk, OnErr, OnOk, codes, true};
 ghost use Rattle.std.specs.Bool.{MatchBool};
 ghost use Rattle.std.specs.List.{list_any};
@@ -32,9 +32,10 @@ pub enum Reception {
     Incomplete,
 }
 
-/// Whether a cache stores the response to a request (RFC 9111, sections 3, 3.1 and 3.3): `may_store` of
-/// its policy allows it, and all of it came. If its Connection is malformed, or names a field on which
-/// reuse depends, as Cache-Control, Vary or a targeted field, it isn't stored.
+/// Returns whether a cache stores the response to a request (RFC 9111, sections 3, 3.1 and 3.3).
+/// `may_store` of its policy must allow it, and all of it must have come. It isn't stored if its
+/// Connection is malformed, or names a field on which reuse depends, such as Cache-Control, Vary or
+/// a targeted field.
 pub fn is_stored(
     request: &RequestHead<'_>,
     status: StatusCode,
@@ -99,11 +100,12 @@ pub(crate) fn has_fair_options(message: &HeaderMap, targets: &[HeaderName]) -> b
     are_tokens(&connection) && !names_reuse(&connection) && !loses_some(message, targets)
 }
 
-/// The fields by which the fields of a received response become those that are stored, for `set_all`
-/// (RFC 9111, section 3.1): those of a connection and of a proxy are removed, and a missing Date is
-/// the time of receipt, in seconds since 1970 (RFC 9110, section 6.6.1). All others stay.
+/// Returns the fields that turn the fields of a received response into those that are stored, for
+/// `set_all` (RFC 9111, section 3.1). Those of a connection and of a proxy are removed, and a
+/// missing Date is the time of receipt, in seconds since 1970 (RFC 9110, section 6.6.1). All others
+/// stay.
 ///
-/// Fails only if it runs out of memory, which needs something to change.
+/// Fails only if an allocation fails, which needs a field that changes.
 pub fn storing_fields(
     alloc: Global,
     response: &HeaderMap,

@@ -1,4 +1,4 @@
-//! What an application gives the connection.
+//! What an application gives to a connection.
 ghost use Rattle.std.specs.Prelude.{◌≡◌, ℕ, List, take, OnOk, IfOk};
 ghost use Rattle.std.specs.Io.{ReadsAtMost};
 ghost use Rattle.http.specs.declared.request.Request.{Request};
@@ -11,7 +11,7 @@ use http::Request;
 use std::alloc::AllocError;
 use std::io;
 
-/// Answers a request with a plan, and gives the bytes of the plan's ranges.
+/// An application: it answers a request with a plan, and gives the bytes of the plan's ranges.
 pub trait Handler {
     // From the first state, the plan answers the request and leaves the second state.
     ghost plans: { Self → Request (List ℕ) → Plan → Self → Type 0 };
@@ -19,15 +19,16 @@ pub trait Handler {
     // What the handler has open may give these bytes from this place on.
     ghost gives: { Self → ℕ → List ℕ → Type 0 };
 
-    /// Fills `plan`, which comes as a 200 with no field line and no content, and opens what its ranges
-    /// name. It stays open until the next call.
+    /// Makes the plan of a response, which is a 200 without field lines and content before, and
+    /// opens what its ranges name. It stays open until the next call.
     ///
-    /// The error is for memory alone, and ends the connection. Answer any other fault with a status.
+    /// Fails only if an allocation fails, which ends the connection. Answer any other fault with a
+    /// status.
     fn plan(&mut self, request: &Request<Bytes>, plan: &mut Plan) -> Result<(), AllocError>
         requires { IsBlank plan.old }
         ensures { OnOk result (plans self.old request.now plan.new self.new) };
 
-    /// Reads bytes of what is open, from a place on. Reading none says that it ends there.
+    /// Reads bytes of what is open, from a position on. No byte means that it ends there.
     fn read(&self, start: u64, buffer: &mut [u8]) -> io::Result<usize>
         ensures bound { ReadsAtMost result buffer.new }
         ensures bytes { IfOk result (λ count. gives self.now start (take count buffer.new)) };

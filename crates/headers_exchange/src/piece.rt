@@ -7,23 +7,23 @@ use bytes::Bytes;
 /// Consecutive bytes of what a handler has open.
 #[derive(Clone, Copy, Debug, PartialEq, Eq)]
 pub struct Extent {
-    /// Where they begin.
+    /// The position of the first byte.
     pub start: u64,
-    /// How many they are.
+    /// The number of bytes.
     pub len: u64,
 }
 
 /// A piece of a response's content.
 #[derive(Debug, Drop)]
 pub enum Piece {
-    /// These bytes.
+    /// Literal bytes.
     Literal(Bytes),
-    /// Bytes of what the handler has open. They are read while they are sent.
+    /// Bytes of what the handler has open, which are read while they are sent.
     Range(Extent),
 }
 
 impl Piece {
-    /// How many bytes it sends.
+    /// Returns the number of bytes that the piece sends.
     pub fn len(&self) -> u64
         ensures { result ≡ piece_len self.now }
     {

@@ -1,4 +1,4 @@
-//! What a response consists of.
+//! The parts of a response.
 ghost use Rattle.std.specs.Prelude.{◌≡◌};
 ghost use Rattle.headers_exchange.specs.Pieces.{total_len};
 
@@ -19,7 +19,7 @@ pub struct Plan {
     pub headers: Vec<(HeaderName, HeaderValue)>,
     /// The pieces of the content, in order.
     pub pieces: VecDeque<Piece>,
-    /// How many bytes the pieces send.
+    /// The number of bytes that the pieces send.
     pub len: u64,
     ghost is_len: { len ≡ total_len pieces.items },
 }
@@ -29,7 +29,7 @@ impl Plan {
     ghost use Rattle.http_server.specs.Response.{fields};
     ghost use Rattle.headers_exchange.specs.Plan.{IsBlank};
 
-    /// A plan without field lines and without content. Allocates nothing.
+    /// Makes a plan without field lines and content. It never allocates.
     pub fn new(alloc: Global) -> Plan
         ensures { IsBlank result }
     {
@@ -41,7 +41,7 @@ impl Plan {
         }
     }
 
-    /// Makes it a plan as `new` does.
+    /// Removes all field lines and pieces, as in a new plan.
     pub fn clear(&mut self)
         ensures { IsBlank self.new }
     {
@@ -51,7 +51,7 @@ impl Plan {
         self.len = 0;
     }
 
-    /// Appends a field line.
+    /// Appends a field line. Fails only if an allocation fails.
     pub fn add_header(&mut self, name: HeaderName, value: HeaderValue) -> Result<(), AllocError>
         ensures headers { OnOk result
             (fields self.new.headers.items ≡ fields self.old.headers.items ++ (name, value.bytes) ∷ []) }
@@ -62,7 +62,8 @@ impl Plan {
         Ok(self.headers.push((name, value))?)
     }
 
-    /// Appends a piece. Fails when out of memory, or if the content would have 2^64 bytes or more.
+    /// Appends a piece. Fails if an allocation fails, or if the content would have 2^64 bytes or
+    /// more.
     pub fn push(&mut self, piece: Piece) -> Result<(), AllocError>
         ensures pieces { OnOk result (self.new.pieces.items ≡ self.old.pieces.items ++ piece ∷ []) }
         ensures kept { OnErr result (self.new.pieces.items ≡ self.old.pieces.items) }

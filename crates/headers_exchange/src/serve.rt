@@ -13,11 +13,12 @@ use std::io;
 use std::io::{ErrorKind, Read, Write};
 
 /// Reads requests, answers them by the plans of a handler and writes the responses, until the
-/// connection is done. The keys are for the header maps, whose names the other end chooses.
+/// connection ends. The keys are for the header maps, since the client chooses the names.
 ///
-/// Where a response can't be sent to its end, the connection ends there: what the handler has open is
-/// shorter than the plan says or can't be read, or out of memory. It also ends where a handler can't
-/// plan when out of memory, or its plan is no response that `http1` sends. Each is an `Err`.
+/// The connection ends with `Err` if a response can't be sent to its end: what the handler has open
+/// is shorter than the plan says or can't be read, or an allocation fails. It also does if a
+/// handler can't plan because an allocation fails, or if its plan is no response that `http1`
+/// sends.
 pub fn serve_exchanges<H: Handler, R: Read, W: Write>(
     alloc: Global,
     keys: RandomState,

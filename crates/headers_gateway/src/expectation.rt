@@ -1,4 +1,4 @@
-//! What a client waits for before it sends the content.
+//! The expectation of a client that waits before it sends the content.
 ghost use Rattle.std.specs.Prelude.{◌≡◌, IfOk, codes, true};
 ghost use Rattle.std.specs.List.{list_all};
 ghost use Rattle.headers.specs.LineMap.{lines_at};
@@ -19,7 +19,7 @@ use std::alloc::{AllocError, Global};
 /// (RFC 9110, section 10.1.1).
 #[derive(Clone, Copy, Debug, PartialEq, Eq)]
 pub enum Expectation {
-    /// Nobody: the client waits for none, or its expectation is ignored, since the request is of
+    /// Nobody: the client doesn't wait, or its expectation is ignored, since the request is of
     /// HTTP/1.0 or has no content. Expect isn't forwarded.
     Absent,
     /// The server. Expect is forwarded as received, and so is the 100.
@@ -37,8 +37,8 @@ fn is_continue(member: Result<&[u8], Malformed>) -> bool
     }
 }
 
-/// Whether each member of Expect is `100-continue` (RFC 9110, section 10.1.1). A request with another one
-/// is answered by 417.
+/// Returns whether each member of Expect is `100-continue` (RFC 9110, section 10.1.1). A request
+/// with another member is answered by 417.
 pub fn has_known_expectation(fields: &HeaderMap) -> bool
     ensures { result ≡ has_known_expectation (lines_at fields.now (codes "expect")) }
 {
@@ -73,8 +73,9 @@ fn is_awaited(client: Protocol, framing: Framing, fields: &HeaderMap) -> bool
     }
 }
 
-/// What becomes of the expectation of a request whose content is delimited so. `client` is the version
-/// of the request, and `server` the version that the next server is known to speak.
+/// Decides who sends the 100 (Continue) for a request (RFC 9110, section 10.1.1). `framing` says
+/// how its content is delimited, `client` is the version of the request, and `server` the version
+/// that the next server is known to speak.
 pub fn expectation_of(
     client: Protocol,
     server: Protocol,
@@ -93,7 +94,7 @@ pub fn expectation_of(
 }
 
 impl Expectation {
-    /// The fields that replace the received ones: Expect without field lines, unless it is forwarded.
+    /// Returns the field Expect for the next server, without field lines unless it is forwarded.
     pub fn fields(self, alloc: Global) -> Result<Vec<Encoded>, AllocError>
         ensures { IfOk result (λ fields. fields_of fields.items ≡ expect_fields self) }
     {

@@ -18,11 +18,11 @@ use http_header::{CONTENT_LENGTH, TRANSFER_ENCODING};
 /// What the fields of a message state about its content (RFC 9112, section 6.3).
 #[derive(Clone, Copy, Debug, PartialEq, Eq)]
 pub enum Framing {
-    /// Nothing: neither Content-Length nor Transfer-Encoding is there.
+    /// Nothing: neither Content-Length nor Transfer-Encoding is present.
     Unstated,
-    /// This many bytes.
+    /// The content has this many bytes.
     Length(u64),
-    /// Sent in chunks.
+    /// The content is sent in chunks.
     Chunked,
 }
 
@@ -37,8 +37,8 @@ enum Coding {
     Endless,
 }
 
-/// What the fields of a message state about its content. What recipients are known to disagree on is
-/// rejected (RFC 9112, sections 6.1 and 6.3).
+/// Returns what the fields of a message state about its content (RFC 9112, sections 6.1 and 6.3).
+/// Rejects what recipients are known to interpret differently.
 pub fn stated_framing(protocol: Protocol, message: &HeaderMap) -> Result<Framing, Rejection>
     ensures ok { IfOk result (States protocol (lines_at message.now)) }
     ensures err { IfErr result (RejectsFraming protocol (lines_at message.now)) }

@@ -5,7 +5,7 @@ use crate::via::Pseudonym;
 use headers::HeaderName;
 use std::alloc::Global;
 
-/// What the gateway is to the messages that pass it.
+/// The settings of a gateway: its name in Via, and which fields it consumes and protects.
 #[derive(Debug, Drop)]
 pub struct Gateway {
     /// Its name in Via.
@@ -19,8 +19,8 @@ pub struct Gateway {
 }
 
 impl Gateway {
-    /// A gateway of that name, which clients don't authenticate to, and which protects no further
-    /// fields.
+    /// Makes the settings of a gateway with this name, to which clients don't authenticate, and
+    /// which protects no further fields.
     pub fn new(alloc: Global, pseudonym: Pseudonym) -> Gateway
         ensures pseudonym { result.pseudonym ≡ pseudonym }
         ensures consumes_credentials { result.consumes_credentials ≡ false }

@@ -69,9 +69,9 @@ fn is_of_proxy(name: &str) -> bool
         || name == "proxy-authorization"
 }
 
-/// Whether a field of this name, in lower case, is of one connection (RFC 9110, section 7.6.1): for its
-/// name, or because a connection option names it. `consumes` says whether fields of a proxy are too
-/// (section 11.7).
+/// Returns whether a field with this name, in lower case, is for one connection: by its name, or
+/// because a connection option names it (RFC 9110, section 7.6.1). `consumes` says whether fields
+/// for a proxy are as well (section 11.7).
 pub fn is_hop_by_hop(consumes: bool, connection: &GetAll<'_, HeaderValue>, name: &str) -> bool
     ensures { result ≡ is_hop_by_hop consumes (field_members true (lines_of connection.now)) name.now }
 {

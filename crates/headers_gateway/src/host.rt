@@ -1,4 +1,4 @@
-//! Host.
+//! The field Host.
 ghost use Rattle.std.specs.Prelude.{◌≡◌, ◌≤◌, codes, length};
 ghost use Rattle.std.specs.Char.{is_ascii_digit};
 ghost use Rattle.std.specs.List.{list_all};
@@ -190,7 +190,8 @@ fn is_host(line: &[u8]) -> bool
     }
 }
 
-/// Whether there is one field line of Host, and it is valid, or none in HTTP/1.0.
+/// Returns whether a request has exactly one valid field line of Host, or none in HTTP/1.0 (RFC
+/// 9112, section 3.2).
 pub fn has_host(protocol: Protocol, fields: &HeaderMap) -> bool
     ensures { result ≡ has_host protocol (lines_at fields.now (codes "host")) }
 {

@@ -1,4 +1,4 @@
-//! What follows from the definitions alone. A proof cites a law by calling it.
+//! Theorems about the definitions alone. To cite one in a proof, call it.
 ghost use Rattle.std.specs.Prelude.{◌≡◌, ◌≢◌, ◌≤◌, ◌++◌, ◌∷◌, [], ℕ, List, All, Option, Some, true, IsTrue, codes};
 ghost use Rattle.std.specs.Prelude.{◌↔◌};
 ghost use Rattle.std.specs.Prelude.{decimal, length};
@@ -30,14 +30,14 @@ ghost use Rattle.headers_gateway.specs.declared.response.ForwardedResponse.{Forw
 
 use headers_fields::laws::lists_parse_one_way;
 
-/// Each request is rejected, or answered by the gateway, or may be forwarded, and no two of these.
+/// Theorem: each request has exactly one outcome: rejected, answered by the gateway, or forwarded.
 pub fn request_has_one_outcome()
     ensures some { (gateway : Gateway) (request : Request) → HasOutcome gateway request }
     ensures one { (gateway : Gateway) (request : Request) → HasOneOutcome gateway request }
 {}
 
-/// What is forwarded of a request is certain: its framing, how often it may still be forwarded, and
-/// the field lines of each name.
+/// Theorem: what is forwarded of a request is determined: its framing, how often it may still be
+/// forwarded, and the field lines of each name.
 pub fn forwarded_request_is_certain()
     ensures { (gateway : Gateway) (request : Request) (a b : ForwardedRequest) → IsForwarded gateway request a
         → IsForwarded gateway request b
@@ -46,14 +46,14 @@ pub fn forwarded_request_is_certain()
         ≡ lines_under (fields_of b.fields.items) name) }
 {}
 
-/// Each response is rejected, or dropped, or may be forwarded, and no two of these.
+/// Theorem: each response has exactly one outcome: rejected, dropped, or forwarded.
 pub fn response_has_one_outcome()
     ensures some { (gateway : Gateway) (response : Response) → HasResponseOutcome gateway response }
     ensures one { (gateway : Gateway) (response : Response) → HasOneResponseOutcome gateway response }
 {}
 
-/// What is forwarded of a response is certain: how its content is delimited, what is stated about it,
-/// and the field lines of each name.
+/// Theorem: what is forwarded of a response is determined: how its content is delimited, what is
+/// stated about it, and the field lines of each name.
 pub fn forwarded_response_is_certain()
     ensures { (gateway : Gateway) (date : ℕ) (response : Response) (a b : ForwardedResponse)
         → IsForwardedResponse gateway date response a → IsForwardedResponse gateway date response b
@@ -62,8 +62,8 @@ pub fn forwarded_response_is_certain()
         ≡ lines_under (fields_of b.fields.items) name) }
 {}
 
-/// All recipients that know the plain forms see the same framing in what is forwarded of a response.
-/// How the content is delimited also depends on the status and on the method of the request, which
+/// Theorem: all recipients that know the plain forms see the same framing in a forwarded response.
+/// How the content is delimited depends also on the status and on the method of the request, which
 /// all of them know (RFC 9112, section 6.3).
 pub fn forwarded_response_is_framed_alike()
     ensures { (gateway : Gateway) (date : ℕ) (response : Response) (sent : ForwardedResponse)
@@ -71,7 +71,7 @@ pub fn forwarded_response_is_framed_alike()
         → framing_by recipient (fields_of sent.fields.items) ≡ Some sent.framing }
 {}
 
-/// What is rejected isn't forwarded, and neither is what the gateway responds to itself.
+/// Theorem: what is rejected isn't forwarded, nor is what the gateway answers itself.
 pub fn rejected_messages_are_not_forwarded()
     ensures requests { (gateway : Gateway) (request : Request) (rejection : Rejection) (sent : ForwardedRequest)
         → Rejects gateway request rejection → IsForwarded gateway request sent → ⊥ }
@@ -82,15 +82,15 @@ pub fn rejected_messages_are_not_forwarded()
         → IsForwardedResponse gateway date response sent → ⊥ }
 {}
 
-/// The fields of a message state one framing at most.
+/// Theorem: the fields of a message state at most one framing.
 pub fn message_states_one_framing()
     ensures { (protocol : Protocol) (message : LineMap) (a b : Framing) → States protocol message a
         → States protocol message b → a ≡ b }
 {}
 
-/// Each end-to-end field that the gateway doesn't write itself keeps its field lines and their order,
-/// and no hop-by-hop field is forwarded but Transfer-Encoding, which is the gateway's own (RFC 9110,
-/// section 7.6.1).
+/// Theorem: each end-to-end field that the gateway doesn't write itself is forwarded with its field
+/// lines in order, and no hop-by-hop field is forwarded except the gateway's own Transfer-Encoding
+/// (RFC 9110, section 7.6.1).
 pub fn end_to_end_fields_alone_cross()
     ensures end_to_end { (gateway : Gateway) (request : Request) (sent : ForwardedRequest) (name : List ℕ)
         → IsForwarded gateway request sent → IsEndToEnd gateway request.fields name
@@ -108,17 +108,17 @@ pub fn end_to_end_fields_alone_cross()
         → name ≢ codes "transfer-encoding" → lines_under (fields_of sent.fields.items) name ≡ [] }
 {}
 
-/// Request smuggling needs two recipients that delimit the content of one request in different ways.
-/// All recipients that know the plain forms delimit what is forwarded alike, as this gateway did,
-/// whatever each makes of other field lines (RFC 9112, section 11.2).
+/// Theorem: all recipients that know the plain forms delimit a forwarded request as this gateway
+/// did, whatever each makes of other field lines (RFC 9112, section 11.2). Request smuggling needs
+/// two recipients that delimit the content of one request in different ways.
 pub fn forwarded_request_is_framed_alike()
     ensures { (gateway : Gateway) (request : Request) (sent : ForwardedRequest) (recipient : Recipient)
         → IsForwarded gateway request sent → KnowsPlain recipient
         → framing_by recipient (fields_of sent.fields.items) ≡ Some sent.framing }
 {}
 
-/// The next gateway, which receives the request in HTTP/1.1, delimits its content as this one did, and
-/// so does each gateway behind it.
+/// Theorem: the next gateway, which receives the request in HTTP/1.1, delimits its content as this
+/// one did, and so does each gateway after it.
 pub fn next_gateway_frames_alike()
     ensures states { (gateway : Gateway) (request next : Request) (sent : ForwardedRequest)
         → IsForwarded gateway request sent → IsReceivedAs request.method sent next → next.protocol ≡ Http11
@@ -130,9 +130,8 @@ pub fn next_gateway_frames_alike()
     lists_parse_one_way();
 }
 
-/// Trailer fields change nothing that was known before them: if a recipient merges them into the header
-/// section, it delimits the content alike, and those that route or authenticate are as they were (RFC
-/// 9110, section 6.5.1).
+/// Theorem: merging trailer fields into the header section changes neither the framing, nor the
+/// fields that route or authenticate the message (RFC 9110, section 6.5.1).
 pub fn trailers_may_be_merged()
     ensures framing { (gateway : Gateway) (framing : Framing) (message received : LineMap)
         (fields trailers : List Field) (recipient : Recipient)
@@ -144,16 +143,17 @@ pub fn trailers_may_be_merged()
         → lines_under (fields ++ trailers) name ≡ lines_under fields name }
 {}
 
-/// A recipient may take an underscore in a name for a dash or not, the first length or the last one,
-/// some coding or the last one, the coding before the length or the length before the coding: it
-/// knows the plain forms.
+/// Theorem: many kinds of recipients know the plain forms. A recipient may take an underscore in a
+/// name for a dash or not, the first length or the last one, any coding or the last one, the coding
+/// before the length or the length before the coding.
 pub fn servers_know_plain_forms()
     ensures { (spelling : Spelling) (pick : Pick) (parse : Line → Option ℕ) (codings : Codings)
         (precedence : Precedence) → ReadsDecimals parse
         → KnowsPlain (server spelling pick parse codings precedence) }
 {}
 
-/// Two such recipients delimit the content of a request with both fields in different ways.
+/// Theorem: two such recipients delimit the content of a request with both fields in different
+/// ways.
 pub fn servers_disagree()
     ensures { (spelling : Spelling) (pick : Pick) (parse : Line → Option ℕ) (codings : Codings) (len : ℕ)
         → parse (decimal len) ≡ Some len
@@ -163,22 +163,22 @@ pub fn servers_disagree()
         × (framing_by (server spelling pick parse codings LengthFirst) request ≡ Some (Length len)) }
 {}
 
-/// A request whose Max-Forwards is n passes n gateways at most (RFC 9110, section 7.6.2).
+/// Theorem: a request whose Max-Forwards is n passes at most n gateways (RFC 9110, section 7.6.2).
 pub fn hops_bound_the_chain()
     ensures { (hops : ℕ) (request : Request) (passed : List Request) → IsTrue (counts_hops request.method)
         → hops_in (request.fields (codes "max-forwards")) ≡ Some hops → IsChain request passed
         → length passed ≤ hops }
 {}
 
-/// What a gateway forwards is a loop to it when it comes back, whatever was added to Via (RFC 9110,
-/// section 7.6.3).
+/// Theorem: a request that a gateway forwarded is a loop to it when it comes back, whatever was
+/// added to Via (RFC 9110, section 7.6.3).
 pub fn own_request_is_a_loop()
     ensures { (gateway : Gateway) (request : Request) (sent : ForwardedRequest) (added : List Line)
         → IsToken gateway.pseudonym → IsForwarded gateway request sent
         → is_loop gateway.pseudonym (lines_under (fields_of sent.fields.items) (codes "via") ++ added) ≡ true }
 {}
 
-/// Two gateways in a row are one that adds two field lines to Via.
+/// Theorem: two gateways in a row are one that adds two field lines to Via.
 pub fn gateways_in_a_row_are_one()
     ensures requests { (first second : Gateway) (request next : Request) (sent last : ForwardedRequest)
         → IsForwarded first request sent → IsReceivedAs request.method sent next
@@ -193,8 +193,9 @@ pub fn gateways_in_a_row_are_one()
         (lines_under (fields_of last.fields.items)) }
 {}
 
-/// A request is rejected for its Host exactly if it has no Host by the grammar of RFC 3986: one field
-/// line that is a host and maybe a port, or none in HTTP/1.0 (RFC 9112, section 3.2).
+/// Theorem: a request is rejected for its Host exactly if it has no Host by the grammar of RFC
+/// 3986: one field line that is a host and perhaps a port, or none in HTTP/1.0 (RFC 9112, section
+/// 3.2).
 pub fn host_parses_by_the_grammar()
     ensures accepted { (protocol : Protocol) (lines : List Line)
         → (has_host protocol lines ≡ true) ↔ HasHost protocol lines }

@@ -3,8 +3,8 @@
 /// The version of HTTP in which a message was received (RFC 9110, section 2.5).
 #[derive(Clone, Copy, Debug, PartialEq, Eq)]
 pub enum Protocol {
-    /// HTTP/1.0.
+    /// The version HTTP/1.0.
     Http10,
-    /// HTTP/1.1.
+    /// The version HTTP/1.1, or a later one.
     Http11,
 }

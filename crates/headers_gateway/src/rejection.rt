@@ -37,8 +37,7 @@ pub enum Rejection {
 }
 
 impl Rejection {
-    /// The status code that answers a rejected request. In place of a rejected response, the status is
-    /// 502.
+    /// Returns the status code for a rejected request. A rejected response is replaced by a 502.
     pub fn status(&self) -> u16
         ensures { result ≡ status_of self.now }
     {

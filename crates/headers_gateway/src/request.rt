@@ -47,8 +47,8 @@ pub struct ForwardedRequest {
 pub enum RequestOutcome {
     /// It forwards it.
     Forward(ForwardedRequest),
-    /// It responds as the final recipient, since the request may be forwarded no more (RFC 9110,
-    /// section 7.6.2). Its content is delimited so.
+    /// It responds as the final recipient, since the request may not be forwarded further (RFC
+    /// 9110, section 7.6.2). The framing is that of the request's content.
     Respond(Framing),
     /// It rejects it.
     Reject(Rejection),
@@ -72,7 +72,8 @@ fn accepted_request(gateway: &Gateway, request: &RequestHead<'_>) -> Result<Fram
     stated_framing(request.protocol, request.fields)
 }
 
-/// What a gateway does with a request. Runs out of memory only if the request may be forwarded.
+/// Decides what a gateway does with a request (RFC 9110, section 7.6; RFC 9112, section 6). Fails
+/// only if an allocation fails, which is possible only if the request may be forwarded.
 pub fn forward_request(
     alloc: Global,
     gateway: &Gateway,

@@ -65,8 +65,8 @@ pub struct ForwardedResponse {
 pub enum ResponseOutcome {
     /// It forwards it.
     Forward(ForwardedResponse),
-    /// It drops it: an interim response, which a client of HTTP/1.0 doesn't know (RFC 9110, section
-    /// 15.2).
+    /// It drops the response: an interim response, which a client of HTTP/1.0 doesn't understand
+    /// (RFC 9110, section 15.2).
     Discard,
     /// It rejects it, and responds with 502 (Bad Gateway) in its place, if the response is final.
     Reject(Rejection),
@@ -138,8 +138,8 @@ fn heeded_framing(
     stated_framing(protocol, fields)
 }
 
-/// How the content of a response is delimited (RFC 9112, section 6.3). The method is that of the
-/// request.
+/// Returns how the content of a response is delimited (RFC 9112, section 6.3). The method is that
+/// of the request.
 pub fn response_content(
     protocol: Protocol,
     method: &Method,
@@ -190,8 +190,9 @@ fn accepted_response(gateway: &Gateway, response: &ResponseHead<'_>) -> Result<F
     )
 }
 
-/// What a gateway does with a response that it receives at this date. Runs out of memory only if the
-/// response may be forwarded.
+/// Decides what a gateway does with a response that it receives at this date (RFC 9110, section
+/// 7.6). Fails only if an allocation fails, which is possible only if the response may be
+/// forwarded.
 pub fn forward_response(
     alloc: Global,
     gateway: &Gateway,

@@ -84,10 +84,10 @@ pub(crate) fn is_header_only(name: &str) -> bool
         || is_of_content(name)
 }
 
-/// The trailer fields that a gateway forwards of a message with these fields. `framing` is that of the
-/// message as it is forwarded: trailer fields follow chunked content alone (RFC 9112, section 7.1.2).
-/// Those that frame or route the message, authenticate its sender, or have to be known before the
-/// content, are dropped (RFC 9110, section 6.5.1).
+/// Returns the trailer fields that a gateway forwards of a message with these fields (RFC 9110,
+/// section 6.5.1). `framing` is that of the message as it is forwarded: only chunked content has
+/// trailer fields (RFC 9112, section 7.1.2). Fields that frame or route the message, authenticate
+/// its sender, or must be known before the content, are dropped.
 pub fn forward_trailers(
     alloc: Global,
     gateway: &Gateway,

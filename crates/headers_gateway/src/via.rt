@@ -29,7 +29,7 @@ impl Model for Pseudonym {
     ghost view = { λ pseudonym. pseudonym.text.bytes };
 }
 
-/// A text that is to be a pseudonym isn't a token.
+/// The error of a text that is no pseudonym, since it is no token.
 #[derive(Clone, Copy, Debug, PartialEq, Eq)]
 pub struct InvalidPseudonym;
 
@@ -48,7 +48,8 @@ impl fmt::Display for InvalidPseudonym {
 impl std::error::Error for InvalidPseudonym {}
 
 impl Pseudonym {
-    /// Makes a pseudonym of a text. `InvalidPseudonym` if it isn't a token (RFC 9110, section 5.6.2).
+    /// Makes a pseudonym of a text. `Invalid` if it isn't a token (RFC 9110, section 5.6.2),
+    /// `Memory` if an allocation fails.
     pub fn new(alloc: Global, text: &str) -> Result<Pseudonym, Refused<InvalidPseudonym>>
         ensures value { IfOk result (λ pseudonym. pseudonym ≡ text.now) }
         ensures valid { OnOk result (IsToken text.now) }

@@ -8,7 +8,7 @@ use headers::{Encoded, HeaderName, HeaderValue};
 use http_header::{CONNECTION, TE, UPGRADE};
 use std::alloc::{AllocError, Global};
 
-/// What a gateway says about its next connection, in place of what it received about the last one.
+/// What a gateway says about its next connection, instead of what it received about the last one.
 #[derive(Clone, Copy)]
 pub struct NextConnection<'a> {
     /// Whether it closes the connection after this message (RFC 9112, section 9.6).
@@ -77,7 +77,8 @@ fn push_optional(
 }
 
 impl<'a> NextConnection<'a> {
-    /// The field lines of Connection, TE and Upgrade. No field lines mean that the field is absent.
+    /// Returns the fields Connection, TE and Upgrade for the next connection; one without lines is
+    /// absent.
     pub fn fields(&self, alloc: Global) -> Result<Vec<Encoded>, AllocError>
         ensures { IfOk result (λ fields. fields_of fields.items ≡ connection_fields (connection_parts self.now)) }
     {

@@ -1,4 +1,4 @@
-//! What follows from the definitions alone. A proof cites a law by calling it.
+//! Theorems about the definitions alone. To cite one in a proof, call it.
 ghost use Rattle.std.specs.Prelude.{◌≡◌, ◌++◌, ℕ, List, Some, false, true, codes};
 ghost use Rattle.headers.specs.LineMap as Encodings;
 ghost use Rattle.headers.specs.LineMap.{LineMap};
@@ -12,7 +12,7 @@ ghost use Rattle.headers_next_hop.specs.declared.request.SentRequest.{SentReques
 
 use headers_gateway::laws::forwarded_request_is_framed_alike;
 
-/// Fields that take the place of others change nothing under other names, and if none of them frames a
+/// Theorem: fields that replace others change no field with another name. If none of them frames a
 /// message, all recipients that know the plain forms delimit the content as before.
 pub fn replaced_fields_leave_others()
     ensures others { (own : List Encodings.Field) (fields : List Field) (name : List ℕ)
@@ -22,8 +22,8 @@ pub fn replaced_fields_leave_others()
         → framing_by recipient (replaced_by own fields) ≡ framing_by recipient fields }
 {}
 
-/// All recipients that know the plain forms delimit the content of what is sent as this gateway did,
-/// whatever each makes of other field lines (RFC 9112, section 11.2).
+/// Theorem: all recipients that know the plain forms delimit the content of a sent request as this
+/// gateway did, whatever each makes of other field lines (RFC 9112, section 11.2).
 pub fn sent_request_is_framed_alike()
     ensures { (gateway : Gateway) (hop : Hop) (request : Request) (sent : SentRequest) (recipient : Recipient)
         → IsSent gateway hop request sent → KnowsPlain recipient

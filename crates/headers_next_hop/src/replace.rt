@@ -1,4 +1,4 @@
-//! Fields in place of others.
+//! Fields that replace others.
 ghost use Rattle.std.specs.Prelude.{◌≡◌, ◌++◌, IfOk, OnOk, bytes_eq, filter, map, not};
 ghost use Rattle.std.specs.List.{flat_map, list_any};
 ghost use Rattle.headers.specs.LineMap.{field_of, fields_of as encodings_of};
@@ -79,8 +79,8 @@ fn push_all(fields: &mut Vec<FieldLine>, own: Vec<Encoded>) -> Result<(), AllocE
     Ok(())
 }
 
-/// The field lines, with those of some fields in place of those of the same names. A field without
-/// field lines is left out.
+/// Replaces field lines by those of some fields with the same names. A field without field lines is
+/// removed.
 pub fn replace_fields(
     alloc: Global,
     fields: Vec<FieldLine>,

@@ -29,7 +29,7 @@ pub struct SentRequest {
     pub fields: Vec<FieldLine>,
 }
 
-/// What a gateway does with a request.
+/// What a gateway does with a request for the next server.
 #[derive(Debug, Drop)]
 pub enum HopOutcome {
     /// It sends it to the next server.
@@ -87,9 +87,10 @@ fn hop_fields(
     Ok(fields)
 }
 
-/// What a gateway does with a request that it would send to a server known to speak this version of
-/// HTTP, with what it says about its connection to the server and about how the request arrived. Runs
-/// out of memory only if the request may be forwarded.
+/// Decides what a gateway does with a request that it would send to a server known to speak this
+/// version of HTTP. `connection` says what it says about its connection to the server, and
+/// `arrival` how the request arrived. Fails only if an allocation fails, which is possible only if
+/// the request may be forwarded.
 pub fn send_request(
     alloc: Global,
     gateway: &Gateway,

@@ -17,12 +17,12 @@ pub struct Member<'a> {
     pub value: Value<'a>,
 }
 
-/// The first member of a text, and the members behind it.
+/// The first member of a dictionary, and the text of the members after it.
 #[derive(Clone, Copy, Debug)]
 pub struct Entry<'a> {
-    /// The member.
+    /// The first member.
     pub member: Member<'a>,
-    /// The members that follow it, if one does.
+    /// The text of the members that follow, if there are any.
     pub next: Option<&'a [u8]>,
 }
 
@@ -98,9 +98,9 @@ fn entry_by<'a>(text: &'a [u8], behind: &'a [u8]) -> Option<Entry<'a>>
     })
 }
 
-/// The first member of a dictionary, and the members behind it (RFC 8941, section 4.2.2). The text is
-/// what stands behind the blanks at the beginning of a field line, or `next` of the entry before. `None`
-/// if it is malformed or empty, so that the whole field is.
+/// Parses the first member of a dictionary (RFC 8941, section 4.2.2), with the members after it.
+/// The text is what follows the blanks at the beginning of a field line, or `next` of the entry
+/// before. `None` if it is malformed or empty, which makes the whole field malformed.
 pub fn read_entry(text: &[u8]) -> Option<Entry<'_>>
     ensures { option_map entry_of result ≡ entry text.now }
 {

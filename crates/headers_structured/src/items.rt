@@ -7,16 +7,16 @@ ghost use Rattle.headers_structured.specs.Values.{reading_of};
 
 use crate::bytes::{Class, before, begins_key, begins_token, is_printable, skip};
 
-/// The value of an item.
+/// The parsed value of an item (RFC 8941, section 3.3).
 #[derive(Clone, Copy, Debug)]
 pub enum Value<'a> {
-    /// An integer, with its text: up to 15 digits, maybe after a minus sign.
+    /// An integer, with its text: up to 15 digits, perhaps after a minus sign.
     Integer(&'a [u8]),
     /// A boolean.
     Boolean(bool),
-    /// A string, with what stands between its quotes: a backslash is before a quote or a backslash.
+    /// A string, with what is between its quotes: a backslash is before a quote or a backslash.
     String(&'a [u8]),
-    /// A decimal, a token, a byte sequence or an inner list.
+    /// Another value: a decimal, a token, a byte sequence or an inner list.
     Other,
 }
 

@@ -1,7 +1,7 @@
-//! Structured fields (RFC 8941): the members of a dictionary, with the values that a cache directive may
-//! have.
+//! A parser of structured fields (RFC 8941): the members of a dictionary, with the values that a
+//! cache directive may have.
 //!
-//! What isn't well formed is malformed as a whole. Nothing allocates.
+//! A field that isn't well formed is malformed as a whole. No call allocates.
 #![tactic(auto)]
 
 mod bytes;
