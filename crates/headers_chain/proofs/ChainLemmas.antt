@@ -1,7 +1,7 @@
 -- What a client receives through gateways and caches is what the resource says.
-use Rattle.std.proofs.Common.{◌≡◌, ◌≢◌, ◌⊎◌, ℕ, ◌-◌, ◌≤◌, true, false, List, [], ◌∷◌, Some, None}
+use Rattle.std.proofs.Common.{◌≡◌, ◌≢◌, ◌⊎◌, ℕ, ◌-◌, ◌≤◌, Bool, true, false, List, [], ◌∷◌, Some, None}
 use Rattle.std.proofs.Common.{refl, sym, ◌∙◌, ap, subst, inl, inr, arith}
-use Rattle.std.specs.Prelude.{All, Contains, bytes_eq, codes}
+use Rattle.std.specs.Prelude.{All, Contains, bytes_eq, codes, if◌then◌else◌}
 use Rattle.std.specs.List.{list_any}
 use Rattle.std.proofs.lemmas.Bool.{cases_Bool}
 use Rattle.http_header.specs.Token.{lowercase}
@@ -9,11 +9,12 @@ use Rattle.headers.specs.LineMap.{fields_of, set_all}
 use Rattle.headers.specs.Lines.{Line}
 use Rattle.headers_cache.specs.Lookups.{freshness_of}
 use Rattle.headers_cache_policy.specs.Fields.{age_of, capped}
+use Rattle.headers_cache_policy.specs.Requests.{AllowsMethod, IsGetOrHead}
 use Rattle.headers_cache_rules.specs.Stored.{fields_of_stored}
-use Rattle.headers_chain.specs.Caches.{Caching, HasComeFrom, IsFromStore, IsPlain, Origin, Reply}
+use Rattle.headers_chain.specs.Caches.{Caching, HasComeFrom, IsFromStore, IsPlain, Origin, Reply, unless_head}
 use Rattle.headers_chain.specs.Chains.{Hop, IsForwardedBack, IsGoodAt, IsOwn, IsTold, behind, meant, own_statuses}
 use Rattle.headers_chain.specs.Chains.Hop.{Forwards, Stores}
-use Rattle.headers_chain.specs.Servers.{IsCarried, SaysCloseAtMost, Server, sent_of, unless_head}
+use Rattle.headers_chain.specs.Servers.{IsCarried, SaysCloseAtMost, Server, sent_of}
 use Rattle.headers_chain.specs.Ways.{end_to_end_lines, sent_directly}
 use Rattle.headers_fields.specs.Members.{field_members}
 use Rattle.headers_fields.specs.Scan.{Member}
@@ -22,12 +23,14 @@ use Rattle.headers_gateway.specs.HopByHop.{connection_options, is_hop_by_hop, is
 use Rattle.headers_gateway.specs.declared.gateway.Gateway.{Gateway}
 use Rattle.headers_gateway.specs.declared.protocol.Protocol.TheVariants.{Http11}
 use Rattle.headers_resource.specs.Answers.{AreSame, IsAnswer}
-use Rattle.headers_resource.specs.Requests.{Request}
+use Rattle.headers_resource.specs.Requests.{Request, get_of, head_of}
+use Rattle.headers_resource.specs.Vary.{AreAlike, ChooseAlike}
 use Rattle.headers_resource.specs.declared.answer.Answer.{Answer}
 use Rattle.headers_resource.specs.declared.resource.Resource.{Resource}
 use Rattle.headers_chain.proofs.ConnectionLemmas.{crosses_if}
 use Rattle.headers_chain.proofs.ServerLemmas.{same_sent, says_close_at_most}
-use Rattle.headers_chain.proofs.StoreLemmas.{StoreLaws, age_is, alike_first, come, content_is, counted, counts, from}
+use Rattle.headers_chain.proofs.StoreLemmas.{StoreLaws, age_is, alike_first, allowed_method, asked_first, come, counted}
+use Rattle.headers_chain.proofs.StoreLemmas.{counts, from, once_more, with_method}
 use Rattle.headers_chain.proofs.StoreLemmas.{lacks, plain_first, quiet, right, shown, stored_as, suits}
 use Rattle.headers_chain.proofs.SuitLemmas.{MembersSelect, VaryIsSound, suited}
 use Rattle.headers_chain.proofs.WayLemmas.{ReadsNoMore, alike, apart, choose_alike, choose_direct, crosses, differs}
@@ -53,6 +56,13 @@ coding_not_carried name h e = h.not_own 6 [] (omega arith) (sym e)
 
 date_not_carried : (name : List ℕ) → IsCarried name → name ≢ codes "date"
 date_not_carried name h e = h.not_own 2 [] (omega arith) (sym e)
+
+nothing_by : (b : Bool) (content : List ℕ) → content ≡ [] → (if b then [] else content) ≡ []
+nothing_by true content e = refl
+nothing_by false content e = e
+
+nothing : (method : List ℕ) → unless_head method [] ≡ []
+nothing method = nothing_by (bytes_eq method (codes "HEAD")) [] refl
 
 -- ---- one request in place of another
 
@@ -148,7 +158,7 @@ module _ (reads : ReadsNoMore) where
   plain_meant : (target : List ℕ) (request : Request) → IsPlain target request → (hops : List Hop)
       → Same (meant hops request) request
   plain_meant target request h hops =
-      as_meant request h.get.protocol h.get.authority
+      as_meant request h.read.protocol h.read.authority
       (ap (λ (lines : List Line). field_members true lines) (h.without 0 [] (omega arith))) hops
 
   -- ---- a gateway
@@ -276,7 +286,92 @@ module _ (reads : ReadsNoMore) where
 
 -- ---- a cache
 
-module _ (sound : VaryIsSound) (members : MembersSelect) (law : StoreLaws) (server : Server) (caching : Caching)
+-- what a law of a resource says: HEAD is answered as GET
+abbrev pub HeadIsAsGet : Type 0
+HeadIsAsGet =
+    (present : ℕ) (resource : Resource) (request : Request) (answer : Answer)
+    → IsAnswer present resource (get_of request) answer → IsAnswer present resource (head_of request) answer
+
+-- ---- a method in place of another
+
+module _ (request : Request) where
+  with_asks : (r s : Request) → r.protocol ≡ s.protocol → r.method ≡ s.method → r.authority ≡ s.authority
+      → r.content ≡ s.content → ((name : List ℕ) → bytes_eq (codes "range") name ≡ false → r.fields name ≡ s.fields name)
+      → r.fields (codes "range") ≡ s.fields (codes "range") → AreAlike r s
+  with_asks r s protocol method authority content others range =
+      record {
+        protocol = protocol;
+        method = method;
+        authority = authority;
+        host = others (codes "host") refl;
+        expect = others (codes "expect") refl;
+        content = content;
+        content_type = others (codes "content-type") refl;
+        content_encoding = others (codes "content-encoding") refl;
+        asks =
+            record {
+              if_match = others (codes "if-match") refl;
+              if_none_match = others (codes "if-none-match") refl;
+              if_modified_since = others (codes "if-modified-since") refl;
+              if_unmodified_since = others (codes "if-unmodified-since") refl;
+              range = range;
+              if_range = others (codes "if-range") refl;
+            };
+      }
+
+  as_head : request.method ≡ codes "HEAD" → AreAlike (head_of request) request
+  as_head is_head = with_asks (head_of request) request refl (sym is_head) refl refl (λ name e. refl) refl
+
+  as_get : (method : List ℕ) → method ≡ codes "GET" → request.fields (codes "range") ≡ []
+      → AreAlike (with_method method request) (get_of request)
+  as_get method is_get none =
+      with_asks (with_method method request) (get_of request) refl is_get refl refl
+      (λ name e. sym (ap (λ (b : Bool). if b then [] else request.fields name) e)) none
+
+  as_it_is : (method : List ℕ) → method ≡ request.method → AreAlike (with_method method request) request
+  as_it_is method same = with_asks (with_method method request) request refl same refl refl (λ name e. refl) refl
+
+  choose_it : ChooseAlike request.fields request.fields
+  choose_it =
+      record {
+        accept = refl;
+        accept_language = refl;
+        accept_encoding = refl;
+        origin = refl;
+        requested_method = refl;
+      }
+
+  choose_get : ChooseAlike request.fields (get_of request).fields
+  choose_get =
+      record {
+        accept = refl;
+        accept_language = refl;
+        accept_encoding = refl;
+        origin = refl;
+        requested_method = refl;
+      }
+
+-- an answer to the request with a method that may answer it is an answer to the request
+allowed_answer : ReadsNoMore → HeadIsAsGet → (target : List ℕ) (request : Request) → IsPlain target request
+    → (method : List ℕ) → AllowsMethod method request.method → (present : ℕ) (resource : Resource) (answer : Answer)
+    → IsAnswer present resource (with_method method request) answer → IsAnswer present resource request answer
+allowed_answer reads heads target request plain method (inl h) present resource answer k = by h.1
+  where
+    by : IsGetOrHead request.method → IsAnswer present resource request answer
+    by (inl get) =
+        (reads present resource (with_method method request) request answer
+        (as_it_is request method (h.0 ∙ sym get)) (choose_it request)).0 k
+    by (inr head) =
+        let gets = (reads present resource (with_method method request) (get_of request) answer
+        (as_get request method h.0 (plain.without 8 [] (omega arith))) (choose_get request)).0 k in
+        (reads present resource (head_of request) request answer (as_head request head) (choose_it request)).0
+        (heads present resource request answer gets)
+allowed_answer reads heads target request plain method (inr h) present resource answer k =
+    (reads present resource (with_method method request) request answer
+    (as_it_is request method (h.0 ∙ sym h.1)) (choose_it request)).0 k
+
+module _ (reads : ReadsNoMore) (heads : HeadIsAsGet) (sound : VaryIsSound) (members : MembersSelect) (law : StoreLaws)
+    (server : Server) (caching : Caching)
     (origin : Origin) (now : ℕ) (target : List ℕ) (request : Request) (reply : Reply)
     (f : IsFromStore caching origin now target request reply) where
   abbrev first : Request
@@ -294,7 +389,10 @@ module _ (sound : VaryIsSound) (members : MembersSelect) (law : StoreLaws) (serv
   own_stored own =
       record {
         status = subst (λ (n : ℕ). Contains own_statuses n) (sym status_is) own.status;
-        content = content_is law caching origin now target request reply f ∙ own.content;
+        content =
+            once_more law caching origin now target request reply f []
+            (own.content ∙ sym (nothing first.method))
+            ∙ nothing request.method;
         fields = λ name c.
             lacks law caching origin now target request reply f name c.not_age (date_not_carried name c)
             (own.fields name c);
@@ -310,10 +408,11 @@ module _ (sound : VaryIsSound) (members : MembersSelect) (law : StoreLaws) (serv
       let varies : fields_of_stored f.stored (codes "vary")
       ≡ set_all (server.own t.time came.reply.status) (fields_of said.answer.fields.items) (codes "vary")
       = stored (codes "vary") vary_carried ∙ said.fields (codes "vary") vary_carried in
-      let now_said = server.answers t.time request in
+      let asked_now = asked_first law caching origin now target request reply f in
+      let now_said = server.answers t.time asked_now in
       let both_alike = alike_first law caching origin now target request reply f in
       let same : AreSame said.answer now_said.0
-      = suited sound members t.time (server.resource t.time) first request said.answer now_said.0
+      = suited sound members t.time (server.resource t.time) first asked_now said.answer now_said.0
       (server.own t.time came.reply.status) said.is now_said.1 both_alike
       (suits law caching origin now target request reply f
       (set_all (server.own t.time came.reply.status) (fields_of said.answer.fields.items)) varies) in
@@ -325,14 +424,14 @@ module _ (sound : VaryIsSound) (members : MembersSelect) (law : StoreLaws) (serv
         said =
             record {
               answer = now_said.0;
-              is = now_said.1;
+              is =
+                  allowed_answer reads heads target request f.sought.plain first.method
+                  (allowed_method law caching origin now target request reply f) t.time (server.resource t.time)
+                  now_said.0 now_said.1;
               status = sym same.status ∙ said.status ∙ ap (λ (n : ℕ). Some n) (sym status_is);
               content =
-                  content_is law caching origin now target request reply f ∙ said.content
-                  ∙ ap
-                  (λ (m : List ℕ). unless_head m
-                  (server.content t.time came.reply.status (sent_of said.answer.sends)))
-                  both_alike.method
+                  once_more law caching origin now target request reply f
+                  (server.content t.time came.reply.status (sent_of said.answer.sends)) said.content
                   ∙ ap (λ (sent : _). unless_head request.method (server.content t.time came.reply.status sent))
                   (same_sent said.answer.sends now_said.0.sends same.sends)
                   ∙ ap
@@ -370,8 +469,8 @@ module _ (sound : VaryIsSound) (members : MembersSelect) (law : StoreLaws) (serv
 
 -- ---- a chain
 
-module _ (reads : ReadsNoMore) (sound : VaryIsSound) (members : MembersSelect) (law : StoreLaws)
-    (site : List ℕ → Server) where
+module _ (reads : ReadsNoMore) (heads : HeadIsAsGet) (sound : VaryIsSound) (members : MembersSelect)
+    (law : StoreLaws) (site : List ℕ → Server) where
   pub tells : (hops : List Hop) (now : ℕ) (target : List ℕ) (request : Request) (reply : Reply)
       → behind site hops now target request reply → IsTold (site target) now (meant hops request) reply ⊎ IsOwn reply
   tells [] now target request reply h =
@@ -404,7 +503,7 @@ module _ (reads : ReadsNoMore) (sound : VaryIsSound) (members : MembersSelect) (
   tells (Stores caching ∷ hops) now target request reply (inr (inl f)) =
       let origin = behind site hops in
       let first = (come law caching origin now target request reply f).request in
-      let earlier = came sound members law (site target) caching origin now target request reply f in
+      let earlier = came reads heads sound members law (site target) caching origin now target request reply f in
       elim (tells hops earlier.time target first earlier.reply earlier.answered) [
         | inl t ↦
             let there : Same (meant hops first) first =
@@ -413,10 +512,10 @@ module _ (reads : ReadsNoMore) (sound : VaryIsSound) (members : MembersSelect) (
             inl (
             told_as (site target) now reply request (meant hops request) back.back
             (
-            from_store sound members law (site target) caching origin now target request reply f
+            from_store reads heads sound members law (site target) caching origin now target request reply f
             (told_as (site target) earlier.time earlier.reply (meant hops first) first there.there t)
             )
             )
         | inr own ↦
-            inr (own_stored sound members law (site target) caching origin now target request reply f own)
+            inr (own_stored reads heads sound members law (site target) caching origin now target request reply f own)
       ]

@@ -41,7 +41,7 @@ use Rattle.headers_cache_rules.specs.Storing.{reuse_names}
 use Rattle.headers_cache_rules.specs.declared.storing.Reception.{Reception}
 use Rattle.headers_cache_rules.specs.declared.stored.StoredResponse.{StoredResponse}
 use Rattle.headers_chain.specs.Caches.{Act, Caching, HasAfter, HasComeFrom, IsFromStore, IsPlain}
-use Rattle.headers_chain.specs.Caches.{Origin, Reply, ServesOnError, asked, calls_of, key_of}
+use Rattle.headers_chain.specs.Caches.{Origin, Reply, ServesOnError, asked, calls_of, key_of, unless_head}
 use Rattle.headers_chain.specs.Caches.Act.{Looks, Takes, Drops}
 use Rattle.headers_chain.specs.Servers.{SaysCloseAtMost}
 use Rattle.headers_fields.specs.Members.{field_members}
@@ -160,16 +160,27 @@ module _ (caching : Caching) (origin : Origin) (now : ℕ) where
 
 -- ---- plain requests
 
+-- a request with the method of another one
+abbrev pub with_method : List ℕ → Request → Request
+with_method method request =
+    record {
+      protocol = request.protocol;
+      method = method;
+      authority = request.authority;
+      content = request.content;
+      fields = request.fields;
+    }
+
 pub plain_alike : (target : List ℕ) (r s : Request) → IsPlain target r → IsPlain target s
-    → r.fields (codes "host") ≡ s.fields (codes "host") → AreAlike r s
+    → r.fields (codes "host") ≡ s.fields (codes "host") → AreAlike r (with_method r.method s)
 plain_alike target r s h k host =
     record {
-      protocol = h.get.protocol ∙ sym k.get.protocol;
-      method = h.get.method ∙ sym k.get.method;
-      authority = h.get.authority ∙ sym k.get.authority;
+      protocol = h.read.protocol ∙ sym k.read.protocol;
+      method = refl;
+      authority = h.read.authority ∙ sym k.read.authority;
       host = host;
       expect = h.without 3 [] (omega arith) ∙ sym (k.without 3 [] (omega arith));
-      content = h.get.content ∙ sym k.get.content;
+      content = h.read.content ∙ sym k.read.content;
       content_type = h.without 1 [] (omega arith) ∙ sym (k.without 1 [] (omega arith));
       content_encoding = h.without 2 [] (omega arith) ∙ sym (k.without 2 [] (omega arith));
       asks =
@@ -182,6 +193,19 @@ plain_alike target r s h k host =
             if_range = h.without 9 [] (omega arith) ∙ sym (k.without 9 [] (omega arith));
           };
     }
+
+-- a stored response may answer its own method
+own_method : (m n : List ℕ) → AllowsMethod m n → AllowsMethod m m
+own_method m n (inl h) = inl (h.0, inl h.0)
+own_method m n (inr h) = inr (h.0, h.0)
+
+-- what a method leaves of a content, after the method of the stored response
+once : (m n : List ℕ) → AllowsMethod m n → (content : List ℕ)
+    → unless_head n (unless_head m content) ≡ unless_head n content
+once m n (inl h) content = ap (λ (k : List ℕ). unless_head n (unless_head k content)) h.0
+once m n (inr h) content =
+    ap (λ (k : List ℕ). unless_head k (unless_head m content)) h.1
+    ∙ sym (ap (λ (k : List ℕ). unless_head k content) h.1)
 
 -- ---- what is served
 
@@ -311,7 +335,11 @@ module _ (law : StoreLaws) (caching : Caching) (origin : Origin) (now : ℕ) (ta
   from =
       subst (λ (t : List ℕ). HasComeFrom caching.clock origin now t come.request come.came) one.target come.from
 
-  pub alike_first : AreAlike come.request request
+  -- the request with the method of the stored response
+  abbrev pub asked_first : Request
+  asked_first = with_method come.request.method request
+
+  pub alike_first : AreAlike come.request asked_first
   alike_first = plain_alike target come.request request plain_first f.sought.plain one.host
 
   -- if at most the end of the connection was said of it, what isn't for one connection is stored as it came
@@ -331,9 +359,14 @@ module _ (law : StoreLaws) (caching : Caching) (origin : Origin) (now : ℕ) (ta
         ∙ come.kept.fields.hop_by_hop (codes "connection") refl (λ e. absurd (cc e)),
   )
 
+  pub allowed_method : AllowsMethod come.request.method request.method
+  allowed_method =
+      subst (λ (m : List ℕ). AllowsMethod m request.method) (come.kept.method ∙ from.noted.method)
+      is_candidate.method
+
   -- the request that it answered, as the cache stored it
   pub suits : (response : LineMap) → fields_of_stored f.stored (codes "vary") ≡ response (codes "vary")
-      → Suits (asked come.request) (asked request) response
+      → Suits (asked come.request) (asked asked_first) response
   suits response varies =
       let stored_lines = λ (name : List ℕ).
       ap (λ m. lines_at m name) come.kept.request ∙ from.noted.asked_fields name in
@@ -341,9 +374,7 @@ module _ (law : StoreLaws) (caching : Caching) (origin : Origin) (now : ℕ) (ta
       → Agree come.request.fields request.fields member
       = agree stored_lines in
       record {
-        method =
-            subst (λ (m : List ℕ). AllowsMethod m request.method) (come.kept.method ∙ from.noted.method)
-            is_candidate.method;
+        method = own_method come.request.method request.method allowed_method;
         fields =
             subst (λ (lines : List Line). All (Agree come.request.fields request.fields) (field_members true lines))
             varies
@@ -432,8 +463,17 @@ module _ (law : StoreLaws) (caching : Caching) (origin : Origin) (now : ℕ) (ta
       )
       caching.policy.targets come.allowed.fair.targeted
 
-  pub content_is : reply.content ≡ from.reply.content
-  content_is = f.content ∙ ap (λ c. c.items) come.kept.content ∙ from.noted.content
+  pub content_is : reply.content ≡ unless_head request.method from.reply.content
+  content_is =
+      f.content ∙ ap (λ c. unless_head request.method c.items) come.kept.content
+      ∙ ap (λ (content : List ℕ). unless_head request.method content) from.noted.content
+
+  -- of what a server says to the first method
+  pub once_more : (content : List ℕ) → from.reply.content ≡ unless_head come.request.method content
+      → reply.content ≡ unless_head request.method content
+  once_more content said =
+      content_is ∙ ap (λ (c : List ℕ). unless_head request.method c) said
+      ∙ once come.request.method request.method allowed_method content
 
   pub shareable : IsShareable caching.policy.kind come.request.fields (tells caching.policy reply.fields)
   shareable =

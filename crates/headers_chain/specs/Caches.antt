@@ -1,6 +1,6 @@
 -- A cache before other servers (RFC 9111): which requests it answers from its store, what it stores, and when.
 use Rattle.std.specs.Prelude.{◌≡◌, ◌≢◌, ◌⊎◌, ℕ, ◌+◌, ◌-◌, ◌≤◌, Bool, true, ◌&&◌, not, ◌==◌, List, [], ◌∷◌, ◌++◌, All, None}
-use Rattle.std.specs.Prelude.{Some, codes, slice_get, unwrap_or}
+use Rattle.std.specs.Prelude.{Some, bytes_eq, codes, if◌then◌else◌, slice_get, unwrap_or}
 use Rattle.std.specs.List.{list_all}
 use Rattle.headers.specs.LineMap.{Field, LineMap, lines_at}
 use Rattle.headers.specs.Lines.{Line, only_line}
@@ -15,7 +15,7 @@ use Rattle.headers_cache.specs.declared.lookup.Lookup.{Lookup}
 use Rattle.headers_cache.specs.declared.lookup.Lookup.TheVariants.{Serve, ServeAndRevalidate, Validate, ValidateOrServe}
 use Rattle.headers_cache.specs.declared.lookup.Lookup.TheVariants.{Unavailable, Forward}
 use Rattle.headers_cache_policy.specs.Policies.{Policy}
-use Rattle.headers_cache_policy.specs.Requests.{Request as Asked}
+use Rattle.headers_cache_policy.specs.Requests.{IsGetOrHead, Request as Asked}
 use Rattle.headers_cache_rules.specs.Stored.{fields_of_stored}
 use Rattle.headers_cache_rules.specs.declared.storing.Reception.{Reception}
 use Rattle.headers_cache_rules.specs.declared.stored.StoredResponse.{StoredResponse}
@@ -28,6 +28,10 @@ pub record Reply : Type 0 where
   pub status : ℕ
   pub fields : LineMap
   pub content : List ℕ
+
+-- a response to HEAD has no content (RFC 9110, section 9.3.2)
+abbrev pub unless_head : List ℕ → List ℕ → List ℕ
+unless_head method content = if bytes_eq method (codes "HEAD") then [] else content
 
 -- those who answer requests: at a time, in seconds since 1970, they give a request to a target this reply
 abbrev pub Origin : Type 1
@@ -51,16 +55,16 @@ special_names =
 abbrev pub is_bare : Line → Bool
 is_bare host = is_text host && list_all (λ b. not (b == 47)) host
 
--- a GET in HTTP/1.1 without content, whose target isn't in absolute-form
-pub record IsBareGet (request : Request) : Type 0 where
-  pub method : request.method ≡ codes "GET"
+-- a GET or a HEAD in HTTP/1.1 without content, whose target isn't in absolute-form
+pub record IsBareRead (request : Request) : Type 0 where
+  pub method : IsGetOrHead request.method
   pub protocol : request.protocol ≡ Http11
   pub authority : request.authority ≡ None
   pub content : request.content ≡ Absent
 
--- A request that a cache may answer from its store: a bare GET for a path at one host, without the special fields.
+-- A request that a cache may answer from its store: a bare read of a path at one host, without the special fields.
 pub record IsPlain (target : List ℕ) (request : Request) : Type 0 where
-  pub get : IsBareGet request
+  pub read : IsBareRead request
   pub path : List ℕ
   pub is_path : target ≡ 47 ∷ path
   pub host : Line
@@ -187,6 +191,6 @@ pub record IsFromStore (caching : Caching) (origin : Origin) (now : ℕ) (target
   pub serves : Serves lookup place age
       ⊎ (ServesOnError lookup place × (age ≡ age_of_stored stored (caching.clock.shows now)))
   pub status : reply.status ≡ stored.status
-  pub content : reply.content ≡ stored.content.items
+  pub content : reply.content ≡ unless_head request.method stored.content.items
   pub fields : (name : List ℕ) → name ≢ codes "age" → reply.fields name ≡ fields_of_stored stored name
   pub has_age : reply.fields (codes "age") ≡ age.1

@@ -1,10 +1,9 @@
 -- The server of a resource, and what it says about a request (RFC 9110).
-use Rattle.std.specs.Prelude.{◌≡◌, ◌≢◌, ℕ, Bool, true, false, List, [], ◌∷◌, All, Option, Some, bytes_eq, codes}
-use Rattle.std.specs.Prelude.{if◌then◌else◌}
+use Rattle.std.specs.Prelude.{◌≡◌, ◌≢◌, ℕ, Bool, true, false, List, [], ◌∷◌, All, Option, Some, codes}
 use Rattle.http_header.specs.Token.{lowercase}
 use Rattle.headers.specs.LineMap.{LineMap, fields_of, set, set_all}
 use Rattle.headers.specs.Lines.{Line}
-use Rattle.headers_chain.specs.Caches.{Reply}
+use Rattle.headers_chain.specs.Caches.{Reply, unless_head}
 use Rattle.headers_gateway.specs.Forwarding.{own_names}
 use Rattle.headers_gateway.specs.HopByHop.{is_known}
 use Rattle.headers_preconditions.specs.Plans.{parts_sent}
@@ -51,10 +50,6 @@ pub record IsCarried (name : List ℕ) : Type 0 where
   pub not_own : All (λ own. own ≢ name) own_names
   pub not_age : name ≢ codes "age"
   pub not_close : lowercase name ≢ codes "close"
-
--- a response to HEAD has no content (RFC 9110, section 9.3.2)
-abbrev pub unless_head : List ℕ → List ℕ → List ℕ
-unless_head method content = if bytes_eq method (codes "HEAD") then [] else content
 
 -- The reply is what the resource says about the request at that time: it has the status of the answer, the content that
 -- goes with it, and each carried field as the server sends it.

@@ -43,6 +43,7 @@ pub record HasBareHost (fields : LineMap) (host : Line) : Type 0 where
 pub record IsPending (target : List ℕ) (request : Request) (requested : ℕ) (pending : Pending) : Type 0 where
   pub plain : IsPlain target request
   pub key : string_bytes pending.key ≡ key_of target request
+  pub method : pending.method ≡ request.method
   pub fields : (name : List ℕ) → lines_at pending.fields name ≡ request.fields name
   pub at : pending.requested ≡ requested
 

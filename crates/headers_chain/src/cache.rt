@@ -7,7 +7,8 @@ ghost use Rattle.headers.specs.LineMap.{lines_at};
 ghost use Rattle.headers.specs.Lines.{Line};
 ghost use Rattle.headers_cache.specs.Contents.{used};
 ghost use Rattle.headers_cache.specs.Kept.{contents_of, policy_of_store};
-ghost use Rattle.headers_chain.specs.Caches.{IsBareGet, IsPlain, key_of};
+ghost use Rattle.headers_cache_policy.specs.Requests.{IsGetOrHead};
+ghost use Rattle.headers_chain.specs.Caches.{IsBareRead, IsPlain, key_of};
 ghost use Rattle.headers_chain.specs.Serving.{HasBareHost, IsAction, IsActionOf, IsPending, IsTaken, has_special};
 ghost use Rattle.headers_chain.specs.Serving.{is_there, reply_of};
 ghost use Rattle.headers_resource.specs.Requests.{Request, request_of};
@@ -30,6 +31,7 @@ use std::alloc::{AllocError, Global};
 #[derive(Debug, Drop)]
 pub struct Pending {
     pub(crate) key: String,
+    pub(crate) method: Method,
     pub(crate) fields: HeaderMap,
     pub(crate) requested: u64,
 }
@@ -49,7 +51,8 @@ pub struct Received {
 /// of the request: `Store::response` returns it.
 #[derive(Debug, Drop)]
 pub enum Action {
-    /// The stored response at the place is the answer, with this field Age in place of its own.
+    /// The stored response at the place is the answer, with this field Age in place of its own; to HEAD without
+    /// its content.
     Serve(usize, Encoded),
     /// The same, and the request is sent on after that, as a newer response is wanted
     /// (`stale-while-revalidate`).
@@ -88,10 +91,16 @@ fn has_special(fields: &HeaderMap) -> bool
         || has(fields, IF_RANGE)
 }
 
-fn is_bare_get(request: &RequestHead<'_>) -> bool
-    ensures { MatchBool result (IsBareGet (request_of request.now)) (¬ (IsBareGet (request_of request.now))) }
+fn is_get_or_head(method: &Method) -> bool
+    ensures { MatchBool result (IsGetOrHead method.now) (¬ (IsGetOrHead method.now)) }
 {
-    *request.method == Method::GET
+    *method == Method::GET || *method == Method::HEAD
+}
+
+fn is_bare_read(request: &RequestHead<'_>) -> bool
+    ensures { MatchBool result (IsBareRead (request_of request.now)) (¬ (IsBareRead (request_of request.now))) }
+{
+    is_get_or_head(request.method)
         && request.protocol == Protocol::Http11
         && request.authority.is_none()
         && request.content == RequestContent::Absent
@@ -136,7 +145,7 @@ fn plain_host<'a>(target: &str, request: &RequestHead<'a>) -> Option<&'a str>
         (λ host. IsPlain target.now (request_of request.now)
         × (lines_at request.now.fields.now (codes "host") ≡ host.now ∷ [])) }
 {
-    if !is_bare_get(request) || !is_path(target) || has_special(request.fields) {
+    if !is_bare_read(request) || !is_path(target) || has_special(request.fields) {
         return None;
     }
     let host = bare_host(request.fields)?;
@@ -155,11 +164,13 @@ fn key_of(alloc: Global, host: &str, target: &str) -> Result<String, AllocError>
 
 // What is kept of a plain request that is sent on.
 fn sent_on(key: String, request: &RequestHead<'_>, now: u64) -> Result<Pending, AllocError>
-    ensures { IfOk result (λ pending. (pending.key ≡ key) × (pending.requested ≡ now)
+    ensures { IfOk result (λ pending. (pending.key ≡ key) × (pending.method ≡ request.now.method.now)
+        × (pending.requested ≡ now)
         × ((name : List ℕ) → lines_at pending.fields name ≡ lines_at request.now.fields.now name)) }
 {
     Ok(Pending {
         key,
+        method: request.method.clone()?,
         fields: request.fields.clone()?,
         requested: now,
     })
@@ -246,6 +257,7 @@ pub fn take_response(
 {
     let Pending {
         key,
+        method,
         fields: request,
         requested,
     } = pending;
@@ -255,7 +267,7 @@ pub fn take_response(
         content,
     } = received;
     let came = StoredResponse {
-        method: Method::GET,
+        method,
         request,
         status,
         response,

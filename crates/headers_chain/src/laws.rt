@@ -6,7 +6,7 @@ ghost use Rattle.headers_cache_policy.specs.Fields.{IsPresent};
 ghost use Rattle.headers_cache_policy.specs.Policies.{tells};
 ghost use Rattle.headers_cache_policy.specs.Storing.{IsOpen};
 ghost use Rattle.headers_cache_policy.specs.declared.Kind.TheVariants.{Shared};
-ghost use Rattle.headers_chain.specs.Caches.{Caching, IsFromStore, IsPlain, Reply, asked, key_of};
+ghost use Rattle.headers_chain.specs.Caches.{Caching, IsFromStore, IsPlain, Reply, asked, key_of, unless_head};
 ghost use Rattle.headers_chain.specs.Chains.{Hop, IsForwardedBack, IsOwn, IsTold, behind, meant};
 ghost use Rattle.headers_chain.specs.Servers.{IsSent, SaysCloseAtMost, Server};
 ghost use Rattle.headers_cors_policy.specs.Browser.{CorsCheck, Request as Sent};
@@ -23,7 +23,9 @@ ghost use Rattle.headers_resource.specs.Vary.{AreAlike};
 ghost use Rattle.headers_resource.specs.declared.resource.Resource.{Resource};
 
 use headers_cache::laws::{calls_justify_what_is_stored, lookups_serve_what_calls_justify};
-use headers_resource::laws::{members_alone_select, other_fields_change_nothing, vary_is_sound};
+use headers_resource::laws::{
+    head_is_answered_as_get, members_alone_select, other_fields_change_nothing, vary_is_sound,
+};
 
 /// Gateways are invisible to a resource: however many are between it and a client, what they forward gets
 /// exactly the answers that the client's request would get if the client sent it itself, without the fields
@@ -97,6 +99,7 @@ pub fn client_gets_what_the_resource_says()
         (reply : Reply) → behind site hops now target request reply
         → IsTold (site target) now (meant hops request) reply ⊎ IsOwn reply }
 {
+    head_is_answered_as_get();
     calls_justify_what_is_stored();
     lookups_serve_what_calls_justify();
     vary_is_sound();
@@ -133,7 +136,7 @@ pub fn shared_caches_serve_nothing_private()
         (target : List ℕ) (request : Request) (reply : Reply) → caching.policy.kind ≡ Shared
         → IsFromStore caching (behind site hops) now target request reply
         → (time : ℕ) × (first : Request) × (came : Reply) × behind site hops time target first came
-        × (reply.content ≡ came.content)
+        × (reply.content ≡ unless_head request.method came.content)
         × (IsPresent (codes "authorization") first.fields → IsOpen (tells caching.policy reply.fields)) }
 {
     calls_justify_what_is_stored();

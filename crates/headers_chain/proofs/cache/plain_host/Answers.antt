@@ -2,15 +2,15 @@ use Rattle.headers.specs.LineMap.{lines_at}
 use Rattle.headers_chain.specs.Serving.{HasBareHost}
 use Rattle.headers_chain.proofs.ServingLemmas.{not_special, without_special}
 use Rattle.headers_chain.proofs.cache.plain_host.Goals as goal
-use Rattle.headers_chain.proofs.cache.plain_host.Goals.{then-not-is_bare_get-via-then-not-is_bare_get}
-use Rattle.headers_chain.proofs.cache.plain_host.Goals.{then-not-is_bare_get-via-else-not-is_bare_get+then-not-is_path}
-use Rattle.headers_chain.proofs.cache.plain_host.Goals.{then-not-is_bare_get-via-else-not-is_bare_get+else-not-is_path+then-has_special}
+use Rattle.headers_chain.proofs.cache.plain_host.Goals.{then-not-is_bare_read-via-then-not-is_bare_read}
+use Rattle.headers_chain.proofs.cache.plain_host.Goals.{then-not-is_bare_read-via-else-not-is_bare_read+then-not-is_path}
+use Rattle.headers_chain.proofs.cache.plain_host.Goals.{then-not-is_bare_read-via-else-not-is_bare_read+else-not-is_path+then-has_special}
 
-pub returns-then-not-is_bare_get : goal.returns-then-not-is_bare_get
-returns-then-not-is_bare_get c = λ h. elim c.then-not-is_bare_get.branch [
-  | then-not-is_bare_get-via-then-not-is_bare_get w ↦ w.if-not-is_bare_get.ensures h.get
-  | then-not-is_bare_get-via-else-not-is_bare_get+then-not-is_path w ↦ w.if-not-is_path.ensures (h.path, h.is_path)
-  | then-not-is_bare_get-via-else-not-is_bare_get+else-not-is_path+then-has_special w ↦
+pub returns-then-not-is_bare_read : goal.returns-then-not-is_bare_read
+returns-then-not-is_bare_read c = λ h. elim c.then-not-is_bare_read.branch [
+  | then-not-is_bare_read-via-then-not-is_bare_read w ↦ w.if-not-is_bare_read.ensures h.read
+  | then-not-is_bare_read-via-else-not-is_bare_read+then-not-is_path w ↦ w.if-not-is_path.ensures (h.path, h.is_path)
+  | then-not-is_bare_read-via-else-not-is_bare_read+else-not-is_path+then-has_special w ↦
       not_special (lines_at c.args.request.now.fields.now) h.without (cc (w.has_special.ensures, w.if-has_special.true))
 ]
 
@@ -19,7 +19,7 @@ returns c =
     let fields = lines_at c.args.request.now.fields.now in
     let is : HasBareHost fields c.in_ok-host.host.now = c.in_ok-host.ensures in (
       record {
-        get = c.if-not-is_bare_get.ensures;
+        read = c.if-not-is_bare_read.ensures;
         path = c.if-not-is_path.ensures.0;
         is_path = c.if-not-is_path.ensures.1;
         host = c.in_ok-host.host.now;

@@ -1,4 +1,4 @@
-use Rattle.std.proofs.Common.{◌∙◌, sym, refl, ℕ, List, codes, subst}
+use Rattle.std.proofs.Common.{◌∙◌, refl, ℕ, List, subst}
 use Rattle.headers_cache.specs.Changes.{IsInserted, IsStoredAs, IsToStore}
 use Rattle.headers_cache.specs.History.{Step}
 use Rattle.headers_cache.specs.History.Call.{Arrived}
@@ -9,7 +9,7 @@ use Rattle.headers_chain.proofs.cache.take_response.Goals as goal
 pub returns-clause-taken : goal.returns-clause-taken
 returns-clause-taken c = λ target request requested p.
     let came : StoredResponse = record {
-      method = codes "GET";
+      method = c.args.pending.method;
       request = c.args.pending.fields;
       status = c.args.received.status;
       response = c.args.received.fields;
@@ -20,7 +20,7 @@ returns-clause-taken c = λ target request requested p.
     record {
       came = came;
       noted = record {
-        method = sym p.plain.get.method;
+        method = p.method;
         asked_fields = p.fields;
         status = refl;
         fields = λ name. refl;
