@@ -45,8 +45,9 @@ pub record IsForwardedBack (gateway : Gateway) (origin : Origin) (now : ℕ) (ta
   pub fields : (name : List ℕ) → reply.fields name ≡ lines_under (sent_fields sent_back.fields.items) name
   pub content : reply.content ≡ behind.content
 
--- The statuses of what a gateway or a cache answers by itself to a GET or a HEAD: a gateway rejects the request or the response
--- (400, 417, 501, 502, 508), nobody behind it answers (502, 504), or the request wants a stored response or none (504).
+-- The statuses of what a gateway or a cache answers by itself to a GET or a HEAD: a gateway rejects the request or the
+-- response (400, 417, 501, 502, 508), nobody behind it answers (502, 504), or the request wants a stored response or
+-- none (504).
 abbrev pub own_statuses : List ℕ
 own_statuses = 400 ∷ 417 ∷ 501 ∷ 502 ∷ 504 ∷ 508 ∷ []
 
