@@ -201,7 +201,8 @@ def django_wsgi(origin: Application) -> Any:
 
     show.csrf_exempt = True  # type: ignore[attr-defined]
     if not settings.configured:
-        settings.configure(ALLOWED_HOSTS=["*"], ROOT_URLCONF=__name__, DEBUG_PROPAGATE_EXCEPTIONS=True)
+        settings.configure(
+            ALLOWED_HOSTS=["*"], ROOT_URLCONF=__name__, DEBUG_PROPAGATE_EXCEPTIONS=True, SECRET_KEY="any")
         django.setup()
     globals()["urlpatterns"] = [re_path("", show)]
     return WSGIHandler()

@@ -204,8 +204,14 @@ class CachedTest(unittest.TestCase):
             self.assertEqual(served.count, 2)
 
     def test_stores_nothing_that_is_for_one_user(self) -> None:
-        for fields in ([("Cache-Control", "no-store")], [("Cache-Control", "private, max-age=60")],
-                       [("Cache-Control", "max-age=60"), ("Set-Cookie", "a=b")], [("Cache-Control", "s-maxage=0")], []):
+        personal: List[Fields] = [
+            [],
+            [("Cache-Control", "no-store")],
+            [("Cache-Control", "private, max-age=60")],
+            [("Cache-Control", "max-age=60"), ("Set-Cookie", "a=b")],
+            [("Cache-Control", "s-maxage=0")],
+        ]
+        for fields in personal:
             for served in self.each(lambda: lambda seen: Given(200, fields, b"hello")):
                 served.ask()
                 served.ask()
