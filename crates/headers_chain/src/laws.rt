@@ -27,10 +27,10 @@ use headers_resource::laws::{
     head_is_answered_as_get, members_alone_select, other_fields_change_nothing, vary_is_sound,
 };
 
-/// Gateways are invisible to a resource: however many are between it and a client, what they forward gets
-/// exactly the answers that the client's request would get if the client sent it itself, without the fields
-/// that are for its connection to the first gateway. So nobody between them changes what is selected, which
-/// preconditions hold, or whom the answer is shared with.
+/// Theorem: gateways are invisible to a resource. What any number of gateways forward gets exactly
+/// the answers that the client's request would get if the client sent it itself, without the fields
+/// for its connection to the first gateway. So no gateway changes what is selected, which
+/// preconditions are true, or which origins may read the answer.
 pub fn gateways_are_invisible()
     ensures { (present : ℕ) (resource : Resource) (gateway : Gateway) (gateways : List Gateway)
         (request last : Request) (answer : Answer) → Reaches (gateway ∷ gateways) request last
@@ -40,9 +40,9 @@ pub fn gateways_are_invisible()
     other_fields_change_nothing();
 }
 
-/// The field lines of a response reach the client through any gateways as the server sent them, in order, if
-/// the server sends no connection option: those of each name that no gateway writes itself, and that isn't
-/// for one connection alone.
+/// Theorem: the field lines of a response reach the client through any gateways as the server sent
+/// them, in order, if the server sends no connection option. This holds for each name that no
+/// gateway writes itself, and that isn't for one connection.
 pub fn responses_return_unchanged()
     ensures { (gateways : List Gateway) (response last : Response) (name : List ℕ)
         → Returns gateways response last → HasNoOptions response.fields
@@ -50,18 +50,19 @@ pub fn responses_return_unchanged()
         → All (λ own. own ≢ name) own_names → last.fields name ≡ response.fields name }
 {}
 
-/// Through any gateways a browser's CORS check holds of what it gets exactly if it holds of what the server
-/// sent.
+/// Theorem: through any gateways, a browser's CORS check of what it gets passes exactly if that of
+/// what the server sent does.
 pub fn cors_check_survives_gateways()
     ensures { (gateways : List Gateway) (response last : Response) (sent : Sent)
         → Returns gateways response last → HasNoOptions response.fields
         → CorsCheck response.fields sent ↔ CorsCheck last.fields sent }
 {}
 
-/// What a client gets through gateways is what the resource says about its request. If they forward the
-/// request, the resource answers what it gets, and they forward the response, then it is an answer to the
-/// client's own request, and the client gets each field that the answer sets with the field lines that the
-/// answer gives it, but for fields that the gateways write and those of one connection.
+/// Theorem: what a client gets through gateways is what the resource says about its own request. If
+/// they forward the request, the resource answers what it gets, and they forward the response, then
+/// it is an answer to the client's own request. The client gets each field that the answer sets
+/// with the answer's field lines, except fields that the gateways write and those of one
+/// connection.
 pub fn client_gets_the_answer()
     ensures own { (present : ℕ) (resource : Resource) (gateway : Gateway) (gateways : List Gateway)
         (request last : Request) (answer : Answer) → Reaches (gateway ∷ gateways) request last
@@ -76,10 +77,11 @@ pub fn client_gets_the_answer()
     other_fields_change_nothing();
 }
 
-/// A stored answer that suits a request is the resource's answer to it. If a resource answers two requests
-/// of the same method, target, content and conditions, and a cache that has stored the first answer takes
-/// the second request for one that it answers by method and Vary (RFC 9111, sections 4 and 4.1), then both
-/// answers are the same. A cache may compare the members of Accept and the like, and not their field lines.
+/// Theorem: a stored answer that a cache uses for a request is the resource's answer to it. If a
+/// resource answers two requests with the same method, target, content and conditions, and a cache
+/// that has stored the first answer uses it for the second request by method and Vary (RFC 9111,
+/// sections 4 and 4.1), then both answers are the same. A cache may compare the members of Accept
+/// and similar fields, and not their field lines.
 pub fn stored_answer_is_the_answer()
     ensures { (present : ℕ) (resource : Resource) (r s : Request) (a b : Answer) (before : LineMap)
         → IsAnswer present resource r a → IsAnswer present resource s b → AreAlike r s
@@ -89,11 +91,11 @@ pub fn stored_answer_is_the_answer()
     members_alone_select();
 }
 
-/// What a client receives through any gateways and caches, in any order, is what the resource says about
-/// its request, or what one of them answers by itself. The resource says it now; or it said it at a time
-/// that is no longer ago than Age tells, and a cache on the way found it fresh, or stale in a way that each
-/// directive allows. The status, the content and each field that neither a gateway nor a cache writes are
-/// the server's. An answer of their own has no content, and no such field.
+/// Theorem: what a client gets through any gateways and caches is what the resource says about its
+/// request, or what one of them answers by itself. The resource says it now; or it said it no
+/// longer ago than Age tells, and a cache on the way found it fresh, or each directive allowed it
+/// stale. The status, the content and each field that neither a gateway nor a cache writes are the
+/// server's. An answer of their own has no content, and no such field.
 pub fn client_gets_what_the_resource_says()
     ensures { (site : List ℕ → Server) (hops : List Hop) (now : ℕ) (target : List ℕ) (request : Request)
         (reply : Reply) → behind site hops now target request reply
@@ -123,10 +125,10 @@ pub fn key_is_of_one_target()
         → key_of target r ≡ key_of other s → r.fields (codes "host") ≡ s.fields (codes "host") }
 {}
 
-/// A shared cache gives away nothing that is for one client. What it serves from its store isn't `private`,
-/// by what governs the response under the policy of the cache: without targeted fields its Cache-Control. And
-/// it is the content of an answer to some request, which had no Authorization, or whose answer allows that
-/// others get it (RFC 9111, sections 3.5 and 5.2.2.7).
+/// Theorem: a shared cache serves nothing that is for one client. What it serves from its store
+/// isn't `private`, by what governs the response under the policy of the cache: without targeted
+/// fields its Cache-Control. It is the content of an answer to some request without Authorization,
+/// or of one that allows that others get it (RFC 9111, sections 3.5 and 5.2.2.7).
 pub fn shared_caches_serve_nothing_private()
     ensures private { (site : List ℕ → Server) (hops : List Hop) (caching : Caching) (now : ℕ) (target : List ℕ)
         (request : Request) (reply : Reply) → caching.policy.kind ≡ Shared
@@ -143,8 +145,9 @@ pub fn shared_caches_serve_nothing_private()
     lookups_serve_what_calls_justify();
 }
 
-/// No field of one connection crosses: a gateway forwards none of a response but its own Transfer-Encoding,
-/// those that Connection names included, and none comes from a store (RFC 9110, section 7.6.1).
+/// Theorem: no field of one connection crosses: a gateway forwards none of a response but its own
+/// Transfer-Encoding, and none comes from a store (RFC 9110, section 7.6.1). Fields that Connection
+/// names are included.
 pub fn no_connection_field_crosses()
     ensures forwarded { (site : List ℕ → Server) (hops : List Hop) (gateway : Gateway) (now : ℕ)
         (target : List ℕ) (request : Request) (reply : Reply) (name : List ℕ)
