@@ -61,9 +61,13 @@ ruled method = if bytes_eq method (codes "HEAD") then codes "GET" else method
 unfoldable pub rule_for : List MethodRule → List ℕ → Option MethodRule
 rule_for rules method = find (λ rule. bytes_eq rule.method (ruled method)) rules
 
--- the resource has the method; each has OPTIONS (section 9.3.7)
+-- there is a method where this is the rule for it; each resource has OPTIONS (section 9.3.7)
+abbrev pub has_method_by : Option MethodRule → List ℕ → Bool
+has_method_by rule method = bytes_eq method (codes "OPTIONS") || is_some rule
+
+-- the resource has the method
 abbrev pub has_method : List MethodRule → List ℕ → Bool
-has_method rules method = bytes_eq method (codes "OPTIONS") || is_some (rule_for rules method)
+has_method rules method = has_method_by (rule_for rules method) method
 
 -- the methods that a rule adds to Allow
 abbrev pub methods_of : MethodRule → List (List ℕ)
@@ -77,9 +81,8 @@ methods_of rule =
 abbrev pub methods : List MethodRule → List (List ℕ)
 methods rules = flat_map methods_of rules ++ codes "OPTIONS" ∷ []
 
-abbrev pub is_unknown : Resource → Request → Bool
-is_unknown resource request =
-    not (list_any (bytes_eq request.method) standard_methods || has_method resource.rules.items request.method)
+abbrev pub is_standard : List ℕ → Bool
+is_standard method = list_any (bytes_eq method) standard_methods
 
 -- ---- the state (sections 15.4 and 15.5)
 
@@ -179,26 +182,30 @@ is_unacceptable resource request =
 -- ---- when each reason applies
 
 module _ (resource : Resource) (request : Request) where
+  -- whether a reason applies, where this is the rule for the method
+  abbrev pub applies_by : Option MethodRule → Reason → Bool
+  applies_by rule InvalidHost = not (has_host request.protocol (request.fields (codes "host")))
+  applies_by rule Misdirected = is_misdirected resource request
+  applies_by rule UnknownMethod = not (is_standard request.method || has_method_by rule request.method)
+  applies_by rule MethodNotAllowed = not (has_method_by rule request.method)
+  applies_by rule Options = bytes_eq request.method (codes "OPTIONS")
+  applies_by rule UnmetExpectation = not (has_known_expectation (request.fields (codes "expect")))
+  applies_by rule Moved = has_moved resource.state
+  applies_by rule Gone = is_gone resource.state
+  applies_by rule NotFound = is_absent resource.state && not (creates rule)
+  applies_by rule LengthRequired = resource.needs_length && is_unsized request.content
+  applies_by rule ContentTooLarge = exceeds resource.limit request.content
+  applies_by rule UnsupportedMediaType =
+      has_content request.content && option_map_or (λ r. not (takes_type r request.fields)) rule false
+  applies_by rule UnsupportedCoding =
+      has_content request.content && option_map_or (λ r. not (takes_coding r request.fields)) rule false
+  applies_by rule NotAcceptable = is_unacceptable resource request
+  applies_by rule PreconditionRequired =
+      option_map_or (λ r. r.needs_condition) rule false && is_unguarded request.fields
+  applies_by rule Admitted = true
+
   abbrev pub rule : Option MethodRule
   rule = rule_for resource.rules.items request.method
 
   abbrev pub applies : Reason → Bool
-  applies InvalidHost = not (has_host request.protocol (request.fields (codes "host")))
-  applies Misdirected = is_misdirected resource request
-  applies UnknownMethod = is_unknown resource request
-  applies MethodNotAllowed = not (has_method resource.rules.items request.method)
-  applies Options = bytes_eq request.method (codes "OPTIONS")
-  applies UnmetExpectation = not (has_known_expectation (request.fields (codes "expect")))
-  applies Moved = has_moved resource.state
-  applies Gone = is_gone resource.state
-  applies NotFound = is_absent resource.state && not (creates rule)
-  applies LengthRequired = resource.needs_length && is_unsized request.content
-  applies ContentTooLarge = exceeds resource.limit request.content
-  applies UnsupportedMediaType =
-      has_content request.content && option_map_or (λ r. not (takes_type r request.fields)) rule false
-  applies UnsupportedCoding =
-      has_content request.content && option_map_or (λ r. not (takes_coding r request.fields)) rule false
-  applies NotAcceptable = is_unacceptable resource request
-  applies PreconditionRequired =
-      option_map_or (λ r. r.needs_condition) rule false && is_unguarded request.fields
-  applies Admitted = true
+  applies = applies_by rule

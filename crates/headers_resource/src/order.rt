@@ -1,6 +1,6 @@
 //! Which reason decides.
-ghost use Rattle.std.specs.Prelude.{◌≡◌, find};
-ghost use Rattle.headers_resource.specs.Applies.{applies, is_unacceptable};
+ghost use Rattle.std.specs.Prelude.{◌≡◌, find, option_copied};
+ghost use Rattle.headers_resource.specs.Applies.{applies, applies_by, is_unacceptable, rule};
 ghost use Rattle.headers_resource.specs.Reasons.{IsFirst};
 ghost use Rattle.headers_resource.specs.Requests.{request_of};
 
@@ -10,10 +10,10 @@ use crate::content::{
 use crate::reason::Reason;
 use crate::representation::are_unacceptable;
 use crate::request::RequestHead;
-use crate::resource::Resource;
+use crate::resource::{MethodRule, Resource};
 use crate::target::{
-    has_method, has_moved, is_current, is_gone, is_misdirected, is_missing, is_options, is_read,
-    is_unknown, rule_for,
+    has_method_by, has_moved, is_current, is_gone, is_misdirected, is_missing, is_options, is_read,
+    is_standard, rule_for,
 };
 use headers_gateway::{has_host, has_known_expectation};
 
@@ -32,19 +32,32 @@ fn is_unacceptable(resource: &Resource, request: &RequestHead<'_>) -> bool
         )
 }
 
-fn applies(resource: &Resource, request: &RequestHead<'_>, reason: Reason) -> bool
-    ensures { result ≡ applies resource.now (request_of request.now) reason }
+// The rule for the method of a request, if the resource has one.
+fn rule_of<'a>(resource: &'a Resource, request: &RequestHead<'_>) -> Option<&'a MethodRule>
+    ensures { option_copied result ≡ rule resource.now (request_of request.now) }
 {
-    let method = request.method.as_str();
-    let rule = rule_for(&resource.rules, method);
-    let content = request.content;
-    let fields = request.fields;
+    rule_for(&resource.rules, request.method.as_str())
+}
+
+// Whether a reason applies, where this is the rule for the method.
+fn applies_by(
+    resource: &Resource,
+    request: &RequestHead<'_>,
+    rule: Option<&MethodRule>,
+    reason: Reason,
+) -> bool
+    ensures { result ≡ applies_by resource.now (request_of request.now) (option_copied rule.entry) reason }
+{
+    let (method, content, fields) = (request.method, request.content, request.fields);
     match reason {
         Reason::InvalidHost => !has_host(request.protocol, fields),
         Reason::Misdirected => is_misdirected(resource, request),
-        Reason::UnknownMethod => is_unknown(resource, request),
-        Reason::MethodNotAllowed => !has_method(resource, method),
-        Reason::Options => is_options(method),
+        Reason::UnknownMethod => {
+            let name = method.as_str();
+            !(is_standard(name) || has_method_by(rule, name))
+        }
+        Reason::MethodNotAllowed => !has_method_by(rule, method.as_str()),
+        Reason::Options => is_options(method.as_str()),
         Reason::UnmetExpectation => !has_known_expectation(fields),
         Reason::Moved => has_moved(&resource.state),
         Reason::Gone => is_gone(&resource.state),
@@ -59,14 +72,20 @@ fn applies(resource: &Resource, request: &RequestHead<'_>, reason: Reason) -> bo
     }
 }
 
-// The first of some reasons that applies.
-fn first_of(resource: &Resource, request: &RequestHead<'_>, reasons: &[Reason]) -> Option<Reason>
-    ensures { result ≡ find (applies resource.now (request_of request.now)) reasons.now }
+// The first of some reasons that applies, where this is the rule for the method.
+fn first_of(
+    resource: &Resource,
+    request: &RequestHead<'_>,
+    rule: Option<&MethodRule>,
+    reasons: &[Reason],
+) -> Option<Reason>
+    ensures { result
+        ≡ find (applies_by resource.now (request_of request.now) (option_copied rule.entry)) reasons.now }
 {
     reasons
         .iter()
         .copied()
-        .find(|reason| applies(resource, request, *reason))
+        .find(|reason| applies_by(resource, request, rule, *reason))
 }
 
 /// Why a request is answered as it is.
@@ -90,7 +109,8 @@ pub(crate) fn reason_for(resource: &Resource, request: &RequestHead<'_>) -> Reas
         Reason::NotAcceptable,
         Reason::PreconditionRequired,
     ];
-    match first_of(resource, request, &in_order) {
+    let rule = rule_of(resource, request);
+    match first_of(resource, request, rule, &in_order) {
         Some(reason) => reason,
         None => Reason::Admitted,
     }

@@ -250,7 +250,8 @@ pub(crate) fn metadata_fields(
     ensures { IfOk result (λ fields. fields_of fields.items
         ≡ metadata_fields (keeps_encoding plan.now is_known) representation.now) }
 {
-    let mut fields = Vec::new(alloc);
+    // Those that the preconditions and Range give follow.
+    let mut fields = Vec::with_capacity(alloc, 16)?;
     if !keeps_encoding(plan, is_known) {
         fields.push(Encoded {
             name: CONTENT_LANGUAGE,

@@ -5,9 +5,9 @@ ghost use Rattle.std.specs.Option.{option_map_or};
 ghost use Rattle.headers.specs.LineMap.{lines_at};
 ghost use Rattle.headers.specs.Lines.{only_line};
 ghost use Rattle.headers_syntax.specs.AsciiCase.{same_name};
-ghost use Rattle.headers_resource.specs.Applies.{creates, has_method, has_moved, host_named, is_absent, is_current};
-ghost use Rattle.headers_resource.specs.Applies.{is_gone, is_misdirected, is_own, is_read, is_unknown, ruled};
-ghost use Rattle.headers_resource.specs.Applies.{rule_for, standard_methods};
+ghost use Rattle.headers_resource.specs.Applies.{creates, has_method_by, has_moved, host_named, is_absent, is_current};
+ghost use Rattle.headers_resource.specs.Applies.{is_gone, is_misdirected, is_own, is_read, is_standard, rule_for};
+ghost use Rattle.headers_resource.specs.Applies.{ruled};
 ghost use Rattle.headers_resource.specs.Requests.{request_of};
 
 use crate::request::RequestHead;
@@ -68,8 +68,8 @@ pub(crate) fn is_misdirected(resource: &Resource, request: &RequestHead<'_>) -> 
     }
 }
 
-fn is_standard(method: &str) -> bool
-    ensures { result ≡ list_any (bytes_eq method.now) standard_methods }
+pub(crate) fn is_standard(method: &str) -> bool
+    ensures { result ≡ is_standard method.now }
 {
     method == "GET"
         || method == "HEAD"
@@ -109,17 +109,10 @@ pub(crate) fn is_read(method: &str) -> bool
     method == "GET" || method == "HEAD"
 }
 
-pub(crate) fn has_method(resource: &Resource, method: &str) -> bool
-    ensures { result ≡ has_method resource.now.rules.items method.now }
+pub(crate) fn has_method_by(rule: Option<&MethodRule>, method: &str) -> bool
+    ensures { result ≡ has_method_by (option_copied rule.entry) method.now }
 {
-    is_options(method) || rule_for(&resource.rules, method).is_some()
-}
-
-pub(crate) fn is_unknown(resource: &Resource, request: &RequestHead<'_>) -> bool
-    ensures { result ≡ is_unknown resource.now (request_of request.now) }
-{
-    let method = request.method.as_str();
-    !(is_standard(method) || has_method(resource, method))
+    is_options(method) || rule.is_some()
 }
 
 pub(crate) fn has_moved(state: &State) -> bool
