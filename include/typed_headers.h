@@ -19,6 +19,8 @@
  * - Calls keep no state, but for a `struct typed_headers_cache`. They may run in several threads at once; none may run
  *   in a signal handler, nor in the child of a fork of a process with threads.
  * - Memory comes from malloc, realloc and free, and is given back before the call returns, but for that of a cache.
+ *   The status is TYPED_HEADERS_NO_MEMORY only if something is allocated: for lines of a field, for a section that has
+ *   a line before its first empty one, for a method of more than 15 bytes, and where a call says `Memory`.
  */
 #ifndef TYPED_HEADERS_H
 #define TYPED_HEADERS_H
@@ -423,7 +425,7 @@ uint8_t typed_headers_canonical(const uint8_t *section, size_t section_length, c
  * `authorization` and `proxy-authorization` are read as credentials of Basic, or else of Bearer. The lines of a name
  * that no header has are as they came.
  *
- * Refused: the name is no field name, or the header rejects the lines.
+ * Refused: the name is no field name, or the header rejects the lines. Memory: the name is no standard one.
  */
 uint8_t typed_headers_field(const uint8_t *name, size_t name_length, const uint8_t *lines, size_t lines_length,
                             uint8_t *room, size_t room_length, size_t *written);
@@ -490,20 +492,21 @@ uint8_t typed_headers_ranges(const uint8_t *lines, size_t lines_length, uint64_t
 
 /*
  * The date of a second since the start of 1970, as IMF-fixdate, 29 bytes (RFC 9110, section 5.6.7). Refused: the date
- * lies past the year 9999.
+ * lies past the year 9999. Memory: it is valid.
  */
 uint8_t typed_headers_format_date(uint64_t second, uint8_t *room, size_t room_length, size_t *written);
 
 /*
  * The line of `content-range` for a range, for the length of the whole, or for both (RFC 9110, section 14.4). Refused:
  * the first position is past the last, the last isn't below the length, or neither a range nor a length is said.
+ * Memory: it is valid.
  */
 uint8_t typed_headers_format_content_range(const struct typed_headers_content_range *range, uint8_t *room,
                                            size_t room_length, size_t *written);
 
 /*
  * The entity tag with this opaque part: in quotes, and behind `W/` if it is weak (RFC 9110, section 8.8.3). Refused:
- * the opaque part has a quote, a space, or a control byte.
+ * the opaque part has a quote, a space, or a control byte. Memory: it is valid.
  */
 uint8_t typed_headers_format_etag(bool is_weak, const uint8_t *opaque, size_t opaque_length, uint8_t *room,
                                   size_t room_length, size_t *written);
@@ -529,7 +532,8 @@ uint8_t typed_headers_evaluate(const uint8_t *method, size_t method_length, cons
  * fields Range and If-Range count. The room and `*written` count ranges; `*answer` is given also if they don't fit. A
  * server asks this once `typed_headers_evaluate` gave 0.
  *
- * Absent: the target has no representation. Refused and too large: as for `typed_headers_evaluate`.
+ * Absent: the target has no representation. Refused and too large: as for `typed_headers_evaluate`. Memory: Range
+ * applies.
  */
 uint8_t typed_headers_select(const uint8_t *method, size_t method_length, const uint8_t *section,
                              size_t section_length, const struct typed_headers_keys *keys, const uint8_t *etag,
@@ -553,7 +557,7 @@ uint8_t typed_headers_select(const uint8_t *method, size_t method_length, const 
  *
  * Refused: the method is no token, a line of the section before the first empty one is no field, `etag` is no entity
  * tag, the date lies past the year 9999, the media type is no line, or the boundary is none. Too large: the section has
- * more names than a map has room for (24,576).
+ * more names than a map has room for (24,576). Memory: the media type isn't empty, or the boundary is one.
  */
 uint8_t typed_headers_respond(const uint8_t *method, size_t method_length, const uint8_t *section,
                               size_t section_length, const struct typed_headers_keys *keys, const uint8_t *etag,
@@ -611,7 +615,7 @@ uint8_t typed_headers_websocket_accept(const uint8_t *lines, size_t lines_length
  *
  * The text is the lines of the answer, each `name: value` and a LF. sec-websocket-protocol and sec-websocket-extensions
  * are to be taken off a 101 first. Refused: the method is no token, the version is another number, a line of a text
- * can't be one, or a line of the section before its first empty one is no field.
+ * can't be one, or a line of the section before its first empty one is no field. Memory: the answer has lines.
  */
 uint8_t typed_headers_websocket_respond(const uint8_t *method, size_t method_length, uint8_t version,
                                         const uint8_t *section, size_t section_length,
@@ -623,7 +627,7 @@ uint8_t typed_headers_websocket_respond(const uint8_t *method, size_t method_len
 /*
  * A client's opening handshake (RFC 6455, section 4.1). Each line is `name: value` and a LF. `nonce` is sixteen bytes
  * at random, others for each handshake. The caller adds Host, and what it offers in sec-websocket-protocol and
- * sec-websocket-extensions. Refused: the nonce hasn't sixteen bytes.
+ * sec-websocket-extensions. Refused: the nonce hasn't sixteen bytes. Memory: it is valid.
  */
 uint8_t typed_headers_websocket_request(const uint8_t *nonce, size_t nonce_length, uint8_t *room, size_t room_length,
                                         size_t *written);
@@ -650,7 +654,7 @@ uint8_t typed_headers_websocket_check(const uint8_t *sent, size_t sent_length, u
  * Refused: the rules have a line that is no origin, method or name; they have `*` in a list of several methods or
  * names, or any origin, method or name with credentials, which no browser reads so; the method is no token; or a line
  * of a section before its first empty one is no field. Too large: a section has more names than a map has room for
- * (24,576). Whether rules are refused shows with the method GET and two empty sections.
+ * (24,576). Memory: nothing is rejected. Whether rules are refused shows with the method GET and two empty sections.
  */
 uint8_t typed_headers_cors_answer(const struct typed_headers_cors_rules *rules, const uint8_t *method,
                                   size_t method_length, const uint8_t *request, size_t request_length,
@@ -832,7 +836,7 @@ struct typed_headers_resource_facts {
  * or representations; the state or the version is another number; the location is empty; the boundary or an entity tag
  * is none; a date lies past the year 9999; the rules count and are refused; the target is in absolute-form without a
  * host; or a line of the section before its first empty one is no field. Too large: the section has more names than a
- * map has room for (24,576).
+ * map has room for (24,576). Memory: the boundary is one.
  */
 uint8_t typed_headers_resource_answer(const struct typed_headers_resource *resource,
                                       const struct typed_headers_representation *representations,
@@ -913,7 +917,7 @@ uint8_t typed_headers_validators(const uint8_t *response, size_t response_length
 /*
  * Opens a closed cache, with an empty store in bounded memory (RFC 9111). It copies the keys. Refused: it is open.
  * Such a cache has memory until it is closed again. Absent, of each other call on a cache: it is closed. On a failure
- * of parsing what is handed in, a cache is as it was.
+ * of parsing what is handed in, a cache is as it was. Memory: the cache is closed.
  */
 uint8_t typed_headers_cache_new(struct typed_headers_cache *cache, const struct typed_headers_cache_options *options,
                                 const struct typed_headers_keys *keys);
@@ -933,7 +937,7 @@ uint8_t typed_headers_cache_free(struct typed_headers_cache *cache);
  * - UNAVAILABLE and FETCH: empty.
  *
  * Refused, here and below: the target is no UTF-8, a method is no token, a status is no number from 100 to 999, or a
- * line of a section before its first empty one is no field.
+ * line of a section before its first empty one is no field. Memory: nothing is rejected.
  */
 uint8_t typed_headers_cache_lookup(struct typed_headers_cache *cache,
                                    const struct typed_headers_cache_request *request, uint64_t now, uint64_t guess,
@@ -942,7 +946,8 @@ uint8_t typed_headers_cache_lookup(struct typed_headers_cache *cache,
 
 /*
  * What is told of the stored response at a place of a target, and its field lines with its Age at the present `now`.
- * Places count from 0 in the order of storing. Absent: no response is at the place.
+ * Places count from 0 in the order of storing. Absent: no response is at the place. Memory: a response is
+ * there.
  */
 uint8_t typed_headers_cache_response(struct typed_headers_cache *cache, const uint8_t *target, size_t target_length,
                                      size_t place, uint64_t now, struct typed_headers_stored *facts, uint8_t *room,
@@ -957,7 +962,8 @@ uint8_t typed_headers_cache_content(struct typed_headers_cache *cache, const uin
 
 /*
  * How the stored response at a place answers the conditions and the ranges of a request that it may answer (RFC 9111,
- * section 4.3.2). `ranges` says whether a part is sent. Absent: no response is at the place.
+ * section 4.3.2). `ranges` says whether a part is sent. Absent: no response is at the place. Memory: a 200
+ * is there.
  */
 uint8_t typed_headers_cache_answer(struct typed_headers_cache *cache,
                                    const struct typed_headers_cache_request *request, size_t place, uint64_t now,
@@ -966,14 +972,15 @@ uint8_t typed_headers_cache_answer(struct typed_headers_cache *cache,
 /*
  * Stores the response to a request, if a cache may (RFC 9111, section 3): `*stored` is 1 if it did, 0 if not. If there
  * is too little room, older responses of its target go first, and then the targets that weren't used for the longest
- * time. If there is no memory, some of these may be gone, and nothing is stored that wasn't before.
+ * time. If there is no memory, some of these may be gone, and nothing is stored that wasn't before. Memory: the
+ * content isn't empty, or the response may be stored.
  */
 uint8_t typed_headers_cache_store(struct typed_headers_cache *cache, const struct typed_headers_cache_request *request,
                                   const struct typed_headers_cache_response *response, uint8_t *stored);
 
 /*
  * Updates stored responses by a 304 to a request, with this section (RFC 9111, section 4.3.4). If there is no memory to
- * update them, nothing is stored under the target.
+ * update them, nothing is stored under the target. Memory: the 304 is about a stored response.
  */
 uint8_t typed_headers_cache_freshen(struct typed_headers_cache *cache,
                                     const struct typed_headers_cache_request *request, const uint8_t *section,
@@ -982,7 +989,8 @@ uint8_t typed_headers_cache_freshen(struct typed_headers_cache *cache,
 
 /*
  * Updates stored responses to GET by a 200 to a HEAD, with this section, and removes those that it isn't about (RFC
- * 9111, section 4.3.5). If there is no memory for that, nothing is stored under the target.
+ * 9111, section 4.3.5). If there is no memory for that, nothing is stored under the target. Memory: something is
+ * stored under the target.
  */
 uint8_t typed_headers_cache_freshen_by_head(struct typed_headers_cache *cache,
                                             const struct typed_headers_cache_request *request,
@@ -1156,7 +1164,8 @@ struct typed_headers_framing_outcome {
  *
  * Refused: the gateway's name or the method is no token, a protected name is no field name, a node is none, a version
  * is another number, `authority` is no line, or a line of the section before its first empty one is no field. Too
- * large, here and below: the section has more names than a map has room for (24,576).
+ * large, here and below: the section has more names than a map has room for (24,576). Memory: the gateway's name
+ * is a token.
  */
 uint8_t typed_headers_forward_request(const struct typed_headers_gateway *gateway,
                                       const struct typed_headers_hop *hop, const uint8_t *method,
@@ -1174,7 +1183,7 @@ uint8_t typed_headers_forward_request(const struct typed_headers_gateway *gatewa
  *
  * Refused: the gateway's name or the method is no token, a protected name is no field name, the status is no number
  * from 100 to 999, a version is another number, the date lies past the year 9999, or a line of the section before its
- * first empty one is no field.
+ * first empty one is no field. Memory: the gateway's name is a token.
  */
 uint8_t typed_headers_forward_response(const struct typed_headers_gateway *gateway, uint16_t status, uint8_t version,
                                        const uint8_t *section, size_t section_length,

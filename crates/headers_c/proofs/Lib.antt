@@ -1,2 +1,4 @@
+pub mod CanonicalLemmas
 pub mod DirectiveLemmas
 pub mod TagLemmas
+pub mod ValidatorLemmas

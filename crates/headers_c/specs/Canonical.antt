@@ -1,5 +1,6 @@
 -- The canonical text of a header section, as it is written into the caller's room.
-use Rattle.std.specs.Prelude.{◌⊎◌, ℕ, ◌<◌, ◌≤◌, ⊤, List, length, Result, Ok, Err, if◌then◌else◌}
+use Rattle.std.specs.Prelude.{◌⊎◌, ℕ, ◌<◌, ◌≤◌, List, length, Result, Ok, Err, if◌then◌else◌}
+use Rattle.headers.specs.Typed.{HasLine}
 use Rattle.headers_section.specs.CanonicalText.{IsCanonicalText}
 use Rattle.headers_section.specs.Section.{input_limit, section, HasNoField, HasTooManyFields}
 use Rattle.headers_c.specs.declared.canonical.Canonical.{Canonical}
@@ -9,7 +10,7 @@ use Rattle.headers_c_parts.specs.Endings.{done, marked, Writes}
 
 -- What an answer says of an input: its canonical text, and whether some name's lines were refused; `Refused` only if a
 -- line before the first empty one is no field; `TooLarge` only if the input is too long, or has more fields than a map
--- has room for.
+-- has room for; `Memory` only if there is a line before the first empty one.
 abbrev pub IsCanonicalAnswer : List ℕ → Result Canonical Failure → Type 0
 IsCanonicalAnswer input (Ok canonical) =
     (length input ≤ input_limit)
@@ -18,7 +19,7 @@ IsCanonicalAnswer input (Ok canonical) =
 IsCanonicalAnswer input (Err Refused) = (length input ≤ input_limit) × HasNoField (section input)
 IsCanonicalAnswer input (Err TooLarge) =
     (input_limit < length input) ⊎ ((length input ≤ input_limit) × HasTooManyFields input)
-IsCanonicalAnswer input (Err Memory) = ⊤
+IsCanonicalAnswer input (Err Memory) = (length input ≤ input_limit) × HasLine (section input)
 IsCanonicalAnswer input (Err Absent) = ⊥
 
 abbrev pub WritesCanonical : List ℕ → (old new : List ℕ) → (before written status : ℕ) → Type 0

@@ -20,6 +20,7 @@ use Rattle.headers_c.specs.declared.cors.CorsFacts.{CorsFacts}
 use Rattle.headers_c.specs.declared.cors.Shared.{Shared}
 use Rattle.headers_c_decisions.specs.declared.rules.Rules.{Rules}
 use Rattle.headers_c_parts.specs.declared.status.Failure.{Failure}
+use Rattle.headers_c_parts.specs.declared.status.Failure.TheVariants.{Memory}
 
 abbrev pub kind_number : CorsKind → ℕ
 kind_number NoOrigin = 0
@@ -48,17 +49,30 @@ abbrev pub FailsAtMessage : (method request response : List ℕ) → Failure →
 FailsAtMessage method request response failure =
     IsMethodOf method (Err failure) ⊎ (IsMapOf request (Err failure) ⊎ IsMapOf response (Err failure))
 
--- the answer is that of the policy, or the failure of reading what was handed in
+-- the method and both sections can be read: a policy's answer to them has fields, which take memory
+pub record IsMessage (method request response : List ℕ) : Type 0 where
+  pub is_method : IsToken method
+  pub asked : Entries FieldValue
+  pub is_asked : Holds request asked
+  pub told : Entries FieldValue
+  pub is_told : Holds response told
+
+-- the failure is that of reading the method or a section, or of allocating the answer
+abbrev pub FailsToShare : (method request response : List ℕ) → Failure → Type 0
+FailsToShare method request response failure =
+    FailsAtMessage method request response failure ⊎ ((failure ≡ Memory) × IsMessage method request response)
+
+-- the answer is that of the policy, or a failure
 abbrev pub SharesBy : Policy → (method request response : List ℕ) → Result Shared Failure → Type 0
 SharesBy policy method request response (Ok shared) = IsSharedBy policy method request response shared
-SharesBy policy method request response (Err failure) = FailsAtMessage method request response failure
+SharesBy policy method request response (Err failure) = FailsToShare method request response failure
 
 -- the same of the policy of the rules that were handed in
 abbrev pub Shares : Rules → (method request response : List ℕ) → Result Shared Failure → Type 0
 Shares given method request response (Ok shared) =
     (policy : Policy) × IsPolicyFor given policy × IsSharedBy policy method request response shared
 Shares given method request response (Err failure) =
-    IsPolicyAnswer given (Err failure) ⊎ FailsAtMessage method request response failure
+    IsPolicyAnswer given (Err failure) ⊎ FailsToShare method request response failure
 
 abbrev pub WritesShared : (Result Shared Failure → Type 0) → (facts new_facts : CorsFacts) → (old new : List ℕ)
     → (before written status : ℕ) → Type 0

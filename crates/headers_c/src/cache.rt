@@ -317,6 +317,9 @@ fn validators(
     ensures { Validates response.now received result }
 {
     let response = read_map(alloc, response, keys)?;
+    if response.is_empty() {
+        return Ok(Vec::new(alloc));
+    }
     let fields = validation_fields(alloc, &response, received)?;
     Ok(fields_text(alloc, fields.as_slice())?)
 }

@@ -1,10 +1,13 @@
 //! The canonical text of a header section.
 ghost use Rattle.headers_c.specs.Canonical.{IsCanonicalAnswer, WritesCanonical};
 
-use headers_c_parts::{DONE, Failure, HashKeys, MARKED, copy_into};
+use headers_c_parts::{DONE, Failure, HashKeys, MARKED, copy_into, has_line};
 use headers_section::{Outcome, RunError, run_with_system_keys};
 use std::alloc::Global;
 use std::hash::RandomState;
+
+/// The greatest length of a section.
+const LONGEST_SECTION: usize = 8_388_608;
 
 /// The canonical text of a header section, and whether it marks a name whose lines were refused.
 #[derive(Drop)]
@@ -37,6 +40,15 @@ pub extern "C" fn typed_headers_canonical(
 fn read_canonical(alloc: Global, section: &[u8], keys: &HashKeys) -> Result<Canonical, Failure>
     ensures { IsCanonicalAnswer section.now result }
 {
+    if section.len() > LONGEST_SECTION {
+        return Err(Failure::TooLarge);
+    }
+    if !has_line(section) {
+        return Ok(Canonical {
+            text: Vec::new(alloc),
+            is_marked: false,
+        });
+    }
     let mut rest = section;
     let mut text = Vec::new(alloc);
     match run_with_system_keys(alloc, RandomState::new(keys), &mut rest, &mut text) {

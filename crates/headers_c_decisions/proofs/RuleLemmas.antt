@@ -11,12 +11,13 @@ use Rattle.std.proofs.lemmas.Slice.Zip.{all_zipped_more}
 use Rattle.http_header.specs.FieldValue.{FieldValue, IsFieldValue}
 use Rattle.http_header.specs.Token.{is_value_byte}
 use Rattle.headers.specs.Lines.{Line, lines_of}
+use Rattle.headers.specs.Typed.{HasLine}
 use Rattle.headers_cors_policy.specs.Browser.{star}
 use Rattle.headers_cors_policy.specs.declared.rules.Allowed.{Allowed}
 use Rattle.headers_cors_policy.specs.declared.rules.Allowed.TheVariants.{Any, Listed}
 use Rattle.headers_c_parts.specs.FieldText.{field_lines}
 use Rattle.headers_c_decisions.specs.Methods.{IsMethodOf}
-use Rattle.headers_c_decisions.specs.Rules.{Allows, Finds, ReadEach, reads_method}
+use Rattle.headers_c_decisions.specs.Rules.{Allows, Finds, FindsOfLine, FindsOfText, ReadEach, reads_method}
 use Rattle.headers_c_decisions.specs.Star.{is_any}
 use Rattle.headers_c_parts.specs.declared.status.Failure.{Failure}
 use Rattle.headers_c_parts.specs.declared.status.Failure.TheVariants.{Refused, Memory, Absent, TooLarge}
@@ -29,6 +30,11 @@ star_is_value (line ∷ []) any =
     All-cons IsFieldValue line [] (subst IsFieldValue (sym is) (AllPass-from_list_all is_value_byte star refl))
     (All-nil IsFieldValue)
 star_is_value (line ∷ other ∷ lines) any = absurd (cc any)
+
+-- there is a line at a place
+pub HasLine-below : (lines : List FieldValue) (i : ℕ) → i < length lines → HasLine (lines_of lines)
+HasLine-below [] i below = absurd (omega (arith, below))
+HasLine-below (line ∷ lines) i below = omega arith
 
 module _ {V : Type 0} (reads : Line → V → Type 0) where
   -- one line more is read
@@ -55,10 +61,10 @@ module _ {V : Type 0} (reads : Line → V → Type 0) where
 
   -- what a failure to read one line says of all
   pub ReadEach-fails : (lines : List FieldValue) (i : ℕ) (line : FieldValue) (failure : Failure) → i < length lines
-      → line ≡ get_or lines i line → Finds (reads line.bytes) (Err failure)
-      → Finds (ReadEach reads (lines_of lines)) (Err failure)
+      → line ≡ get_or lines i line → FindsOfLine (reads line.bytes) (Err failure)
+      → Finds (HasLine (lines_of lines)) (ReadEach reads (lines_of lines)) (Err failure)
   ReadEach-fails lines i line Refused below is none = λ values. AllZip-none lines i line below is none values.items
-  ReadEach-fails lines i line Memory below is none = tt
+  ReadEach-fails lines i line Memory below is none = HasLine-below lines i below
   ReadEach-fails lines i line Absent below is none = none
   ReadEach-fails lines i line TooLarge below is none = none
 
@@ -79,16 +85,16 @@ module _ {V : Type 0} (reads : Line → V → Type 0) where
         none values (subst (λ (all : List Line). ReadEach reads all values) same read.2)
 
     -- what a failure to read the lines says of what they allow
-    pub Allows-fails : (failure : Failure) → Finds (ReadEach reads lines) (Err failure)
-        → Finds (Allows reads text) (Err failure)
+    pub Allows-fails : (failure : Failure) → Finds (HasLine lines) (ReadEach reads lines) (Err failure)
+        → FindsOfText reads text (Err failure)
     Allows-fails Refused none = Allows-unread none
-    Allows-fails Memory none = tt
+    Allows-fails Memory some = subst HasLine (sym same) some
     Allows-fails Absent none = none
     Allows-fails TooLarge none = none
 
 -- what reading a method says of the line
 pub reads_method-found : (line : Line) (result : Result (List ℕ) Failure) → IsMethodOf line result
-    → Finds (reads_method line) result
+    → FindsOfLine (reads_method line) result
 reads_method-found line (Ok method) is = is
 reads_method-found line (Err Refused) none = λ method read. none read.0
 reads_method-found line (Err Memory) is = tt

@@ -1,5 +1,5 @@
 -- Both ends of the opening handshake of a WebSocket, by what a caller hands in.
-use Rattle.std.specs.Prelude.{◌≡◌, ◌≢◌, ◌⊎◌, ℕ, true, false, List, length, Option, Some, None, Result, Ok, Err}
+use Rattle.std.specs.Prelude.{◌≡◌, ◌≢◌, ◌⊎◌, ℕ, true, false, List, [], length, Option, Some, None, Result, Ok, Err}
 use Rattle.std.specs.Prelude.{◌==◌, if◌then◌else◌}
 use Rattle.std.specs.Global.{Vec}
 use Rattle.http.specs.declared.version.Version.{Version}
@@ -8,11 +8,12 @@ use Rattle.http_header.specs.FieldValue.{FieldValue}
 use Rattle.http_header.specs.HeaderMap.{Entries}
 use Rattle.http_header.specs.Token.{IsToken}
 use Rattle.websocket.specs.Handshake.{base64}
-use Rattle.headers.specs.LineMap.{lines_at}
+use Rattle.headers.specs.LineMap.{LineMap, lines_at}
+use Rattle.headers.specs.Lines.{Line}
 use Rattle.headers_section.specs.Section.{Holds}
 use Rattle.headers_handshake.specs.Client.{Checks}
 use Rattle.headers_handshake.specs.Messages.{answer_fields, request_fields, status_of}
-use Rattle.headers_handshake.specs.Server.{Answers}
+use Rattle.headers_handshake.specs.Server.{Answers, IsAccepted}
 use Rattle.headers_handshake.specs.declared.client.Checked.{Checked}
 use Rattle.headers_handshake.specs.declared.client.Checked.TheVariants.{Open, Fail}
 use Rattle.headers_handshake.specs.declared.client.Flaw.{Flaw}
@@ -94,14 +95,36 @@ pub record IsAnsweredHandshake (method : List ℕ) (number : ℕ) (input protoco
   pub answers : Answers method version (lines_at request) allowed own answer
   pub is_shown : IsShownHandshake answer shown
 
--- the answer is the server's, or the failure of reading what was handed in
+-- the handshake is accepted, or its answer has fields
+abbrev pub HasFields : List ℕ → Version → LineMap → Origins → List FieldValue → Type 0
+HasFields method version request allowed own =
+    ((key : Line) × IsAccepted method version request allowed key)
+    ⊎ ((answer : Answer) × Answers method version request allowed own answer × (answer_fields answer ≢ []))
+
+-- all is as it was handed in, and the server's answer has fields, which take memory
+pub record IsAnsweredByFields (method : List ℕ) (number : ℕ) (input protocols origins : List ℕ) : Type 0 where
+  pub is_method : IsToken method
+  pub version : Version
+  pub is_version : version_of number ≡ Some version
+  pub own : List FieldValue
+  pub are_own : AreValuesOf protocols own
+  pub allowed : Origins
+  pub are_allowed : AreOriginsOf origins (Ok allowed)
+  pub request : Entries FieldValue
+  pub holds : Holds input request
+  pub has_fields : HasFields method version (lines_at request) allowed own
+
+-- the answer is the server's, or the failure of reading what was handed in; `Memory` also if the answer has fields
 abbrev pub AnswersHandshake : List ℕ → ℕ → (input protocols origins : List ℕ) → Result Answered Failure → Type 0
 AnswersHandshake method number input protocols origins (Ok shown) =
     IsAnsweredHandshake method number input protocols origins shown
 AnswersHandshake method number input protocols origins (Err failure) =
     IsMethodOf method (Err failure)
     ⊎ (IsVersionOf number (Err failure)
-    ⊎ (FailsAt protocols failure ⊎ (FailsAt origins failure ⊎ IsMapOf input (Err failure))))
+    ⊎ (FailsAt protocols failure
+    ⊎ (FailsAt origins failure
+    ⊎ (IsMapOf input (Err failure)
+    ⊎ ((failure ≡ Memory) × IsAnsweredByFields method number input protocols origins)))))
 
 -- ---- the client's end
 

@@ -8,10 +8,11 @@ use Rattle.http_header.specs.FieldValue.{IsFieldValue}
 use Rattle.http_header.specs.Token.{IsToken, lowercase}
 use Rattle.headers.specs.Lines.{Line}
 use Rattle.headers.specs.Origin.{origin_reads}
+use Rattle.headers.specs.Typed.{HasLine}
 use Rattle.headers.specs.declared.Origin.{Origin}
 use Rattle.headers_cors_policy.specs.Allowed.{names_of}
 use Rattle.headers_cors_policy.specs.Policy.{Policy}
-use Rattle.headers_cors_policy.specs.Rules.{IsLawful, IsPolicyOf, Refuses}
+use Rattle.headers_cors_policy.specs.Rules.{IsLawful, IsPolicyOf, IsReadable, IsWritten, Refuses}
 use Rattle.headers_cors_policy.specs.declared.error.RulesError.{RulesError}
 use Rattle.headers_cors_policy.specs.declared.rules.Allowed.{Allowed}
 use Rattle.headers_cors_policy.specs.declared.rules.Allowed.TheVariants.{Any, Listed}
@@ -35,13 +36,18 @@ reads_method line method = IsToken line × (method ≡ line)
 abbrev pub reads_name : Line → List ℕ → Type 0
 reads_name line name = IsFieldName line × (name ≡ lowercase line)
 
--- what an answer says of P: a value of which it holds, or `Refused` only if it holds of none
-abbrev pub Finds : {V : Type 0} → (V → Type 0) → Result V Failure → Type 0
-Finds P (Ok value) = P value
-Finds {V} P (Err Refused) = (value : V) → ¬ (P value)
-Finds P (Err Memory) = ⊤
-Finds P (Err Absent) = ⊥
-Finds P (Err TooLarge) = ⊥
+-- what an answer says of P: a value of which it holds, `Refused` only if it holds of none, or `Memory` only if some is
+-- taken
+abbrev pub Finds : {V : Type 0} → Type 0 → (V → Type 0) → Result V Failure → Type 0
+Finds allocates P (Ok value) = P value
+Finds {V} allocates P (Err Refused) = (value : V) → ¬ (P value)
+Finds allocates P (Err Memory) = allocates
+Finds allocates P (Err Absent) = ⊥
+Finds allocates P (Err TooLarge) = ⊥
+
+-- the same of what a line is: it is copied
+abbrev pub FindsOfLine : {V : Type 0} → (V → Type 0) → Result V Failure → Type 0
+FindsOfLine P answer = Finds ⊤ P answer
 
 -- the lines read the values, one each
 abbrev pub ReadEach : {V : Type 0} → (Line → V → Type 0) → List Line → Vec V → Type 0
@@ -52,6 +58,10 @@ abbrev pub Allows : {V : Type 0} → (Line → V → Type 0) → List ℕ → Al
 Allows reads text Any = is_any (field_lines text) ≡ true
 Allows reads text (Listed values) =
     (is_any (field_lines text) ≡ false) × All IsFieldValue (field_lines text) × ReadEach reads (field_lines text) values
+
+-- what an answer says of a text's lines: memory is taken only if there is a line
+abbrev pub FindsOfText : {V : Type 0} → (Line → V → Type 0) → List ℕ → Result (Allowed V) Failure → Type 0
+FindsOfText reads text answer = Finds (HasLine (field_lines text)) (Allows reads text) answer
 
 -- the rules that were handed in
 pub record AreRulesOf (given : Rules) (rules : CorsRules) : Type 0 where
@@ -67,10 +77,10 @@ pub record AreRulesOf (given : Rules) (rules : CorsRules) : Type 0 where
 -- the failure is that of reading one of the four texts
 abbrev pub FailsAtText : Rules → Failure → Type 0
 FailsAtText given failure =
-    Finds (Allows reads_origin given.origins.now) (Err failure)
-    ⊎ (Finds (Allows reads_method given.methods.now) (Err failure)
-    ⊎ (Finds (Allows reads_name given.headers.now) (Err failure)
-    ⊎ Finds (Allows reads_name given.exposed.now) (Err failure)))
+    FindsOfText reads_origin given.origins.now (Err failure)
+    ⊎ (FindsOfText reads_method given.methods.now (Err failure)
+    ⊎ (FindsOfText reads_name given.headers.now (Err failure)
+    ⊎ FindsOfText reads_name given.exposed.now (Err failure)))
 
 -- the answer is the rules, or the failure of reading what was handed in
 abbrev pub IsRulesAnswer : Rules → Result CorsRules Failure → Type 0
@@ -91,7 +101,17 @@ pub record AreUnlawful (given : Rules) : Type 0 where
   pub error : RulesError
   pub refuses : Refuses rules error
 
--- the answer is the policy, or the failure of reading the rules; `Refused` also if they make no policy
+-- browsers read the rules that were handed in as they are meant, and something is written of them
+pub record AreWritten (given : Rules) : Type 0 where
+  pub rules : CorsRules
+  pub are_rules : AreRulesOf given rules
+  pub is_readable : IsReadable rules
+  pub is_written : IsWritten rules
+
+-- The answer is the policy, or the failure of reading the rules. `Refused` also if they make no policy, and `Memory`
+-- also if something is written of them.
 abbrev pub IsPolicyAnswer : Rules → Result Policy Failure → Type 0
 IsPolicyAnswer given (Ok policy) = IsPolicyFor given policy
-IsPolicyAnswer given (Err failure) = FailsAtText given failure ⊎ ((failure ≡ Refused) × AreUnlawful given)
+IsPolicyAnswer given (Err failure) =
+    FailsAtText given failure
+    ⊎ (((failure ≡ Refused) × AreUnlawful given) ⊎ ((failure ≡ Memory) × AreWritten given))

@@ -1,5 +1,6 @@
 //! Both ends of the opening handshake of a WebSocket (RFC 6455, section 4).
-ghost use Rattle.std.specs.Prelude.{◌≡◌, IfOk};
+ghost use Rattle.std.specs.Prelude.{◌≡◌, ◌≢◌, [], IfOk, IsErr};
+ghost use Rattle.headers_handshake.specs.Messages.{answer_fields};
 ghost use Rattle.headers_c_decisions.specs.Handshakes.{AnswersHandshake, AreOriginsOf, ChecksResponse, IsVersionOf};
 ghost use Rattle.headers_c_decisions.specs.Handshakes.{Offers, IsShownHandshake, checked_number, fault_number};
 ghost use Rattle.headers_c_decisions.specs.Handshakes.{fault_in, flaw_number};
@@ -80,7 +81,8 @@ pub fn answer_handshake(
 }
 
 fn show(alloc: Global, answer: &Answer) -> Result<Answered, AllocError>
-    ensures { IfOk result (IsShownHandshake answer.now) }
+    ensures shown { IfOk result (IsShownHandshake answer.now) }
+    ensures memory { IsErr result → answer_fields answer.now ≢ [] }
 {
     let fields = answer.fields(alloc)?;
     let text = fields_text(alloc, fields.as_slice())?;

@@ -1,7 +1,9 @@
 //! A server's rules for requests from other origins, as C hands them in.
 ghost use Rattle.std.specs.Prelude.{◌≡◌, ◌∷◌, [], ℕ, List};
 ghost use Rattle.headers.specs.Lines.{lines_of};
-ghost use Rattle.headers_c_decisions.specs.Rules.{Allows, Finds, IsPolicyAnswer, IsRulesAnswer, ReadEach};
+ghost use Rattle.headers.specs.Typed.{HasLine};
+ghost use Rattle.headers_c_decisions.specs.Rules.{Finds, FindsOfLine, FindsOfText, IsPolicyAnswer, IsRulesAnswer};
+ghost use Rattle.headers_c_decisions.specs.Rules.{ReadEach};
 
 use crate::method::read_method;
 use crate::numbers::known;
@@ -39,12 +41,12 @@ pub trait Listed: Drop {
 
     /// Reads a line.
     fn read(alloc: Global, line: &HeaderValue) -> Result<Self, Failure>
-        ensures { Finds (reads line.now.bytes) result };
+        ensures { FindsOfLine (reads line.now.bytes) result };
 }
 
 /// The header whose only field line this is.
 pub fn read_line<H: Header>(alloc: Global, line: &HeaderValue) -> Result<H, Failure>
-    ensures { Finds (H.reads (line.now.bytes ∷ [])) result }
+    ensures { FindsOfLine (H.reads (line.now.bytes ∷ [])) result }
 {
     match decode_values(alloc, &[line.clone()?]) {
         Ok(header) => Ok(header),
@@ -84,7 +86,7 @@ impl Listed for HeaderName {
 }
 
 fn read_each<T: Listed>(alloc: Global, lines: &[HeaderValue]) -> Result<Vec<T>, Failure>
-    ensures { Finds (ReadEach T.reads (lines_of lines.now)) result }
+    ensures { Finds (HasLine (lines_of lines.now)) (ReadEach T.reads (lines_of lines.now)) result }
 {
     let mut values = Vec::new(alloc);
     for line in lines {
@@ -95,7 +97,7 @@ fn read_each<T: Listed>(alloc: Global, lines: &[HeaderValue]) -> Result<Vec<T>, 
 }
 
 fn read_allowed<T: Listed>(alloc: Global, text: &[u8]) -> Result<Allowed<T>, Failure>
-    ensures { Finds (Allows T.reads text.now) result }
+    ensures { FindsOfText T.reads text.now result }
 {
     let Some(lines) = read_values(alloc, text)? else {
         return Err(Failure::Refused);

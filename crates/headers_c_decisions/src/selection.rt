@@ -1,6 +1,6 @@
 //! Which part of a representation a request selects.
-ghost use Rattle.std.specs.Prelude.{◌≡◌, IfOk, map};
-ghost use Rattle.headers_c_decisions.specs.Selection.{IsShown, Selects, range_of};
+ghost use Rattle.std.specs.Prelude.{◌≡◌, IfOk, IsErr, map};
+ghost use Rattle.headers_c_decisions.specs.Selection.{ArePartsOf, IsShown, Selects, range_of};
 
 use crate::method::read_method;
 use crate::target::{Target, read_resource};
@@ -56,7 +56,8 @@ pub fn select_ranges(
 }
 
 fn show(alloc: Global, selection: &Selection) -> Result<Selected, AllocError>
-    ensures { IfOk result (λ selected. IsShown selection.now selected.code selected.ranges.items) }
+    ensures shown { IfOk result (λ selected. IsShown selection.now selected.code selected.ranges.items) }
+    ensures memory { IsErr result → ArePartsOf selection.now }
 {
     match selection {
         Selection::Whole => Ok(Selected {

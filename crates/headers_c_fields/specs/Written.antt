@@ -1,5 +1,5 @@
 -- The lines that a header writes of the value that its lines read.
-use Rattle.std.specs.Prelude.{◌≡◌, ◌⊎◌, ℕ, ◌||◌, Bool, ⊤, List, [], ◌∷◌, ◌++◌, flat_map, All, Some, None}
+use Rattle.std.specs.Prelude.{◌≡◌, ◌⊎◌, ℕ, ◌||◌, Bool, List, [], ◌∷◌, ◌++◌, flat_map, All, Some, None}
 use Rattle.std.specs.Prelude.{Result, Ok, Err, MatchBool, bytes_eq, codes}
 use Rattle.std.specs.Global.{Vec}
 use Rattle.http_header.specs.FieldName.{IsFieldName}
@@ -11,7 +11,7 @@ use Rattle.headers.specs.Lines.{Line, lines_of}
 use Rattle.headers.specs.Scheme.{FirstReads}
 use Rattle.headers.specs.Typed.{HasLine}
 use Rattle.headers_section.specs.CanonicalText.{Block, IsBlock}
-use Rattle.headers_c_parts.specs.FieldText.{field_lines}
+use Rattle.headers_c_parts.specs.FieldText.{IsNameOf, field_lines}
 use Rattle.headers_c_parts.specs.declared.status.Failure.{Failure}
 use Rattle.headers_c_parts.specs.declared.status.Failure.TheVariants.{Refused, Memory, Absent, TooLarge}
 
@@ -55,10 +55,11 @@ abbrev pub HasNoBlock : List ℕ → List ℕ → Type 0
 HasNoBlock name text = ¬ (IsFieldName name) ⊎ (HasLine (field_lines text) × ¬ (All IsFieldValue (field_lines text)))
 
 -- The lines that are written. `Refused` only if the name is no field name, or a line is no header value, or the header
--- refuses the lines.
+-- refuses the lines. `Memory` only if the name is copied, or there is a line.
 abbrev pub IsWrittenAs : List ℕ → List ℕ → Result (Vec FieldValue) Failure → Type 0
 IsWrittenAs name text (Ok lines) = HasBlock name text (Some (lines_of lines.items))
 IsWrittenAs name text (Err Refused) = HasNoBlock name text ⊎ HasBlock name text None
 IsWrittenAs name text (Err Absent) = IsFieldName name × (field_lines text ≡ [])
-IsWrittenAs name text (Err Memory) = ⊤
+IsWrittenAs name text (Err Memory) =
+    IsNameOf name (Err Memory) ⊎ (IsFieldName name × HasLine (field_lines text))
 IsWrittenAs name text (Err TooLarge) = ⊥

@@ -1,2 +1,3 @@
 pub mod DecodeLemmas
 pub mod LineLemmas
+pub mod SectionLemmas

@@ -1,8 +1,9 @@
 -- The lines of a field as one text.
-use Rattle.std.specs.Prelude.{◌≡◌, ℕ, ◌-◌, List, [], ◌∷◌, length, take, slice_index, All, if◌then◌else◌, ◌==◌, ⊤}
+use Rattle.std.specs.Prelude.{◌≡◌, ℕ, ◌-◌, List, [], ◌∷◌, length, take, slice_index, All, if◌then◌else◌, ◌==◌}
 use Rattle.std.specs.Prelude.{Result, Ok, Err}
 use Rattle.http_header.specs.FieldName.{IsFieldName}
 use Rattle.http_header.specs.FieldValue.{IsFieldValue}
+use Rattle.http_header.specs.StandardHeader.{IsStandardName}
 use Rattle.http_header.specs.Token.{lowercase}
 use Rattle.headers.specs.Lines.{Line}
 use Rattle.headers.specs.Typed.{HasLine}
@@ -34,10 +35,11 @@ FieldDecodes reads text (Err Absent) = field_lines text ≡ []
 FieldDecodes reads text (Err Memory) = HasLine (field_lines text)
 FieldDecodes reads text (Err TooLarge) = ⊥
 
--- the name of these bytes, in lower case; `Refused` only if they are none
+-- The name of these bytes, in lower case. `Refused` only if they are none, and `Memory` only if they are one that isn't
+-- standard: it is copied to the heap.
 abbrev pub IsNameOf : List ℕ → Result (List ℕ) Failure → Type 0
 IsNameOf bytes (Ok name) = IsFieldName bytes × (name ≡ lowercase bytes)
 IsNameOf bytes (Err Refused) = ¬ (IsFieldName bytes)
-IsNameOf bytes (Err Memory) = ⊤
+IsNameOf bytes (Err Memory) = IsFieldName bytes × ¬ (IsStandardName (lowercase bytes))
 IsNameOf bytes (Err Absent) = ⊥
 IsNameOf bytes (Err TooLarge) = ⊥

@@ -10,5 +10,5 @@ mod status;
 pub use crate::keys::HashKeys;
 pub use crate::lines::{read_field, read_values};
 pub use crate::name::read_name;
-pub use crate::section::read_map;
+pub use crate::section::{has_line, read_map};
 pub use crate::status::{DONE, Failure, MARKED, NO_ROOM, copy_into};

@@ -15,6 +15,7 @@ use Rattle.headers_c_decisions.specs.Selection.{range_of}
 use Rattle.headers_c_decisions.specs.declared.rules.Rules.{Rules}
 use Rattle.headers_c_parts.specs.SectionMap.{IsMapOf}
 use Rattle.headers_c_parts.specs.declared.status.Failure.{Failure}
+use Rattle.headers_c_parts.specs.declared.status.Failure.TheVariants.{Memory}
 use Rattle.headers_c_resource.specs.Requests.{IsAuthorityAnswer, IsProtocolAnswer, authority_of, content_of}
 use Rattle.headers_c_resource.specs.Resources.{FailsAtResource, IsResource}
 use Rattle.headers_c_resource.specs.Settled.{settled}
@@ -59,9 +60,10 @@ module _ (parts : RequestParts) (method target section : List ℕ) where
       ⊎ (IsMethodOf method (Err failure)
       ⊎ (IsAuthorityAnswer (authority_of target) (Err failure) ⊎ IsMapOf section (Err failure)))
 
+  -- the answer of a resource that was read, or the failure of reading the request, or of allocating the answer
   abbrev pub AnswersBy : Resource → Result Answered Failure → Type 0
   AnswersBy resource (Ok shown) = IsAnsweredBy resource shown
-  AnswersBy resource (Err failure) = FailsAtRequest failure
+  AnswersBy resource (Err failure) = FailsAtRequest failure ⊎ (failure ≡ Memory)
 
 -- the answer of the resource that was handed in, or the failure of reading it or the request
 abbrev pub Answers : ResourceParts → List RepresentationParts → Rules → RequestParts

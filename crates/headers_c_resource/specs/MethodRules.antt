@@ -11,6 +11,7 @@ use Rattle.headers_c_decisions.specs.Methods.{IsMethodOf}
 use Rattle.headers_c_decisions.specs.Texts.{IsValuesOf}
 use Rattle.headers_c_parts.specs.FieldText.{field_lines}
 use Rattle.headers_c_parts.specs.declared.status.Failure.{Failure}
+use Rattle.headers_c_parts.specs.declared.status.Failure.TheVariants.{Memory}
 use Rattle.headers_c_resource.specs.Lists.{IsEachAt, IsListOf, filled_at, is_named}
 use Rattle.headers_c_resource.specs.declared.method_rule.RuleLists.{RuleLists}
 use Rattle.headers_c_resource.specs.declared.resource.ResourceParts.{ResourceParts}
@@ -38,6 +39,10 @@ pub record IsRule (lines : RuleLines) (place : ℕ) (method : Line) (rule : Meth
   pub accept_encoding : lines_at rule.takes (codes "accept-encoding")
       ≡ option_lines (filled_at lines.accept_encoding place)
 
+-- the method can't be read, or there is no memory for its rule
+abbrev pub FailsAtRule : Line → Failure → Type 0
+FailsAtRule method failure = (failure ≡ Memory) ⊎ IsMethodOf method (Err failure)
+
 module _ (methods : List Line) where
   -- the rule of the method at a place
   abbrev pub IsRuleAt : RuleLines → ℕ → MethodRule → Type 0
@@ -47,10 +52,10 @@ module _ (methods : List Line) where
   abbrev pub AreRules : RuleLines → List MethodRule → Type 0
   AreRules lines rules = IsEachAt (IsRuleAt lines) (length methods) rules
 
-  -- a method can't be read
+  -- a method can't be read, or there is no memory for its rule
   abbrev pub FailsAtMethod : Failure → Type 0
   FailsAtMethod failure =
-      (place : ℕ) × (method : Line) × (slice_get methods place ≡ Some method) × IsMethodOf method (Err failure)
+      (place : ℕ) × (method : Line) × (slice_get methods place ≡ Some method) × FailsAtRule method failure
 
   abbrev pub AreRulesRead : RuleLines → Result (Vec MethodRule) Failure → Type 0
   AreRulesRead lines (Ok rules) = AreRules lines rules.items
@@ -69,7 +74,7 @@ lines_by lists =
 -- what a rule that was read is, or why it wasn't
 abbrev pub IsRuleAnswer : RuleLines → ℕ → Line → Result MethodRule Failure → Type 0
 IsRuleAnswer lines place method (Ok rule) = IsRule lines place method rule
-IsRuleAnswer lines place method (Err failure) = IsMethodOf method (Err failure)
+IsRuleAnswer lines place method (Err failure) = FailsAtRule method failure
 
 -- the lines that were handed in
 abbrev pub lines_given : ResourceParts → RuleLines

@@ -10,7 +10,7 @@ use Rattle.headers_preconditions.specs.declared.resource.Validators.{Validators}
 use Rattle.headers_resource.specs.declared.representation.Representation.{Representation}
 use Rattle.headers_c_decisions.specs.Contents.{limits_of}
 use Rattle.headers_c_decisions.specs.Numbers.{known}
-use Rattle.headers_c_decisions.specs.Rules.{Finds}
+use Rattle.headers_c_decisions.specs.Rules.{FindsOfLine}
 use Rattle.headers_c_decisions.specs.Targets.{IsDateOf, reads_etag}
 use Rattle.headers_c_parts.specs.FieldText.{field_lines}
 use Rattle.headers_c_parts.specs.declared.status.Failure.{Failure}
@@ -39,7 +39,7 @@ IsTagOfLine None (Ok tag) = tag ≡ None
 IsTagOfLine (Some line) (Ok None) = ⊥
 IsTagOfLine (Some line) (Ok (Some tag)) = reads_etag (line ∷ []) tag
 IsTagOfLine None (Err failure) = ⊥
-IsTagOfLine (Some line) (Err failure) = Finds (reads_etag (line ∷ [])) (Err failure)
+IsTagOfLine (Some line) (Err failure) = FindsOfLine (reads_etag (line ∷ [])) (Err failure)
 
 abbrev pub IsTagAt : List Line → ℕ → Result (Option FieldValue) Failure → Type 0
 IsTagAt etags place result = IsTagOfLine (filled_at etags place) result

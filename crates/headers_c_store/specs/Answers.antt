@@ -6,7 +6,7 @@ use Rattle.headers_cache_rules.specs.Conditions.{IsStoredAnswer}
 use Rattle.headers_cache_rules.specs.declared.conditions.StoredAnswer.{StoredAnswer}
 use Rattle.headers_cache_rules.specs.declared.conditions.StoredAnswer.TheVariants as stored_answer
 use Rattle.headers_c_parts.specs.declared.status.Failure.{Failure}
-use Rattle.headers_c_parts.specs.declared.status.Failure.TheVariants.{Absent}
+use Rattle.headers_c_parts.specs.declared.status.Failure.TheVariants.{Memory, Absent}
 use Rattle.headers_c_store.specs.Reading.{FailsRequest, IsRequest, asked_by}
 use Rattle.headers_c_store.specs.Shown.{response_in}
 use Rattle.headers_c_store.specs.declared.answering.AnswerFacts.{AnswerFacts}
@@ -30,9 +30,14 @@ module _ (request : CacheRequest) (place now : ℕ) (ranges : Bool) (held : Held
         (answer : StoredAnswer) × IsStoredAnswer now (asked_by request fields) stored ranges answer
         × (facts ≡ answer_facts answer))
 
-  -- the answer is that, or the failure of parsing the request; `Absent` only if no response is at the place
+  -- the response at the place is a 200, of which ranges may be sent
+  abbrev pub IsOkAt : Type 0
+  IsOkAt = IsSomeAnd (response_in held request.target.now place) (λ stored. stored.status ≡ 200)
+
+  -- The answer is that, or the failure of parsing the request. `Absent` only if no response is at the place, and
+  -- `Memory` also if a 200 is.
   abbrev pub AnswersClient : Result AnswerFacts Failure → Type 0
   AnswersClient (Ok facts) = IsAnsweredBy facts
   AnswersClient (Err failure) =
       FailsRequest request failure
-      ⊎ ((failure ≡ Absent) × (response_in held request.target.now place ≡ None))
+      ⊎ (((failure ≡ Absent) × (response_in held request.target.now place ≡ None)) ⊎ ((failure ≡ Memory) × IsOkAt))

@@ -1,5 +1,5 @@
 -- Whether a response is stored, by what a caller hands in.
-use Rattle.std.specs.Prelude.{◌≡◌, ◌⊎◌, ℕ, Bool, true, false, List, Result, Ok, Err}
+use Rattle.std.specs.Prelude.{◌≡◌, ◌⊎◌, ℕ, ◌<◌, Bool, true, false, List, length, Result, Ok, Err}
 use Rattle.std.specs.Bool.{MatchBool}
 use Rattle.http.specs.StatusCode.{IsStatusCode}
 use Rattle.http_header.specs.FieldValue.{FieldValue}
@@ -29,6 +29,10 @@ abbrev pub reception_of : Bool → Reception
 reception_of true = Complete
 reception_of false = Incomplete
 
+-- there is no memory for a copy of content that has a byte
+abbrev pub FailsCopy : List ℕ → Failure → Type 0
+FailsCopy content failure = (failure ≡ Memory) × (0 < length content)
+
 -- the response, and the request that it answered, with this method and these fields; or the failure of parsing it
 abbrev pub IsReceived : List ℕ → Entries FieldValue → CacheResponse → Result StoredResponse Failure → Type 0
 IsReceived method fields response (Ok came) =
@@ -36,7 +40,8 @@ IsReceived method fields response (Ok came) =
     × (came.method ≡ method) × (came.request ≡ fields) × (came.content.items ≡ response.content.now)
     × (came.requested ≡ response.requested) × (came.received ≡ response.received)
 IsReceived method fields response (Err failure) =
-    IsStatusOf response.status (Err failure) ⊎ IsMapOf response.section.now (Err failure)
+    IsStatusOf response.status (Err failure)
+    ⊎ (IsMapOf response.section.now (Err failure) ⊎ FailsCopy response.content.now failure)
 
 module _ (request : CacheRequest) (response : CacheResponse) where
   -- the response as it came, with the request that it answered
@@ -54,7 +59,8 @@ module _ (request : CacheRequest) (response : CacheResponse) where
   abbrev pub FailsResponse : Failure → Type 0
   FailsResponse failure =
       FailsRequest request failure
-      ⊎ (IsStatusOf response.status (Err failure) ⊎ IsMapOf response.section.now (Err failure))
+      ⊎ (IsStatusOf response.status (Err failure)
+      ⊎ (IsMapOf response.section.now (Err failure) ⊎ FailsCopy response.content.now failure))
 
   module _ (old new : Held) where
     abbrev pub reception : Reception

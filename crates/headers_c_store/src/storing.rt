@@ -1,5 +1,5 @@
 //! How a response is stored.
-ghost use Rattle.std.specs.Prelude.{◌≡◌, Ok, Err};
+ghost use Rattle.std.specs.Prelude.{◌≡◌, ◌<◌, length, IfOk, IsErr, Ok, Err};
 ghost use Rattle.headers_c_store.specs.Handles.{OnOpen};
 ghost use Rattle.headers_c_store.specs.Storing.{IsReceived, IsStoreFailure, StoresResponse, reception_of};
 
@@ -11,7 +11,7 @@ use headers_c_decisions::{read_method, read_status};
 use headers_c_parts::{Failure, HashKeys, read_map};
 use headers_cache_rules::{Reception, StoredResponse};
 use http::Method;
-use std::alloc::Global;
+use std::alloc::{AllocError, Global};
 
 /// A response that came from the origin.
 #[repr(C)]
@@ -51,6 +51,18 @@ fn reception_of(is_complete: bool) -> Reception
     }
 }
 
+// A copy of content. Out of memory only if it has a byte.
+fn copied(alloc: Global, content: &[u8]) -> Result<Vec<u8>, AllocError>
+    ensures copy { IfOk result (λ copy. copy.items ≡ content.now) }
+    ensures memory { IsErr result → 0 < length content.now }
+{
+    if content.is_empty() {
+        Ok(Vec::new(alloc))
+    } else {
+        Vec::from_slice(alloc, content)
+    }
+}
+
 // The response as it came, to a request with this method and these fields.
 fn read_response(
     alloc: Global,
@@ -63,7 +75,7 @@ fn read_response(
 {
     let status = read_status(response.status)?;
     let told = read_map(alloc, response.section, keys)?;
-    let content = Vec::from_slice(alloc, response.content)?;
+    let content = copied(alloc, response.content)?;
     Ok(StoredResponse {
         method,
         request: fields,

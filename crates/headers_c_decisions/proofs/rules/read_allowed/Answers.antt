@@ -2,7 +2,8 @@ use Rattle.std.proofs.Common.{◌≡◌, ◌∙◌, false, List, Err, ap, sym, s
 use Rattle.std.proofs.lemmas.Result.{err_from_is_err_and}
 use Rattle.http_header.specs.FieldValue.{FieldValue}
 use Rattle.headers.specs.Lines.{lines_of}
-use Rattle.headers_c_decisions.specs.Rules.{Allows, Finds, ReadEach}
+use Rattle.headers.specs.Typed.{HasLine}
+use Rattle.headers_c_decisions.specs.Rules.{Finds, FindsOfText, ReadEach}
 use Rattle.headers_c_decisions.specs.Star.{is_any}
 use Rattle.headers_c_decisions.proofs.RuleLemmas.{Allows-fails}
 use Rattle.headers_c_decisions.proofs.rules.read_allowed.Goals as goal
@@ -19,7 +20,8 @@ returns-in_err-values g c =
     let failure = c.in_err-values.field-0.0 in
     let error = err_from_is_err_and answer.result answer.ensures.1 in
     let is : answer.result ≡ Err failure = cc (error.1, error.2) in
-    subst (Finds (Allows g.T.Listed.reads c.args.text.now)) (sym is)
+    subst (FindsOfText g.T.Listed.reads c.args.text.now) (sym is)
     (Allows-fails g.T.Listed.reads c.args.text.now (lines_of values) read.0 none failure
-    (subst (λ (all : List FieldValue). Finds (ReadEach g.T.Listed.reads (lines_of all)) (Err failure))
+    (subst
+    (λ (all : List FieldValue). Finds (HasLine (lines_of all)) (ReadEach g.T.Listed.reads (lines_of all)) (Err failure))
     c.as_slice-2.ensures.value c.in_err-values.ensures))

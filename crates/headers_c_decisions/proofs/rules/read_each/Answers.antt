@@ -1,6 +1,7 @@
 use Rattle.std.proofs.Common.{◌≡◌, Err, sym, subst}
 use Rattle.std.proofs.lemmas.Result.{err_from_is_err_and}
 use Rattle.headers.specs.Lines.{lines_of}
+use Rattle.headers.specs.Typed.{HasLine}
 use Rattle.headers_c_decisions.specs.Rules.{Finds, ReadEach}
 use Rattle.headers_c_decisions.proofs.RuleLemmas.{AllZip-more, ReadEach-fails}
 use Rattle.headers_c_decisions.proofs.rules.read_each.Goals as goal
@@ -17,6 +18,6 @@ returns-in_err-value g c =
     let failure = c.in_err-value.field-0.0 in
     let error = err_from_is_err_and answer.result answer.ensures.1 in
     let is : answer.result ≡ Err failure = cc (error.1, error.2) in
-    subst (Finds (ReadEach g.T.Listed.reads (lines_of c.args.lines.now))) (sym is)
+    subst (Finds (HasLine (lines_of c.args.lines.now)) (ReadEach g.T.Listed.reads (lines_of c.args.lines.now))) (sym is)
     (ReadEach-fails g.T.Listed.reads c.args.lines.now c.loop-line.line-index c.line-item.result failure
     c.loop-line-test.true c.line-item.is c.in_err-value.ensures)

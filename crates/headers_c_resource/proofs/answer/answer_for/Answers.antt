@@ -1,6 +1,9 @@
 use Rattle.std.proofs.Common.{◌≡◌, Err, inl, inr, subst, sym}
 use Rattle.std.proofs.lemmas.Result.{err_from_is_err_and}
+use Rattle.headers_c_decisions.specs.Contents.{IsBoundaryOf}
+use Rattle.headers_c_parts.specs.declared.status.Failure.{Failure}
 use Rattle.headers_c_resource.specs.Answers.{Answers}
+use Rattle.headers_c_resource.specs.Resources.{boundary_text}
 use Rattle.headers_c_resource.proofs.answer.answer_for.Goals as goal
 
 pub returns-in_err-resource : goal.returns-in_err-resource
@@ -21,4 +24,11 @@ returns-in_err-answered c =
     let is : answer.result ≡ Err failure = cc (error.1, error.2) in
     subst
     (Answers c.args.resource.now c.args.representations.now c.args.rules.now c.args.request.now c.args.method.now
-    c.args.target.now c.args.section.now) (sym is) (inr c.in_err-answered.ensures)
+    c.args.target.now c.args.section.now) (sym is)
+    (elim c.in_err-answered.ensures [
+      | inl request ↦ inr request
+      | inr memory ↦
+          inl (inr (inl (subst
+          (λ (reason : Failure). IsBoundaryOf (boundary_text c.args.resource.now.boundary.now) (Err reason)) (sym memory)
+          c.in_ok-resource.ensures.boundary.0)))
+    ])

@@ -1,4 +1,4 @@
-use Rattle.std.proofs.Common.{◌≡◌, Err, subst, sym}
+use Rattle.std.proofs.Common.{◌≡◌, Err, inl, refl, subst, sym}
 use Rattle.std.proofs.lemmas.Result.{err_from_is_err_and}
 use Rattle.headers.specs.Lines.{lines_of}
 use Rattle.headers_c_parts.specs.declared.status.Failure.TheVariants.{Memory}
@@ -14,7 +14,7 @@ returns-in_err-push c =
     let error = err_from_is_err_and answer.result answer.ensures.1 in
     let is : answer.result ≡ Err Memory = cc (error.1, error.2) in
     subst (AreRulesRead (lines_of c.args.methods.now) (lines_by c.args.lists.now)) (sym is)
-    (c.loop-place.place, line.bytes, at, tt)
+    (c.loop-place.place, line.bytes, at, inl refl)
 
 pub loop-place-preserved : goal.loop-place-preserved
 loop-place-preserved c =
