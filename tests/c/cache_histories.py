@@ -205,9 +205,7 @@ def play_random(seed, indices):
 
     calls, wrong = 0, []
     for index in indices:
-        history = generate.history(seed, index)
-        if not is_plain(history.head):
-            continue
+        history = generate.history(seed, "none", index)
         lines = [history.head, *(f"{it.text} = {' | '.join(sorted(it.permitted))}" for it in history.calls)]
         count, fault = play(lines)
         calls += count

@@ -26,9 +26,9 @@ def given_answers(program: Path, text: str) -> dict[int, str]:
     return found
 
 
-def compare_batch(program: Path, seed: int, indices: range) -> Comparison:
+def compare_batch(program: Path, seed: int, option: str, indices: range) -> Comparison:
     comparison = Comparison()
-    histories = [generate.history(seed, index) for index in indices]
+    histories = [generate.history(seed, option, index) for index in indices]
     text = "".join(f"{line}\n" for history in histories for line in history.lines())
     otherwise = given_answers(program, text)
     number = 0
@@ -45,11 +45,11 @@ def compare_batch(program: Path, seed: int, indices: range) -> Comparison:
     return comparison
 
 
-def compare(seed: int, count: int) -> Comparison:
+def compare(seed: int, option: str, count: int) -> Comparison:
     comparison = Comparison()
     program = products.program("headers_cache")
     batches = [range(first, min(first + BATCH, count)) for first in range(0, count, BATCH)]
     with ProcessPoolExecutor() as pool:
-        for found in pool.map(compare_batch, repeat(program), repeat(seed), batches):
+        for found in pool.map(compare_batch, repeat(program), repeat(seed), repeat(option), batches):
             comparison.merge(found)
     return comparison

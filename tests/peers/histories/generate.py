@@ -40,8 +40,9 @@ CONDITIONS = {"if-none-match": ['"1"', '"1"', 'W/"1"', '"2"', '"0", "1"', "*", '
               "if-unmodified-since": [imf_fixdate(BEGIN)]}
 CONNECTIONS = ["close", "close, x-b", "x-b", "keep-alive", "Vary", "cache-control", "x b", ",", "date",
                "CDN-Cache-Control"]
-# The options of a cache: targeted fields, and what one has.
-TARGETED = [(), ("cdn-cache-control",), ("cdn-cache-control",), ("cdn-cache-control", "x-cdn-control"),
+# The options of a cache, and how many of a hundred histories have each beside those without options.
+OPTIONS = {"none": 100, "immutable": 10, "targeted fields": 10, "guessed lifetimes": 10, "all": 10}
+TARGETED = [("cdn-cache-control",), ("cdn-cache-control",), ("cdn-cache-control", "x-cdn-control"),
             ("x-cdn-control", "cdn-cache-control")]
 MEMBERS = ["max-age=60", "max-age=60", "max-age=600", "max-age=0", "max-age=3600", "s-maxage=60", "no-store",
            "no-cache", "private", "public", "must-revalidate", "immutable", "immutable", "stale-while-revalidate=600",
@@ -55,15 +56,15 @@ MALFORMED = ["Max-Age=60", "max-age =60", "max-age=1234567890123456", "x=", "x=(
 class Player:
     """A cache and the history of its calls."""
 
-    def __init__(self, draw: random.Random) -> None:
+    def __init__(self, draw: random.Random, option: str) -> None:
         self.draw, self.now, self.count = draw, BEGIN, 0
         limits = (draw.choice([1, 2, 3, 4, 8]), draw.choice([1, 2, 3, 4, 6, 16]), draw.choice([10, 40, 100, 1000]))
         is_shared = draw.random() < 0.5
-        has_options = draw.random() < 0.5
-        is_immutable = has_options and draw.random() < 0.7
-        self.targeted = draw.choice(TARGETED) if has_options else ()
-        self.cache = Cache(is_shared, *limits, is_immutable, self.targeted)
-        self.head = writing.head(is_shared, *limits, is_immutable, self.targeted)
+        self.is_immutable = option in ("immutable", "all")
+        self.guesses = option in ("guessed lifetimes", "all")
+        self.targeted = draw.choice(TARGETED) if option in ("targeted fields", "all") else ()
+        self.cache = Cache(is_shared, *limits, self.is_immutable, self.targeted)
+        self.head = writing.head(is_shared, *limits, self.is_immutable, self.targeted)
         self.calls: list[writing.Call] = []
 
     def is_likely(self, share: float) -> bool:
@@ -75,7 +76,7 @@ class Player:
     # Calls
 
     def lookup(self, target: str, request: Request) -> Answer:
-        most = self.draw.choice([60, 86400]) if self.is_likely(0.3) else None
+        most = self.draw.choice([60, 86400]) if self.guesses and self.is_likely(0.6) else None
         answer = self.cache.lookup(target, request, self.now, most or 0)
         call = ["lookup", target, self.now] if most is None else ["lookup_guessing", target, self.now, most]
         self.add([*call, *writing.request_words(request)], writing.answer_words(answer))
@@ -148,7 +149,7 @@ class Player:
         if self.is_likely(0.5):
             fields += [("etag", self.draw.choice(TAGS if self.is_likely(0.93) else ENTITY_TAGS))
                        for _ in range(2 if self.is_likely(0.03) else 1)]
-        if self.is_likely(0.3):
+        if self.is_likely(0.6 if self.guesses else 0.3):
             second = self.draw.choice(DATES)
             fields.append(("last-modified", imf_fixdate(second) if self.is_likely(0.9) else date(self.draw, second)))
         return fields
@@ -156,7 +157,7 @@ class Player:
     def common_fields(self, received: int) -> Fields:
         """Fields of a response or of a 304."""
         fields: Fields = []
-        if self.is_likely(0.85):
+        if self.is_likely(0.5 if self.guesses else 0.85):
             fields += self.control()
         for name in ("cdn-cache-control", "x-cdn-control"):
             if self.is_likely(0.5 if name in self.targeted else 0.05):
@@ -183,6 +184,8 @@ class Player:
             return cache_control(self.draw, RESPONSE_FLAGS, RESPONSE_NUMBERS)
         found = [self.draw.choice(LIFETIMES)] if self.is_likely(0.9) else []
         found += [self.draw.choice(EXTRAS) for _ in range(self.draw.choice([0, 0, 1, 1, 2]))]
+        if self.is_immutable and self.is_likely(0.4):
+            found.append(self.draw.choice(["immutable", "immutable", "Immutable", "immutable=1"]))
         return [("cache-control", ", ".join(found))]
 
     def dictionary(self) -> str:
@@ -296,6 +299,6 @@ def trimmed(fields: Fields) -> Fields:
     return [(name, value.strip(" \t")) for name, value in fields]
 
 
-def history(seed: int, index: int) -> Player:
+def history(seed: int, option: str, index: int) -> Player:
     """A history that was played. Each has its own random numbers, so that it can be made again by itself."""
-    return Player(random.Random(f"{seed}/{index}")).play()
+    return Player(random.Random(f"{seed}/{option}/{index}"), option).play()
