@@ -1,6 +1,7 @@
 -- What is told of a stored response.
 use Rattle.std.specs.Prelude.{◌≡◌, ℕ, ◌-◌, ◌^◌, ◌++◌, Bool, not, List, length, filter, flat_map, bytes_eq, codes}
-use Rattle.std.specs.Prelude.{◌==◌, if◌then◌else◌, slice_get, drop, take, IsSomeAnd, IsSome, Option, None, Result, Ok, Err}
+use Rattle.std.specs.Prelude.{◌==◌, if◌then◌else◌, slice_get, drop, take, IsSomeAnd, IsSome, Option, None}
+use Rattle.std.specs.Prelude.{Result, Ok, Err}
 use Rattle.std.specs.Str.{IsUtf8}
 use Rattle.http_header.specs.FieldValue.{FieldValue}
 use Rattle.http_header.specs.HeaderMap.{Entries, pairs}

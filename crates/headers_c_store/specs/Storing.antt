@@ -21,7 +21,7 @@ use Rattle.headers_c_store.specs.declared.held.Held.{Held}
 use Rattle.headers_c_store.specs.declared.reading.CacheRequest.{CacheRequest}
 use Rattle.headers_c_store.specs.declared.storing.CacheResponse.{CacheResponse}
 
--- A store fails only for want of memory, or since fields don't fit into a map.
+-- A store fails only if it runs out of memory, or if fields don't fit into a map.
 abbrev pub IsStoreFailure : Failure → Type 0
 IsStoreFailure failure = (failure ≡ Memory) ⊎ (failure ≡ TooLarge)
 
@@ -86,7 +86,8 @@ module _ (request : CacheRequest) (response : CacheResponse) where
     pub record IsLeftOut : Type 0 where
       pub came : StoredResponse
       pub is_came : IsCame came
-      pub why : (¬ (IsToStore (policy_of_store old.store) came reception)) ⊎ (¬ (FitsAlone old.store.limits 1 (size_of came)))
+      pub why : (¬ (IsToStore (policy_of_store old.store) came reception))
+          ⊎ (¬ (FitsAlone old.store.limits 1 (size_of came)))
       pub contents : contents_of new.store ≡ contents_of old.store
 
     -- It would be stored, but there is too little memory, or its fields don't fit into a map. Then nothing is stored

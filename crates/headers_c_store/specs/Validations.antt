@@ -41,7 +41,7 @@ module _ (request : CacheRequest) (section : List ℕ) (exchange : Exchange) (ol
   abbrev pub target : List ℕ
   target = request.target.now
 
-  -- what is under the target is gone, for want of memory, or since the fields don't fit into a map
+  -- what is under the target is gone: memory runs out, or the fields don't fit into a map
   pub record IsGone (failure : Failure) : Type 0 where
     pub contents : contents_of new.store ≡ without target (contents_of old.store)
     pub settings : KeepsSettings old new
@@ -85,8 +85,8 @@ module _ (request : CacheRequest) (section : List ℕ) (exchange : Exchange) (ol
     pub is_request : IsRequest request fields
     pub head : Entries FieldValue
     pub is_head : Holds section head
-    pub becomes : IsRefreshedByHead (policy_of_store old.store) target (asked_by request fields) (lines_at head) exchange
-        (contents_of old.store) (contents_of new.store)
+    pub becomes : IsRefreshedByHead (policy_of_store old.store) target (asked_by request fields) (lines_at head)
+        exchange (contents_of old.store) (contents_of new.store)
     pub once : new.once ≡ old.once
     pub settings : KeepsSettings old new
 

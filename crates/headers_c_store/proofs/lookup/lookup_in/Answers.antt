@@ -15,7 +15,8 @@ returns c =
       is_request = search rules;
       lookup = c.in_ok-lookup.lookup;
       answers =
-          subst (λ (target : List ℕ). IsAnswer (policy_of_store c.args.held.now.store) c.args.guess (asked_by c.args.request.now fields)
+          subst (λ (target : List ℕ). IsAnswer (policy_of_store c.args.held.now.store) c.args.guess
+          (asked_by c.args.request.now fields)
           c.args.now (responses_at target contents) c.in_ok-lookup.lookup) c.in_ok-target.ensures.0
           (subst (λ (method : List ℕ). IsAnswer (policy_of_store c.args.held.now.store) c.args.guess
           (record { method = method; fields = lines_at fields }) c.args.now

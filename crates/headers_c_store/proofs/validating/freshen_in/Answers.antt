@@ -18,7 +18,8 @@ returns-in-Ok c =
       is_update = search rules;
       answer = c.in-Ok.refreshed;
       becomes =
-          subst (λ (target : List ℕ). IsRefreshed (policy_of_store c.args.held.now.store) target (asked_by c.args.request.now fields)
+          subst (λ (target : List ℕ). IsRefreshed (policy_of_store c.args.held.now.store) target
+          (asked_by c.args.request.now fields)
           update c.args.exchange old new c.in-Ok.refreshed) c.in_ok-target.ensures.0
           (subst (λ (method : List ℕ). IsRefreshed (policy_of_store c.args.held.now.store) c.in_ok-target.target.now
           (record { method = method; fields = lines_at fields }) update c.args.exchange old new c.in-Ok.refreshed)
