@@ -1,5 +1,5 @@
 //! The calls of a store.
-use headers::Encoded;
+use headers::{Encoded, HeaderMap};
 use headers_cache::{Limits, Lookup, Options, Refreshed, Store};
 use headers_cache_policy::{Kind, RequestHead};
 use headers_cache_rules::{Exchange, Reception, StoredAnswer, StoredResponse};
@@ -64,6 +64,49 @@ fn exchange(arguments: &mut Arguments<'_>) -> Result<Exchange, Failure> {
     })
 }
 
+// METHOD REQUEST: a request.
+#[derive(Drop)]
+struct Asked {
+    method: Method,
+    fields: HeaderMap,
+}
+
+impl Asked {
+    fn read(arguments: &mut Arguments<'_>) -> Result<Asked, Failure> {
+        let method = method(arguments)?;
+        let fields = arguments.map()?;
+        Ok(Asked { method, fields })
+    }
+
+    fn head(&self) -> RequestHead<'_> {
+        RequestHead {
+            method: &self.method,
+            fields: &self.fields,
+        }
+    }
+}
+
+// REQUESTED RECEIVED METHOD REQUEST UPDATE: what a validating response says, and its request.
+#[derive(Drop)]
+struct Update {
+    exchange: Exchange,
+    asked: Asked,
+    fields: HeaderMap,
+}
+
+impl Update {
+    fn read(arguments: &mut Arguments<'_>) -> Result<Update, Failure> {
+        let exchange = exchange(arguments)?;
+        let asked = Asked::read(arguments)?;
+        let fields = arguments.map()?;
+        Ok(Update {
+            exchange,
+            asked,
+            fields,
+        })
+    }
+}
+
 // The content of the response at a place, or `(none)`.
 fn add_content(
     store: &Store,
@@ -88,31 +131,6 @@ fn add_fields(fields: &[Encoded], answer: &mut Answer) -> Result<(), Failure> {
     Ok(())
 }
 
-// TARGET NOW METHOD REQUEST, and before METHOD the greatest lifetime that is guessed: what is done,
-// the content of the response, and Age or the conditions.
-fn call_lookup(
-    store: &mut Store,
-    guesses: bool,
-    arguments: &mut Arguments<'_>,
-    answer: &mut Answer,
-) -> Result<(), Failure> {
-    let alloc = arguments.alloc();
-    let target = arguments.text()?;
-    let now = arguments.number()?;
-    let most = if guesses { arguments.number()? } else { 0 };
-    let (method, fields) = (method(arguments)?, arguments.map()?);
-    let request = RequestHead {
-        method: &method,
-        fields: &fields,
-    };
-    let found = if guesses {
-        store.lookup_guessing(alloc, &target, &request, now, most)?
-    } else {
-        store.lookup(alloc, &target, &request, now)?
-    };
-    add_lookup(store, &target, &found, answer)
-}
-
 fn add_lookup(
     store: &Store,
     target: &str,
@@ -134,51 +152,95 @@ fn add_lookup(
     add_fields(fields, answer)
 }
 
-// TARGET REQUESTED RECEIVED METHOD REQUEST STATUS CONTENT RESPONSE: whether it is stored.
-fn call_store(
+fn look_up(
     store: &mut Store,
-    reception: Reception,
+    target: &str,
+    asked: &Asked,
+    now: u64,
+    guess: Option<u64>,
+    answer: &mut Answer,
+) -> Result<(), Failure> {
+    let (alloc, request) = (answer.alloc(), asked.head());
+    let found = match guess {
+        Some(most) => store.lookup_guessing(alloc, target, &request, now, most)?,
+        None => store.lookup(alloc, target, &request, now)?,
+    };
+    add_lookup(store, target, &found, answer)
+}
+
+// NOW METHOD REQUEST, and before METHOD the greatest lifetime that is guessed: what is done, the
+// content of the response, and Age or the conditions.
+fn call_lookup(
+    store: &mut Store,
+    target: &str,
+    guesses: bool,
     arguments: &mut Arguments<'_>,
     answer: &mut Answer,
 ) -> Result<(), Failure> {
-    let target = arguments.text()?;
+    let now = arguments.number()?;
+    let guess = if guesses {
+        Some(arguments.number()?)
+    } else {
+        None
+    };
+    let asked = Asked::read(arguments)?;
+    look_up(store, target, &asked, now, guess, answer)
+}
+
+// REQUESTED RECEIVED METHOD REQUEST STATUS CONTENT RESPONSE: a response, and its request.
+fn read_came(arguments: &mut Arguments<'_>) -> Result<StoredResponse, Failure> {
     let Exchange {
         requested,
         received,
     } = exchange(arguments)?;
-    let came = StoredResponse {
-        method: method(arguments)?,
-        request: arguments.map()?,
-        status: status(arguments)?,
-        content: arguments.bytes()?,
-        response: arguments.map()?,
+    let Asked { method, fields } = Asked::read(arguments)?;
+    let status = status(arguments)?;
+    let content = arguments.bytes()?;
+    let response = arguments.map()?;
+    Ok(StoredResponse {
+        method,
+        request: fields,
+        status,
+        content,
+        response,
         requested,
         received,
-    };
-    let is_stored = store.store(arguments.alloc(), &target, came, reception)?;
-    Ok(answer.word(if is_stored { "stored" } else { "unstored" })?)
+    })
 }
 
-// TARGET REQUESTED RECEIVED METHOD REQUEST UPDATE: which response is the answer after a 304.
-fn call_freshen(
+// The same: whether it is stored.
+fn call_store(
     store: &mut Store,
+    target: &str,
+    reception: Reception,
     arguments: &mut Arguments<'_>,
     answer: &mut Answer,
 ) -> Result<(), Failure> {
-    let target = arguments.text()?;
-    let exchange = exchange(arguments)?;
-    let (method, fields) = (method(arguments)?, arguments.map()?);
-    let update = arguments.map()?;
-    let request = RequestHead {
-        method: &method,
-        fields: &fields,
-    };
-    match store.freshen(arguments.alloc(), &target, &request, &update, exchange)? {
+    let came = read_came(arguments)?;
+    let is_stored = store.store(arguments.alloc(), target, came, reception)?;
+    Ok(answer.word(if is_stored { "stored" } else { "unstored" })?)
+}
+
+// An update: which response is the answer after a 304.
+fn call_freshen(
+    store: &mut Store,
+    target: &str,
+    update: &Update,
+    answer: &mut Answer,
+) -> Result<(), Failure> {
+    let request = update.asked.head();
+    match store.freshen(
+        answer.alloc(),
+        target,
+        &request,
+        &update.fields,
+        update.exchange,
+    )? {
         Refreshed::Absent => Ok(answer.word("absent")?),
         Refreshed::Unchanged => Ok(answer.word("unchanged")?),
         Refreshed::Stored(place) => {
             answer.word("stored")?;
-            Ok(add_content(store, &target, place, answer)?)
+            Ok(add_content(store, target, place, answer)?)
         }
         Refreshed::Once(response) => {
             answer.word("once")?;
@@ -187,22 +249,22 @@ fn call_freshen(
     }
 }
 
-// TARGET REQUESTED RECEIVED METHOD REQUEST HEAD: how many responses are left under the target.
+// An update: how many responses are left under the target after a 200 to HEAD.
 fn call_freshen_by_head(
     store: &mut Store,
-    arguments: &mut Arguments<'_>,
+    target: &str,
+    update: &Update,
     answer: &mut Answer,
 ) -> Result<(), Failure> {
-    let target = arguments.text()?;
-    let exchange = exchange(arguments)?;
-    let (method, fields) = (method(arguments)?, arguments.map()?);
-    let head = arguments.map()?;
-    let request = RequestHead {
-        method: &method,
-        fields: &fields,
-    };
-    store.freshen_by_head(arguments.alloc(), &target, &request, &head, exchange)?;
-    Ok(answer.word(store.responses(&target).len())?)
+    let request = update.asked.head();
+    store.freshen_by_head(
+        answer.alloc(),
+        target,
+        &request,
+        &update.fields,
+        update.exchange,
+    )?;
+    Ok(answer.word(store.responses(target).len())?)
 }
 
 // The next word, as whether ranges are answered.
@@ -214,21 +276,17 @@ fn ranges(arguments: &mut Arguments<'_>) -> Result<bool, Failure> {
     }
 }
 
-// TARGET PLACE NOW RANGES METHOD REQUEST: how the response at the place answers the conditions.
+// PLACE NOW RANGES METHOD REQUEST: how the response at the place answers the conditions.
 fn call_answer(
     store: &Store,
+    target: &str,
     arguments: &mut Arguments<'_>,
     answer: &mut Answer,
 ) -> Result<(), Failure> {
-    let target = arguments.text()?;
     let (place, now) = (size(arguments)?, arguments.number()?);
     let ranges = ranges(arguments)?;
-    let (method, fields) = (method(arguments)?, arguments.map()?);
-    let request = RequestHead {
-        method: &method,
-        fields: &fields,
-    };
-    match store.answer(arguments.alloc(), &target, place, &request, now, ranges)? {
+    let asked = Asked::read(arguments)?;
+    match store.answer(answer.alloc(), target, place, &asked.head(), now, ranges)? {
         Some(found) => Ok(add_stored_answer(found, answer)?),
         None => Ok(answer.none()?),
     }
@@ -244,16 +302,16 @@ fn add_stored_answer(found: StoredAnswer, answer: &mut Answer) -> Result<(), All
     }
 }
 
-// TARGET METHOD STATUS: how many responses are left under the target.
+// METHOD STATUS: how many responses are left under the target.
 fn call_invalidate(
     store: &mut Store,
+    target: &str,
     arguments: &mut Arguments<'_>,
     answer: &mut Answer,
 ) -> Result<(), Failure> {
-    let target = arguments.text()?;
     let (method, status) = (method(arguments)?, status(arguments)?);
-    store.invalidate(arguments.alloc(), &target, &method, status);
-    Ok(answer.word(store.responses(&target).len())?)
+    store.invalidate(arguments.alloc(), target, &method, status);
+    Ok(answer.word(store.responses(target).len())?)
 }
 
 // A stored response: method, status, content, times and fields.
@@ -266,14 +324,9 @@ fn add_stored(response: &StoredResponse, answer: &mut Answer) -> Result<(), Fail
     answer.map(&response.response)
 }
 
-// TARGET: how many responses are stored under it, and each of them.
-fn call_responses(
-    store: &Store,
-    arguments: &mut Arguments<'_>,
-    answer: &mut Answer,
-) -> Result<(), Failure> {
-    let target = arguments.text()?;
-    let responses = store.responses(&target);
+// How many responses are stored under the target, and each of them.
+fn call_responses(store: &Store, target: &str, answer: &mut Answer) -> Result<(), Failure> {
+    let responses = store.responses(target);
     answer.word(responses.len())?;
     for response in responses {
         answer.word("(/)")?;
@@ -282,23 +335,27 @@ fn call_responses(
     Ok(())
 }
 
-/// Makes a call of a store, and adds its answer.
+/// Makes a call of a store, and adds its answer. The first word is the target.
 pub fn make(
     store: &mut Store,
     name: &str,
     arguments: &mut Arguments<'_>,
     answer: &mut Answer,
 ) -> Result<(), Failure> {
+    let target = arguments.text()?;
+    let target = target.as_str();
     match name {
-        "lookup" => call_lookup(store, false, arguments, answer),
-        "lookup_guessing" => call_lookup(store, true, arguments, answer),
-        "store" => call_store(store, Reception::Complete, arguments, answer),
-        "store_incomplete" => call_store(store, Reception::Incomplete, arguments, answer),
-        "freshen" => call_freshen(store, arguments, answer),
-        "freshen_by_head" => call_freshen_by_head(store, arguments, answer),
-        "answer" => call_answer(store, arguments, answer),
-        "invalidate" => call_invalidate(store, arguments, answer),
-        "responses" => call_responses(store, arguments, answer),
+        "lookup" => call_lookup(store, target, false, arguments, answer),
+        "lookup_guessing" => call_lookup(store, target, true, arguments, answer),
+        "store" => call_store(store, target, Reception::Complete, arguments, answer),
+        "store_incomplete" => call_store(store, target, Reception::Incomplete, arguments, answer),
+        "freshen" => call_freshen(store, target, &Update::read(arguments)?, answer),
+        "freshen_by_head" => {
+            call_freshen_by_head(store, target, &Update::read(arguments)?, answer)
+        }
+        "answer" => call_answer(store, target, arguments, answer),
+        "invalidate" => call_invalidate(store, target, arguments, answer),
+        "responses" => call_responses(store, target, answer),
         _ => Err(Failure::NoCall),
     }
 }
