@@ -1,5 +1,30 @@
+use Rattle.std.proofs.Common.{◌≡◌, Err, inl, subst, sym}
+use Rattle.std.proofs.lemmas.Result.{err_from_is_err_and}
+use Rattle.headers_c_parts.specs.declared.status.Failure.TheVariants.{Memory}
+use Rattle.headers_c_gateway.specs.Requests.{PassesRequest}
 use Rattle.headers_c_gateway.proofs.RequestLemmas.{bytes_copied}
 use Rattle.headers_c_gateway.proofs.request.pass_request.Goals as goal
+
+-- the gateway's name was copied
+pub returns-in_err-outcome : goal.returns-in_err-outcome
+returns-in_err-outcome c =
+    let answer = c.from_residual-in_err-outcome in
+    let error = err_from_is_err_and answer.result answer.ensures.1 in
+    let is : answer.result ≡ Err Memory = cc (error.1, error.2) in
+    subst
+    (PassesRequest c.args.gateway.now c.args.hop.now c.args.method.now c.args.version c.args.authority.now
+    c.args.section.now)
+    (sym is) (inl (inl c.in_ok-gateway.ensures.0.0))
+
+pub returns-in_err-step : goal.returns-in_err-step
+returns-in_err-step c =
+    let answer = c.from_residual-in_err-step in
+    let error = err_from_is_err_and answer.result answer.ensures.1 in
+    let is : answer.result ≡ Err Memory = cc (error.1, error.2) in
+    subst
+    (PassesRequest c.args.gateway.now c.args.hop.now c.args.method.now c.args.version c.args.authority.now
+    c.args.section.now)
+    (sym is) (inl (inl c.in_ok-gateway.ensures.0.0))
 
 pub returns : goal.returns
 returns c =
