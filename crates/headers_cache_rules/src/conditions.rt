@@ -84,8 +84,9 @@ fn is_ok(stored: &StoredResponse) -> bool
     stored.status.as_u16() == 200
 }
 
-// Whether a cache evaluates the request.
-fn is_for_cache(request: &RequestHead<'_>) -> bool
+/// Whether a cache evaluates the conditions of a request (RFC 9111, section 4.3.2): it is a GET or a
+/// HEAD, and has neither If-Match nor If-Unmodified-Since, which apply to an origin server alone.
+pub fn is_for_cache(request: &RequestHead<'_>) -> bool
     ensures { MatchBool result (IsForCache (request_of request.now)) (¬ (IsForCache (request_of request.now))) }
 {
     is_get_or_head(request.method)
@@ -113,7 +114,9 @@ fn has_field(message: &HeaderMap, name: HeaderName) -> bool
     message.get_all(name).iter().next().is_some()
 }
 
-fn one_part() -> RangeLimits
+/// The limits of a cache that sends one part at most: a request for several gets all (RFC 9110, section
+/// 14.2).
+pub fn one_part() -> RangeLimits
     ensures { result ≡ one_part }
 {
     RangeLimits {
@@ -154,7 +157,10 @@ fn modified_second(stored: &StoredResponse) -> Option<LastModified>
     }
 }
 
-fn validators_of(alloc: Global, stored: &StoredResponse) -> Result<Validators, AllocError>
+/// The validators of a stored response, by which the conditions of a request are evaluated (RFC 9111,
+/// section 4.3.2): its entity tag, and the date of its Last-Modified, or without that the time at which
+/// it was made. No date is a strong validator.
+pub fn validators_of(alloc: Global, stored: &StoredResponse) -> Result<Validators, AllocError>
     ensures { IfOk result (AreValidators stored.now) }
 {
     let etag = tag_of(alloc, &stored.response)?;

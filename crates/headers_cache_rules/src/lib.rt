@@ -16,7 +16,9 @@ mod stored;
 mod storing;
 
 pub use crate::age::age_field;
-pub use crate::conditions::{StoredAnswer, answer_conditions};
+pub use crate::conditions::{
+    StoredAnswer, answer_conditions, is_for_cache, one_part, validators_of,
+};
 pub use crate::errors::serves_on_error;
 pub use crate::freshening::{Exchange, Freshened, freshen, is_head_of};
 pub use crate::identifying::{select_updated, updated_by};

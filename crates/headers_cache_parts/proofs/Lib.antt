@@ -1,0 +1,2 @@
+pub mod CombineLemmas
+pub mod PartLemmas
