@@ -1,5 +1,6 @@
-//! A small JSON resource over standard input and output, for one connection: a collection at `/notes`,
-//! and its notes at `/notes/1`, `/notes/2` and so on. Nothing is kept after the connection.
+//! A small JSON resource over standard input and output, for one connection: a collection at
+//! `/notes`, and its notes at `/notes/1`, `/notes/2` and so on. Nothing is stored after the
+//! connection.
 #![tactic(auto)]
 
 mod notes;

@@ -6,7 +6,7 @@ use bytes::Bytes;
 use std::alloc::AllocError;
 use std::collections::BTreeMap;
 
-/// A JSON text, and the number of the change that wrote it.
+/// A note: a JSON text, and the number of the change that wrote it.
 #[derive(Drop)]
 pub struct Note {
     /// The text.
@@ -15,17 +15,18 @@ pub struct Note {
     pub version: u64,
 }
 
-/// Notes by their numbers.
+/// Notes by their numbers, and how often they changed.
 #[derive(Drop)]
 pub struct Notes {
     /// The notes.
     pub by_id: BTreeMap<u64, Note>,
-    /// How often they changed.
+    /// The number of changes.
     pub changes: u64,
 }
 
 impl Notes {
-    /// The note of a number.
+    /// Copies the note with a number. `Ok(None)` if there is none. Fails only if an allocation
+    /// fails.
     pub fn get(&self, id: u64) -> Result<Option<Note>, AllocError>
         ensures { IfOk result (λ note. note ≡ note_at self.now id) }
     {
@@ -48,7 +49,7 @@ impl Notes {
         }
     }
 
-    /// Writes the note of a number, and returns the number of the change.
+    /// Writes the note with a number, and returns the number of the change.
     pub fn write(&mut self, id: u64, text: Bytes) -> Result<u64, AllocError>
         ensures writes { OnOk result (Writes self.old id text self.new) }
         ensures version { IfOk result (λ version. version ≡ self.old.changes + 1) }
@@ -59,7 +60,7 @@ impl Notes {
         Ok(version)
     }
 
-    /// Adds a note, whose number is that of the change.
+    /// Adds a note, and returns its number, which is that of the change.
     pub fn add(&mut self, text: Bytes) -> Result<u64, AllocError>
         ensures writes { OnOk result (Writes self.old (self.old.changes + 1) text self.new) }
         ensures id { IfOk result (λ id. id ≡ self.old.changes + 1) }
@@ -68,7 +69,7 @@ impl Notes {
         self.write(id, text)
     }
 
-    /// Removes the note of a number.
+    /// Removes the note with a number.
     pub fn remove(&mut self, id: u64) -> Result<(), AllocError>
         ensures { OnOk result (Removes self.old id self.new) }
     {

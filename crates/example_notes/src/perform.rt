@@ -17,12 +17,12 @@ use http_header::{ETAG, LOCATION};
 use serde_json::Value;
 use std::alloc::{AllocError, Global};
 
-/// What a method did: the status and the fields that say so.
+/// The result of a method: the status and the fields of the response.
 #[derive(Drop)]
 pub struct Done {
-    /// The status.
+    /// The status of the response.
     pub status: StatusCode,
-    /// The fields.
+    /// The fields of the response.
     pub fields: Vec<Encoded>,
 }
 
@@ -75,7 +75,7 @@ fn write(alloc: Global, notes: &mut Notes, id: u64, content: &Bytes) -> Result<D
     })
 }
 
-/// A status alone.
+/// Makes a result of a status without fields.
 pub fn only(alloc: Global, status: StatusCode) -> Done
     ensures { HasDone status [] result }
 {
@@ -104,7 +104,7 @@ fn take(
     }
 }
 
-/// Performs a method that the target has, with this content.
+/// Performs a method of the target, with this content.
 pub fn perform(
     alloc: Global,
     notes: &mut Notes,

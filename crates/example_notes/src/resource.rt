@@ -13,7 +13,7 @@ use http::Method;
 use http_header::{ACCEPT, CONTENT_TYPE, ETAG, IF_MATCH, IF_NONE_MATCH, LOCATION};
 use std::alloc::{AllocError, Global};
 
-/// The greatest length of a note.
+/// The greatest length of a note, in bytes.
 const MAX_LEN: u64 = 65536;
 
 // What an allocation gives, of a text that is known to be valid.
@@ -26,7 +26,7 @@ fn allocated<T, E: Drop>(made: Result<T, E>) -> Result<T, AllocError>
     }
 }
 
-/// The policy for requests from other origins: scripts of any origin may use the notes.
+/// Makes the policy for cross-origin requests: scripts of any origin may use the notes.
 pub fn policy(alloc: Global) -> Result<CorsPolicy, AllocError> {
     let mut rules = CorsRules::new(alloc, Allowed::Any);
     rules.methods = Allowed::Listed(vec![in alloc; Method::PUT, Method::DELETE]?);
@@ -35,7 +35,7 @@ pub fn policy(alloc: Global) -> Result<CorsPolicy, AllocError> {
     allocated(CorsPolicy::new(alloc, rules))
 }
 
-/// What stands between several parts. Ranges aren't sent, so no response has it.
+/// Makes the boundary between several parts. Ranges aren't sent, so no response has it.
 pub fn boundary(alloc: Global) -> Result<Boundary, AllocError> {
     allocated(Boundary::new(alloc, "part"))
 }
@@ -129,7 +129,7 @@ fn resource(
     })
 }
 
-/// The collection: it is read by GET, and POST adds a note.
+/// Makes the resource of the collection: GET reads it, and POST adds a note.
 pub fn collection(alloc: Global, text: Option<&Note>) -> Result<Resource, AllocError>
     ensures { IfOk result (IsResource collection_methods (option_copied text.entry)) }
 {
@@ -138,7 +138,8 @@ pub fn collection(alloc: Global, text: Option<&Note>) -> Result<Resource, AllocE
     resource(alloc, vec![in alloc; get, post]?, text)
 }
 
-/// A note: it is read by GET, written by PUT, which must say what it overwrites, and removed by DELETE.
+/// Makes the resource of a note: GET reads it, DELETE removes it, and PUT, which needs a
+/// precondition, writes it.
 pub fn note(alloc: Global, text: Option<&Note>) -> Result<Resource, AllocError>
     ensures { IfOk result (IsResource note_methods (option_copied text.entry)) }
 {

@@ -24,7 +24,7 @@ use std::alloc::{AllocError, Global};
 use std::collections::BTreeMap;
 use std::io;
 
-/// Answers requests for notes.
+/// A service that answers requests for notes.
 #[derive(Drop)]
 pub struct Service {
     alloc: Global,
@@ -32,7 +32,7 @@ pub struct Service {
     notes: Notes,
 }
 
-/// A service without notes.
+/// Makes a service without notes. Fails only if an allocation fails.
 pub fn new_service(alloc: Global) -> Result<Service, AllocError> {
     let Ok(router) = router(alloc) else {
         return Err(AllocError);

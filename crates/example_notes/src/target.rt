@@ -1,11 +1,11 @@
-//! What the path of a request leads to.
+//! The target of a path.
 ghost use Rattle.std.specs.Prelude.{option_map};
 ghost use Rattle.example_notes.specs.Targets.{IsNamed, IsTarget};
 
 use matchit::{InsertError, Router};
 use std::alloc::Global;
 
-/// What a route leads to.
+/// The target of a route.
 #[derive(Clone, Copy)]
 pub enum Place {
     /// The collection.
@@ -14,18 +14,18 @@ pub enum Place {
     Note,
 }
 
-/// What the path of a request leads to.
+/// The target of a request's path.
 #[derive(Clone, Copy)]
 pub enum Target {
     /// The collection.
     Notes,
-    /// The note of a number.
+    /// The note with a number.
     Note(u64),
-    /// Nothing.
+    /// No resource.
     Nowhere,
 }
 
-/// The routes: `/notes` and `/notes/{id}`.
+/// Makes the router, with the routes `/notes` and `/notes/{id}`.
 pub fn router(alloc: Global) -> Result<Router<Place>, InsertError> {
     let mut router = Router::new(alloc);
     router.insert("/notes", Place::Notes)?;
@@ -46,7 +46,7 @@ fn note_named(id: Option<&str>) -> Target
     }
 }
 
-/// What a path leads to.
+/// Returns the target of a path.
 pub fn target_of(router: &Router<Place>, path: &str) -> Target
     ensures { IsTarget router.now path.now result }
 {

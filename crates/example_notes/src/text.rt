@@ -7,7 +7,7 @@ use crate::notes::Notes;
 use std::alloc::{AllocError, Global};
 use std::fmt::Write;
 
-/// The path of a note.
+/// Makes the path of a note. Fails only if an allocation fails.
 pub fn path_of(alloc: Global, id: u64) -> Result<String, AllocError>
     ensures { IfOk result (λ text. string_bytes text ≡ path_of id) }
 {
@@ -15,7 +15,7 @@ pub fn path_of(alloc: Global, id: u64) -> Result<String, AllocError>
     Ok(text)
 }
 
-/// The entity tag of what a change wrote.
+/// Makes the entity tag of the text that a change wrote. Fails only if an allocation fails.
 pub fn tag_of(alloc: Global, version: u64) -> Result<String, AllocError>
     ensures { IfOk result (λ text. string_bytes text ≡ tag_of version) }
 {
@@ -23,7 +23,7 @@ pub fn tag_of(alloc: Global, version: u64) -> Result<String, AllocError>
     Ok(text)
 }
 
-/// The collection: a JSON list of the paths of its notes.
+/// Makes the text of the collection: a JSON list of the paths of its notes.
 pub fn list_text(alloc: Global, notes: &Notes) -> Result<String, AllocError>
     ensures { IfOk result (λ text. string_bytes text ≡ list_text notes.now) }
 {

@@ -21,8 +21,9 @@ fn given(place: Option<usize>) -> Result<usize, Failure>
     }
 }
 
-/// The place, counted from 0, of the offer that a request with these lines is served (RFC 9110,
-/// section 12.5). The offers stand one a line, the most wanted first. Absent if none is acceptable.
+/// Returns the place, counted from 0, of the offer that a request with these field lines prefers
+/// (RFC 9110, section 12.5). The offers are one a line, the preferred one first. `Absent` if none
+/// is acceptable.
 pub fn choose<D: Dimension>(alloc: Global, lines: &[u8], offers: &[u8]) -> Result<usize, Failure>
     ensures { Finds (λ lines. Chooses (quality_in D.gives lines)) lines.now offers.now result }
 {
@@ -31,8 +32,8 @@ pub fn choose<D: Dimension>(alloc: Global, lines: &[u8], offers: &[u8]) -> Resul
     given(negotiate::<D>(&request, offers.as_slice()))
 }
 
-/// The place of the language tag that lookup finds (RFC 4647, section 3.4), by the lines of
-/// Accept-Language. Absent if it finds none.
+/// Returns the place of the language tag that lookup finds (RFC 4647, section 3.4), by the field
+/// lines of Accept-Language. `Absent` if it finds none.
 pub fn look_up_language(alloc: Global, lines: &[u8], offers: &[u8]) -> Result<usize, Failure>
     ensures { Finds LooksUp lines.now offers.now result }
 {

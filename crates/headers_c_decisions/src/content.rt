@@ -9,7 +9,7 @@ use headers_c_parts::Failure;
 use headers_preconditions::{Boundary, Content, RangeLimits};
 use std::alloc::Global;
 
-/// What a response carries of a representation.
+/// The content of a representation, as C passes it in.
 #[repr(C)]
 #[derive(Clone, Copy)]
 pub struct ContentParts<'a> {
@@ -23,7 +23,7 @@ pub struct ContentParts<'a> {
     pub sends_ranges: bool,
 }
 
-/// The usual limits, if ranges are sent.
+/// Returns the usual limits, if ranges are sent.
 pub fn limits_of(sends_ranges: bool) -> Option<RangeLimits>
     ensures { result ≡ limits_of sends_ranges }
 {
@@ -46,7 +46,7 @@ pub(crate) fn content_of(alloc: Global, parts: &ContentParts<'_>) -> Result<Cont
     })
 }
 
-/// The boundary of these bytes (RFC 2046, section 5.1.1).
+/// Makes a boundary of these bytes (RFC 2046, section 5.1.1).
 pub fn boundary_of(alloc: Global, text: &[u8]) -> Result<Boundary, Failure>
     ensures { IsBoundaryOf text.now result }
 {

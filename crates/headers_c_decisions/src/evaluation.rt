@@ -1,4 +1,4 @@
-//! What the preconditions of a request come to.
+//! The preconditions of a request.
 ghost use Rattle.std.specs.Prelude.{◌≡◌};
 ghost use Rattle.headers_c_decisions.specs.Evaluations.{Evaluates, code_of};
 
@@ -8,7 +8,7 @@ use headers_c_parts::{Failure, HashKeys, read_map};
 use headers_preconditions::{Precondition, evaluate};
 use std::alloc::Global;
 
-/// What the preconditions of a request come to (RFC 9110, section 13.2.2): 0 if the method is
+/// Evaluates the preconditions of a request (RFC 9110, section 13.2.2): 0 if the method is
 /// performed, 304 or 412.
 pub fn evaluate_request(
     alloc: Global,

@@ -2,7 +2,7 @@
 ghost use Rattle.std.specs.Prelude.{◌≡◌};
 ghost use Rattle.headers_c_decisions.specs.Flags.{flag_of};
 
-/// 1 if it is set, else 0.
+/// Returns 1 if the flag is set, else 0.
 pub fn flag_of(is_set: bool) -> u8
     ensures { result ≡ flag_of is_set }
 {

@@ -15,7 +15,7 @@ use headers_handshake::{Answer, Checked, Fault, Flaw, Origins, accept, check, re
 use http::Version;
 use std::alloc::{AllocError, Global};
 
-/// What a server answers to an opening handshake.
+/// A server's answer to an opening handshake, as numbers.
 #[repr(C)]
 #[derive(Clone, Copy)]
 pub struct HandshakeFacts {
@@ -25,7 +25,7 @@ pub struct HandshakeFacts {
     pub fault: u8,
 }
 
-/// What a server answers, and the field lines of the answer.
+/// A server's answer to an opening handshake, and its field lines.
 #[derive(Drop)]
 pub struct Answered {
     pub facts: HandshakeFacts,
@@ -131,8 +131,8 @@ pub fn offer_handshake(alloc: Global, nonce: &[u8]) -> Result<Vec<u8>, Failure>
     Ok(text)
 }
 
-/// What a client that sent the fields of a section finds in a response (RFC 6455, section 4.1): 0 if
-/// the connection is open, else the rule that the response breaks, 1 to 7.
+/// Checks the response to a client that sent the fields of a section (RFC 6455, section 4.1): 0 if
+/// the connection is open, else the number of the rule that the response breaks, 1 to 7.
 pub fn check_response(
     alloc: Global,
     sent: &[u8],

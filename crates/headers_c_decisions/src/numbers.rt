@@ -1,8 +1,8 @@
-//! Numbers that a caller knows or not.
+//! Numbers that may be unknown.
 ghost use Rattle.std.specs.Prelude.{◌≡◌};
 ghost use Rattle.headers_c_decisions.specs.Numbers.{known};
 
-/// The number, if it is known.
+/// Returns the number, if it is known.
 pub fn known(is_known: bool, number: u64) -> Option<u64>
     ensures { result ≡ known is_known number }
 {

@@ -8,7 +8,7 @@ use headers_c_parts::Failure;
 use headers_negotiation::{Dimension, Quality, quality};
 use std::alloc::Global;
 
-/// How acceptable an offer is.
+/// How acceptable an offer is, as numbers.
 #[repr(C)]
 #[derive(Clone, Copy)]
 pub struct OfferQuality {
@@ -38,7 +38,7 @@ fn shown(quality: Quality) -> OfferQuality
     }
 }
 
-/// How acceptable an offer is to a request with these lines of the field.
+/// Returns how acceptable an offer is to a request with these field lines.
 pub fn rate<D: Dimension>(
     alloc: Global,
     lines: &[u8],

@@ -15,18 +15,19 @@ use headers_c_parts::{Failure, HashKeys, read_map};
 use headers_preconditions::{Plan, Response, is_known_by, respond};
 use std::alloc::{AllocError, Global};
 
-/// What a response is.
+/// The response to a request for a representation, as numbers.
 #[repr(C)]
 #[derive(Clone, Copy)]
 pub struct ResponseFacts {
     /// The status: 200, 206, 304, 412 or 416. 0 if the server performs the method, and answers by
     /// itself.
     pub status: u16,
-    /// 1 if a Content-Encoding that the server has set stays, 0 if it goes.
+    /// 1 if a Content-Encoding that the server has set stays, 0 if it is removed.
     pub keeps_encoding: u8,
 }
 
-/// What a response is, the parts that it sends if it doesn't send all, and its field lines.
+/// The response to a request for a representation: its facts, its parts if it doesn't send all, and
+/// its field lines.
 #[derive(Drop)]
 pub struct Responded {
     pub facts: ResponseFacts,

@@ -14,8 +14,8 @@ use headers_cors_policy::{Allowed, AllowedNames, CorsPolicy, CorsRules, RulesErr
 use http::Method;
 use std::alloc::Global;
 
-/// What a server allows requests from other origins. A text has one value a line, and the line `*`
-/// alone stands for any value.
+/// The cross-origin requests that a server allows, as C passes them in. A text has one value a
+/// line, and the line `*` alone means any value.
 #[repr(C)]
 #[derive(Clone, Copy)]
 pub struct Rules<'a> {
@@ -23,9 +23,9 @@ pub struct Rules<'a> {
     pub origins: &'a [u8],
     /// The methods besides GET, HEAD and POST.
     pub methods: &'a [u8],
-    /// The names of request fields besides those that need no leave.
+    /// The names of request fields besides the safelisted ones.
     pub headers: &'a [u8],
-    /// The names of response fields that scripts may read besides those that are always readable.
+    /// The names of response fields that scripts may read besides the safelisted ones.
     pub exposed: &'a [u8],
     /// For how many seconds the answer to a preflight may be cached, if `has_max_age`.
     pub max_age: u64,
@@ -126,8 +126,8 @@ fn read_rules(alloc: Global, rules: &Rules<'_>) -> Result<CorsRules, Failure>
     })
 }
 
-/// The policy of these rules. They are rejected also if no browser would read it as it is meant, or
-/// if no browser sends one of the origins.
+/// Makes the policy of these rules. Rejected also if browsers would take the rules in another sense
+/// than they mean, or if no browser sends one of the origins.
 pub fn read_policy(alloc: Global, rules: &Rules<'_>) -> Result<CorsPolicy, Failure>
     ensures { IsPolicyAnswer rules.now result }
 {

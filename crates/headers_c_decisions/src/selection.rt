@@ -16,7 +16,7 @@ pub struct BytesRange {
     pub last: u64,
 }
 
-/// The status of the answer, and the ranges that it sends of several or one.
+/// The status of the response, and the ranges that it sends.
 #[derive(Drop)]
 pub struct Selected {
     pub code: u16,

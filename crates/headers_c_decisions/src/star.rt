@@ -5,7 +5,7 @@ ghost use Rattle.headers_c_decisions.specs.Star.{is_any};
 
 use headers::HeaderValue;
 
-/// Whether the only line is a star.
+/// Returns whether the only line is a star.
 pub fn is_any(lines: &[HeaderValue]) -> bool
     ensures { result ≡ is_any (lines_of lines.now) }
 {

@@ -6,10 +6,10 @@ use headers_c_parts::{Failure, read_field};
 use headers_preconditions::{Resource, Validators};
 use std::alloc::Global;
 
-/// The first second past the dates of HTTP.
+/// The first second after the dates of HTTP.
 const END_OF_DATES: u64 = 253_402_300_800;
 
-/// What a server knows of the target of a request, beside its entity tag.
+/// What a server knows about the target of a request, beside its entity tag.
 #[repr(C)]
 #[derive(Clone, Copy)]
 pub struct Target {
@@ -37,7 +37,7 @@ fn read_tag(alloc: Global, text: &[u8]) -> Result<Option<ETag>, Failure>
     }
 }
 
-/// The date of a second, if it is known.
+/// Returns the date of a time, if it is known.
 pub fn read_date(is_known: bool, second: u64) -> Result<Option<LastModified>, Failure>
     ensures { IsDateOf is_known second result }
 {
@@ -50,7 +50,7 @@ pub fn read_date(is_known: bool, second: u64) -> Result<Option<LastModified>, Fa
     Ok(Some(LastModified::from_unix_secs(second)))
 }
 
-/// What is known of a target.
+/// Makes the resource of an entity tag and what is known about the target.
 pub fn read_resource(alloc: Global, etag: &[u8], target: &Target) -> Result<Resource, Failure>
     ensures { IsResourceOf etag.now target.now result }
 {

@@ -10,8 +10,7 @@ use headers_c_parts::Failure;
 use std::alloc::Global;
 use std::ops::Bound;
 
-/// The part of a representation that a message carries, and the length of the whole. A flag is 0 if
-/// the numbers aren't said.
+/// A content range, as C passes it in. A flag is 0 if its numbers are unknown.
 #[repr(C)]
 #[derive(Clone, Copy)]
 pub struct ContentRangeParts {
@@ -19,7 +18,7 @@ pub struct ContentRangeParts {
     pub first: u64,
     /// Its last position, included.
     pub last: u64,
-    /// How many bytes the whole has.
+    /// The complete length in bytes.
     pub length: u64,
     /// Whether there is a range.
     pub has_range: u8,
@@ -107,8 +106,8 @@ fn are_tag_bytes(opaque: &[u8]) -> bool
     opaque.iter().all(|byte| is_tag_byte(*byte))
 }
 
-/// An entity tag with this opaque part (RFC 9110, section 8.8.3). Rejected if a byte of it may not
-/// stand there.
+/// Makes the entity tag with this opaque part (RFC 9110, section 8.8.3). Rejected if a byte of it
+/// isn't allowed there.
 pub fn format_tag(alloc: Global, is_weak: bool, opaque: &[u8]) -> Result<Vec<u8>, Failure>
     ensures { FormatsTag is_weak opaque.now result }
 {

@@ -1,4 +1,4 @@
-//! The lines that a header writes of the value that its lines read.
+//! Canonical field lines: the encoding of what field lines decode to.
 ghost use Rattle.std.specs.Prelude.{◌≡◌, ◌<◌, length, option_map, IfOk, IsErr};
 ghost use Rattle.headers.specs.Lines.{lines_of};
 ghost use Rattle.http_header.specs.HeaderMap.{get_all};
@@ -102,8 +102,8 @@ fn block_of(
     read_block(alloc, &map, name)
 }
 
-/// The lines that the header of this name writes of the value that the lines of a text read. The
-/// lines of a name that no header has stay as they came.
+/// Returns the canonical field lines of the header with this name, for the field lines of a text.
+/// The lines of a name that is no known header are unchanged.
 pub fn written_lines(alloc: Global, name: &[u8], text: &[u8]) -> Result<Vec<HeaderValue>, Failure>
     ensures { IsWrittenAs name.now text.now result }
 {

@@ -3,7 +3,7 @@
 use std::io;
 use std::random::RandomSource;
 
-/// Sixteen bytes that no sender of names can guess. A map hashes with them once names collide.
+/// Sixteen secret bytes, with which a map hashes if names collide.
 #[repr(C)]
 #[derive(Clone, Copy)]
 pub struct HashKeys {

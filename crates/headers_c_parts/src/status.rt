@@ -1,34 +1,34 @@
-//! How calls end.
+//! Statuses of calls.
 ghost use Rattle.std.specs.Prelude.{◌≡◌};
 ghost use Rattle.headers_c_parts.specs.Endings.{IsWritten, status_of};
 
 use http_header::HeaderMapError;
 use std::alloc::{AllocError, AllocFailed};
 
-/// The status of a call that gave what it was asked for.
+/// The status of a call that did what it was asked for.
 pub const DONE: u8 = 0;
 
-/// The status of a call that wrote a text in which a refusal is marked.
+/// The status of a call whose text marks a header that rejects its lines.
 pub const MARKED: u8 = 6;
 
 /// The status of a call whose bytes are more than the caller has room for.
 pub const NO_ROOM: u8 = 3;
 
-/// Why a call has nothing to give.
+/// Why a call gives nothing.
 #[derive(Clone, Copy, Debug, PartialEq, Eq)]
 pub enum Failure {
-    /// What was handed in isn't what the call reads.
+    /// The input is rejected.
     Refused,
-    /// The allocator had no memory.
+    /// Out of memory: an allocation failed.
     Memory,
-    /// What is asked for isn't there.
+    /// There is no such thing.
     Absent,
-    /// What was handed in is longer, or has more names, than the call takes.
+    /// The input is longer, or has more names, than the call accepts.
     TooLarge,
 }
 
 impl Failure {
-    /// The status: 1 for `Refused`, 2 for `Memory`, 4 for `Absent`, 5 for `TooLarge`.
+    /// Returns the status: 1 for `Refused`, 2 for `Memory`, 4 for `Absent`, 5 for `TooLarge`.
     pub fn status(self) -> u8
         ensures { result ≡ status_of self }
     {
@@ -77,7 +77,7 @@ impl From<HeaderMapError> for Failure {
     }
 }
 
-/// Copies the items to the front of the room if they fit, and says how many they are. The status is
+/// Copies the items to the front of the room if they fit, and tells how many they are. Returns
 /// `done` if they fit, else `NO_ROOM`.
 pub fn copy_into<T: Copy>(items: &[T], done: u8, room: &mut [T], written: &mut usize) -> u8
     ensures { IsWritten items.now done room.old room.new written.new result }

@@ -11,14 +11,14 @@ use headers_cache_rules::{StoredAnswer, answer_conditions};
 use std::alloc::{AllocError, Global};
 
 impl Store {
-    /// How the stored response at a place answers a request, by the conditions and the ranges of that
-    /// (RFC 9111, section 4.3.2): `answer_conditions` of `headers_cache_rules`. The place is that of
-    /// `Serve` and `ServeAndRevalidate` of `lookup`, or of `Stored` of `freshen`, so it is for a request
-    /// that the response may answer. `None` if no response is stored at the place.
+    /// Decides how a stored response answers the conditions and the ranges of a request (RFC 9111,
+    /// section 4.3.2), by `answer_conditions` of `headers_cache_rules`. The place is that of
+    /// `Serve` and `ServeAndRevalidate` of `lookup`, or of `Stored` of `freshen`, so the response
+    /// may answer the request. `None` if no response is stored at the place.
     ///
     /// `now` is the present, in seconds since 1970. `ranges` says whether ranges are answered.
     ///
-    /// Fails only if it runs out of memory, which needs a stored 200.
+    /// Fails only if an allocation fails, which is possible only for a stored 200.
     pub fn answer(
         &self,
         alloc: Global,

@@ -1,4 +1,4 @@
-//! What a validating response makes of what is stored.
+//! Updates of stored responses by a validating response.
 ghost use Rattle.std.specs.Prelude.{◌≡◌, ◌<◌, IfOk, OnErr, OnOk, length};
 ghost use Rattle.headers.specs.LineMap.{lines_at};
 ghost use Rattle.headers_cache_policy.specs.Requests.{request_of};
@@ -17,17 +17,17 @@ use headers_cache_policy::RequestHead;
 use headers_cache_rules::{Exchange, Freshened, StoredResponse, freshen, select, select_updated};
 use std::alloc::Global;
 
-/// What a 304 makes of the stored responses that may answer its request.
+/// The result of a 304 for the stored responses that may answer its request.
 #[derive(Debug, Drop)]
 pub enum Refreshed {
-    /// No stored response may answer the request. It has to be sent anew without conditions.
+    /// No stored response may answer the request. Send it again without conditions.
     Absent,
-    /// The 304 is about none of those that may. The request has to be sent anew without conditions.
+    /// The 304 is about none of those that may. Send the request again without conditions.
     Unchanged,
     /// A stored response is updated, and is the answer. It is stored at this place.
     Stored(usize),
-    /// A stored response is updated, and is the answer this once. It is stored no longer, since its new
-    /// fields forbid that, or its reuse for this request.
+    /// A stored response is updated, and is the answer this once. It is no longer stored, since its
+    /// new fields forbid that, or its reuse for this request.
     Once(StoredResponse),
 }
 
@@ -43,14 +43,15 @@ fn unrefreshed(responses: &[StoredResponse], request: &RequestHead<'_>) -> Refre
 
 impl Store {
     /// Updates stored responses by a 304 that answered this request (RFC 9111, section 4.3.4). The
-    /// answer is the most recent one of those that `updated_by` of `headers_cache_rules` names: each
-    /// one that matches the request and has the strong entity tag of the 304; the most recent one, if
-    /// the 304 has weak validators alone; and if it has none, the only one that matches.
+    /// answer is the most recent one of those that `updated_by` of `headers_cache_rules` names:
+    /// each one that matches the request and has the strong entity tag of the 304; the most recent
+    /// one, if the 304 has only weak validators; and if it has none, the only one that matches.
     ///
-    /// The others that it names are updated too. One of these that may be reused no longer is removed.
+    /// The others that it names are updated as well. Those that may no longer be reused are
+    /// removed.
     ///
-    /// Fails only if it runs out of memory, or the fields of the 304 don't fit into a map, which needs a
-    /// stored response that it updates. Then nothing is stored under the target.
+    /// Fails only if an allocation fails, or if the fields of the 304 don't fit into a map; both
+    /// need a stored response that it updates. Then nothing is stored under the target.
     pub fn freshen(
         &mut self,
         alloc: Global,
@@ -92,12 +93,13 @@ impl Store {
         }
     }
 
-    /// Updates stored responses to GET by a 200 to a HEAD (RFC 9111, section 4.3.5): each one that could
-    /// have been chosen for the HEAD, if `is_head_of` of `headers_cache_rules` says that the 200 is
-    /// about it. If it isn't, or its new fields forbid the reuse, it is removed.
+    /// Updates stored responses to GET by a 200 to a HEAD (RFC 9111, section 4.3.5). It updates
+    /// each one that could have been selected for the HEAD, if `is_head_of` of
+    /// `headers_cache_rules` says that the 200 is about it. If it isn't, or if its new fields
+    /// forbid the reuse, the stored response is removed.
     ///
-    /// Fails only if it runs out of memory, or the fields of the 200 don't fit into a map, which needs a
-    /// stored response of the target. Then nothing is stored under the target.
+    /// Fails only if an allocation fails, or if the fields of the 200 don't fit into a map; both
+    /// need a stored response of the target. Then nothing is stored under the target.
     pub fn freshen_by_head(
         &mut self,
         alloc: Global,

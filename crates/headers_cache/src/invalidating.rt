@@ -1,4 +1,4 @@
-//! What a request that isn't safe removes.
+//! Removal of what is stored, by a request that isn't safe.
 ghost use Rattle.std.specs.Prelude.{◌≡◌};
 ghost use Rattle.headers_cache_rules.specs.Invalidation.{Invalidates};
 ghost use Rattle.headers_cache.specs.Contents.{without};
@@ -29,8 +29,8 @@ impl Store {
         }
     }
 
-    /// Removes what is stored under a target, as one that Location or Content-Location of such a
-    /// response names.
+    /// Removes what is stored under a target, such as one in Location or Content-Location of a
+    /// response that invalidates (RFC 9111, section 4.4).
     pub fn remove(&mut self, alloc: Global, target: &str)
         ensures contents { contents_of self.new ≡ without target.now (contents_of self.old) }
         ensures step { Step (policy_of_store self.old) self.old.limits (Removed target.now) (contents_of self.old)

@@ -1,4 +1,4 @@
-//! What follows for every list of calls. A proof cites a law by calling it.
+//! Theorems about every list of calls. To cite one in a proof, call it.
 ghost use Rattle.std.specs.Prelude.{ℕ, List, ◌∷◌, ◌++◌};
 ghost use Rattle.headers.specs.LineMap.{Field};
 ghost use Rattle.headers_cache_policy.specs.Requests.{Request};
@@ -12,10 +12,10 @@ ghost use Rattle.headers_cache.specs.Served.{IsRightlyServed, Serves};
 ghost use Rattle.headers_cache.specs.declared.limits.Limits.{Limits};
 ghost use Rattle.headers_cache.specs.declared.lookup.Lookup.{Lookup};
 
-/// Whatever calls are made of a new store, whether or not they run out of memory: each response that
-/// it has under a target came from the origin for a request to this target, may be stored, and has its
-/// fields as they came, or as responses that validated it left them. Since it came, nothing was removed
-/// under this target.
+/// Theorem: after any calls of a new store, each stored response is one that the calls justify. It
+/// came from the origin for a request to its target, may be stored, and has its fields as they
+/// came, or as validating responses left them. Since it came, nothing was removed under its target.
+/// This holds whether or not calls run out of memory.
 pub fn calls_justify_what_is_stored()
     ensures { (policy : Policy) (limits : Limits) (calls : History) (contents : Contents)
         → Run policy limits calls contents
@@ -23,9 +23,9 @@ pub fn calls_justify_what_is_stored()
         → IsJustified policy target calls stored }
 {}
 
-/// Whatever calls are made of a new store, a lookup after them serves nothing but what they justify,
-/// and what it serves matches the request, and is fresh, or allowed to be served stale by each
-/// directive that applies. `most` is how many seconds `lookup_guessing` guesses at most, 0 for `lookup`.
+/// Theorem: after any calls of a new store, a lookup serves only what the calls justify. What it
+/// serves matches the request, and is fresh, or each directive that applies allows it stale. `most`
+/// is how many seconds `lookup_guessing` guesses at most, and 0 for `lookup`.
 pub fn lookups_serve_what_calls_justify()
     ensures { (policy : Policy) (limits : Limits) (calls : History) (contents : Contents)
         → Run policy limits calls contents
@@ -35,9 +35,9 @@ pub fn lookups_serve_what_calls_justify()
         → IsRightlyServed policy most target calls request now (responses_at target contents) place age }
 {}
 
-/// Whatever calls are made of a new store, each response that it has came from the origin: a call of
-/// `store` passed it in for a request to this target, with this method and these fields, and with this
-/// status and content.
+/// Theorem: after any calls of a new store, each stored response came from the origin. A call of
+/// `store` passed it in for a request to this target, with this method and these fields, and with
+/// this status and content.
 pub fn what_is_stored_came_from_the_origin()
     ensures { (policy : Policy) (limits : Limits) (calls : History) (contents : Contents)
         → Run policy limits calls contents
@@ -45,10 +45,10 @@ pub fn what_is_stored_came_from_the_origin()
         → HasCome target calls stored }
 {}
 
-/// Whatever calls are made of a new store, each response that it has may be stored by RFC 9111, section
-/// 3, with the fields that it has now. So nothing is served to another request that says `no-store`
-/// (but for `must-understand` beside it), in a shared cache none that says `private`, and none that
-/// answered a request with Authorization, unless a directive allows that (section 3.5).
+/// Theorem: after any calls of a new store, RFC 9111, section 3, allows to store each stored
+/// response with its present fields. So no other request is served a response with `no-store`
+/// (except with `must-understand`), with `private` in a shared cache, or to a request with
+/// Authorization, unless a directive allows that (section 3.5).
 pub fn what_is_stored_may_be_stored()
     ensures { (policy : Policy) (limits : Limits) (calls : History) (contents : Contents)
         → Run policy limits calls contents
@@ -56,9 +56,9 @@ pub fn what_is_stored_may_be_stored()
         → MayStoreUnder policy (request_of_stored stored) stored.status (fields_of_stored stored) }
 {}
 
-/// After a call that removes a target, as `invalidate` after a request that isn't safe and a response
-/// that is no error (RFC 9111, section 4.4), each response that is stored under it is justified by later
-/// calls alone. So nothing older is served for this target.
+/// Theorem: after a call that removes a target, each response stored under it is justified by later
+/// calls alone. So nothing older is served for this target. `invalidate` is such a call, after a
+/// request that isn't safe and a response that is no error (RFC 9111, section 4.4).
 pub fn nothing_older_than_a_removal_is_stored()
     ensures { (policy : Policy) (limits : Limits) (later : History) (call : Call) (earlier : History)
         (contents : Contents)

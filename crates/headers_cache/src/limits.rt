@@ -1,12 +1,12 @@
-//! How much a store holds.
+//! The limits of a store.
 
-/// How much a store may hold.
+/// How much a store may hold: responses, and bytes of content.
 #[derive(Clone, Copy, Debug, PartialEq, Eq)]
 pub struct Limits {
-    /// How many responses there may be under one target.
+    /// The greatest number of responses under one target.
     pub variants: usize,
-    /// How many responses there may be in all.
+    /// The greatest number of responses in all.
     pub responses: usize,
-    /// How many bytes of content there may be in all.
+    /// The greatest number of bytes of content in all.
     pub bytes: usize,
 }

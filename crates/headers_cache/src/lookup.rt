@@ -1,4 +1,4 @@
-//! What a store answers to a request.
+//! The answer of a store to a request.
 ghost use Rattle.std.specs.Prelude.{◌≡◌, ◌≢◌, IfOk, OnErr, option_copied, slice_get};
 ghost use Rattle.headers_cache_policy.specs.Policies.{policy_of};
 ghost use Rattle.headers_cache_policy.specs.Requests.{request_of};
@@ -17,26 +17,26 @@ use headers_cache_policy::{
 use headers_cache_rules::{StoredResponse, age_field, select};
 use std::alloc::{AllocError, Global};
 
-/// What is done with a request. A place is that of a response among those that are stored under the
-/// target of the request: `Store::response` returns it.
+/// What a cache does with a request. A place is that of a response among those stored under the
+/// request's target: `Store::response` returns it.
 #[derive(Debug, Drop)]
 pub enum Lookup {
-    /// The stored response at the place is the answer, with this field Age in place of its own. It is
-    /// fresh, or the request takes it though it is stale (`max-stale`).
+    /// Serve the stored response at the place, with this field Age instead of its own. It is fresh,
+    /// or the request accepts it stale (`max-stale`).
     Serve(usize, Encoded),
-    /// The same, and the origin is to be asked after that whether it is still good
-    /// (`stale-while-revalidate`).
+    /// Serve the stored response at the place, with this field Age, and then ask the origin whether
+    /// it is still good (`stale-while-revalidate`).
     ServeAndRevalidate(usize, Encoded),
-    /// The origin has to say whether the stored response at the place is still good: the request is
-    /// forwarded with these fields, by `set_all`.
+    /// Ask the origin whether the stored response at the place is still good: forward the request
+    /// with these fields, by `set_all`.
     Validate(usize, Vec<Encoded>),
-    /// The same, but if the origin can't be reached or answers 500, 502, 503 or 504, the stored
-    /// response may be the answer (`stale-if-error`).
+    /// Ask the origin as for `Validate`; if it can't be reached or responds with 500, 502, 503 or
+    /// 504, the stored response may be served (`stale-if-error`).
     ValidateOrServe(usize, Vec<Encoded>),
-    /// The answer is 504: no stored response is good enough, and the request forbids to ask on
-    /// (`only-if-cached`).
+    /// Respond with 504: no stored response is good enough, and the request forbids to ask the
+    /// origin (`only-if-cached`).
     Unavailable,
-    /// The request is forwarded as it is.
+    /// Forward the request as it is.
     Forward,
 }
 
@@ -138,12 +138,11 @@ pub(crate) fn answer(
 }
 
 impl Store {
-    /// What a cache does with a request to a target (RFC 9111, section 4). The target becomes the most
-    /// recently used. `now` is the present, in seconds since 1970. No lifetime is guessed: a response
-    /// whose origin states none is stale at once.
+    /// Decides what a cache does with a request (RFC 9111, section 4), without guessing a lifetime.
+    /// The target becomes the most recently used. `now` is the present, in seconds since 1970. A
+    /// response whose origin states no lifetime is stale at once.
     ///
-    /// Fails only if it runs out of memory, which needs a stored response that is selected for the
-    /// request.
+    /// Fails only if an allocation fails, which is possible only if a stored response is selected.
     pub fn lookup(
         &mut self,
         alloc: Global,
@@ -164,9 +163,10 @@ impl Store {
         self.lookup_guessing(alloc, target, request, now, 0)
     }
 
-    /// The same, but where the origin states no lifetime, a tenth of the time from the last modification
-    /// to the response is guessed, and at most `most` seconds (RFC 9111, section 4.2.2): a day is 86,400.
-    /// A guess needs a status that is heuristically cacheable, or `public`.
+    /// Decides what a cache does with a request (RFC 9111, section 4), and may guess a lifetime. If
+    /// the origin states none, a tenth of the time from the last modification to the response is
+    /// guessed, and at most `most` seconds (section 4.2.2): a day is 86,400. A guess needs a status
+    /// that is heuristically cacheable, or `public`. The rest is as for `lookup`.
     pub fn lookup_guessing(
         &mut self,
         alloc: Global,
@@ -196,7 +196,8 @@ impl Store {
         )
     }
 
-    /// The responses that are stored under a target, in the order in which they were stored.
+    /// Returns the responses that are stored under a target, in the order in which they were
+    /// stored.
     pub fn responses(&self, target: &str) -> &[StoredResponse]
         ensures { result.now ≡ responses_at target.now (contents_of self.now) }
     {
@@ -206,7 +207,7 @@ impl Store {
         }
     }
 
-    /// The stored response at a place.
+    /// Returns the stored response at a place of a target. `None` if there is none.
     pub fn response(&self, target: &str, place: usize) -> Option<&StoredResponse>
         ensures { option_copied result ≡ slice_get (responses_at target.now (contents_of self.now)) place }
     {

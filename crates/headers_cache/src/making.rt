@@ -12,21 +12,21 @@ use lru::LruCache;
 use std::alloc::{AllocError, Global};
 use std::hash::RandomState;
 
-/// What a store does beyond RFC 9111. By default nothing.
+/// What a store does beyond RFC 9111; nothing by default.
 #[derive(Debug, Drop)]
 pub struct Options {
-    /// Whether `immutable` of a response counts (RFC 8246): a reload by `max-age` of a request gets a
-    /// response with it that is fresh, and isn't forwarded.
+    /// Whether `immutable` of a response counts (RFC 8246): a request with `max-age` then gets a
+    /// fresh response that has it, and isn't forwarded.
     pub immutable: bool,
-    /// The names of the cache's targeted fields, as CDN-Cache-Control, the most applicable first (RFC
-    /// 9213): the first one that a response has, valid and not empty, counts in place of its
-    /// Cache-Control and Expires.
+    /// The names of the cache's targeted fields, such as CDN-Cache-Control, the most applicable
+    /// first (RFC 9213). The first one that a response has, valid and not empty, counts instead of
+    /// its Cache-Control and Expires.
     pub targets: Vec<HeaderName>,
 }
 
 impl Store {
-    /// A store that has nothing, without options. Names of targets come from clients: so `keys` should
-    /// be random.
+    /// Makes an empty store without options. The keys should be random, since clients choose the
+    /// targets.
     pub fn new(
         alloc: Global,
         kind: Kind,
@@ -45,7 +45,8 @@ impl Store {
         Store::with_options(alloc, kind, options, limits, keys)
     }
 
-    /// The same with options.
+    /// Makes an empty store with options. The keys should be random, since clients choose the
+    /// targets.
     pub fn with_options(
         alloc: Global,
         kind: Kind,

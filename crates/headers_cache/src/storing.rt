@@ -82,16 +82,16 @@ fn trim(responses: &mut Vec<StoredResponse>, size: usize, limits: Limits)
 }
 
 impl Store {
-    /// Stores the response to a request, if a cache of this kind may (RFC 9111, section 3): `came` has
-    /// the request, the response as it came from the origin, and their times. Returns whether it was
-    /// stored: a response that is larger than the store may be isn't.
+    /// Stores the response to a request, if a cache of this kind may (RFC 9111, section 3). `came`
+    /// has the request, the response as it came from the origin, and their times. The result says
+    /// whether it was stored: a response that is larger than the limits isn't.
     ///
     /// It supersedes the stored response that was selected for its request so far, if that answered
-    /// the same method. If there is too little room for it, older responses of its target go first,
-    /// and then the targets that weren't used for the longest time.
+    /// the same method. If there is too little room, older responses of its target are removed
+    /// first, and then the targets that weren't used for the longest time.
     ///
-    /// Fails only if it runs out of memory, or the fields don't fit into a map, which needs a response
-    /// that is to be stored. Then nothing is stored that wasn't stored before.
+    /// Fails only if an allocation fails, or if the fields don't fit into a map; both need a
+    /// response that is to be stored. Then nothing is stored that wasn't stored before.
     pub fn store(
         &mut self,
         alloc: Global,

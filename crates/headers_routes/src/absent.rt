@@ -1,4 +1,4 @@
-//! What answers where there is no resource.
+//! The answer for a path without a resource.
 ghost use Rattle.std.specs.Prelude.{◌≡◌, IfOk, false};
 ghost use Rattle.headers_routes.specs.Routes.{IsNowhere};
 
@@ -22,8 +22,9 @@ fn rule_for(alloc: Global, method: Method) -> MethodRule
     }
 }
 
-/// The resource at each path that has none: it is absent, no method makes it, and each method of the
-/// RFC is answered by 404. The server is asked for by these hosts, or by any.
+/// Makes the resource for each path that has none: it is absent, no method makes it, and each
+/// method of the RFC gets 404. It is served for these hosts, or for any. Fails only if an
+/// allocation fails.
 pub fn nowhere(
     alloc: Global,
     hosts: Option<Vec<HeaderValue>>,

@@ -1,4 +1,4 @@
-//! What follows from the definitions alone. A proof cites a law by calling it.
+//! Theorems about the definitions alone. To cite one in a proof, call it.
 ghost use Rattle.std.specs.Prelude.{◌≡◌, ◌≢◌, ◌⊎◌, ℕ, List, Ok, Some, Contains};
 ghost use Rattle.matchit.specs.Router.{Inserted, RouteOf};
 ghost use Rattle.matchit.specs.Rows.{RowsOf};
@@ -11,21 +11,21 @@ ghost use Rattle.headers_resource.specs.declared.reason.Reason.TheVariants.{Meth
 ghost use Rattle.headers_resource.specs.declared.resource.Resource.{Resource};
 ghost use Rattle.headers_routes.specs.Routes.{IsDistinct, IsNowhere, Matches};
 
-/// The route that a path leads to is one of the router's, and its pattern matches the path.
+/// Theorem: the route of a path is one of the router's, and its pattern matches the path.
 pub fn found_route_matches<T>()
     ensures { (rows : RowsOf (RouteOf T)) (path : List ℕ) (route : RouteOf T) → first rows path ≡ Some route
         → (pattern : List ℕ) × Contains rows (pattern, route) × Matches pattern path }
 {}
 
-/// A router never gets a second route of the same pattern: `insert` keeps them distinct.
+/// Theorem: a router never has two routes with the same pattern: `insert` keeps them distinct.
 pub fn routes_stay_distinct<T>()
     ensures { (old new : RowsOf (RouteOf T)) (route : RouteOf T) → IsDistinct old
         → Inserted route old new (Ok tt) → IsDistinct new }
 {}
 
-/// A path without a resource is answered by 404, whatever the method (RFC 9110, section 15.5.5), but
-/// for what decides before the state of a resource: an invalid host, another server's host, a method
-/// that isn't known, OPTIONS, and an expectation. It is never answered by 405.
+/// Theorem: a path without a resource gets 404, whatever the method (RFC 9110, section 15.5.5).
+/// What decides before the state of a resource comes first: an invalid host, another server's host,
+/// an unknown method, OPTIONS, and an expectation. It never gets 405.
 pub fn unknown_path_is_not_found()
     ensures missing { (present : ℕ) (resource : Resource) (request : Request) (answer : Answer)
         → IsNowhere resource → IsAnswer present resource request answer

@@ -11,16 +11,16 @@ use std::alloc::{AllocError, Global};
 /// The resources of a server by the paths of their targets.
 #[derive(Drop)]
 pub struct Routes<T> {
-    /// The routes, each with what the server wants to know of it.
+    /// The routes, each with a value that says what the server wants to know about it.
     pub router: Router<T>,
-    /// What answers where there is no route, as `nowhere` makes it.
+    /// The resource that answers if no route matches, as `nowhere` makes it.
     pub nowhere: Resource,
 }
 
 impl<T: Drop> Routes<T> {
-    /// Answers a request by the path of its target: as the resource of its route says, which
-    /// `describe` makes of the value and the parameters of that route, or as `nowhere` says if no
-    /// route matches. `present` is the time, in seconds since the start of 1970.
+    /// Decides the answer to a request by the path of its target (RFC 9110, section 7.1). If a
+    /// route matches, `describe` makes its resource of the value and the parameters of the route;
+    /// else `nowhere` answers. `present` is the time, in seconds since 1970.
     pub fn answer_at<E: From<AllocError>, F: FnOnce(&T, &Params<'_, '_>) -> Result<Resource, E>>(
         &self,
         alloc: Global,
