@@ -234,6 +234,16 @@ struct typed_headers_cache_options {
     bool is_shared;
 };
 
+/* What a cache does beyond RFC 9111. Zero bytes are nothing. */
+struct typed_headers_cache_extensions {
+    /* The names of its targeted fields (RFC 9213), as `CDN-Cache-Control`, one a line, the most applicable first. The
+       first one that a response has, valid and not empty, counts in place of its `cache-control` and `expires`. */
+    struct typed_headers_text targets;
+    /* Whether `immutable` of a response counts (RFC 8246): a reload by `max-age` of a request gets such a response from
+       the store while it is fresh. */
+    bool immutable;
+};
+
 /* A request to a cache. */
 struct typed_headers_cache_request {
     /* The key of its target, in UTF-8: its URI, as a text that the program makes the same way each time. */
@@ -921,6 +931,15 @@ uint8_t typed_headers_validators(const uint8_t *response, size_t response_length
  */
 uint8_t typed_headers_cache_new(struct typed_headers_cache *cache, const struct typed_headers_cache_options *options,
                                 const struct typed_headers_keys *keys);
+
+/*
+ * Opens a closed cache as `typed_headers_cache_new` does, with extensions. Refused: it is open, or a line of the
+ * targeted fields is no field name. Since 1.1.
+ */
+uint8_t typed_headers_cache_new_with(struct typed_headers_cache *cache,
+                                     const struct typed_headers_cache_options *options,
+                                     const struct typed_headers_cache_extensions *extensions,
+                                     const struct typed_headers_keys *keys);
 
 /* Closes a cache, and gives its memory back. It may be closed before. The status is TYPED_HEADERS_DONE. */
 uint8_t typed_headers_cache_free(struct typed_headers_cache *cache);

@@ -974,11 +974,17 @@ static void free_cache(PyObject *capsule) {
     PyMem_Free(cache);
 }
 
+static struct typed_headers_text as_text(struct text text) {
+    return (struct typed_headers_text){text.bytes, (size_t)text.length};
+}
+
 static PyObject *cache_new(PyObject *module, PyObject *arguments) {
     unsigned long long variants, responses, content;
-    int is_shared;
+    struct text targets;
+    int is_shared, immutable;
     (void)module;
-    if (!PyArg_ParseTuple(arguments, "KKKp", &variants, &responses, &content, &is_shared)) {
+    if (!PyArg_ParseTuple(arguments, "KKKp" TEXT "p", &variants, &responses, &content, &is_shared, INTO(targets),
+                          &immutable)) {
         return NULL;
     }
     struct typed_headers_cache *cache = PyMem_Malloc(sizeof *cache);
@@ -988,7 +994,8 @@ static PyObject *cache_new(PyObject *module, PyObject *arguments) {
     *cache = (struct typed_headers_cache)TYPED_HEADERS_CLOSED_CACHE;
     const struct typed_headers_cache_options options = {(size_t)variants, (size_t)responses, (size_t)content,
                                                         is_shared};
-    uint8_t status = typed_headers_cache_new(cache, &options, &keys);
+    const struct typed_headers_cache_extensions extensions = {as_text(targets), immutable};
+    uint8_t status = typed_headers_cache_new_with(cache, &options, &extensions, &keys);
     PyObject *capsule = PyCapsule_New(cache, CACHE_NAME, free_cache);
     if (!capsule) {
         typed_headers_cache_free(cache);
@@ -1013,10 +1020,6 @@ struct cache_texts {
 };
 
 #define INTO_REQUEST(it) INTO((it).target), INTO((it).method), INTO((it).section)
-
-static struct typed_headers_text as_text(struct text text) {
-    return (struct typed_headers_text){text.bytes, (size_t)text.length};
-}
 
 static struct typed_headers_cache_request as_request(const struct cache_texts *it) {
     return (struct typed_headers_cache_request){as_text(it->target), as_text(it->method), as_text(it->section)};

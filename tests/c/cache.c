@@ -105,6 +105,14 @@ static void open_cache(size_t variants, size_t responses, size_t bytes, bool is_
     want(CALL(typed_headers_cache_new(&cache, &options, &KEYS)) == TYPED_HEADERS_REFUSED, "new of an open cache");
 }
 
+/* Opens it with the targeted fields of a text, one a line, and `immutable`. */
+static void open_with(const char *targets, uint8_t wanted) {
+    const struct typed_headers_cache_options options = {4, 16, 1000, true};
+    const struct typed_headers_cache_extensions extensions = {text(targets), true};
+    AGAIN(typed_headers_cache_new_with(&cache, &options, &extensions, &KEYS), !cache.is_open, "new_with");
+    want(status_of_call == wanted && cache.is_open == (wanted == TYPED_HEADERS_DONE), "new_with");
+}
+
 static void close_cache(void) {
     want(CALL(typed_headers_cache_free(&cache)) == TYPED_HEADERS_DONE && !cache.is_open, "free");
     want(CALL(typed_headers_cache_free(&cache)) == TYPED_HEADERS_DONE, "free of a closed cache");
@@ -289,6 +297,24 @@ static void play(void) {
     AGAIN(typed_headers_cache_invalidate(&cache, target.bytes, target.length, method.bytes, method.length, 204), true,
           "invalidate");
     absent("/d", 0);
+    close_cache();
+    /* RFC 8246, and RFC 9213, section 2.2: the first targeted field that is there, valid and not empty, counts. */
+    open_with("no name", TYPED_HEADERS_REFUSED);
+    open_with("\n", TYPED_HEADERS_REFUSED);
+    open_with("X-CDN-Control\r\ncdn-cache-control", TYPED_HEADERS_DONE);
+    store("/a", "", 1000, 200, "cache-control: max-age=60\ncdn-cache-control: no-store\n", "none", true, 0);
+    store("/a", "", 1000, 200,
+          "date: Thu, 01 Jan 1970 00:16:40 GMT\nx-cdn-control: max-age=60, immutable\ncdn-cache-control: no-store\n",
+          "kept", true, 1);
+    look_up("/a", "GET", "cache-control: max-age=0\n", 1010, 0, TYPED_HEADERS_SERVE, 200, 10,
+            "date: Thu, 01 Jan 1970 00:16:40 GMT\nx-cdn-control: max-age=60, immutable\ncdn-cache-control: no-store\n"
+            "age: 10\n");
+    close_cache();
+    open_with("", TYPED_HEADERS_DONE);
+    store("/a", "", 1000, 200, "date: Thu, 01 Jan 1970 00:16:40 GMT\ncache-control: max-age=60, immutable\n", "kept",
+          true, 1);
+    look_up("/a", "GET", "cache-control: max-age=0\n", 1010, 0, TYPED_HEADERS_SERVE, 200, 10,
+            "date: Thu, 01 Jan 1970 00:16:40 GMT\ncache-control: max-age=60, immutable\nage: 10\n");
     close_cache();
 }
 

@@ -48,9 +48,11 @@ class Player:
     """A cache, and what its calls answer in the words of a history."""
 
     def __init__(self, line):
-        _, kind, variants, responses, content = line.split()
+        _, kind, variants, responses, content, *options = line.split()
         limits = {"variants": int(variants), "responses": int(responses), "content": int(content)}
-        self.cache = headers.Cache(shared=kind == "shared", **limits)
+        self.cache = headers.Cache(
+            shared=kind == "shared", immutable=options[:1] == ["immutable"], targets=options[1:], **limits
+        )
 
     def stored(self, target, place, now=0):
         """The words of the response at a place, or `None`."""
@@ -195,17 +197,12 @@ def histories_in(path):
     return histories
 
 
-def is_plain(head):
-    """Whether a cache without options plays the history: C has none yet."""
-    return len(head.split()) == 5
-
-
 def play_random(seed, indices):
     from histories import generate
 
-    calls, wrong = 0, []
+    calls, wrong, options = 0, [], list(generate.OPTIONS)
     for index in indices:
-        history = generate.history(seed, "none", index)
+        history = generate.history(seed, options[index % len(options)], index)
         lines = [history.head, *(f"{it.text} = {' | '.join(sorted(it.permitted))}" for it in history.calls)]
         count, fault = play(lines)
         calls += count
@@ -222,7 +219,7 @@ def main():
             found = list(pool.map(play_random, repeat(seed), batches))
         calls, wrong = sum(it[0] for it in found), [fault for it in found for fault in it[1]]
     else:
-        histories = [it for path in sys.argv[1:] for it in histories_in(path) if is_plain(it[0])]
+        histories = [it for path in sys.argv[1:] for it in histories_in(path)]
         played = [play(lines) for lines in histories]
         count, calls = len(histories), sum(it[0] for it in played)
         wrong = [fault for _, fault in played if fault]

@@ -89,6 +89,21 @@ class CacheTest(unittest.TestCase):
         self.assertTrue(cache.store("GET", "/b", {}, 200, FRESH, b"long", requested=1000, received=1000))
         self.assertIsNone(cache.response("/a", 0))
 
+    def test_serves_a_reload_of_what_is_immutable(self) -> None:
+        for immutable, decision in ((False, Decision.REVALIDATE), (True, Decision.SERVE)):
+            cache = Cache(shared=True, immutable=immutable)
+            fields = {"Cache-Control": "max-age=60, immutable"}
+            cache.store("GET", "/a", {}, 200, fields, b"", requested=1000, received=1000)
+            found = cache.lookup("GET", "/a", {"Cache-Control": "max-age=0"}, now=1010)
+            self.assertEqual(found.decision, decision)
+
+    def test_is_governed_by_the_first_targeted_field(self) -> None:
+        fields = {"Cache-Control": "no-store", "X-CDN-Control": "max-age=60", "CDN-Cache-Control": "no-store"}
+        for targets, is_stored in (((), False), (["x-cdn-control", "CDN-Cache-Control"], True)):
+            cache = Cache(shared=True, targets=targets)
+            stored = cache.store("GET", "/a", {}, 200, fields, b"", requested=1000, received=1000)
+            self.assertEqual(stored, is_stored)
+
     def test_says_what_is_wrong(self) -> None:
         cache = filled()
         with self.assertRaises(InvalidSection):
@@ -99,6 +114,9 @@ class CacheTest(unittest.TestCase):
             cache.store("GET", "/a", {}, 99, FRESH, b"", requested=1000)
         with self.assertRaises(HeaderError):
             Cache(shared=True, responses=-1)
+        for targets in (["no name"], [""], ["a\nb"]):
+            with self.assertRaises(HeaderError):
+                Cache(shared=True, targets=targets)
 
     def test_is_closed_once(self) -> None:
         with filled() as cache:

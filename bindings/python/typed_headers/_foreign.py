@@ -122,6 +122,10 @@ class _CacheOptions(ctypes.Structure):
     ]
 
 
+class _CacheExtensions(ctypes.Structure):
+    _fields_ = [("targets", _Text), ("immutable", ctypes.c_bool)]
+
+
 class _CacheRequest(ctypes.Structure):
     _fields_ = [("target", _Text), ("method", _Text), ("section", _Text)]
 
@@ -288,7 +292,13 @@ _websocket_check = _call("websocket_check", *_TEXT, ctypes.c_uint16, *_SECTION, 
 _CACHE = ctypes.POINTER(_Cache)
 _ASKED = [_CACHE, ctypes.POINTER(_CacheRequest)]
 _UPDATE = [*_ASKED, *_TEXT, ctypes.c_uint64, ctypes.c_uint64]
-_cache_new = _call("cache_new", _CACHE, ctypes.POINTER(_CacheOptions), ctypes.POINTER(_Keys))
+_cache_new = _call(
+    "cache_new_with",
+    _CACHE,
+    ctypes.POINTER(_CacheOptions),
+    ctypes.POINTER(_CacheExtensions),
+    ctypes.POINTER(_Keys),
+)
 _cache_free = _call("cache_free", _CACHE)
 _cache_lookup = _call(
     "cache_lookup", *_ASKED, ctypes.c_uint64, ctypes.c_uint64, ctypes.POINTER(_LookedUp), *_ROOM
@@ -693,9 +703,13 @@ def _stored_numbers(facts: _Stored) -> StoredNumbers:
     return facts.status, facts.age, facts.requested, facts.received, facts.length
 
 
-def cache_new(variants: int, responses: int, content: int, is_shared: bool) -> Tuple[int, CacheHandle]:
+def cache_new(
+    variants: int, responses: int, content: int, is_shared: bool, targets: bytes, immutable: bool
+) -> Tuple[int, CacheHandle]:
     handle, options = CacheHandle(), _CacheOptions(variants, responses, content, is_shared)
-    return _cache_new(ctypes.byref(handle.cache), ctypes.byref(options), ctypes.byref(_keys)), handle
+    extensions = _CacheExtensions(_Text(targets, len(targets)), immutable)
+    arguments = (ctypes.byref(handle.cache), ctypes.byref(options), ctypes.byref(extensions), ctypes.byref(_keys))
+    return _cache_new(*arguments), handle
 
 
 def cache_free(handle: CacheHandle) -> int:

@@ -7,7 +7,7 @@ import threading
 import time
 from dataclasses import dataclass
 from enum import IntEnum
-from typing import Any, Callable, Optional, Tuple, TypeVar
+from typing import Any, Callable, Optional, Sequence, Tuple, TypeVar
 
 from . import _library
 from ._library import Text, Time
@@ -284,6 +284,10 @@ class Cache:
     time. A time is that of a single clock; the present, if it isn't given. Limits are responses under one target,
     responses in all, and bytes of content in all. A cache may be used by several threads.
 
+    With `immutable`, a fresh response with that directive isn't validated for `max-age` of a request (RFC 8246).
+    `targets` are the names of targeted fields, as `CDN-Cache-Control`, the most applicable first: the first one that a
+    response has, valid and not empty, counts in place of its Cache-Control and Expires (RFC 9213).
+
     >>> with Cache(shared=True) as cache:
     ...     cache.lookup("GET", "/a", {}, now=1000).decision
     ...     cache.store("GET", "/a", {}, 200, {"Cache-Control": "max-age=60"}, b"hello", requested=1000, received=1000)
@@ -297,15 +301,24 @@ class Cache:
     """
 
     def __init__(
-        self, *, shared: bool, variants: int = 16, responses: int = 4096, content: int = 64 * 1024 * 1024
+        self,
+        *,
+        shared: bool,
+        variants: int = 16,
+        responses: int = 4096,
+        content: int = 64 * 1024 * 1024,
+        immutable: bool = False,
+        targets: Sequence[Text] = (),
     ) -> None:
         status, self._handle = _library.calls.cache_new(
             _library.to_number(variants, "variants"),
             _library.to_number(responses, "responses"),
             _library.to_number(content, "content"),
             shared,
+            _library.joined(_library.to_lines("targets", targets)),
+            immutable,
         )
-        _library.check(status, lambda: HeaderError("a new cache is open"))
+        _library.check(status, lambda: HeaderError(f"some of these is no field name: {list(targets)}"))
         #: Whether it serves several users.
         self.shared = shared
         self._lock, self._is_open = threading.Lock(), True

@@ -2,7 +2,7 @@
 ghost use Rattle.std.specs.Prelude.{◌≡◌, None};
 ghost use Rattle.headers_c_parts.specs.Endings.{Gives, TellsAndWrites};
 ghost use Rattle.headers_c_store.specs.Answers.{AnswersClient};
-ghost use Rattle.headers_c_store.specs.Handles.{OnOpen, Opens, Reads};
+ghost use Rattle.headers_c_store.specs.Handles.{OnOpen, Opens, OpensWith, Reads};
 ghost use Rattle.headers_c_store.specs.Lookups.{LooksUp};
 ghost use Rattle.headers_c_store.specs.Removals.{InvalidatesTarget, Removes};
 ghost use Rattle.headers_c_store.specs.Shown.{CopiesContent, ShowsStored};
@@ -13,9 +13,9 @@ ghost use Rattle.headers_c.specs.CacheStore.{Ends, TellsFlag, ended};
 use headers_c_decisions::flag_of;
 use headers_c_parts::{DONE, Failure, HashKeys, copy_into};
 use headers_c_store::{
-    AnswerFacts, Cache, CacheOptions, CacheRequest, CacheResponse, FreshenedFacts, LookupFacts,
-    StoredFacts, answer, close, copy_content, freshen, freshen_by_head, invalidate, look_up, open,
-    remove, show, store,
+    AnswerFacts, Cache, CacheExtensions, CacheOptions, CacheRequest, CacheResponse, FreshenedFacts,
+    LookupFacts, StoredFacts, answer, close, copy_content, freshen, freshen_by_head, invalidate,
+    look_up, open, open_with, remove, show, store,
 };
 use headers_cache_rules::Exchange;
 use std::alloc::Global;
@@ -41,6 +41,21 @@ pub extern "C" fn typed_headers_cache_new(
     ensures { Ends (Opens options.now keys.now cache.old.held cache.new.held) result }
 {
     ended(open(alloc, cache, options, keys))
+}
+
+/// Opens a closed handle, with an empty store, for a cache that does more than RFC 9111. Rejected if the
+/// handle is open, or if a line of the targeted fields is no name of a field.
+#[unsafe(no_mangle)]
+pub extern "C" fn typed_headers_cache_new_with(
+    alloc: Global,
+    cache: &mut Cache,
+    options: &CacheOptions,
+    extensions: &CacheExtensions<'_>,
+    keys: &HashKeys,
+) -> u8
+    ensures { Ends (OpensWith options.now extensions.entry.now keys.now cache.old.held cache.new.held) result }
+{
+    ended(open_with(alloc, cache, options, extensions, keys))
 }
 
 /// Closes a handle, and frees what it has.

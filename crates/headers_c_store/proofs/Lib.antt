@@ -1,1 +1,3 @@
 pub mod HandleValues
+pub mod LookupLemmas
+pub mod NameLemmas

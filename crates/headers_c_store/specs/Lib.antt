@@ -1,6 +1,7 @@
 pub mod Answers
 pub mod Handles
 pub mod Lookups
+pub mod Names
 pub mod Ownership
 pub mod Reading
 pub mod Removals

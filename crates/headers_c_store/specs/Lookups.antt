@@ -7,7 +7,7 @@ use Rattle.headers.specs.LineMap.{fields_of}
 use Rattle.headers_cache_rules.specs.declared.stored.StoredResponse.{StoredResponse}
 use Rattle.headers_cache.specs.Contents.{responses_at, used}
 use Rattle.headers_cache.specs.Kept.{contents_of, policy_of_store}
-use Rattle.headers_cache.specs.Lookups.{IsAnswer}
+use Rattle.headers_cache.specs.Lookups.{HasFields, IsAnswer}
 use Rattle.headers_cache.specs.declared.lookup.Lookup.{Lookup}
 use Rattle.headers_cache.specs.declared.lookup.Lookup.TheVariants.{Serve, ServeAndRevalidate, Validate, ValidateOrServe}
 use Rattle.headers_cache.specs.declared.lookup.Lookup.TheVariants.{Unavailable, Forward}
@@ -91,7 +91,14 @@ module _ (request : CacheRequest) (now guess : ℕ) (old new : Held) where
     pub shown : IsShownLookup responses now lookup looked
     pub touched : IsTouched
 
+  -- a stored response is selected, and the answer isn't 504: then it has fields, which take memory
+  pub record FailsLookup : Type 0 where
+    pub fields : Entries FieldValue
+    pub is_request : IsRequest request fields
+    pub has_fields : HasFields (policy_of_store old.store) guess (asked_by request fields) now responses
+    pub touched : IsTouched
+
   -- the answer is that, or the failure of parsing the request, or of allocating what is told
   abbrev pub LooksUp : Result LookedUp Failure → Type 0
   LooksUp (Ok looked) = IsLookedUp looked
-  LooksUp (Err failure) = (FailsRequest request failure × (new ≡ old)) ⊎ ((failure ≡ Memory) × IsTouched)
+  LooksUp (Err failure) = (FailsRequest request failure × (new ≡ old)) ⊎ ((failure ≡ Memory) × FailsLookup)

@@ -1,5 +1,5 @@
 //! What a cache does with a request.
-ghost use Rattle.std.specs.Prelude.{◌≡◌, IfOk};
+ghost use Rattle.std.specs.Prelude.{◌≡◌, IfOk, IsErr, IsSome};
 ghost use Rattle.headers_c_store.specs.Handles.{OnOpen};
 ghost use Rattle.headers_c_store.specs.Lookups.{IsShownLookup, LooksUp, action_of, facts_at, lookup_facts};
 ghost use Rattle.headers_c_store.specs.Lookups.{lookup_text, place_of, text_at};
@@ -115,7 +115,8 @@ fn lookup_text(
     now: u64,
     lookup: &Lookup,
 ) -> Result<Vec<u8>, AllocError>
-    ensures { IfOk result (λ text. text.items ≡ lookup_text responses.now now lookup.now) }
+    ensures text { IfOk result (λ text. text.items ≡ lookup_text responses.now now lookup.now) }
+    ensures memory { IsErr result → IsSome (place_of lookup.now) }
 {
     match lookup {
         Lookup::Serve(place, _) | Lookup::ServeAndRevalidate(place, _) => {
@@ -134,7 +135,8 @@ fn show_lookup(
     now: u64,
     lookup: &Lookup,
 ) -> Result<LookedUp, AllocError>
-    ensures { IfOk result (IsShownLookup responses.now now lookup.now) }
+    ensures shown { IfOk result (IsShownLookup responses.now now lookup.now) }
+    ensures memory { IsErr result → IsSome (place_of lookup.now) }
 {
     let text = lookup_text(alloc, responses, now, lookup)?;
     Ok(LookedUp {

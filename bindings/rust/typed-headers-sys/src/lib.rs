@@ -262,6 +262,14 @@ pub struct CacheOptions {
     pub is_shared: bool,
 }
 
+/// What a cache does beyond RFC 9111.
+#[repr(C)]
+#[derive(Clone, Copy, Debug)]
+pub struct CacheExtensions {
+    pub targets: Text,
+    pub immutable: bool,
+}
+
 /// A request to a cache.
 #[repr(C)]
 #[derive(Clone, Copy, Debug)]
@@ -691,6 +699,12 @@ extern "C" {
         outcome: *mut FramingOutcome,
     ) -> u8;
     pub fn typed_headers_cache_new(cache: *mut Cache, options: *const CacheOptions, keys: *const Keys) -> u8;
+    pub fn typed_headers_cache_new_with(
+        cache: *mut Cache,
+        options: *const CacheOptions,
+        extensions: *const CacheExtensions,
+        keys: *const Keys,
+    ) -> u8;
     pub fn typed_headers_cache_free(cache: *mut Cache) -> u8;
     pub fn typed_headers_cache_lookup(
         cache: *mut Cache,
