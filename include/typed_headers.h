@@ -934,7 +934,7 @@ uint8_t typed_headers_cache_new(struct typed_headers_cache *cache, const struct 
 
 /*
  * Opens a closed cache as `typed_headers_cache_new` does, with extensions. Refused: it is open, or a line of the
- * targeted fields is no field name. Since 1.1.
+ * targeted fields is no field name. Memory: the cache is closed. Since 1.1.
  */
 uint8_t typed_headers_cache_new_with(struct typed_headers_cache *cache,
                                      const struct typed_headers_cache_options *options,

@@ -17,8 +17,8 @@ from typed_headers import (
 FRESH = {"Cache-Control": "max-age=60", "ETag": '"a"'}
 
 
-def filled(body: bytes = b"hello", **limits: int) -> Cache:
-    cache = Cache(shared=True, **limits)
+def filled(body: bytes = b"hello", content: int = 1 << 20) -> Cache:
+    cache = Cache(shared=True, content=content)
     cache.store("GET", "/a", {}, 200, FRESH, body, requested=1000, received=1000)
     return cache
 

@@ -1,5 +1,5 @@
 -- What follows from the answers of a store.
-use Rattle.std.proofs.Common.{◌≡◌, ℕ, List, Option, Some, None, inl, inr}
+use Rattle.std.proofs.Common.{ℕ, List, inl, inr}
 use Rattle.std.specs.Prelude.{IsSome}
 use Rattle.headers_cache_policy.specs.Policies.{Policy}
 use Rattle.headers_cache_policy.specs.Requests.{Request}
@@ -25,5 +25,5 @@ answer-has-fields policy most request now responses (Validate place fields) aske
     (decisions.Revalidate, place, asked.found, λ e. absurd (cc e))
 answer-has-fields policy most request now responses (ValidateOrServe place fields) asked some =
     (decisions.RevalidateOrServe, place, asked.found, λ e. absurd (cc e))
-answer-has-fields policy most request now responses Unavailable answer some = absurd some
-answer-has-fields policy most request now responses Forward answer some = absurd some
+answer-has-fields policy most request now responses Unavailable answer some = absurd (cc some)
+answer-has-fields policy most request now responses Forward answer some = absurd (cc some)

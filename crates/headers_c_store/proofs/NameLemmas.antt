@@ -1,6 +1,6 @@
 -- The names of fields that lines are, one each.
 use Rattle.std.proofs.Common.{◌≡◌, ◌∙◌, ℕ, zero, suc, ◌+◌, ◌<◌, List, [], ◌∷◌, ◌++◌, All, length, take}
-use Rattle.std.proofs.Common.{get_or, refl, sym, ap, subst, arith, Result, Err}
+use Rattle.std.proofs.Common.{get_or, refl, sym, ap, subst, arith, Err}
 use Rattle.std.specs.Prelude.{map}
 use Rattle.std.proofs.lemmas.List.{map-append, take_more}
 use Rattle.std.proofs.lemmas.List.Elements.{All-get_or, All-push, All-weaker}
@@ -13,15 +13,15 @@ use Rattle.headers.specs.Typed.{HasLine}
 use Rattle.headers_c_parts.specs.FieldText.{IsNameOf, field_lines}
 use Rattle.headers_c_parts.specs.declared.status.Failure.{Failure}
 use Rattle.headers_c_parts.specs.declared.status.Failure.TheVariants.{Refused, Memory, Absent, TooLarge}
-use Rattle.headers_c_store.specs.Names.{AreNames, IsNamesAnswer}
+use Rattle.headers_c_store.specs.Names.{AreNames, IsNamesOf}
 
 -- these are the names that the lines are
 abbrev pub IsReadAs : List Line → List (List ℕ) → Type 0
 IsReadAs lines names = All IsFieldName lines × (names ≡ map lowercase lines)
 
 -- a text of which a line is no header value isn't one of names
-pub names-values : (text : List ℕ) → ¬ (All IsFieldValue (field_lines text)) → ¬ (AreNames text)
-names-values text bad names =
+pub names_values : (text : List ℕ) → ¬ (All IsFieldValue (field_lines text)) → ¬ (AreNames text)
+names_values text bad names =
     bad (All-weaker IsFieldName IsFieldValue
     (λ line name. IsFieldValue-from_visible line (IsVisibleAscii-from_token line name.0)) (field_lines text) names)
 
@@ -52,22 +52,18 @@ line-at (first ∷ lines) zero line below = (omega arith, refl)
 line-at (first ∷ lines) (suc i) line below =
     let rest = line-at lines i line (omega (arith, below)) in (omega (arith, rest.0), rest.1)
 
--- a text of which a line was read has one
-pub names-line : (text : List ℕ) (lines : List FieldValue) → field_lines text ≡ lines_of lines → (i : ℕ)
-    (line : FieldValue) → i < length lines → HasLine (field_lines text)
-names-line text lines same i line below =
-    let at = line-at lines i line below in
-    subst (λ (ls : List Line). HasLine ls) (sym same) (omega (arith, at.0))
+-- lines of which one was read
+pub names-line : (lines : List FieldValue) (i : ℕ) (line : FieldValue) → i < length lines → HasLine (lines_of lines)
+names-line lines i line below = let at = line-at lines i line below in omega (arith, at.0)
 
--- what a failure to read the name of one line says of the text
-pub names-fails : (text : List ℕ) (lines : List FieldValue) → field_lines text ≡ lines_of lines → (i : ℕ)
-    (line : FieldValue) (failure : Failure) → i < length lines → line ≡ get_or lines i line
-    → IsNameOf line.bytes (Err failure) → IsNamesAnswer text (Err failure)
-names-fails text lines same i line Refused below is none names =
+-- what a failure to read the name of one line says of all
+pub names-fails : (lines : List FieldValue) (i : ℕ) (line : FieldValue) (failure : Failure) → i < length lines
+    → line ≡ get_or lines i line → IsNameOf line.bytes (Err failure) → IsNamesOf (lines_of lines) (Err failure)
+names-fails lines i line Refused below is none =
+    λ names.
     let at = line-at lines i line below in
-    let all : All IsFieldName (lines_of lines) = subst (λ (ls : List Line). All IsFieldName ls) same names in
     none (subst IsFieldName (at.1 ∙ ap (λ (v : FieldValue). v.bytes) (sym is))
-    (All-get_or IsFieldName (lines_of lines) i line.bytes at.0 all))
-names-fails text lines same i line Memory below is h = names-line text lines same i line below
-names-fails text lines same i line Absent below is h = h
-names-fails text lines same i line TooLarge below is h = h
+    (All-get_or IsFieldName (lines_of lines) i line.bytes at.0 names))
+names-fails lines i line Memory below is h = names-line lines i line below
+names-fails lines i line Absent below is h = h
+names-fails lines i line TooLarge below is h = h

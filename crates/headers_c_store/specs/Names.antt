@@ -3,6 +3,7 @@ use Rattle.std.specs.Prelude.{◌≡◌, ℕ, List, All, map, Result, Ok, Err}
 use Rattle.std.specs.Global.{Vec}
 use Rattle.http_header.specs.FieldName.{IsFieldName}
 use Rattle.http_header.specs.Token.{lowercase}
+use Rattle.headers.specs.Lines.{Line}
 use Rattle.headers.specs.Typed.{HasLine}
 use Rattle.headers_c_parts.specs.FieldText.{field_lines}
 use Rattle.headers_c_parts.specs.declared.status.Failure.{Failure}
@@ -16,10 +17,11 @@ AreNames text = All IsFieldName (field_lines text)
 abbrev pub names_in : List ℕ → List (List ℕ)
 names_in text = map lowercase (field_lines text)
 
--- The names, in their order; `Refused` only if some line is none, and `Memory` only if there is a line.
-abbrev pub IsNamesAnswer : List ℕ → Result (Vec (List ℕ)) Failure → Type 0
-IsNamesAnswer text (Ok names) = AreNames text × (names.items ≡ names_in text)
-IsNamesAnswer text (Err Refused) = ¬ (AreNames text)
-IsNamesAnswer text (Err Memory) = HasLine (field_lines text)
-IsNamesAnswer text (Err Absent) = ⊥
-IsNamesAnswer text (Err TooLarge) = ⊥
+-- What an answer says of lines: the names that they are, in their order; `Refused` only if some line is none, and
+-- `Memory` only if there is a line.
+abbrev pub IsNamesOf : List Line → Result (Vec (List ℕ)) Failure → Type 0
+IsNamesOf lines (Ok names) = All IsFieldName lines × (names.items ≡ map lowercase lines)
+IsNamesOf lines (Err Refused) = ¬ (All IsFieldName lines)
+IsNamesOf lines (Err Memory) = HasLine lines
+IsNamesOf lines (Err Absent) = ⊥
+IsNamesOf lines (Err TooLarge) = ⊥
