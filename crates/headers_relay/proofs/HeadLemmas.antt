@@ -10,6 +10,7 @@ use Rattle.httparse.specs.declared.spans.RequestSpans.{RequestSpans}
 use Rattle.httparse.specs.declared.spans.ResponseSpans.{ResponseSpans}
 use Rattle.http1.specs.Client.{ClientReads, ReadsAt, ReadsFirst, ReadsHead, TakesHead}
 use Rattle.http1.specs.Conn.{awaits_head}
+use Rattle.http1.specs.Fields.{Header}
 use Rattle.http1.specs.Message.{AcceptsRequest, AcceptsResponse}
 use Rattle.http1.specs.Server as Serving
 use Rattle.http1.specs.Server.{ServerReads, new_server}
@@ -20,12 +21,13 @@ use Rattle.http1.specs.declared.conn.Limits.{Limits}
 use Rattle.http1.specs.declared.conn.Progress.{Progress}
 use Rattle.http1.specs.declared.conn.Reading.{Reading}
 use Rattle.http1.specs.declared.conn.Reading.TheVariants as Reads
+use Rattle.http1.specs.declared.error.ReadError.{ReadError}
 use Rattle.http1.specs.declared.framing.Framing.{Framing}
 use Rattle.http1.specs.declared.server.Server.{Server}
 use Rattle.headers_relay.specs.Content.{map_of}
-use Rattle.headers_relay.specs.Failures.{IsMapFailure, IsReceiveFailure}
-use Rattle.headers_relay.specs.Heads.{FailsToReadRequest, FailsToReadResponse, IsRequestFailure, IsResponseAt}
-use Rattle.headers_relay.specs.Heads.{IsResponseFailure, ReadsResponseHead}
+use Rattle.headers_relay.specs.Failures.{HasNoMap, IsMapFailure, IsReceiveFailure, Receives}
+use Rattle.headers_relay.specs.Heads.{FailsToReadRequest, FailsToReadResponse, IsHeadFailure, IsResponseAt}
+use Rattle.headers_relay.specs.Heads.{ReadsResponseHead}
 use Rattle.headers_relay.specs.declared.failure.Failure.{Failure}
 use Rattle.headers_relay.specs.declared.failure.Failure.TheVariants as Failed
 use Rattle.headers_relay.specs.declared.response.Response.{Response}
@@ -33,55 +35,38 @@ use Rattle.headers_relay.specs.declared.response.Response.{Response}
 -- ---- failures
 
 -- no read gave more
-request_unread : (limits : Limits) (input : List ℕ) (left : Option (List ℕ)) (f : Failure) → IsReceiveFailure f
-    → IsRequestFailure limits input left f
-request_unread limits input left Failed.Reader is = tt
-request_unread limits input left Failed.CutShort is = absurd is
-request_unread limits input left Failed.InvalidFields is = absurd is
-request_unread limits input left (Failed.Malformed e) is = absurd is
-request_unread limits input left Failed.TooLong is = absurd is
-request_unread limits input left (Failed.Unsendable e) is = absurd is
-request_unread limits input left Failed.Writer is = absurd is
-request_unread limits input left Failed.OutOfMemory is = tt
-
-response_unread : (client : Client) (input : List ℕ) (left : Option (List ℕ)) (f : Failure) → IsReceiveFailure f
-    → IsResponseFailure client input left f
-response_unread client input left Failed.Reader is = tt
-response_unread client input left Failed.CutShort is = absurd is
-response_unread client input left Failed.InvalidFields is = absurd is
-response_unread client input left (Failed.Malformed e) is = absurd is
-response_unread client input left Failed.TooLong is = absurd is
-response_unread client input left (Failed.Unsendable e) is = absurd is
-response_unread client input left Failed.Writer is = absurd is
-response_unread client input left Failed.OutOfMemory is = tt
+unread : (is_cut has_no_map : Type 0) (is_malformed : ReadError → Type 0) (f : Failure) → IsReceiveFailure f
+    → IsHeadFailure is_cut has_no_map is_malformed f
+unread is_cut has_no_map is_malformed Failed.Reader is = tt
+unread is_cut has_no_map is_malformed Failed.CutShort is = absurd is
+unread is_cut has_no_map is_malformed Failed.InvalidFields is = absurd is
+unread is_cut has_no_map is_malformed (Failed.Malformed e) is = absurd is
+unread is_cut has_no_map is_malformed Failed.TooLong is = absurd is
+unread is_cut has_no_map is_malformed (Failed.Unsendable e) is = absurd is
+unread is_cut has_no_map is_malformed Failed.Writer is = absurd is
+unread is_cut has_no_map is_malformed Failed.OutOfMemory is = tt
 
 -- the fields of a head have no map
-request_unmapped : (limits : Limits) (input : List ℕ) (left : Option (List ℕ)) (head : RequestHead) (framing : Framing)
-    (rest : List ℕ) (f : Failure) → AcceptsRequest limits input head framing rest
-    → IsMapFailure (map name_and_value head.fields) f → IsRequestFailure limits input left f
-request_unmapped limits input left head framing rest Failed.Reader accepts is = absurd is
-request_unmapped limits input left head framing rest Failed.CutShort accepts is = absurd is
-request_unmapped limits input left head framing rest Failed.InvalidFields accepts is =
-    (head, framing, rest, accepts, is)
-request_unmapped limits input left head framing rest (Failed.Malformed e) accepts is = absurd is
-request_unmapped limits input left head framing rest Failed.TooLong accepts is = absurd is
-request_unmapped limits input left head framing rest (Failed.Unsendable e) accepts is = absurd is
-request_unmapped limits input left head framing rest Failed.Writer accepts is = absurd is
-request_unmapped limits input left head framing rest Failed.OutOfMemory accepts is = tt
+unmapped : (is_cut has_no_map : Type 0) (is_malformed : ReadError → Type 0) (fields : List Header) (f : Failure)
+    → IsMapFailure fields f → (HasNoMap fields → has_no_map) → IsHeadFailure is_cut has_no_map is_malformed f
+unmapped is_cut has_no_map is_malformed fields Failed.Reader is because = absurd is
+unmapped is_cut has_no_map is_malformed fields Failed.CutShort is because = absurd is
+unmapped is_cut has_no_map is_malformed fields Failed.InvalidFields is because = because is
+unmapped is_cut has_no_map is_malformed fields (Failed.Malformed e) is because = absurd is
+unmapped is_cut has_no_map is_malformed fields Failed.TooLong is because = absurd is
+unmapped is_cut has_no_map is_malformed fields (Failed.Unsendable e) is because = absurd is
+unmapped is_cut has_no_map is_malformed fields Failed.Writer is because = absurd is
+unmapped is_cut has_no_map is_malformed fields Failed.OutOfMemory is because = tt
 
-response_unmapped : (client : Client) (input : List ℕ) (left : Option (List ℕ)) (head : ResponseHead)
-    (framing : Framing) (rest : List ℕ) (f : Failure)
-    → AcceptsResponse client.limits client.method input head framing rest
-    → IsMapFailure (map name_and_value head.fields) f → IsResponseFailure client input left f
-response_unmapped client input left head framing rest Failed.Reader accepts is = absurd is
-response_unmapped client input left head framing rest Failed.CutShort accepts is = absurd is
-response_unmapped client input left head framing rest Failed.InvalidFields accepts is =
-    (head, framing, rest, accepts, is)
-response_unmapped client input left head framing rest (Failed.Malformed e) accepts is = absurd is
-response_unmapped client input left head framing rest Failed.TooLong accepts is = absurd is
-response_unmapped client input left head framing rest (Failed.Unsendable e) accepts is = absurd is
-response_unmapped client input left head framing rest Failed.Writer accepts is = absurd is
-response_unmapped client input left head framing rest Failed.OutOfMemory accepts is = tt
+-- what was taken, and kept by a read that failed
+receives_kept : (before input : List ℕ) (left left_then left_now : Option (List ℕ)) (taken : List ℕ)
+    → Consumes left left_then taken → input ≡ before ++ taken → Keeps left_then left_now
+    → Receives before input left left_now
+receives_kept before input left left_then left_now taken received text keeps = record {
+  taken = taken;
+  received = Consumes-kept left left_then left_now taken received keeps;
+  input = text;
+}
 
 -- a call that fails so
 module _ {T : Type 0} (r : Result T Failure) {f y : Failure} (is : r ≡ Err y) (same : y ≡ f) where
@@ -91,27 +76,19 @@ module _ {T : Type 0} (r : Result T Failure) {f y : Failure} (is : r ≡ Err y) 
   pub request_fails : (limits : Limits) (before input : List ℕ) (left left_then left_now : Option (List ℕ))
       (taken : List ℕ) → Consumes left left_then taken → input ≡ before ++ taken → Keeps left_then left_now
       → IsReceiveFailure f → IfErr r (FailsToReadRequest limits before input left left_now)
-  request_fails limits before input left left_then left_now taken received text keeps unread =
+  request_fails limits before input left left_then left_now taken received text keeps none =
       fails_as (FailsToReadRequest limits before input left left_now) (record {
-        receives = record {
-          taken = taken;
-          received = Consumes-kept left left_then left_now taken received keeps;
-          input = text;
-        };
-        because = request_unread limits input left_now f unread;
+        receives = receives_kept before input left left_then left_now taken received text keeps;
+        because = unread _ _ _ f none;
       })
 
   pub response_fails : (client : Client) (before input : List ℕ) (left left_then left_now : Option (List ℕ))
       (taken : List ℕ) → Consumes left left_then taken → input ≡ before ++ taken → Keeps left_then left_now
       → IsReceiveFailure f → IfErr r (FailsToReadResponse client before input left left_now)
-  response_fails client before input left left_then left_now taken received text keeps unread =
+  response_fails client before input left left_then left_now taken received text keeps none =
       fails_as (FailsToReadResponse client before input left left_now) (record {
-        receives = record {
-          taken = taken;
-          received = Consumes-kept left left_then left_now taken received keeps;
-          input = text;
-        };
-        because = response_unread client input left_now f unread;
+        receives = receives_kept before input left left_then left_now taken received text keeps;
+        because = unread _ _ _ f none;
       })
 
   pub request_has_no_map : (limits : Limits) (before input : List ℕ) (left left_now : Option (List ℕ))
@@ -119,10 +96,10 @@ module _ {T : Type 0} (r : Result T Failure) {f y : Failure} (is : r ≡ Err y) 
       → input ≡ before ++ taken → AcceptsRequest limits input head framing rest
       → IsMapFailure (map name_and_value head.fields) f
       → IfErr r (FailsToReadRequest limits before input left left_now)
-  request_has_no_map limits before input left left_now taken head framing rest received text accepts unmapped =
+  request_has_no_map limits before input left left_now taken head framing rest received text accepts none =
       fails_as (FailsToReadRequest limits before input left left_now) (record {
         receives = record { taken = taken; received = received; input = text };
-        because = request_unmapped limits input left_now head framing rest f accepts unmapped;
+        because = unmapped _ _ _ _ f none (λ is. (head, framing, rest, accepts, is));
       })
 
   pub response_has_no_map : (client : Client) (before input : List ℕ) (left left_now : Option (List ℕ))
@@ -130,10 +107,10 @@ module _ {T : Type 0} (r : Result T Failure) {f y : Failure} (is : r ≡ Err y) 
       → input ≡ before ++ taken → AcceptsResponse client.limits client.method input head framing rest
       → IsMapFailure (map name_and_value head.fields) f
       → IfErr r (FailsToReadResponse client before input left left_now)
-  response_has_no_map client before input left left_now taken head framing rest received text accepts unmapped =
+  response_has_no_map client before input left left_now taken head framing rest received text accepts none =
       fails_as (FailsToReadResponse client before input left left_now) (record {
         receives = record { taken = taken; received = received; input = text };
-        because = response_unmapped client input left_now head framing rest f accepts unmapped;
+        because = unmapped _ _ _ _ f none (λ is. (head, framing, rest, accepts, is));
       })
 
 -- nothing is said of the value of an error

@@ -1,7 +1,8 @@
 -- A relay, step by step.
 use Rattle.std.proofs.Common.{◌≡◌, ℕ, ◌+◌, ◌-◌, ◌<◌, ◌≤◌, ◌^◌, List, [], ◌∷◌, ◌++◌, ◌∙◌, ap, refl, sym, subst, take}
-use Rattle.std.proofs.Common.{drop, length, length-append, length-drop, length-take, append_assoc, append-nil, None, Some, Option}
-use Rattle.std.proofs.Common.{Result, Ok, Err, IfErr, IfOk, OnOk, arith, ◌≢◌, Bool, IsTrue, inl, inr}
+use Rattle.std.proofs.Common.{drop, length, length-append, length-drop, length-take, append_assoc, append-nil}
+use Rattle.std.proofs.Common.{None, Some, Option, Result, Ok, Err, IfErr, IfOk, OnOk, arith, ◌≢◌, Bool, IsTrue, inl}
+use Rattle.std.proofs.Common.{inr}
 use Rattle.std.proofs.Math.Seq.{drop-length, take-add}
 use Rattle.std.proofs.lemmas.List.{take_all}
 use Rattle.std.proofs.KnownBytes.{Appends-nil, Appends-trans, Consumes-kept, Consumes-nil, Consumes-trans, Keeps-refl}
@@ -308,7 +309,8 @@ module _ {d : Decoder} {e : Encoder} {before input : List ℕ} {left left_now he
       (subst (λ (x : Reading). Finds x seen spans next part) p.is_reading finds))
 
   -- the same, by other names
-  unfoldable pub passing_as : (input_new : List ℕ) (left_new held_new : Option (List ℕ)) (w_new : Writing) (pending_new : List ℕ)
+  unfoldable pub passing_as : (input_new : List ℕ) (left_new held_new : Option (List ℕ)) (w_new : Writing)
+      (pending_new : List ℕ)
       → input_new ≡ input → left_new ≡ left_now → held_new ≡ held_now → w_new ≡ w → pending_new ≡ pending
       → Passing d e before input_new left left_new held held_new r w_new pending_new
   passing_as input_new left_new held_new w_new pending_new same_input same_left same_held same_writing same_pending =
@@ -327,7 +329,8 @@ module _ {d : Decoder} {e : Encoder} {before input : List ℕ} {left left_now he
       }
 
   -- a piece was passed to what is to be sent
-  unfoldable pub passing_piece : (piece : List ℕ) (new : Decoder) (len : ℕ) (next : Reading) (w_new : Writing) (text : List ℕ)
+  unfoldable pub passing_piece : (piece : List ℕ) (new : Decoder) (len : ℕ) (next : Reading) (w_new : Writing)
+      (text : List ℕ)
       → next ≡ Reads.Body new → Continues p.last input new len piece → length piece < 2 ^ 64
       → data_refusal w (length piece) ≡ None → w_new ≡ after_data w (length piece)
       → text ≡ pending ++ data_text w piece
@@ -357,8 +360,8 @@ module _ {d : Decoder} {e : Encoder} {before input : List ℕ} {left left_now he
       }
 
   -- the decoder took bytes that are no data
-  unfoldable pub passing_waits : (new : Decoder) (len : ℕ) (next : Reading) → next ≡ Reads.Body new → Starves p.last input new len
-      → Passing d e before (drop len input) left left_now held held_now next w pending
+  unfoldable pub passing_waits : (new : Decoder) (len : ℕ) (next : Reading) → next ≡ Reads.Body new
+      → Starves p.last input new len → Passing d e before (drop len input) left left_now held held_now next w pending
   passing_waits new len next reading starves =
       record {
         taken = p.taken;
@@ -493,7 +496,8 @@ module _ {d : Decoder} {e : Encoder} {before input : List ℕ} {left left_now he
 
   -- a piece is refused
   pub piece_fails : (ends : Bool) (left_new : Option (List ℕ)) (piece : List ℕ) (new : Decoder) (len : ℕ)
-      (failure : Failure) → Continues p.last input new len piece → IsPieceFailure (data_refusal w (length piece)) failure
+      (failure : Failure) → Continues p.last input new len piece
+      → IsPieceFailure (data_refusal w (length piece)) failure
       → IsRelayFailure ends d e (before ++ p.taken) left_new p.pieces failure
   piece_fails ends left_new piece new len Failed.Reader continues is = absurd is
   piece_fails ends left_new piece new len Failed.CutShort continues is = absurd is
@@ -618,7 +622,8 @@ nothing_more (b ∷ more) none = absurd (cc)
 -- The end of the input: content that it ends is whole, and other content is not. Before the last read the decoder was
 -- another.
 module _ {d : Decoder} {e : Encoder} {before old_input input : List ℕ}
-    {left left_then left_now held held_then held_now : Option (List ℕ)} {r_then r : Reading} {w_then w : Writing} {pending_then pending : List ℕ}
+    {left left_then left_now held held_then held_now : Option (List ℕ)} {r_then r : Reading} {w_then w : Writing}
+    {pending_then pending : List ℕ}
     (old : Passing d e before old_input left left_then held held_then r_then w_then pending_then)
     (p : Passing d e before input left left_now held held_now r w pending) (len : ℕ)
     (starves : Starves old.last old_input p.last len) (more : List ℕ) (nothing : more ≡ [])
@@ -672,8 +677,8 @@ AreAccepted-pieces (piece ∷ pieces) e trailers passed accepted =
     (passed.0, passed.1, AreAccepted-pieces pieces (after_piece e (length piece)) trailers passed.2 accepted)
 
 -- content that ended, whole
-pub relays_whole : {ends : Bool} {d : Decoder} {e : Encoder} {before after : List ℕ} {left left_after held held_after : Option
-    (List ℕ)}
+pub relays_whole : {ends : Bool} {d : Decoder} {e : Encoder} {before after : List ℕ}
+    {left left_after held held_after : Option (List ℕ)}
     {written : Writing} {trailers : Entries FieldValue}
     → Relays ends d e before after left left_after held held_after written (Ok trailers)
     → IsRelayed d e before after left left_after held held_after trailers

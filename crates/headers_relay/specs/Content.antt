@@ -77,7 +77,7 @@ map_of headers = fold (λ m h. append m (lowercase h.0) (plain_value h.1)) [] he
 
 -- ---- writing
 
--- what is written of pieces of content, each in its frame
+-- the text of pieces of content, each in its frame
 abbrev pub pieces_text : List (List ℕ) → Encoder → List ℕ
 pieces_text [] e = []
 pieces_text (piece ∷ pieces) e = piece_text e piece ++ pieces_text pieces (after_piece e (length piece))

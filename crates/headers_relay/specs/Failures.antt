@@ -88,12 +88,12 @@ IsRelayFailure ends_with_connection d e stream left pieces Failed.OutOfMemory = 
 
 -- ---- writing
 
--- `http1` doesn't write a message, or finds no memory
+-- `http1` doesn't write a message, or memory runs out
 abbrev pub write_failure : WriteError → Failure
 write_failure Write.OutOfMemory = Failed.OutOfMemory
 write_failure e = Failed.Unsendable e
 
--- the call returns the refusal of `http1`, if there is one, or finds no memory
+-- the call returns the refusal of `http1`, if there is one, or memory runs out
 abbrev pub Refuses : {T : Type 0} → Option WriteError → Result T WriteError → Type 0
 Refuses refusal result =
     MatchResult result (λ _. refusal ≡ None) (λ e. (e ≡ Write.OutOfMemory) ⊎ (refusal ≡ Some e))
@@ -127,7 +127,7 @@ FailsToWrite refusal text held held_after (Failed.Unsendable e) = (refusal ≡ S
 FailsToWrite refusal text held held_after Failed.Writer = (refusal ≡ None) × WritesPart text held held_after
 FailsToWrite refusal text held held_after Failed.OutOfMemory = held_after ≡ held
 
--- The text is written, if `http1` doesn't refuse it. If it does, or there is no memory, nothing is written.
+-- The text is written, if `http1` doesn't refuse it. If it does, or memory runs out, nothing is written.
 abbrev pub Writes : {T : Type 0} → Option WriteError → List ℕ → Option (List ℕ) → Option (List ℕ) → Result T Failure
     → Type 0
 Writes refusal text held held_after result =

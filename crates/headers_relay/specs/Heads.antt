@@ -15,6 +15,7 @@ use Rattle.http1.specs.ServerTrace.{headers_at}
 use Rattle.http1.specs.declared.client.Client.{Client}
 use Rattle.http1.specs.declared.conn.Limits.{Limits}
 use Rattle.http1.specs.declared.conn.Reading.TheVariants as Reads
+use Rattle.http1.specs.declared.error.ReadError.{ReadError}
 use Rattle.http1.specs.declared.framing.Framing.{Framing}
 use Rattle.http1.specs.declared.server.Server.{Server}
 use Rattle.headers_relay.specs.Content.{map_of}
@@ -62,18 +63,24 @@ pub record ReadsRequestHead (limits : Limits) (before after : List ℕ) (left le
 abbrev pub IsClosedBefore : List ℕ → Option (List ℕ) → Option (List ℕ) → Type 0
 IsClosedBefore before left left_after = (before ≡ []) × Consumes left left_after [] × IsAtEnd left_after
 
+-- why no head is read: a read failed, it is cut short, its fields have no map, it is malformed, or memory ran out
+abbrev pub IsHeadFailure : Type 0 → Type 0 → (ReadError → Type 0) → Failure → Type 0
+IsHeadFailure is_cut has_no_map is_malformed Failed.Reader = ⊤
+IsHeadFailure is_cut has_no_map is_malformed Failed.CutShort = is_cut
+IsHeadFailure is_cut has_no_map is_malformed Failed.InvalidFields = has_no_map
+IsHeadFailure is_cut has_no_map is_malformed (Failed.Malformed e) = is_malformed e
+IsHeadFailure is_cut has_no_map is_malformed Failed.TooLong = ⊥
+IsHeadFailure is_cut has_no_map is_malformed (Failed.Unsendable e) = ⊥
+IsHeadFailure is_cut has_no_map is_malformed Failed.Writer = ⊥
+IsHeadFailure is_cut has_no_map is_malformed Failed.OutOfMemory = ⊤
+
 -- why no request is read, when this is in the input and this is left of the reader
 abbrev pub IsRequestFailure : Limits → List ℕ → Option (List ℕ) → Failure → Type 0
-IsRequestFailure limits input left Failed.Reader = ⊤
-IsRequestFailure limits input left Failed.CutShort = (input ≢ []) × HasNoRequest input × IsAtEnd left
-IsRequestFailure limits input left Failed.InvalidFields =
-    (head : RequestHead) × (framing : Framing) × (rest : List ℕ)
-    × AcceptsRequest limits input head framing rest × HasNoMap (map name_and_value head.fields)
-IsRequestFailure limits input left (Failed.Malformed e) = RefusesAt Reads.Head limits input MAX_FIELDS e
-IsRequestFailure limits input left Failed.TooLong = ⊥
-IsRequestFailure limits input left (Failed.Unsendable e) = ⊥
-IsRequestFailure limits input left Failed.Writer = ⊥
-IsRequestFailure limits input left Failed.OutOfMemory = ⊤
+IsRequestFailure limits input left failure =
+    IsHeadFailure ((input ≢ []) × HasNoRequest input × IsAtEnd left)
+    ((head : RequestHead) × (framing : Framing) × (rest : List ℕ)
+    × AcceptsRequest limits input head framing rest × HasNoMap (map name_and_value head.fields))
+    (RefusesAt Reads.Head limits input MAX_FIELDS) failure
 
 -- No request is read: it is malformed, and no bytes that follow would mend it; or cut short, or its fields have no map;
 -- or else a read failed, or memory ran out.
@@ -112,16 +119,12 @@ pub record ReadsResponseHead (client client_after : Client) (before after : List
 
 -- why no response is read, when this is in the input and this is left of the reader
 abbrev pub IsResponseFailure : Client → List ℕ → Option (List ℕ) → Failure → Type 0
-IsResponseFailure client input left Failed.Reader = ⊤
-IsResponseFailure client input left Failed.CutShort = HasNoResponse input × IsAtEnd left
-IsResponseFailure client input left Failed.InvalidFields =
-    (head : ResponseHead) × (framing : Framing) × (rest : List ℕ)
-    × AcceptsResponse client.limits client.method input head framing rest × HasNoMap (map name_and_value head.fields)
-IsResponseFailure client input left (Failed.Malformed e) = RefusesFirst false client input MAX_FIELDS e
-IsResponseFailure client input left Failed.TooLong = ⊥
-IsResponseFailure client input left (Failed.Unsendable e) = ⊥
-IsResponseFailure client input left Failed.Writer = ⊥
-IsResponseFailure client input left Failed.OutOfMemory = ⊤
+IsResponseFailure client input left failure =
+    IsHeadFailure (HasNoResponse input × IsAtEnd left)
+    ((head : ResponseHead) × (framing : Framing) × (rest : List ℕ)
+    × AcceptsResponse client.limits client.method input head framing rest
+    × HasNoMap (map name_and_value head.fields))
+    (RefusesFirst false client input MAX_FIELDS) failure
 
 -- no response is read, for the same reasons
 pub record FailsToReadResponse (client : Client) (before after : List ℕ) (left left_after : Option (List ℕ))

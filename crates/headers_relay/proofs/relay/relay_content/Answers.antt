@@ -11,8 +11,9 @@ use Rattle.headers_relay.specs.Failures.{IsMapFailure}
 use Rattle.headers_relay.specs.Relay.{HasEnd}
 use Rattle.headers_relay.specs.declared.relay.TheConstants.{MAX_TRAILERS}
 use Rattle.headers_relay.proofs.RelayLemmas.{above, counts_all, counts_begin, counts_piece, counts_read, some_more}
-use Rattle.headers_relay.proofs.RelayLemmas.{content_fails, end_found, found, nothing_more, on_ok, passing_as, passing_begins}
-use Rattle.headers_relay.proofs.RelayLemmas.{passing_piece, passing_received, passing_sent, passing_waits, piece_fails}
+use Rattle.headers_relay.proofs.RelayLemmas.{content_fails, end_found, found, nothing_more, on_ok, passing_as}
+use Rattle.headers_relay.proofs.RelayLemmas.{passing_begins, passing_piece, passing_received, passing_sent}
+use Rattle.headers_relay.proofs.RelayLemmas.{passing_waits, piece_fails}
 use Rattle.headers_relay.proofs.RelayLemmas.{receive_fails, relays_closed, relays_ended, relays_failed, relays_unsent}
 use Rattle.headers_relay.proofs.RelayLemmas.{trailers_fail}
 use Rattle.headers_relay.proofs.relay.relay_content.Goals as goal
@@ -54,8 +55,9 @@ returns-in_err-send-in-NeedMore-clause-relays g c d e reading writing =
     let s = c.send.ensures.sends in
     let y = err_from_is_err_and c.from_residual-in_err-send-in-NeedMore.result
     c.from_residual-in_err-send-in-NeedMore.ensures.1 in
-    relays_unsent (c.loop-turn.invariant.passing d e reading writing).0 g.S.ContentSource.ends_with_connection s.0 s.1 _ _
-    _ _ _ (y.1 ∙ ap Err y.2) c.in_err-send-in-NeedMore.ensures.err (sym c.as_slice-in-NeedMore.ensures ∙ s.2) s.3
+    relays_unsent (c.loop-turn.invariant.passing d e reading writing).0 g.S.ContentSource.ends_with_connection s.0
+    s.1 _ _ _ _ _ (y.1 ∙ ap Err y.2) c.in_err-send-in-NeedMore.ensures.err
+    (sym c.as_slice-in-NeedMore.ensures ∙ s.2) s.3
 
 pub returns-in_err-receive-in-NeedMore-clause-relays : goal.returns-in_err-receive-in-NeedMore-clause-relays
 returns-in_err-receive-in-NeedMore-clause-relays g c d e reading writing =
@@ -98,8 +100,8 @@ returns-in_err-send-in-End-clause-relays g c d e reading writing =
     let s = c.send-in-End.ensures.sends in
     let y = err_from_is_err_and c.from_residual-in_err-send-in-End.result
     c.from_residual-in_err-send-in-End.ensures.1 in
-    relays_unsent (c.loop-turn.invariant.passing d e reading writing).0 g.S.ContentSource.ends_with_connection s.0 s.1 _ _
-    _ _ _ (y.1 ∙ ap Err y.2) c.in_err-send-in-End.ensures.err (sym c.as_slice-in-End.ensures ∙ s.2) s.3
+    relays_unsent (c.loop-turn.invariant.passing d e reading writing).0 g.S.ContentSource.ends_with_connection s.0
+    s.1 _ _ _ _ _ (y.1 ∙ ap Err y.2) c.in_err-send-in-End.ensures.err (sym c.as_slice-in-End.ensures ∙ s.2) s.3
 
 pub returns-in_err-fields-in-End-clause-relays : goal.returns-in_err-fields-in-End-clause-relays
 returns-in_err-fields-in-End-clause-relays g c d e reading writing =
@@ -111,8 +113,8 @@ returns-in_err-fields-in-End-clause-relays g c d e reading writing =
     c.from_residual-in_err-fields-in-End.ensures.1 in
     relays_failed p g.S.ContentSource.ends_with_connection _ _ _ _ _ (y.1 ∙ ap Err y.2) (Keeps-refl _)
     (trailers_fail p g.S.ContentSource.ends_with_connection _ c.read_content.new.trailers _ _ _ f
-    (subst (λ (s : List ℕ). IsMapFailure (headers_at s c.read_content.new.trailers c.in-End.trailers) c.in_err-fields-in-End.field-0.0)
-    c.as_slice-in-End-2.ensures c.in_err-fields-in-End.ensures.reason))
+    (subst (λ (s : List ℕ). IsMapFailure (headers_at s c.read_content.new.trailers c.in-End.trailers)
+    c.in_err-fields-in-End.field-0.0) c.as_slice-in-End-2.ensures c.in_err-fields-in-End.ensures.reason))
 
 pub returns-in-End-clause-relays : goal.returns-in-End-clause-relays
 returns-in-End-clause-relays g c d e reading writing =
