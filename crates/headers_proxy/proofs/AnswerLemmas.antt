@@ -4,7 +4,7 @@ use Rattle.std.proofs.Common.{if◌then◌else◌, nat_lt, nat_le, sym, ◌≢�
 use Rattle.std.specs.Bool.{MatchBool}
 use Rattle.httparse.specs.Grammar.{ResponseHead, status_code}
 use Rattle.http1.specs.Client.{after_head, reading_body, switches, upgraded_client}
-use Rattle.http1.specs.Conn.{is_connect}
+use Rattle.http1.specs.Conn.{awaits_head, is_connect}
 use Rattle.http1.specs.Decoder.{decoder_for}
 use Rattle.http1.specs.Message.{known_of}
 use Rattle.http1.specs.declared.client.Client.{Client}
@@ -21,6 +21,7 @@ use Rattle.headers_gateway.specs.declared.protocol.Protocol.TheVariants.{Http10,
 use Rattle.headers_gateway.specs.declared.gateway.Gateway.{Gateway}
 use Rattle.headers_gateway.specs.declared.response.ForwardedResponse.{ForwardedResponse}
 use Rattle.headers_gateway.specs.declared.response.ResponseOutcome.{ResponseOutcome}
+use Rattle.headers_gateway.specs.declared.response.ResponseOutcome.TheVariants.{Forward}
 use Rattle.headers_relay.specs.Failures.{FailsToWrite}
 use Rattle.headers_relay.specs.Heads.{ReadsResponseHead}
 use Rattle.headers_relay.specs.declared.failure.Failure.{Failure}
@@ -75,6 +76,15 @@ module _ {c new : Client} {before after : List ℕ} {left left_after : Option (L
       ap (λ (x : Client). x.reading) (r.next ∙ reads_content c r.head r.framing stays
       (ap (λ (n : ℕ). nat_lt n 200) (sym r.parts.status) ∙ final))
 
+-- what is known of a client that awaits a response, of one that is the same
+pub as_client : (P : Client → Type 0) (now client : Client) → now ≡ client → client.reading ≡ Reads.Head
+    → awaits_head client.writing ≡ false → is_connect client.method ≡ false
+    → (now.reading ≡ Reads.Head → awaits_head now.writing ≡ false → is_connect now.method ≡ false → P now) → P client
+as_client P now client same reading writing connect known =
+    subst P same (known (ap (λ (x : Client). x.reading) same ∙ reading)
+    (ap (λ (x : Client). awaits_head x.writing) same ∙ writing)
+    (ap (λ (x : Client). is_connect x.method) same ∙ connect))
+
 -- a response that the client doesn't know is interim
 pub unknown_is_interim : (client : Protocol) (status : ℕ) → is_known_to client status ≡ false
     → nat_lt status 200 ≡ true
@@ -114,6 +124,15 @@ outcome_as gateway date request response p q outcome first second found =
     subst (λ (x : Protocol). IsResponseOutcome gateway date (seen request response (protocol_of response.minor) x)
     outcome) second
     (subst (λ (x : Protocol). IsResponseOutcome gateway date (seen request response x q) outcome) first found)
+
+-- the same of a response that is forwarded
+pub forwarded_as : (gateway : Gateway) (date : ℕ) (request : Request) (response : Response) (p q : Protocol)
+    (outcome : ResponseOutcome) (sent : ForwardedResponse) → p ≡ protocol_of response.minor
+    → q ≡ protocol_of request.minor → IsResponseOutcome gateway date (seen request response p q) outcome
+    → outcome ≡ Forward sent → IsForwardedResponse gateway date (received request response) sent
+forwarded_as gateway date request response p q outcome sent first second found is =
+    subst (IsResponseOutcome gateway date (received request response)) is
+    (outcome_as gateway date request response p q outcome first second found)
 
 -- ---- responses of which no byte is sent
 
@@ -162,8 +181,8 @@ pub final_unusable : (proxy : Proxy) (request : Request) (client client_after : 
     → ReadsFinal proxy request client client_after before after left left_after final
     → IsFinalUnsent server final fault
     → IsUnusable proxy request client server before after left left_after fault
-final_unusable proxy request client client_after server before after left left_after final (Faults.Request failure) reads
-    unsent = absurd unsent
+final_unusable proxy request client client_after server before after left left_after final (Faults.Request failure)
+    reads unsent = absurd unsent
 final_unusable proxy request client client_after server before after left left_after final (Faults.Unread failure) reads
     unsent = absurd unsent
 final_unusable proxy request client client_after server before after left left_after final (Faults.Rejected rejection)

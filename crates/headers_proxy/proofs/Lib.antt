@@ -1,4 +1,6 @@
 pub mod AnswerLemmas
+pub mod DecisionLemmas
 pub mod ExchangeLemmas
+pub mod FaultLemmas
 pub mod PassLemmas
 pub mod PlanLemmas

@@ -1,12 +1,15 @@
 -- When a response that is written says `close`.
-use Rattle.std.proofs.Common.{◌≡◌, ◌∙◌, ◌&&◌, ◌++◌, ◌∷◌, ◌||◌, Bool, Err, List, Ok, Result, [], ap, codes, cond, eqb, false, ◌==◌, if◌then◌else◌}
-use Rattle.std.proofs.Common.{append_assoc, arith, not, refl, sym, true, ℕ}
+use Rattle.std.proofs.Common.{◌≡◌, ◌∙◌, ◌&&◌, ◌++◌, ◌∷◌, ◌||◌, Bool, Err, List, Ok, Result, [], ap, codes, cond, eqb}
+use Rattle.std.proofs.Common.{false, ◌==◌, if◌then◌else◌}
+use Rattle.std.proofs.Common.{◌↔◌, append_assoc, arith, nat_lt, not, refl, subst, sym, true, ℕ}
 use Rattle.std.proofs.lemmas.Grind.{flat_map-append}
-use Rattle.http1.specs.Conn.{Plan, connection_header, fits, is_plain, states_framing, with_framing}
+use Rattle.http1.specs.Conn.{Plan, chunked_header, connection_header, fits, is_plain, is_until_close, size_headers}
+use Rattle.http1.specs.Conn.{states_framing, with_framing}
 use Rattle.http1.specs.Fields.{Header, elements, elements_named, has_option, is_named, known_fields}
 use Rattle.http1.specs.Framing.{response_framing}
 use Rattle.http1.specs.Server as Serving
 use Rattle.http1.specs.declared.conn.BodySize.{BodySize}
+use Rattle.http1.specs.declared.conn.BodySize.TheVariants as Size
 use Rattle.http1.specs.declared.error.WriteError.TheVariants as Refusal
 use Rattle.http1.specs.declared.framing.Framing.{Framing}
 use Rattle.http1.specs.declared.framing.FramingError.{FramingError}
@@ -55,18 +58,21 @@ cond_ok true x other p e = cc
 cond_ok false x other p e = e
 
 -- the fields that are added, and whether the connection is kept
-pub record IsPlan (r : Kept.Request) (status : ℕ) (headers : List Header) (p : Plan) : Type 0 where
+pub record IsPlan (r : Kept.Request) (status : ℕ) (size : BodySize) (headers : List Header) (p : Plan) : Type 0 where
   pub first : List Header
   pub stated : Framing
+  pub adds : first ≡ Serving.framing_headers r status size headers
+  pub states : response_framing Method.Other status r.minor (known_fields (headers ++ first)) ≡ Ok stated
   pub extra : p.extra ≡ first ++ Serving.connection_headers r (known_fields (headers ++ first))
       (Serving.stays_open r (known_fields (headers ++ first)) stated)
   pub keep_alive : p.keep_alive ≡ Serving.stays_open r (known_fields (headers ++ first)) stated
 
 stated_ok : (r : Kept.Request) (status : ℕ) (size : BodySize) (headers first : List Header)
-    (stated : Result Framing FramingError) (p : Plan)
-    → Serving.plan_stated r status size headers first stated ≡ Ok p → IsPlan r status headers p
-stated_ok r status size headers first (Err x) p e = absurd (cc)
-stated_ok r status size headers first (Ok stated) p e =
+    (stated : Result Framing FramingError) (p : Plan) → first ≡ Serving.framing_headers r status size headers
+    → response_framing Method.Other status r.minor (known_fields (headers ++ first)) ≡ stated
+    → Serving.plan_stated r status size headers first stated ≡ Ok p → IsPlan r status size headers p
+stated_ok r status size headers first (Err x) p adds states e = absurd (cc)
+stated_ok r status size headers first (Ok stated) p adds states e =
     let k = known_fields (headers ++ first) in
     let keep_alive = Serving.stays_open r k stated in
     let extra = first ++ Serving.connection_headers r k keep_alive in
@@ -74,23 +80,31 @@ stated_ok r status size headers first (Ok stated) p e =
     let framed = with_framing extra keep_alive (response_framing r.method status r.minor all) in
     let fitting : cond (not (is_plain all)) (Err Refusal.UnusualFraming) framed ≡ Ok p =
     cond_ok (Serving.is_sized r size && not (fits stated size)) Refusal.BodySize _ p e in
-    let parts = framing_ok extra keep_alive _ p (cond_ok (not (is_plain all)) Refusal.UnusualFraming framed p fitting) in
-    record { first = first; stated = stated; extra = sym parts.0; keep_alive = sym parts.1 }
+    let parts =
+    framing_ok extra keep_alive _ p (cond_ok (not (is_plain all)) Refusal.UnusualFraming framed p fitting) in
+    record {
+      first = first;
+      stated = stated;
+      adds = adds;
+      states = states;
+      extra = sym parts.0;
+      keep_alive = sym parts.1;
+    }
 
 fields_ok : (r : Kept.Request) (status : ℕ) (size : BodySize) (headers : List Header) (p : Plan)
-    → Serving.plan_fields r status size headers ≡ Ok p → IsPlan r status headers p
+    → Serving.plan_fields r status size headers ≡ Ok p → IsPlan r status size headers p
 unfolding Serving.plan_fields
 fields_ok r status size headers p e =
     let first = Serving.framing_headers r status size headers in
     let k = known_fields (headers ++ first) in
     let stated = response_framing Method.Other status r.minor k in
-    stated_ok r status size headers first stated p
+    stated_ok r status size headers first stated p refl refl
     (cond_ok (Serving.is_coded_304 r status k) (Refusal.Framing UnexpectedTransferEncoding) _ p
     (cond_ok (Serving.is_205_with_content r status size k) Refusal.BodySize _ p
     (cond_ok (eqb status 204 && states_framing k) Refusal.BodySize _ p e)))
 
 plan_ok : (s : Server) (status : ℕ) (size : BodySize) (headers : List Header) (p : Plan)
-    → Serving.response_plan s status size headers ≡ Ok p → IsPlan s.request status headers p
+    → Serving.response_plan s status size headers ≡ Ok p → IsPlan s.request status size headers p
 plan_ok s status size headers p e =
     let fields : Serving.plan_fields s.request status size headers ≡ Ok p = grind arith in
     fields_ok s.request status size headers p fields
@@ -161,3 +175,95 @@ given_close fields false is = says_close-append fields (close_field ∷ []) ∙ 
     always : (b : Bool) → b || true ≡ true
     always true = refl
     always false = refl
+
+-- ---- all that keeps a connection
+
+-- no field that `http1` adds for the framing says `close`
+size_quiet : (minor : ℕ) (size : BodySize) → says_close (size_headers minor size) ≡ false
+unfolding eq_ignore_case
+size_quiet minor Size.Empty = refl
+size_quiet minor (Size.Known len) = refl
+size_quiet minor Size.Unknown = by_minor (nat_lt 0 minor)
+  where
+    by_minor : (b : Bool) → says_close (if b then chunked_header ∷ [] else []) ≡ false
+    by_minor true = refl
+    by_minor false = refl
+
+framing_quiet : (r : Kept.Request) (status : ℕ) (size : BodySize) (headers : List Header)
+    → says_close (Serving.framing_headers r status size headers) ≡ false
+framing_quiet r status size headers =
+    by_need (Serving.is_sized r size && (not (status == 204) && (not (status == 304)
+    && not (states_framing (known_fields headers)))))
+  where
+    by_need : (b : Bool) → says_close (if b then size_headers r.minor size else []) ≡ false
+    by_need true = size_quiet r.minor size
+    by_need false = refl
+
+-- the fields say `close` for the forwarded ones, or for the origin server
+written_says : (fields : List Header) (keeps : Bool)
+    → says_close (fields ++ close_unless keeps) ≡ says_close fields || not keeps
+written_says fields true = says_close-append fields []
+written_says fields false =
+    says_close-append fields (close_field ∷ []) ∙ ap (λ (b : Bool). says_close fields || b) close_said
+
+module _ (s : Server) (status : ℕ) (size : BodySize) (fields : List Header) (keeps : Bool) (p : Plan)
+    (planned : Serving.response_plan s status size (fields ++ close_unless keeps) ≡ Ok p) where
+  -- what is planned of it
+  pub plan : IsPlan s.request status size (fields ++ close_unless keeps) p
+  plan = plan_ok s status size (fields ++ close_unless keeps) p planned
+
+  unfoldable pub stated : Framing
+  stated = plan.stated
+
+  pub is_stated : response_framing Method.Other status s.request.minor (known_fields ((fields ++ close_unless keeps)
+      ++ Serving.framing_headers s.request status size (fields ++ close_unless keeps))) ≡ Ok stated
+  unfolding stated
+  is_stated =
+      subst (λ (first : List Header). response_framing Method.Other status s.request.minor
+      (known_fields ((fields ++ close_unless keeps) ++ first)) ≡ Ok plan.stated) plan.adds plan.states
+
+  pub kept_exactly : p.keep_alive ≡ (s.request.keep_alive && (not (says_close fields || not keeps)
+      && (not s.request.expects_continue && not (is_until_close stated && not (Serving.is_head s.request.method)))))
+  unfolding stated
+  kept_exactly =
+      let quiet = ap says_close plan.adds ∙ framing_quiet s.request status size (fields ++ close_unless keeps) in
+      let close : (known_fields ((fields ++ close_unless keeps) ++ plan.first)).close ≡ says_close fields || not keeps =
+      known_close ((fields ++ close_unless keeps) ++ plan.first)
+      ∙ says_close-append (fields ++ close_unless keeps) plan.first
+      ∙ ap (λ (b : Bool). b || says_close plan.first) (written_says fields keeps)
+      ∙ ap (λ (b : Bool). (says_close fields || not keeps) || b) quiet ∙ or_false (says_close fields || not keeps) in
+      plan.keep_alive
+      ∙ ap (λ (b : Bool). s.request.keep_alive && (not b && (not s.request.expects_continue
+      && not (is_until_close plan.stated && not (Serving.is_head s.request.method))))) close
+    where
+      or_false : (b : Bool) → b || false ≡ b
+      or_false true = refl
+      or_false false = refl
+
+-- a test of five facts, each of which it tells
+tells_five : (a said keeps waits last : Bool)
+    → (a && (not (said || not keeps) && (not waits && not last))) ≡ true
+    → (a ≡ true) × (said ≡ false) × (keeps ≡ true) × (waits ≡ false) × (last ≡ false)
+tells_five true false true false false is = (refl, refl, refl, refl, refl)
+tells_five false said keeps waits last is = absurd (cc)
+tells_five true true keeps waits last is = absurd (cc)
+tells_five true false false waits last is = absurd (cc)
+tells_five true false true true last is = absurd (cc)
+tells_five true false true false true is = absurd (cc)
+
+pub five_told : (test a said keeps waits last : Bool)
+    → test ≡ (a && (not (said || not keeps) && (not waits && not last)))
+    → (test ≡ true) ↔ ((a ≡ true) × (said ≡ false) × (keeps ≡ true) × (waits ≡ false) × (last ≡ false))
+five_told test a said keeps waits last is = (
+  λ t. tells_five a said keeps waits last (sym is ∙ t),
+  λ f. is ∙ all_five a said keeps waits last f.0 f.1 f.2 f.3 f.4,
+)
+  where
+    all_five : (a said keeps waits last : Bool) → a ≡ true → said ≡ false → keeps ≡ true → waits ≡ false
+        → last ≡ false → (a && (not (said || not keeps) && (not waits && not last))) ≡ true
+    all_five true false true false false first second third fourth fifth = refl
+    all_five false said keeps waits last first second third fourth fifth = absurd (cc)
+    all_five true true keeps waits last first second third fourth fifth = absurd (cc)
+    all_five true false false waits last first second third fourth fifth = absurd (cc)
+    all_five true false true true last first second third fourth fifth = absurd (cc)
+    all_five true false true false true first second third fourth fifth = absurd (cc)

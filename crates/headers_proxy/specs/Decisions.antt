@@ -1,5 +1,5 @@
 -- What a gateway does with a request (RFC 9110, section 7; RFC 9112, section 3.2).
-use Rattle.std.specs.Prelude.{◌≡◌, ◌⊎◌, ℕ, ◌==◌, Bool, true, false, List, [], ◌∷◌, Option, Some, None}
+use Rattle.std.specs.Prelude.{◌≡◌, ◌≢◌, ◌⊎◌, ℕ, ◌==◌, Bool, true, false, List, [], ◌∷◌, Option, Some, None}
 use Rattle.std.specs.Prelude.{bytes_eq, codes, if◌then◌else◌}
 use Rattle.std.specs.Bool.{MatchBool}
 use Rattle.http_header.specs.FieldValue.{FieldValue, IsFieldValue}
@@ -125,3 +125,9 @@ IsDecision proxy request decision =
     MatchBool (bytes_eq request.method (codes "CONNECT")) (decision ≡ Answer 501)
     (IsDecisionOf proxy request (bytes_eq request.method (codes "OPTIONS"))
     (target_of (bytes_eq request.method (codes "OPTIONS")) request.target) decision)
+
+-- only a request that isn't CONNECT and has a valid target takes memory
+abbrev pub NeedsMemory : Request → Type 0
+NeedsMemory request =
+    (bytes_eq request.method (codes "CONNECT") ≡ false)
+    × (target_of (bytes_eq request.method (codes "OPTIONS")) request.target ≢ None)

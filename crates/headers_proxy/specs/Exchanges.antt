@@ -193,11 +193,11 @@ goes_on plan after = plan.keep_alive && (length after == 0)
 abbrev pub IsDelivered : Proxy → Server → Final → Decoder → List ℕ → List ℕ → Option (List ℕ) → Option (List ℕ)
     → Option (List ℕ) → Option (List ℕ) → Turn → Type 0
 IsDelivered proxy server final d before after left left_after held held_after Turns.Next =
-    (passes : PassesResponse proxy.gateway server final.response final.sent d before after left left_after held held_after)
-    × (goes_on passes.begins.plan after ≡ true)
+    (passes : PassesResponse proxy.gateway server final.response final.sent d before after left left_after held
+    held_after) × (goes_on passes.begins.plan after ≡ true)
 IsDelivered proxy server final d before after left left_after held held_after Turns.Last =
-    (passes : PassesResponse proxy.gateway server final.response final.sent d before after left left_after held held_after)
-    × (goes_on passes.begins.plan after ≡ false)
+    (passes : PassesResponse proxy.gateway server final.response final.sent d before after left left_after held
+    held_after) × (goes_on passes.begins.plan after ≡ false)
 IsDelivered proxy server final d before after left left_after held held_after Turns.Closed = ⊥
 IsDelivered proxy server final d before after left left_after held held_after Turns.Refused = ⊥
 IsDelivered proxy server final d before after left left_after held held_after (Turns.Broken fault) =
@@ -245,62 +245,81 @@ wires asked asked_left told answered answered_left sent =
       sent = sent;
     }
 
--- A request passes to the origin server, from the head that is read to the end of its content, and then the response to
--- the client. What became of the response is a turn.
-pub record PassesExchange (proxy : Proxy) (before after : Wires) (turn : Turn) : Type 0 where
+-- nothing went to the origin server, and nothing was read of it
+pub record LeavesOrigin (before after : Wires) : Type 0 where
+  pub sent : after.sent ≡ before.sent
+  pub answered : after.answered ≡ before.answered
+  pub answered_left : after.answered_left ≡ before.answered_left
+
+-- the head of a request is read that is sent on
+pub record Accepted (proxy : Proxy) (before : Wires) : Type 0 where
   pub request : Request
   pub outgoing : Outgoing
-  pub server_read : Server
-  pub unread : List ℕ
-  pub rest : Option (List ℕ)
-  pub reads : ReadsRequestHead proxy.limits before.asked unread before.asked_left rest server_read request
-  pub decides : IsDecision proxy request (Send outgoing)
-  pub server_continued : Server
-  pub told : Option (List ℕ)
-  pub continued : IsContinued outgoing.is_awaited server_read server_continued before.told told
-  pub client : Client
-  pub passes : PassesRequest proxy.gateway (new_client proxy.limits) client request outgoing
-      (decoder_for proxy.limits reads.framing) unread after.asked rest after.asked_left before.sent after.sent
   pub server : Server
-  pub same_request : IsSameRequest server_read server
-  pub responded : IsResponded proxy request client server before.answered after.answered before.answered_left
-      after.answered_left told after.told turn
-
--- A request passes in part: its content can't be read, or it can't be written. The gateway answers it itself.
-pub record BreaksRequest (proxy : Proxy) (before after : Wires) (failure : Failure) : Type 0 where
-  pub request : Request
-  pub outgoing : Outgoing
-  pub server_read : Server
   pub unread : List ℕ
   pub rest : Option (List ℕ)
-  pub reads : ReadsRequestHead proxy.limits before.asked unread before.asked_left rest server_read request
+  pub reads : ReadsRequestHead proxy.limits before.asked unread before.asked_left rest server request
   pub decides : IsDecision proxy request (Send outgoing)
-  pub server_continued : Server
-  pub told : Option (List ℕ)
-  pub continued : IsContinued outgoing.is_awaited server_read server_continued before.told told
-  pub rest_then : Option (List ℕ)
-  pub fails : FailsToPassRequest proxy.gateway (new_client proxy.limits) request outgoing
-      (decoder_for proxy.limits reads.framing) unread rest rest_then before.sent after.sent failure
-  pub answers : Appends told after.told (own_text (request_status failure))
-  pub answered : (after.answered ≡ before.answered) × (after.answered_left ≡ before.answered_left)
 
--- The gateway answered itself, and sent nothing to the origin server: the request can't be read, or it is decided so.
+-- A request passes to the origin server, from the head that is read to the end of its content. The client that waits
+-- for it is sent a 100 before.
+pub record PassesOn (proxy : Proxy) (before after : Wires) (told : Option (List ℕ)) : Type 0 where
+  pub accepted : Accepted proxy before
+  pub server_continued : Server
+  pub continued : IsContinued accepted.outgoing.is_awaited accepted.server server_continued before.told told
+  pub client : Client
+  pub passes : PassesRequest proxy.gateway (new_client proxy.limits) client accepted.request accepted.outgoing
+      (decoder_for proxy.limits accepted.reads.framing) accepted.unread after.asked accepted.rest after.asked_left
+      before.sent after.sent
+  pub server : Server
+  pub same_request : IsSameRequest accepted.server server
+
+-- A request passes in part: its content can't be read, or it can't be written.
+pub record PassesInPart (proxy : Proxy) (before after : Wires) (told : Option (List ℕ)) (failure : Failure) : Type 0
+  where
+    pub accepted : Accepted proxy before
+    pub server_continued : Server
+    pub continued : IsContinued accepted.outgoing.is_awaited accepted.server server_continued before.told told
+    pub rest_then : Option (List ℕ)
+    pub fails : FailsToPassRequest proxy.gateway (new_client proxy.limits) accepted.request accepted.outgoing
+        (decoder_for proxy.limits accepted.reads.framing) accepted.unread accepted.rest rest_then before.sent after.sent
+        failure
+    pub answered : after.answered ≡ before.answered
+    pub answered_left : after.answered_left ≡ before.answered_left
+
+-- A request passes to the origin server, and then the response to the client. What became of the response is a turn.
+pub record PassesExchange (proxy : Proxy) (before after : Wires) (turn : Turn) : Type 0 where
+  pub told : Option (List ℕ)
+  pub passed : PassesOn proxy before after told
+  pub responded : IsResponded proxy passed.accepted.request passed.client passed.server before.answered after.answered
+      before.answered_left after.answered_left told after.told turn
+
+-- A request passes in part, and the gateway answers it itself.
+pub record BreaksRequest (proxy : Proxy) (before after : Wires) (failure : Failure) : Type 0 where
+  pub told : Option (List ℕ)
+  pub passed : PassesInPart proxy before after told failure
+  pub answers : Appends told after.told (own_text (request_status failure))
+
+-- why the gateway answers with this status, before it sends anything to the origin server: the request can't be read,
+-- or it is decided so
+abbrev pub IsRefusedWith : Proxy → Wires → Wires → Server → ℕ → Type 0
+IsRefusedWith proxy before after server status =
+    IsReceived proxy before.asked after.asked before.asked_left after.asked_left server (Receives.Unread status)
+    ⊎ IsReceived proxy before.asked after.asked before.asked_left after.asked_left server (Receives.Refused status)
+
+-- the gateway answered itself, and sent nothing to the origin server
 pub record IsRefused (proxy : Proxy) (before after : Wires) : Type 0 where
   pub server : Server
   pub status : ℕ
-  pub because :
-      IsReceived proxy before.asked after.asked before.asked_left after.asked_left server (Receives.Unread status)
-      ⊎ IsReceived proxy before.asked after.asked before.asked_left after.asked_left server (Receives.Refused status)
+  pub because : IsRefusedWith proxy before after server status
   pub told : Appends before.told after.told (own_text status)
-  pub sent : after.sent ≡ before.sent
-  pub answered : (after.answered ≡ before.answered) × (after.answered_left ≡ before.answered_left)
+  pub leaves : LeavesOrigin before after
 
 -- the client closed the connection, and nothing was written
 pub record IsClosed (before after : Wires) : Type 0 where
   pub closed : IsClosedBefore before.asked before.asked_left after.asked_left
   pub told : after.told ≡ before.told
-  pub sent : after.sent ≡ before.sent
-  pub answered : (after.answered ≡ before.answered) × (after.answered_left ≡ before.answered_left)
+  pub leaves : LeavesOrigin before after
 
 -- why a request is answered by the gateway, after it sent it, or a part of it
 abbrev pub IsBroken : Proxy → Wires → Wires → Fault → Type 0
@@ -323,16 +342,17 @@ IsTurn proxy before after (Turns.Broken fault) = IsBroken proxy before after fau
 
 -- ---- a connection
 
--- exchanges that passed, one after another, each on the connection that the one before left
-pub data Exchanges (proxy : Proxy) (first : Wires) : Wires → Type 0 where
-  none : Exchanges proxy first first
-  next : (before after : Wires) → Exchanges proxy first before → PassesExchange proxy before after Turns.Next
-      → Exchanges proxy first after
+-- so many exchanges that passed, one after another, each on the connection that the one before left
+pub data Exchanges (proxy : Proxy) (first : Wires) : ℕ → Wires → Type 0 where
+  none : Exchanges proxy first 0 first
+  next : (count : ℕ) (before after : Wires) → Exchanges proxy first count before
+      → PassesExchange proxy before after Turns.Next → Exchanges proxy first (count + 1) after
 
 -- a connection that ended without a failure: exchanges that passed, and what became of the last request
 pub record IsServed (proxy : Proxy) (first last : Wires) : Type 0 where
+  pub count : ℕ
   pub before : Wires
-  pub exchanges : Exchanges proxy first before
+  pub exchanges : Exchanges proxy first count before
   pub turn : Turn
   pub ended : IsTurn proxy before last turn
 

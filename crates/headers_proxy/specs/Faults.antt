@@ -1,5 +1,5 @@
 -- Why a gateway answers in the place of the origin server, and with which status (RFC 9110, sections 15.5 and 15.6).
-use Rattle.std.specs.Prelude.{◌≡◌, ℕ, nat_lt, List, Option, Some}
+use Rattle.std.specs.Prelude.{◌≡◌, ◌⊎◌, ℕ, nat_lt, List, Option, Some}
 use Rattle.std.specs.Bool.{MatchBool}
 use Rattle.http1.specs.ReadError.{status_of}
 use Rattle.http1.specs.Server as Serving
@@ -50,6 +50,10 @@ fault_status (Faults.Unread failure) = response_status failure
 fault_status (Faults.Rejected rejection) = 502
 fault_status (Faults.Unsent failure) = response_status failure
 fault_status Faults.Endless = 502
+
+-- the request isn't written to the origin server: a write failed, or `http1` doesn't write it
+abbrev pub IsUnwritten : Failure → Type 0
+IsUnwritten failure = (failure ≡ Failed.Writer) ⊎ ((e : WriteError) × (failure ≡ Failed.Unsendable e))
 
 -- ---- responses
 

@@ -1,3 +1,4 @@
+pub mod Cuts
 pub mod Decisions
 pub mod Exchanges
 pub mod Faults

@@ -1,8 +1,7 @@
 -- The gateway's own responses.
-use Rattle.std.specs.Prelude.{ℕ, List, [], ◌∷◌, Option, codes}
+use Rattle.std.specs.Prelude.{ℕ, List, [], ◌∷◌, codes}
 use Rattle.http1.specs.Fields.{Header}
-use Rattle.http1.specs.Head.{head_refusal, is_status_line, response_text}
-use Rattle.http1.specs.declared.error.WriteError.{WriteError}
+use Rattle.http1.specs.Head.{response_text}
 use Rattle.http1_typed.specs.Parts.{reason_of}
 
 -- the connection ends after the message (RFC 9112, section 9.6)
@@ -15,7 +14,3 @@ own_fields = close_field ∷ (codes "content-length", codes "0") ∷ []
 
 abbrev pub own_text : ℕ → List ℕ
 own_text status = response_text 1 status (reason_of status) own_fields
-
--- why `http1` doesn't write it
-abbrev pub own_refusal : ℕ → Option WriteError
-own_refusal status = head_refusal (is_status_line 1 status (reason_of status)) own_fields

@@ -1,15 +1,16 @@
 -- Messages on their way from one connection to the other.
-use Rattle.std.specs.Prelude.{◌≡◌, ℕ, Bool, false, true, List, ◌++◌, Option, Ok, Err, None}
+use Rattle.std.specs.Prelude.{◌≡◌, ◌&&◌, ℕ, Bool, false, true, not, List, ◌++◌, Option, Result, Ok, Err, None}
 use Rattle.std.specs.Io.KnownBytes.{Appends}
 use Rattle.http_header.specs.FieldValue.{FieldValue}
 use Rattle.http_header.specs.HeaderMap.{Entries}
 use Rattle.http1.specs.Client as Asking
-use Rattle.http1.specs.Conn.{Plan}
+use Rattle.http1.specs.Conn.{Plan, is_until_close}
 use Rattle.http1.specs.Encoder.{encoder_for, end_refusal, end_text}
-use Rattle.http1.specs.Framing.{method_kind}
+use Rattle.http1.specs.Fields.{known_fields}
+use Rattle.http1.specs.Framing.{method_kind, response_framing}
 use Rattle.http1.specs.Head.{head_refusal, is_request_line, is_status_line, request_text, response_text}
 use Rattle.http1.specs.Server as Serving
-use Rattle.http1.specs.Server.{expects_continue, peer_method, peer_minor}
+use Rattle.http1.specs.Server.{expects_continue, is_head, peer_method, peer_minor}
 use Rattle.http1.specs.declared.client.Client.{Client}
 use Rattle.http1.specs.declared.conn.BodySize.{BodySize}
 use Rattle.http1.specs.declared.conn.BodySize.TheVariants as Size
@@ -17,6 +18,9 @@ use Rattle.http1.specs.declared.conn.Writing.{Writing}
 use Rattle.http1.specs.declared.conn.Writing.TheVariants as Writes
 use Rattle.http1.specs.declared.decode.Decoder.{Decoder}
 use Rattle.http1.specs.declared.encode.Encoder.{Encoder}
+use Rattle.http1.specs.declared.framing.Framing.{Framing as Stated}
+use Rattle.http1.specs.declared.framing.FramingError.{FramingError}
+use Rattle.http1.specs.declared.framing.MethodKind.TheVariants as Method
 use Rattle.http1.specs.declared.server.Server.{Server}
 use Rattle.headers.specs.LineMap.{LineMap, lines_at}
 use Rattle.headers_gateway.specs.FieldLines.{Field, fields_of, lines_under}
@@ -34,7 +38,7 @@ use Rattle.headers_relay.specs.declared.failure.Failure.{Failure}
 use Rattle.headers_relay.specs.declared.failure.Failure.TheVariants as Failed
 use Rattle.headers_relay.specs.declared.request.Request.{Request}
 use Rattle.headers_relay.specs.declared.response.Response.{Response}
-use Rattle.headers_proxy.specs.Responses.{written_fields}
+use Rattle.headers_proxy.specs.Responses.{keeps_origin, says_close, written_fields}
 use Rattle.headers_proxy.specs.declared.decision.Outgoing.{Outgoing}
 
 -- what is known of the size of a request's content, once the fields state it
@@ -60,27 +64,36 @@ pub record PassesContent (source : Bool) (gateway : Gateway) (fields : LineMap) 
   pub relays : Relays source d e before after left left_after held held_after written (Ok trailers)
   pub forwards : ForwardsTrailers gateway framing fields (lines_at trailers) (lines_under sent)
 
--- The content doesn't pass: it isn't relayed whole, or there is no memory for its trailer fields.
-pub data FailsToPassContent (source : Bool) (d : Decoder) (e : Encoder) (before : List ℕ) (left left_after held held_after :
-    Option (List ℕ)) (failure : Failure) : Type 0 where
-  relaying : (after : List ℕ) (written : Writing)
-      → Relays source d e before after left left_after held held_after written (Err failure)
-      → FailsToPassContent source d e before left left_after held held_after failure
-  forwarding : (after : List ℕ) (written : Writing) (trailers : Entries FieldValue)
-      → Relays source d e before after left left_after held held_after written (Ok trailers)
-      → failure ≡ Failed.OutOfMemory
-      → FailsToPassContent source d e before left left_after held held_after failure
-
--- The content of a message passes to its end: what is written of it is its pieces in their frames, and the end with the
--- trailer fields that are forwarded.
+-- The content of a message passes to its end: its pieces are written in their frames, and then the end with the trailer
+-- fields that are forwarded.
 pub record Passes (source : Bool) (gateway : Gateway) (fields : LineMap) (framing : Framing) (d : Decoder) (e : Encoder)
     (before after : List ℕ) (left left_after held held_after : Option (List ℕ)) : Type 0 where
   pub written : Writing
   pub held_content : Option (List ℕ)
   pub sent : List Field
-  pub content : PassesContent source gateway fields framing d e before after left left_after held held_content written sent
+  pub content : PassesContent source gateway fields framing d e before after left left_after held held_content written
+      sent
   pub accepted : end_refusal (after_pieces content.relays.pieces e) sent ≡ None
   pub ended : Appends held_content held_after (end_text (after_pieces content.relays.pieces e) sent)
+
+-- Why a message doesn't pass to its end after its head, and what of it is sent nevertheless: its content isn't relayed
+-- whole, memory runs out for its trailer fields, or its end isn't written.
+pub data FailsToPass (source : Bool) (gateway : Gateway) (fields : LineMap) (framing : Framing) (d : Decoder)
+    (e : Encoder) (before : List ℕ) (left left_after held held_after : Option (List ℕ)) (failure : Failure) : Type 0
+  where
+    at_content : (after : List ℕ) (written : Writing)
+        → Relays source d e before after left left_after held held_after written (Err failure)
+        → FailsToPass source gateway fields framing d e before left left_after held held_after failure
+    at_trailers : (after : List ℕ) (written : Writing) (trailers : Entries FieldValue)
+        → Relays source d e before after left left_after held held_after written (Ok trailers)
+        → failure ≡ Failed.OutOfMemory
+        → FailsToPass source gateway fields framing d e before left left_after held held_after failure
+    at_end : (after : List ℕ) (held_content : Option (List ℕ)) (written : Writing) (sent : List Field)
+        (content : PassesContent source gateway fields framing d e before after left left_after held held_content
+        written sent)
+        → FailsToWrite (end_refusal (after_pieces content.relays.pieces e) sent)
+        (end_text (after_pieces content.relays.pieces e) sent) held_content held_after failure
+        → FailsToPass source gateway fields framing d e before left left_after held held_after failure
 
 -- ---- requests
 
@@ -115,30 +128,21 @@ pub record PassesRequest (gateway : Gateway) (client client_after : Client) (req
   pub is_written : client_after.writing ≡ Writes.Done
   pub same_method : client_after.method ≡ method_kind request.method
 
--- Why a request doesn't pass, and what is written of it nevertheless: its head isn't written, its content isn't passed
--- on, or its end isn't written.
+-- Why a request doesn't pass, and what of it is sent nevertheless: its head isn't written, or what follows isn't.
 pub data FailsToPassRequest (gateway : Gateway) (client : Client) (request : Request) (outgoing : Outgoing)
     (d : Decoder) (before : List ℕ) (left left_after held held_after : Option (List ℕ)) (failure : Failure) : Type 0
   where
-    at_head :
+    at_request_head :
         FailsToWrite (Asking.request_refusal client request.method outgoing.target (request_size outgoing.framing)
         (fields_of outgoing.fields.items))
         (Asking.planned_request client request.method outgoing.target (request_size outgoing.framing)
         (fields_of outgoing.fields.items)) held held_after failure
         → left_after ≡ left
         → FailsToPassRequest gateway client request outgoing d before left left_after held held_after failure
-    at_content : (client_begun : Client) (held_head : Option (List ℕ))
+    past_request_head : (client_begun : Client) (held_head : Option (List ℕ))
         (begins : BeginsRequest client client_begun request outgoing held held_head)
-        → FailsToPassContent false d (encoder_for begins.plan.framing) before left left_after held_head held_after
-        failure
-        → FailsToPassRequest gateway client request outgoing d before left left_after held held_after failure
-    at_end : (client_begun : Client) (after : List ℕ) (held_head held_content : Option (List ℕ)) (written : Writing)
-        (sent : List Field) (begins : BeginsRequest client client_begun request outgoing held held_head)
-        (content : PassesContent false gateway (lines_at request.fields) outgoing.framing d
-        (encoder_for begins.plan.framing) before after left left_after held_head held_content written sent)
-        → FailsToWrite (end_refusal (after_pieces content.relays.pieces (encoder_for begins.plan.framing)) sent)
-        (end_text (after_pieces content.relays.pieces (encoder_for begins.plan.framing)) sent) held_content held_after
-        failure
+        → FailsToPass false gateway (lines_at request.fields) outgoing.framing d (encoder_for begins.plan.framing)
+        before left left_after held_head held_after failure
         → FailsToPassRequest gateway client request outgoing d before left left_after held held_after failure
 
 -- ---- responses
@@ -156,6 +160,24 @@ pub record BeginsResponse (server server_after : Server) (response : Response) (
       (written_fields response sent ++ plan.extra))
   pub next : server_after ≡ Serving.responding server (Ok plan)
 
+-- the framing that a final response states to the client, but for HEAD
+abbrev pub stated_framing : Server → Response → ForwardedResponse → Result Stated FramingError
+stated_framing server response sent =
+    let fields = written_fields response sent in
+    let first = Serving.framing_headers server.request response.status (response_size sent.content) fields in
+    response_framing Method.Other response.status server.request.minor (known_fields (fields ++ first))
+
+-- All that keeps the client's connection after a final response of this framing: the client asked to keep it, in
+-- HTTP/1.1 or by `keep-alive`, and waits for no 100; the origin server keeps its own; the response has an end of its
+-- own, as each to HEAD has; and no forwarded field says `close`.
+pub record KeepsClient (server : Server) (response : Response) (sent : ForwardedResponse) (framing : Stated)
+    : Type 0 where
+  pub asked : server.request.keep_alive ≡ true
+  pub waits : server.request.expects_continue ≡ false
+  pub origin : keeps_origin response sent.content ≡ true
+  pub has_end : (is_until_close framing && not (is_head server.request.method)) ≡ false
+  pub unsaid : says_close (fields_of sent.fields.items) ≡ false
+
 -- A final response passes to the client: its head, and then the content in the framing that this states.
 pub record PassesResponse (gateway : Gateway) (server : Server) (response : Response) (sent : ForwardedResponse)
     (d : Decoder) (before after : List ℕ) (left left_after held held_after : Option (List ℕ)) : Type 0 where
@@ -164,3 +186,21 @@ pub record PassesResponse (gateway : Gateway) (server : Server) (response : Resp
   pub begins : BeginsResponse server server_begun response sent held held_head
   pub content : Passes true gateway (lines_at response.fields) sent.framing d (encoder_for begins.plan.framing)
       before after left left_after held_head held_after
+
+-- Why a final response doesn't pass, and what of it is sent nevertheless: a write of its head failed, or what follows
+-- isn't written.
+pub data FailsToPassResponse (gateway : Gateway) (server : Server) (response : Response) (sent : ForwardedResponse)
+    (d : Decoder) (before : List ℕ) (left left_after held held_after : Option (List ℕ)) (failure : Failure) : Type 0
+  where
+    at_response_head : failure ≡ Failed.Writer
+        → FailsToWrite (Serving.response_refusal server response.status response.reason (response_size sent.content)
+        (written_fields response sent))
+        (Serving.planned_response server response.status response.reason (response_size sent.content)
+        (written_fields response sent)) held held_after failure
+        → left_after ≡ left
+        → FailsToPassResponse gateway server response sent d before left left_after held held_after failure
+    past_response_head : (server_begun : Server) (held_head : Option (List ℕ))
+        (begins : BeginsResponse server server_begun response sent held held_head)
+        → FailsToPass true gateway (lines_at response.fields) sent.framing d (encoder_for begins.plan.framing) before
+        left left_after held_head held_after failure
+        → FailsToPassResponse gateway server response sent d before left left_after held held_after failure

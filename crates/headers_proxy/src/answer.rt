@@ -1,11 +1,13 @@
 //! The response of the origin server, on its way to the client.
-ghost use Rattle.std.specs.Prelude.{◌≡◌, IfOk, false, nat_lt, OnOk};
+ghost use Rattle.std.specs.Prelude.{◌≡◌, IfErr, IfOk, false, nat_lt, OnOk};
 ghost use Rattle.headers_gateway.specs.FieldLines.{fields_of};
 ghost use Rattle.http1.specs.Conn.{awaits_head, is_connect};
 ghost use Rattle.http1.specs.Head.{response_text};
 ghost use Rattle.http1.specs.Server.{after_informational, informational_refusal};
 ghost use Rattle.http1.specs.declared.conn.Reading.TheVariants as Reads;
 ghost use Rattle.headers_relay.specs.Failures.{Writes};
+ghost use Rattle.headers_relay.specs.declared.failure.Failure.TheVariants.{Writer};
+ghost use Rattle.headers_proxy.specs.Cuts.{CutsInterim, CutsResponse};
 ghost use Rattle.headers_proxy.specs.Exchanges.{FindsReply, IsFound};
 
 use crate::decision::protocol_of;
@@ -94,11 +96,16 @@ fn next_response<C: Clock, R: Read, W: Write>(
     server: &mut Server,
     writer: &mut W,
 ) -> Result<Found, Failure>
-    ensures { client.old.reading ≡ Reads.Head → awaits_head client.old.writing ≡ false
+    ensures found { client.old.reading ≡ Reads.Head → awaits_head client.old.writing ≡ false
         → is_connect client.old.method ≡ false
         → IfOk result (IsFound proxy.now request.now client.old client.new input.old.items input.new.items
         (R.remaining reader.old) (R.remaining reader.new) (W.contents writer.old) (W.contents writer.new)
         server.old server.new) }
+    ensures cut { client.old.reading ≡ Reads.Head → awaits_head client.old.writing ≡ false
+        → is_connect client.old.method ≡ false
+        → IfErr result (λ failure. (failure ≡ Writer) × CutsInterim proxy.now request.now client.old server.old
+        input.old.items input.new.items (R.remaining reader.old) (R.remaining reader.new)
+        (W.contents writer.old) (W.contents writer.new)) }
 {
     let response = match read_response(alloc, keys, client, input, reader) {
         Ok(response) => response,
@@ -142,11 +149,15 @@ pub(crate) fn final_response<C: Clock, R: Read, W: Write>(
     server: &mut Server,
     writer: &mut W,
 ) -> Result<Reply, Failure>
-    ensures { client.old.reading ≡ Reads.Head → awaits_head client.old.writing ≡ false
+    ensures finds { client.old.reading ≡ Reads.Head → awaits_head client.old.writing ≡ false
         → is_connect client.old.method ≡ false
         → IfOk result (FindsReply proxy.now request.now client.old client.new
         input.old.items input.new.items (R.remaining reader.old) (R.remaining reader.new)
         (W.contents writer.old) (W.contents writer.new) server.old server.new) }
+    ensures cut { client.old.reading ≡ Reads.Head → awaits_head client.old.writing ≡ false
+        → is_connect client.old.method ≡ false
+        → IfErr result (CutsResponse proxy.now request.now client.old server.old input.old.items
+        (R.remaining reader.old) (R.remaining reader.new) (W.contents writer.old) (W.contents writer.new)) }
 {
     for _count in 0..u64::MAX {
         let found = next_response(

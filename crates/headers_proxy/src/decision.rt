@@ -1,12 +1,12 @@
 //! What a gateway does with a request, as data.
-ghost use Rattle.std.specs.Prelude.{◌≡◌, IfOk, option_map};
+ghost use Rattle.std.specs.Prelude.{◌≡◌, IfOk, OnErr, option_map};
 ghost use Rattle.headers.specs.LineMap.{lines_at};
 ghost use Rattle.headers_gateway.specs.Expectations.{expect_fields};
 ghost use Rattle.headers_gateway.specs.FieldLines.{fields_of};
 ghost use Rattle.headers_gateway.specs.declared.expectation.Expectation.TheVariants.{Absent};
 ghost use Rattle.headers_next_hop.specs.Replaced.{replaced_by};
 ghost use Rattle.headers_proxy.specs.Decisions.{HasHostValue, IsDecision, IsDecisionFor, given_host};
-ghost use Rattle.headers_proxy.specs.Decisions.{protocol_of};
+ghost use Rattle.headers_proxy.specs.Decisions.{NeedsMemory, protocol_of};
 
 use crate::proxy::Proxy;
 use crate::target::{Target, origin_form, target_of};
@@ -146,14 +146,16 @@ fn decide_for<'a>(
     }
 }
 
-/// What a gateway does with a request. The keys are for a header map.
+/// What a gateway does with a request. The keys are for a header map. Fails if memory runs out, which a
+/// request that is CONNECT or has no valid target takes none of.
 pub fn decide(
     alloc: Global,
     keys: RandomState,
     proxy: &Proxy,
     request: &Request,
 ) -> Result<Decision, AllocError>
-    ensures { IfOk result (IsDecision proxy.now request.now) }
+    ensures decided { IfOk result (IsDecision proxy.now request.now) }
+    ensures memory { OnErr result (NeedsMemory request.now) }
 {
     if request.method.as_str() == "CONNECT" {
         return Ok(Decision::Answer(StatusCode::NOT_IMPLEMENTED));

@@ -1,18 +1,23 @@
 //! One request and its response.
-ghost use Rattle.std.specs.Prelude.{◌≡◌, ◌&&◌, ◌==◌, false, length, IfOk, OnOk};
+ghost use Rattle.std.specs.Prelude.{◌≡◌, ◌&&◌, ◌==◌, [], codes, false, true, length, IfErr, IfOk, None, OnOk};
 ghost use Rattle.http1.specs.Conn.{awaits_head, is_connect};
-ghost use Rattle.http1.specs.Server.{new_server};
+ghost use Rattle.http1.specs.Head.{response_text};
+ghost use Rattle.http1.specs.Server.{informational_refusal, new_server};
 ghost use Rattle.http1.specs.declared.conn.Reading.TheVariants as Reads;
 ghost use Rattle.http1.specs.declared.decode.Decoder.{Decoder};
+ghost use Rattle.headers_relay.specs.Failures.{FailsToWrite};
+ghost use Rattle.headers_proxy.specs.Cuts.{CutsFinal, CutsResponse, IsCut, IsUndecided};
 ghost use Rattle.headers_proxy.specs.Exchanges.{BreaksOff, IsContinued, IsDelivered, IsReceived, IsResponded, IsTurn};
 ghost use Rattle.headers_proxy.specs.Exchanges.{wires};
+ghost use Rattle.headers_proxy.specs.Faults.{fault_status};
+ghost use Rattle.headers_proxy.specs.Own.{own_text};
 ghost use Rattle.headers_proxy.specs.Responses.{is_open};
 
 use crate::answer::{Final, Reply, final_response};
 use crate::decision::{Decision, Outgoing, decide};
 use crate::fault::{Fault, status_of_request};
 use crate::own::send_own;
-use crate::pass::{begin_response, finish_response, pass_request};
+use crate::pass::{begin_response, pass_content, pass_request};
 use crate::proxy::{Clock, Proxy};
 use bytes::BytesMut;
 use headers_relay::{Failure, Request, read_request, receive, send_interim};
@@ -66,7 +71,9 @@ fn drain<R: Read>(input: &mut BytesMut, reader: &mut R) {
 
 // Answers the client in the place of the origin server.
 fn break_off<W: Write>(alloc: Global, fault: Fault, writer: &mut W) -> Result<Turn, Failure>
-    ensures { IfOk result (BreaksOff fault (W.contents writer.old) (W.contents writer.new)) }
+    ensures answers { IfOk result (BreaksOff fault (W.contents writer.old) (W.contents writer.new)) }
+    ensures cut { IfErr result (FailsToWrite None (own_text (fault_status fault))
+        (W.contents writer.old) (W.contents writer.new)) }
 {
     send_own(alloc, fault.status(), writer)?;
     Ok(Turn::Broken(fault))
@@ -81,7 +88,9 @@ fn receive_request<R: Read>(
     input: &mut BytesMut,
     reader: &mut R,
 ) -> Result<Received, Failure>
-    ensures { server.old ≡ new_server proxy.now.limits → IfOk result (IsReceived proxy.now
+    ensures received { server.old ≡ new_server proxy.now.limits → IfOk result (IsReceived proxy.now
+        input.old.items input.new.items (R.remaining reader.old) (R.remaining reader.new) server.new) }
+    ensures memory { server.old ≡ new_server proxy.now.limits → IfErr result (IsUndecided proxy.now
         input.old.items input.new.items (R.remaining reader.old) (R.remaining reader.new) server.new) }
 {
     let request = match read_request(alloc, keys, server, input, reader) {
@@ -114,8 +123,11 @@ fn deliver<R: Read, W: Write>(
     server: &mut Server,
     writer: &mut W,
 ) -> Result<Turn, Failure>
-    ensures { (d : Decoder) → client.old.reading ≡ Reads.Body d → IfOk result (IsDelivered proxy.now server.old
-        answer.now d input.old.items input.new.items (R.remaining reader.old) (R.remaining reader.new)
+    ensures delivered { (d : Decoder) → client.old.reading ≡ Reads.Body d → IfOk result (IsDelivered proxy.now
+        server.old answer.now d input.old.items input.new.items (R.remaining reader.old) (R.remaining reader.new)
+        (W.contents writer.old) (W.contents writer.new)) }
+    ensures cut { (d : Decoder) → client.old.reading ≡ Reads.Body d → IfErr result (CutsFinal proxy.now
+        server.old answer.now d input.old.items input.new.items (R.remaining reader.old) (R.remaining reader.new)
         (W.contents writer.old) (W.contents writer.new)) }
 {
     match begin_response(alloc, &answer.response, &answer.sent, server, writer) {
@@ -123,12 +135,12 @@ fn deliver<R: Read, W: Write>(
         Err(Failure::Writer) => return Err(Failure::Writer),
         Err(failure) => return break_off(alloc, Fault::Unsent(failure), writer),
     }
-    finish_response(
+    pass_content(
         alloc,
         keys,
-        proxy,
-        &answer.response,
-        &answer.sent,
+        &proxy.gateway,
+        &answer.response.fields,
+        answer.sent.framing,
         client,
         input,
         reader,
@@ -155,9 +167,13 @@ fn respond<C: Clock, R: Read, W: Write>(
     server: &mut Server,
     writer: &mut W,
 ) -> Result<Turn, Failure>
-    ensures { client.old.reading ≡ Reads.Head → awaits_head client.old.writing ≡ false
+    ensures responded { client.old.reading ≡ Reads.Head → awaits_head client.old.writing ≡ false
         → is_connect client.old.method ≡ false
         → IfOk result (IsResponded proxy.now request.now client.old server.old input.old.items input.new.items
+        (R.remaining reader.old) (R.remaining reader.new) (W.contents writer.old) (W.contents writer.new)) }
+    ensures cut { client.old.reading ≡ Reads.Head → awaits_head client.old.writing ≡ false
+        → is_connect client.old.method ≡ false
+        → IfErr result (CutsResponse proxy.now request.now client.old server.old input.old.items
         (R.remaining reader.old) (R.remaining reader.new) (W.contents writer.old) (W.contents writer.new)) }
 {
     let reply = final_response(
@@ -178,8 +194,11 @@ fn continue_if<W: Write>(
     server: &mut Server,
     writer: &mut W,
 ) -> Result<(), Failure>
-    ensures { OnOk result (IsContinued is_awaited server.old server.new (W.contents writer.old)
+    ensures continued { OnOk result (IsContinued is_awaited server.old server.new (W.contents writer.old)
         (W.contents writer.new)) }
+    ensures cut { IfErr result (λ failure. (is_awaited ≡ true)
+        × FailsToWrite (informational_refusal server.old 100 (codes "Continue") [])
+        (response_text 1 100 (codes "Continue") []) (W.contents writer.old) (W.contents writer.new) failure) }
 {
     if is_awaited {
         send_interim(alloc, server, 100, b"Continue", &[], writer)?;
@@ -200,7 +219,12 @@ pub(crate) fn exchange<C: Clock, R: Read, W: Write, S: Read, T: Write>(
     from_origin: &mut S,
     to_origin: &mut T,
 ) -> Result<Turn, Failure>
-    ensures { IfOk result (IsTurn proxy.now
+    ensures turn { IfOk result (IsTurn proxy.now
+        (wires requests.old.items (R.remaining reader.old) (W.contents writer.old)
+        responses.old.items (S.remaining from_origin.old) (T.contents to_origin.old))
+        (wires requests.new.items (R.remaining reader.new) (W.contents writer.new)
+        responses.new.items (S.remaining from_origin.new) (T.contents to_origin.new))) }
+    ensures cut { IfErr result (IsCut proxy.now
         (wires requests.old.items (R.remaining reader.old) (W.contents writer.old)
         responses.old.items (S.remaining from_origin.old) (T.contents to_origin.old))
         (wires requests.new.items (R.remaining reader.new) (W.contents writer.new)

@@ -1,15 +1,20 @@
 //! What follows from the definitions alone. A proof cites a law by calling it.
-ghost use Rattle.std.specs.Prelude.{◌≡◌, ◌++◌, false, not, ℕ, List, Option};
+ghost use Rattle.std.specs.Prelude.{◌≡◌, ◌≢◌, ◌↔◌, ◌++◌, false, not, true, ℕ, List, Ok, Option};
 ghost use Rattle.std.specs.Io.KnownBytes.{Appends};
 ghost use Rattle.http1.specs.Conservative.{IsPlainRequest, IsPlainResponse};
 ghost use Rattle.http1.specs.declared.client.Client.{Client};
 ghost use Rattle.http1.specs.declared.decode.Decoder.{Decoder};
+ghost use Rattle.http1.specs.declared.framing.Framing.{Framing as Stated};
 ghost use Rattle.http1.specs.declared.server.Server.{Server};
 ghost use Rattle.headers_gateway.specs.declared.gateway.Gateway.{Gateway};
 ghost use Rattle.headers_gateway.specs.declared.response.ForwardedResponse.{ForwardedResponse};
+ghost use Rattle.headers_relay.specs.declared.failure.Failure.{Failure};
+ghost use Rattle.headers_relay.specs.declared.failure.Failure.TheVariants as Failed;
 ghost use Rattle.headers_relay.specs.declared.request.Request.{Request};
 ghost use Rattle.headers_relay.specs.declared.response.Response.{Response};
-ghost use Rattle.headers_proxy.specs.Passing.{BeginsResponse, PassesRequest, PassesResponse};
+ghost use Rattle.headers_proxy.specs.Faults.{IsUnwritten, request_status, response_status};
+ghost use Rattle.headers_proxy.specs.Passing.{BeginsResponse, KeepsClient, PassesRequest, PassesResponse};
+ghost use Rattle.headers_proxy.specs.Passing.{stated_framing};
 ghost use Rattle.headers_proxy.specs.Responses.{keeps_origin, says_close, written_fields};
 ghost use Rattle.headers_proxy.specs.declared.decision.Outgoing.{Outgoing};
 
@@ -43,4 +48,30 @@ pub fn passed_response_ends_with_the_origin()
         (held held_after : Option (List ℕ))
         (begins : BeginsResponse server server_after response sent held held_after)
         → keeps_origin response sent.content ≡ false → begins.plan.keep_alive ≡ false }
+{}
+
+/// All reasons for `close`: the connection is kept after a final response exactly if none of them holds.
+pub fn passed_response_keeps_the_connection()
+    ensures { (server server_after : Server) (response : Response) (sent : ForwardedResponse)
+        (held held_after : Option (List ℕ))
+        (begins : BeginsResponse server server_after response sent held held_after)
+        → (framing : Stated) × (stated_framing server response sent ≡ Ok framing)
+        × ((begins.plan.keep_alive ≡ true) ↔ KeepsClient server response sent framing) }
+{}
+
+/// A response in the place of the origin server's is a 504 exactly if reading failed, and a 500 exactly if
+/// memory ran out.
+pub fn own_status_tells_the_fault()
+    ensures timeout { (failure : Failure) → (response_status failure ≡ 504) ↔ (failure ≡ Failed.Reader) }
+    ensures memory { (failure : Failure) → (response_status failure ≡ 500) ↔ (failure ≡ Failed.OutOfMemory) }
+    ensures bad { (failure : Failure) → (response_status failure ≡ 502)
+        ↔ ((failure ≢ Failed.Reader) × (failure ≢ Failed.OutOfMemory)) }
+{}
+
+/// An answer to a request that can't be read or sent is a 408 exactly if reading failed, a 500 exactly if
+/// memory ran out, and a 502 exactly if it wasn't written to the origin server.
+pub fn own_status_tells_the_request()
+    ensures timeout { (failure : Failure) → (request_status failure ≡ 408) ↔ (failure ≡ Failed.Reader) }
+    ensures memory { (failure : Failure) → (request_status failure ≡ 500) ↔ (failure ≡ Failed.OutOfMemory) }
+    ensures bad { (failure : Failure) → (request_status failure ≡ 502) ↔ IsUnwritten failure }
 {}

@@ -1,9 +1,10 @@
 //! The gateway's own responses.
-ghost use Rattle.std.specs.Prelude.{◌≡◌};
+ghost use Rattle.std.specs.Prelude.{◌≡◌, None};
+ghost use Rattle.http_header.specs.FieldValue.{IsFieldValue};
 ghost use Rattle.http1.specs.Head.{header_parts};
 ghost use Rattle.http1_typed.specs.Parts.{reason_of};
 ghost use Rattle.headers_relay.specs.Failures.{Writes};
-ghost use Rattle.headers_proxy.specs.Own.{close_field, own_refusal, own_text};
+ghost use Rattle.headers_proxy.specs.Own.{close_field, own_text};
 
 use bytes::BytesMut;
 use headers_relay::{Failure, send};
@@ -13,7 +14,8 @@ use std::alloc::Global;
 use std::io::Write;
 
 fn reason(status: StatusCode) -> &'static [u8]
-    ensures { result.now ≡ reason_of status }
+    ensures text { result.now ≡ reason_of status }
+    ensures valid { IsFieldValue result.now }
 {
     status.canonical_reason().unwrap_or("").as_bytes()
 }
@@ -29,10 +31,9 @@ pub(crate) fn close_field() -> Header<'static>
 }
 
 /// Sends a response of the gateway's own: of that status, without content, and the last one on the
-/// connection.
+/// connection. It fails only if a write does, after a first part of the response, or if memory runs out.
 pub fn send_own<W: Write>(alloc: Global, status: StatusCode, writer: &mut W) -> Result<(), Failure>
-    ensures { Writes (own_refusal status) (own_text status) (W.contents writer.old) (W.contents writer.new)
-        result }
+    ensures { Writes None (own_text status) (W.contents writer.old) (W.contents writer.new) result }
 {
     let headers = [
         close_field(),

@@ -1,6 +1,6 @@
 //! Messages on their way from one connection to the other: a head, the content in its frames, and its
 //! end.
-ghost use Rattle.std.specs.Prelude.{◌≡◌, IfErr, IfOk, OnOk, false, true};
+ghost use Rattle.std.specs.Prelude.{◌≡◌, IfErr, IfOk, OnOk, false};
 ghost use Rattle.headers.specs.LineMap.{lines_at};
 ghost use Rattle.headers_gateway.specs.FieldLines.{fields_of};
 ghost use Rattle.http1.specs.Client as Asking;
@@ -12,10 +12,9 @@ ghost use Rattle.http1.specs.declared.decode.Decoder.{Decoder};
 ghost use Rattle.http1.specs.declared.encode.Encoder.{Encoder};
 ghost use Rattle.headers_relay.specs.Content.{content_read};
 ghost use Rattle.headers_relay.specs.Failures.{FailsToWrite};
-ghost use Rattle.headers_proxy.specs.Passing.{BeginsRequest, BeginsResponse, FailsToPassRequest, Passes, PassesContent};
-ghost use Rattle.headers_proxy.specs.Passing.{FailsToPassContent, PassesRequest, request_size, response_size};
-ghost use Rattle.headers_proxy.specs.Passing.{IsSameRequest};
-ghost use Rattle.headers_proxy.specs.Responses.{is_open, keeps_origin, written_fields};
+ghost use Rattle.headers_proxy.specs.Passing.{BeginsRequest, BeginsResponse, FailsToPass, FailsToPassRequest};
+ghost use Rattle.headers_proxy.specs.Passing.{IsSameRequest, Passes, PassesRequest, request_size, response_size};
+ghost use Rattle.headers_proxy.specs.Responses.{keeps_origin, written_fields};
 
 use crate::decision::Outgoing;
 use crate::own::close_field;
@@ -71,8 +70,8 @@ fn response_size(content: Content) -> BodySize
     }
 }
 
-// Passes the content on, and returns the trailer fields that are forwarded.
-fn pass_content<S: ContentSource, R: Read, T: ContentSink, W: Write>(
+/// Passes the content of a message on to its end, with the trailer fields that are forwarded.
+pub(crate) fn pass_content<S: ContentSource, R: Read, T: ContentSink, W: Write>(
     alloc: Global,
     keys: RandomState,
     gateway: &Gateway,
@@ -83,24 +82,25 @@ fn pass_content<S: ContentSource, R: Read, T: ContentSink, W: Write>(
     reader: &mut R,
     sink: &mut T,
     writer: &mut W,
-) -> Result<Vec<FieldLine>, Failure>
+) -> Result<(), Failure>
     ensures passes { (d : Decoder) (e : Encoder) → S.reading source.old ≡ Reads.Body d
-        → T.writing sink.old ≡ Writes.Body e → IfOk result (λ sent. PassesContent S.ends_with_connection gateway.now
+        → T.writing sink.old ≡ Writes.Body e → OnOk result (Passes S.ends_with_connection gateway.now
         (lines_at fields.now) framing d e input.old.items input.new.items (R.remaining reader.old)
-        (R.remaining reader.new) (W.contents writer.old) (W.contents writer.new) (T.writing sink.new)
-        (fields_of sent.items)) }
+        (R.remaining reader.new) (W.contents writer.old) (W.contents writer.new)) }
     ensures fails { (d : Decoder) (e : Encoder) → S.reading source.old ≡ Reads.Body d
-        → T.writing sink.old ≡ Writes.Body e → IfErr result (FailsToPassContent S.ends_with_connection d e
-        input.old.items (R.remaining reader.old) (R.remaining reader.new)
+        → T.writing sink.old ≡ Writes.Body e → IfErr result (FailsToPass S.ends_with_connection gateway.now
+        (lines_at fields.now) framing d e input.old.items (R.remaining reader.old) (R.remaining reader.new)
         (W.contents writer.old) (W.contents writer.new)) }
     ensures waiting { (d : Decoder) (e : Encoder) → S.reading source.old ≡ Reads.Body d
         → T.writing sink.old ≡ Writes.Body e → OnOk result (S.is_waiting source.new ≡ false) }
     ensures asked { (d : Decoder) (e : Encoder) → S.reading source.old ≡ Reads.Body d
         → T.writing sink.old ≡ Writes.Body e → OnOk result (S.asked source.new ≡ S.asked source.old) }
-    ensures kept { T.kept sink.new ≡ T.kept sink.old }
+    ensures ended { OnOk result ((last : T) × (T.kept last ≡ T.kept sink.old) × (sink.new ≡ T.after_end last)) }
 {
     let trailers = relay_content(alloc, keys, source, input, reader, sink, writer)?;
-    Ok(forward_trailers(alloc, gateway, fields, framing, &trailers)?)
+    let sent = forward_trailers(alloc, gateway, fields, framing, &trailers)?;
+    let list = header_list(alloc, &sent)?;
+    end_content(alloc, sink, &list, writer)
 }
 
 // Sends the head of a request to the origin server.
@@ -156,7 +156,7 @@ pub(crate) fn pass_request<R: Read, W: Write>(
         (W.contents writer.old) (W.contents writer.new)) }
 {
     begin_request(alloc, request, outgoing, client, writer)?;
-    let trailers = pass_content(
+    pass_content(
         alloc,
         keys,
         &proxy.gateway,
@@ -167,10 +167,7 @@ pub(crate) fn pass_request<R: Read, W: Write>(
         reader,
         client,
         writer,
-    )?;
-    let fields = header_list(alloc, &trailers)?;
-    end_content(alloc, client, &fields, writer)?;
-    Ok(())
+    )
 }
 
 // Whether the origin server keeps the connection after this response, and both sides know its end.
@@ -224,42 +221,4 @@ pub(crate) fn begin_response<W: Write>(
         response_size(sent.content),
         writer,
     )
-}
-
-/// Passes the content of a response on, as the origin server sends it.
-pub(crate) fn finish_response<R: Read, W: Write>(
-    alloc: Global,
-    keys: RandomState,
-    proxy: &Proxy,
-    response: &Response,
-    sent: &ForwardedResponse,
-    client: &mut Client,
-    input: &mut BytesMut,
-    reader: &mut R,
-    server: &mut Server,
-    writer: &mut W,
-) -> Result<(), Failure>
-    ensures passes { (d : Decoder) (e : Encoder) → Asking.reading client.old ≡ Reads.Body d
-        → Serving.writing server.old ≡ Writes.Body e
-        → OnOk result (Passes true proxy.now.gateway (lines_at response.now.fields) sent.now.framing d e
-        input.old.items input.new.items (R.remaining reader.old) (R.remaining reader.new)
-        (W.contents writer.old) (W.contents writer.new)) }
-    ensures kept { (e : Encoder) → Serving.writing server.old ≡ Writes.Body e
-        → OnOk result (is_open server.new ≡ server.old.request.keep_alive) }
-{
-    let trailers = pass_content(
-        alloc,
-        keys,
-        &proxy.gateway,
-        &response.fields,
-        sent.framing,
-        client,
-        input,
-        reader,
-        server,
-        writer,
-    )?;
-    let fields = header_list(alloc, &trailers)?;
-    end_content(alloc, server, &fields, writer)?;
-    Ok(())
 }

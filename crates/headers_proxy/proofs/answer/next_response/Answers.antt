@@ -1,25 +1,27 @@
 use Rattle.std.proofs.Common.{◌≡◌, ◌∙◌, inr, nat_lt, subst, sym, true}
+use Rattle.std.proofs.lemmas.Result.{err_from_is_err_and}
 use Rattle.http1.specs.Head.{response_text}
+use Rattle.http1.specs.Server.{informational_refusal}
 use Rattle.http1.specs.declared.client.Client.{Client}
 use Rattle.headers_gateway.specs.FieldLines.{fields_of}
-use Rattle.headers_gateway.specs.Responses.{IsResponseOutcome}
+use Rattle.headers_relay.specs.Failures.{FailsToWrite}
 use Rattle.headers_relay.specs.Heads.{ReadsResponseHead}
+use Rattle.headers_relay.specs.declared.failure.Failure.{Failure}
+use Rattle.headers_relay.specs.declared.failure.Failure.TheVariants.{Writer}
+use Rattle.headers_relay.proofs.HeadLemmas.{fails_as}
+use Rattle.headers_proxy.specs.Cuts.{CutsInterim}
 use Rattle.headers_proxy.specs.Faults.{IsUnusable}
-use Rattle.headers_proxy.specs.Responses.{received}
 use Rattle.headers_proxy.specs.declared.fault.Fault.{Fault}
-use Rattle.headers_proxy.proofs.AnswerLemmas.{interim_keeps, interim_unsent, outcome_as}
+use Rattle.headers_proxy.proofs.AnswerLemmas.{forwarded_as, interim_keeps, interim_unsent}
 use Rattle.headers_proxy.proofs.answer.next_response.Goals as goal
 
-pub returns-in-Ok-forward_interim : goal.returns-in-Ok-forward_interim
-returns-in-Ok-forward_interim g c reading writing connect =
-    let proxy = c.args.proxy.now in
-    let request = c.args.request.now in
+pub returns-in-Ok-forward_interim-clause-found : goal.returns-in-Ok-forward_interim-clause-found
+returns-in-Ok-forward_interim-clause-found g c reading writing connect =
     let response = c.in-Ok.response in
     let reads = c.in-Ok.ensures.ok reading writing in
-    let forwards = subst (IsResponseOutcome proxy.gateway c.now.result (received request response))
-    c.in-Ok-Forward.field-0-is (outcome_as proxy.gateway c.now.result request response c.protocol_of.result
-    c.protocol_of-2.result c.in-Ok-Forward.field-0 c.protocol_of.ensures c.protocol_of-2.ensures
-    c.in-Ok-Forward.ensures.ok) in
+    let forwards = forwarded_as c.args.proxy.now.gateway c.now.result c.args.request.now response c.protocol_of.result
+    c.protocol_of-2.result _ c.in-Ok-Forward.sent c.protocol_of.ensures c.protocol_of-2.ensures
+    c.in-Ok-Forward.ensures.ok c.in-Ok-Forward.field-0-is in
     let interim : nat_lt response.status 200 ≡ true = sym c.is_interim.ensures ∙ c.if-not-is_interim.false in
     let keeps = interim_keeps reads connect forwards.accepted.same_protocol interim in (
       keeps,
@@ -38,18 +40,53 @@ returns-in-Ok-forward_interim g c reading writing connect =
       },
     )
 
-pub returns : goal.returns
-returns g c reading writing connect =
+pub returns-in_err-unsent-in-Err-forward_interim-clause-cut :
+    goal.returns-in_err-unsent-in-Err-forward_interim-clause-cut
+returns-in_err-unsent-in-Err-forward_interim-clause-cut g c reading writing connect =
+    let response = c.in-Ok.response in
+    let sent = c.in-Ok-Forward.sent in
+    let reads = c.in-Ok.ensures.ok reading writing in
+    let forwards = forwarded_as c.args.proxy.now.gateway c.now.result c.args.request.now response c.protocol_of.result
+    c.protocol_of-2.result _ sent c.protocol_of.ensures c.protocol_of-2.ensures c.in-Ok-Forward.ensures.ok
+    c.in-Ok-Forward.field-0-is in
+    let interim : nat_lt response.status 200 ≡ true = sym c.is_interim.ensures ∙ c.if-not-is_interim.false in
+    let failed = c.in_err-unsent-in-Err-forward_interim.ensures.err in
+    let r = c.from_residual in
+    let y = err_from_is_err_and r.result r.ensures.1 in
+    fails_as r.result y.1 y.2 (λ (failure : Failure). (failure ≡ Writer) × CutsInterim c.args.proxy.now
+    c.args.request.now c.args.client.now c.args.server.now c.args.input.now.items c.read_response.new.input.items
+    (g.R.Read.remaining c.args.reader.now) (g.R.Read.remaining c.read_response.new.reader)
+    (g.W.Write.contents c.args.writer.now) (g.W.Write.contents c.forward_interim.new.writer)) (
+      failed.0 ∙ failed.1,
+      record {
+        response = response;
+        reads = subst (λ (x : Client). ReadsResponseHead c.args.client.now x c.args.input.now.items
+            c.read_response.new.input.items (g.R.Read.remaining c.args.reader.now)
+            (g.R.Read.remaining c.read_response.new.reader) response)
+            (interim_keeps reads connect forwards.accepted.same_protocol interim) reads;
+        date = c.now.result;
+        sent = sent;
+        forwards = forwards;
+        is_interim = interim;
+        part = subst (λ (failure : Failure). FailsToWrite (informational_refusal c.args.server.now response.status
+            response.reason (fields_of sent.fields.items))
+            (response_text 1 response.status response.reason (fields_of sent.fields.items))
+            (g.W.Write.contents c.args.writer.now) (g.W.Write.contents c.forward_interim.new.writer) failure) failed.1
+            c.in-Err-forward_interim.ensures.writes;
+      },
+    )
+
+pub returns-clause-found : goal.returns-clause-found
+returns-clause-found g c reading writing connect =
     let proxy = c.args.proxy.now in
     let request = c.args.request.now in
     let response = c.in-Ok.response in
-    let reads = c.in-Ok.ensures.ok reading writing in
-    let forwards = subst (IsResponseOutcome proxy.gateway c.now.result (received request response))
-    c.in-Ok-Forward.field-0-is (outcome_as proxy.gateway c.now.result request response c.protocol_of.result
-    c.protocol_of-2.result c.in-Ok-Forward.field-0 c.protocol_of.ensures c.protocol_of-2.ensures
-    c.in-Ok-Forward.ensures.ok) in
-    let interim : nat_lt response.status 200 ≡ true = sym c.is_interim.ensures ∙ c.if-not-is_interim.false in
     let sent = c.in-Ok-Forward.sent in
+    let reads = c.in-Ok.ensures.ok reading writing in
+    let forwards = forwarded_as proxy.gateway c.now.result request response c.protocol_of.result
+    c.protocol_of-2.result _ sent c.protocol_of.ensures c.protocol_of-2.ensures c.in-Ok-Forward.ensures.ok
+    c.in-Ok-Forward.field-0-is in
+    let interim : nat_lt response.status 200 ≡ true = sym c.is_interim.ensures ∙ c.if-not-is_interim.false in
     let unsent = interim_unsent proxy request c.args.server.now response c.now.result sent
     (response_text 1 response.status response.reason (fields_of sent.fields.items))
     (g.W.Write.contents c.args.writer.now) (g.W.Write.contents c.forward_interim.new.writer)

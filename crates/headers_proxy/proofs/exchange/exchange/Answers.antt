@@ -1,105 +1,105 @@
-use Rattle.std.proofs.Common.{◌∙◌, ap, inl, inr, refl, subst}
-use Rattle.http1.specs.Conn.{awaits_head, is_connect}
+use Rattle.std.proofs.Common.{refl}
+use Rattle.std.proofs.lemmas.Result.{err_from_is_err_and}
 use Rattle.http1.specs.Decoder.{decoder_for}
-use Rattle.http1.specs.Server as Serving
-use Rattle.http1.specs.declared.client.Client.{Client}
-use Rattle.http1.specs.declared.conn.Writing.{Writing}
-use Rattle.http1.specs.declared.framing.MethodKind.{MethodKind}
-use Rattle.http1.specs.declared.server.Server.{Server}
-use Rattle.headers_relay.specs.Content.{content_read}
-use Rattle.headers_proxy.specs.Exchanges.{IsReceived, wires}
-use Rattle.headers_proxy.specs.Passing.{FailsToPassRequest, PassesRequest}
-use Rattle.headers_proxy.proofs.ExchangeLemmas.{breaks, continued_reads, continued_same, exchanges, no_connect}
+use Rattle.headers_relay.proofs.HeadLemmas.{fails_as}
+use Rattle.headers_proxy.specs.Cuts.{IsCut, continued, refused, undecided}
+use Rattle.headers_proxy.specs.Exchanges.{wires}
+use Rattle.headers_proxy.proofs.ExchangeLemmas.{accepted, breaks, cuts, cuts_answer, passed_in_part, refused_with}
+use Rattle.headers_proxy.proofs.ExchangeLemmas.{turns}
 use Rattle.headers_proxy.proofs.exchange.exchange.Goals as goal
 
 pub returns : goal.returns
 returns g c =
     let proxy = c.args.proxy.now in
-    let request = c.in-Accepted.request in
-    let outgoing = c.in-Accepted.outgoing in
     let r = g.R.Read.remaining in
     let w = g.W.Write.contents in
-    let got =
-    subst (IsReceived proxy c.args.requests.now.items c.receive_request.new.input.items (r c.args.reader.now)
-    (r c.receive_request.new.reader) c.receive_request.new.server) c.in-Accepted.is
-    (c.in_ok-receive_request.ensures c.new-server.ensures) in
-    let reads = got.0 in
-    let continued = c.in_ok-continue_if.ensures in
-    let reading =
-    continued_reads outgoing.is_awaited c.receive_request.new.server c.continue_if.new.server (w c.args.writer.now)
-    (w c.continue_if.new.writer) continued
-    ∙ ap (λ (s : Server). content_read (Serving.writing s) (Serving.reading s)) reads.next in
-    let d = decoder_for proxy.limits reads.framing in
-    let passes = subst (λ (x : Client). PassesRequest proxy.gateway x c.pass_request-passed.new.client request outgoing
-    d c.receive_request.new.input.items c.pass_request-passed.new.input.items (r c.receive_request.new.reader)
-    (r c.pass_request-passed.new.reader) (g.T.Write.contents c.args.to_origin.now)
-    (g.T.Write.contents c.pass_request-passed.new.writer)) c.new-client.ensures
-    (c.in_default.ensures.passes d reading) in
-    let before =
-    continued_same outgoing.is_awaited c.receive_request.new.server c.continue_if.new.server (w c.args.writer.now)
-    (w c.continue_if.new.writer) continued in
-    let same = c.in_default.ensures.same d reading in
-    exchanges proxy
-    (wires c.args.requests.now.items (r c.args.reader.now) (w c.args.writer.now) c.args.responses.now.items
-    (g.S.Read.remaining c.args.from_origin.now) (g.T.Write.contents c.args.to_origin.now))
-    (wires c.pass_request-passed.new.input.items (r c.pass_request-passed.new.reader) (w c.respond.new.writer)
-    c.respond.new.input.items (g.S.Read.remaining c.respond.new.reader)
-    (g.T.Write.contents c.pass_request-passed.new.writer))
-    c.continue_if.new.server c.pass_request-passed.new.server (w c.continue_if.new.writer)
-    reads got.1 continued passes (record {
-      minor = same.minor ∙ before.0;
-      method = same.method ∙ before.1;
-      keep_alive = same.keep_alive ∙ before.2;
-      waits = same.waits;
-    }) c.respond.result
-    (c.respond.ensures passes.reads_head (ap (λ (x : Writing). awaits_head x) passes.is_written)
-    (ap (λ (m : MethodKind). is_connect m) passes.same_method ∙ no_connect proxy request outgoing got.1))
-
-pub returns-in-Unread : goal.returns-in-Unread
-returns-in-Unread g c =
-    let got = c.in_ok-receive_request.ensures c.new-server.ensures in
-    let is_received = IsReceived c.args.proxy.now c.args.requests.now.items c.receive_request.new.input.items
-    (g.R.Read.remaining c.args.reader.now) (g.R.Read.remaining c.receive_request.new.reader)
-    c.receive_request.new.server in
+    let before = wires c.args.requests.now.items (r c.args.reader.now) (w c.args.writer.now)
+    c.args.responses.now.items (g.S.Read.remaining c.args.from_origin.now) (g.T.Write.contents c.args.to_origin.now) in
+    let after = wires c.pass_request-passed.new.input.items (r c.pass_request-passed.new.reader)
+    (w c.respond.new.writer) c.respond.new.input.items (g.S.Read.remaining c.respond.new.reader)
+    (g.T.Write.contents c.pass_request-passed.new.writer) in
+    let head = accepted proxy before c.receive_request.new.input.items (r c.receive_request.new.reader)
+    c.receive_request.new.server _ c.in-Accepted.request c.in-Accepted.outgoing
+    (c.in_ok-receive_request.ensures.received c.new-server.ensures) c.in-Accepted.is in
+    let d = decoder_for proxy.limits head.reads.framing in
+    let told = w c.continue_if.new.writer in
+    let told_before = c.in_ok-continue_if.ensures.continued in
+    let client = c.pass_request-passed.new.client in
+    let server = c.pass_request-passed.new.server in
+    let passes = c.in_default.ensures.passes d in
+    let same = c.in_default.ensures.same d in
     record {
-      server = c.receive_request.new.server;
-      status = c.in-Unread.status;
-      because = elim c.in-Unread.is [
-        | inl unread ↦ inl (subst is_received unread got)
-        | inr refused ↦ inr (subst is_received refused got)
-      ];
-      told = c.in_ok-send_own-in-Unread.ensures.1;
-      sent = refl;
-      answered = (refl, refl);
+      turn = turns head c.continue_if.new.server told told_before after c.new-client.result c.new-client.ensures client
+          server passes same c.respond.result c.respond.ensures.responded;
+      cut = cuts head c.continue_if.new.server told told_before after c.new-client.result c.new-client.ensures client
+          server passes same c.respond.result c.respond.ensures.cut;
     }
 
 pub returns-in-Err : goal.returns-in-Err
 returns-in-Err g c =
     let proxy = c.args.proxy.now in
-    let request = c.in-Accepted.request in
-    let outgoing = c.in-Accepted.outgoing in
     let r = g.R.Read.remaining in
     let w = g.W.Write.contents in
-    let got =
-    subst (IsReceived proxy c.args.requests.now.items c.receive_request.new.input.items (r c.args.reader.now)
-    (r c.receive_request.new.reader) c.receive_request.new.server) c.in-Accepted.is
-    (c.in_ok-receive_request.ensures c.new-server.ensures) in
-    let reads = got.0 in
-    let continued = c.in_ok-continue_if.ensures in
-    let reading =
-    continued_reads outgoing.is_awaited c.receive_request.new.server c.continue_if.new.server (w c.args.writer.now)
-    (w c.continue_if.new.writer) continued
-    ∙ ap (λ (s : Server). content_read (Serving.writing s) (Serving.reading s)) reads.next in
-    let d = decoder_for proxy.limits reads.framing in
-    let fails = subst (λ (x : Client). FailsToPassRequest proxy.gateway x request outgoing d
-    c.receive_request.new.input.items (r c.receive_request.new.reader) (r c.pass_request-passed.new.reader)
-    (g.T.Write.contents c.args.to_origin.now) (g.T.Write.contents c.pass_request-passed.new.writer) c.in-Err.failure)
-    c.new-client.ensures (c.in-Err.ensures.fails d reading) in
-    breaks proxy
-    (wires c.args.requests.now.items (r c.args.reader.now) (w c.args.writer.now) c.args.responses.now.items
-    (g.S.Read.remaining c.args.from_origin.now) (g.T.Write.contents c.args.to_origin.now))
-    (wires c.drain.new.input.items (r c.drain.new.reader) (w c.break_off-turn.new.writer)
+    let before = wires c.args.requests.now.items (r c.args.reader.now) (w c.args.writer.now)
+    c.args.responses.now.items (g.S.Read.remaining c.args.from_origin.now) (g.T.Write.contents c.args.to_origin.now) in
+    let after = wires c.drain.new.input.items (r c.drain.new.reader) (w c.break_off-turn.new.writer)
     c.args.responses.now.items (g.S.Read.remaining c.args.from_origin.now)
-    (g.T.Write.contents c.pass_request-passed.new.writer))
-    c.continue_if.new.server (w c.continue_if.new.writer) reads got.1 continued c.in-Err.failure _ fails (refl, refl)
-    c.break_off-turn.result c.break_off-turn.ensures
+    (g.T.Write.contents c.pass_request-passed.new.writer) in
+    let head = accepted proxy before c.receive_request.new.input.items (r c.receive_request.new.reader)
+    c.receive_request.new.server _ c.in-Accepted.request c.in-Accepted.outgoing
+    (c.in_ok-receive_request.ensures.received c.new-server.ensures) c.in-Accepted.is in
+    let told = w c.continue_if.new.writer in
+    let failure = c.in-Err.failure in
+    let passed = passed_in_part head c.continue_if.new.server told c.in_ok-continue_if.ensures.continued after
+    c.new-client.result c.new-client.ensures (r c.pass_request-passed.new.reader) failure
+    (c.in-Err.ensures.fails (decoder_for proxy.limits head.reads.framing)) refl refl in
+    record {
+      turn = breaks proxy before after told failure passed c.break_off-turn.result c.break_off-turn.ensures.answers;
+      cut = cuts_answer proxy before after told failure passed c.break_off-turn.result c.break_off-turn.ensures.cut;
+    }
+
+pub returns-in-Unread-clause-turn : goal.returns-in-Unread-clause-turn
+returns-in-Unread-clause-turn g c = record {
+  server = c.receive_request.new.server;
+  status = c.in-Unread.status;
+  because = refused_with c.args.proxy.now c.args.requests.now.items c.receive_request.new.input.items
+      (g.R.Read.remaining c.args.reader.now) (g.R.Read.remaining c.receive_request.new.reader)
+      c.receive_request.new.server c.in-Unread.status _
+      (c.in_ok-receive_request.ensures.received c.new-server.ensures) c.in-Unread.is;
+  told = c.in_ok-send_own-in-Unread.ensures.1;
+  leaves = record { sent = refl; answered = refl; answered_left = refl };
+}
+
+pub returns-in_err-send_own-in-Unread-clause-cut : goal.returns-in_err-send_own-in-Unread-clause-cut
+returns-in_err-send_own-in-Unread-clause-cut g c =
+    let r = c.from_residual-in_err-send_own-in-Unread in
+    let y = err_from_is_err_and r.result r.ensures.1 in
+    fails_as r.result y.1 y.2 (IsCut c.args.proxy.now _ _)
+    (refused c.receive_request.new.server c.in-Unread.status
+    (refused_with c.args.proxy.now c.args.requests.now.items c.receive_request.new.input.items
+    (g.R.Read.remaining c.args.reader.now) (g.R.Read.remaining c.receive_request.new.reader)
+    c.receive_request.new.server c.in-Unread.status _
+    (c.in_ok-receive_request.ensures.received c.new-server.ensures) c.in-Unread.is)
+    c.in_err-send_own-in-Unread.ensures (record { sent = refl; answered = refl; answered_left = refl }))
+
+pub returns-in_err-continue_if-clause-cut : goal.returns-in_err-continue_if-clause-cut
+returns-in_err-continue_if-clause-cut g c =
+    let r = c.from_residual-in_err-continue_if in
+    let y = err_from_is_err_and r.result r.ensures.1 in
+    let before = wires c.args.requests.now.items (g.R.Read.remaining c.args.reader.now)
+    (g.W.Write.contents c.args.writer.now) c.args.responses.now.items (g.S.Read.remaining c.args.from_origin.now)
+    (g.T.Write.contents c.args.to_origin.now) in
+    let head = accepted c.args.proxy.now before c.receive_request.new.input.items
+    (g.R.Read.remaining c.receive_request.new.reader) c.receive_request.new.server _ c.in-Accepted.request
+    c.in-Accepted.outgoing (c.in_ok-receive_request.ensures.received c.new-server.ensures) c.in-Accepted.is in
+    let cut = c.in_err-continue_if.ensures.cut in
+    fails_as r.result y.1 y.2 (IsCut c.args.proxy.now before _)
+    (continued head cut.0 cut.1 (record { sent = refl; answered = refl; answered_left = refl }))
+
+pub returns-in_err-receive_request-clause-cut : goal.returns-in_err-receive_request-clause-cut
+returns-in_err-receive_request-clause-cut g c =
+    let r = c.from_residual in
+    let y = err_from_is_err_and r.result r.ensures.1 in
+    fails_as r.result y.1 y.2 (IsCut c.args.proxy.now _ _)
+    (undecided c.receive_request.new.server (c.in_err-receive_request.ensures.memory c.new-server.ensures) refl
+    (record { sent = refl; answered = refl; answered_left = refl }))
