@@ -13,8 +13,7 @@ use headers_cache_policy::{
 };
 use std::alloc::Global;
 
-/// Moments that a cache knows of a stored response, in seconds since the start of 1970, all of its
-/// own clock.
+/// The times of a stored response, in seconds since 1970, all by the cache's own clock.
 #[repr(C)]
 #[derive(Clone, Copy)]
 pub struct Moments {
@@ -46,8 +45,8 @@ fn kind_of(is_shared: bool) -> Kind
     }
 }
 
-/// Whether a cache may store the response to a request: 1 if it may, 0 if not (RFC 9111, sections 3
-/// and 3.5).
+/// Tells whether a cache may store the response to a request: 1 if it may, 0 if not (RFC 9111,
+/// sections 3 and 3.5).
 #[unsafe(no_mangle)]
 pub extern "C" fn typed_headers_may_store(
     alloc: Global,
@@ -96,7 +95,7 @@ fn stores(
     }
 }
 
-/// For how many seconds a response is fresh by what its origin says (RFC 9111, section 4.2.1).
+/// Gives the lifetime that the origin states, in seconds (RFC 9111, section 4.2.1).
 #[unsafe(no_mangle)]
 pub extern "C" fn typed_headers_lifetime(
     alloc: Global,
@@ -133,8 +132,7 @@ fn lives(
     }
 }
 
-/// For how many seconds a response may be taken as fresh if its origin doesn't say so (RFC 9111,
-/// section 4.2.2).
+/// Gives a guess of the lifetime, in seconds, if the origin states none (RFC 9111, section 4.2.2).
 #[unsafe(no_mangle)]
 pub extern "C" fn typed_headers_heuristic_lifetime(
     alloc: Global,
@@ -171,7 +169,7 @@ fn guesses(
     }
 }
 
-/// How many seconds old a response is (RFC 9111, section 4.2.3).
+/// Gives the age of a response, in seconds (RFC 9111, section 4.2.3).
 #[unsafe(no_mangle)]
 pub extern "C" fn typed_headers_current_age(
     alloc: Global,
@@ -198,7 +196,7 @@ fn ages(alloc: Global, response: &[u8], keys: &HashKeys, moments: &Moments) -> R
     Ok(current_age(&response, times_of(moments)))
 }
 
-/// What a cache does with a request, by a response that it has stored: the number of the decision
+/// Decides what a cache does with a request, by a stored response: gives the number of the decision
 /// (RFC 9111, section 4, and RFC 5861). `stored` is the request that the response answered, and
 /// `stored_method` its method.
 #[unsafe(no_mangle)]
@@ -288,8 +286,8 @@ fn decision_number(decision: Decision) -> u8
     }
 }
 
-/// The fields by which a request asks whether a stored response is still good (RFC 9111, section
-/// 4.3.1). `received` is when that response came.
+/// Gives the fields by which a request validates a stored response (RFC 9111, section 4.3.1).
+/// `received` is when that response was received.
 #[unsafe(no_mangle)]
 pub extern "C" fn typed_headers_validators(
     alloc: Global,

@@ -12,7 +12,7 @@ use headers_c_parts::{DONE, Failure, read_values};
 use std::alloc::Global;
 use std::time::Duration;
 
-/// The seconds of a directive.
+/// The number of seconds of a directive, if it is set.
 #[repr(C)]
 #[derive(Clone, Copy)]
 pub struct DirectiveSeconds {
@@ -43,7 +43,7 @@ pub struct CacheDirectives {
     pub proxy_revalidate: u8,
 }
 
-/// The directives that the lines of `cache-control` set.
+/// Decodes the field lines of `cache-control` to the directives that are set.
 #[unsafe(no_mangle)]
 pub extern "C" fn typed_headers_cache_control(
     alloc: Global,

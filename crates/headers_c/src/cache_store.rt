@@ -30,7 +30,7 @@ fn ended(answer: Result<(), Failure>) -> u8
     }
 }
 
-/// Opens a closed handle, with an empty store. Rejected if the handle is open.
+/// Opens a closed handle with an empty store. Rejected if the handle is open.
 #[unsafe(no_mangle)]
 pub extern "C" fn typed_headers_cache_new(
     alloc: Global,
@@ -67,7 +67,7 @@ pub extern "C" fn typed_headers_cache_free(alloc: Global, cache: &mut Cache) -> 
     DONE
 }
 
-/// What a cache does with a request (RFC 9111, section 4).
+/// Decides what a cache does with a request (RFC 9111, section 4).
 #[unsafe(no_mangle)]
 pub extern "C" fn typed_headers_cache_lookup(
     alloc: Global,
@@ -92,7 +92,7 @@ pub extern "C" fn typed_headers_cache_lookup(
     }
 }
 
-/// What is told of the response at a place of a target, and its field lines.
+/// Gives the facts and the field lines of the response at a place of a target.
 #[unsafe(no_mangle)]
 pub extern "C" fn typed_headers_cache_response(
     alloc: Global,
@@ -117,7 +117,7 @@ pub extern "C" fn typed_headers_cache_response(
     }
 }
 
-/// The content of the response at a place of a target, from a position on, as much as fits.
+/// Copies the content of the response at a place of a target, from a position on, as much as fits.
 #[unsafe(no_mangle)]
 pub extern "C" fn typed_headers_cache_content(
     alloc: Global,
@@ -135,8 +135,8 @@ pub extern "C" fn typed_headers_cache_content(
     ended(copy_content(alloc, cache, target, place, from, room, written))
 }
 
-/// How the stored response at a place answers the conditions and the ranges of a request (RFC 9111,
-/// section 4.3.2).
+/// Decides how the stored response at a place answers the conditions and the ranges of a request
+/// (RFC 9111, section 4.3.2).
 #[unsafe(no_mangle)]
 pub extern "C" fn typed_headers_cache_answer(
     alloc: Global,

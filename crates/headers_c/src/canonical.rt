@@ -9,7 +9,7 @@ use std::hash::RandomState;
 /// The greatest length of a section.
 const LONGEST_SECTION: usize = 8_388_608;
 
-/// The canonical text of a header section, and whether it marks a name whose lines were refused.
+/// The canonical text of a header section, and whether some header in it rejects its lines.
 #[derive(Drop)]
 pub struct Canonical {
     pub text: Vec<u8>,

@@ -1,4 +1,4 @@
-//! What a server answers a request from another origin.
+//! A server's answer to a cross-origin request.
 ghost use Rattle.std.specs.Prelude.{◌≡◌, IfOk};
 ghost use Rattle.headers_c.specs.Cors.{IsShownAnswer, Shares, SharesBy, WritesShared, kind_number};
 
@@ -7,25 +7,25 @@ use headers_c_parts::{DONE, Failure, HashKeys, copy_into, read_map};
 use headers_cors_policy::{CorsAnswer, CorsKind, CorsPolicy};
 use std::alloc::{AllocError, Global};
 
-/// What a policy says of a request.
+/// The answer of a policy to a request, as numbers.
 #[repr(C)]
 #[derive(Clone, Copy)]
 pub struct CorsFacts {
-    /// 0 if the request has no `Origin`; 2 if it asks for leave to send another request; else 1.
+    /// 0 if the request has no `Origin`; 2 if it is a preflight; else 1.
     pub kind: u8,
     /// 1 if the policy allows its origin, or if it has none, else 0.
     pub is_allowed: u8,
 }
 
-/// What a policy says of a request, and the lines that it gives the response.
+/// The answer of a policy to a request, and the field lines for the response.
 #[derive(Drop)]
 pub struct Shared {
     pub facts: CorsFacts,
     pub text: Vec<u8>,
 }
 
-/// What the policy of the rules answers a request from another origin (Fetch standard, "CORS
-/// protocol"): its lines, for a response with these fields.
+/// Gives the field lines with which a policy answers a cross-origin request (Fetch standard, "CORS
+/// protocol"), for a response with these fields.
 #[unsafe(no_mangle)]
 pub extern "C" fn typed_headers_cors_answer(
     alloc: Global,

@@ -7,7 +7,7 @@ use headers_c_fields::{lines_text, written_lines};
 use headers_c_parts::{DONE, Failure, copy_into};
 use std::alloc::Global;
 
-/// The lines that the header of this name writes of the value that the lines read.
+/// Gives the canonical field lines of the header with this name: the encoding of the decoded value.
 #[unsafe(no_mangle)]
 pub extern "C" fn typed_headers_field(
     alloc: Global,

@@ -7,7 +7,7 @@ use headers::{Age, ContentLength, Date, Expires, LastModified};
 use headers_c_parts::{DONE, read_field};
 use std::alloc::Global;
 
-/// The seconds that the lines of `age` read (RFC 9111, section 5.1).
+/// Decodes the field lines of `age` to seconds (RFC 9111, section 5.1).
 #[unsafe(no_mangle)]
 pub extern "C" fn typed_headers_age(alloc: Global, lines: &[u8], seconds: &mut u64) -> u8
     ensures { Gives (FieldDecodes reads_number lines.now) seconds.old seconds.new result }
@@ -21,7 +21,7 @@ pub extern "C" fn typed_headers_age(alloc: Global, lines: &[u8], seconds: &mut u
     }
 }
 
-/// The number of bytes that the lines of `content-length` read (RFC 9110, section 8.6).
+/// Decodes the field lines of `content-length` to a number of bytes (RFC 9110, section 8.6).
 #[unsafe(no_mangle)]
 pub extern "C" fn typed_headers_content_length(alloc: Global, lines: &[u8], length: &mut u64) -> u8
     ensures { Gives (FieldDecodes reads_length lines.now) length.old length.new result }
@@ -35,7 +35,7 @@ pub extern "C" fn typed_headers_content_length(alloc: Global, lines: &[u8], leng
     }
 }
 
-/// The second since the start of 1970 that the lines of `date` read (RFC 9110, section 6.6.1).
+/// Decodes the field lines of `date` to seconds since 1970 (RFC 9110, section 6.6.1).
 #[unsafe(no_mangle)]
 pub extern "C" fn typed_headers_date(alloc: Global, lines: &[u8], second: &mut u64) -> u8
     ensures { Gives (FieldDecodes reads_date lines.now) second.old second.new result }
@@ -49,7 +49,7 @@ pub extern "C" fn typed_headers_date(alloc: Global, lines: &[u8], second: &mut u
     }
 }
 
-/// The second since the start of 1970 that the lines of `expires` read (RFC 9111, section 5.3).
+/// Decodes the field lines of `expires` to seconds since 1970 (RFC 9111, section 5.3).
 #[unsafe(no_mangle)]
 pub extern "C" fn typed_headers_expires(alloc: Global, lines: &[u8], second: &mut u64) -> u8
     ensures { Gives (FieldDecodes reads_date lines.now) second.old second.new result }
@@ -63,8 +63,7 @@ pub extern "C" fn typed_headers_expires(alloc: Global, lines: &[u8], second: &mu
     }
 }
 
-/// The second since the start of 1970 that the lines of `last-modified` read (RFC 9110, section
-/// 8.8.2).
+/// Decodes the field lines of `last-modified` to seconds since 1970 (RFC 9110, section 8.8.2).
 #[unsafe(no_mangle)]
 pub extern "C" fn typed_headers_last_modified(alloc: Global, lines: &[u8], second: &mut u64) -> u8
     ensures { Gives (FieldDecodes reads_date lines.now) second.old second.new result }

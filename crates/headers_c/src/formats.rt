@@ -6,7 +6,7 @@ use headers_c_fields::{ContentRangeParts, format_content_range, format_date, for
 use headers_c_parts::{DONE, copy_into};
 use std::alloc::Global;
 
-/// The date of a second since the start of 1970, as IMF-fixdate (RFC 9110, section 5.6.7).
+/// Formats a time in seconds since 1970 as IMF-fixdate (RFC 9110, section 5.6.7).
 #[unsafe(no_mangle)]
 pub extern "C" fn typed_headers_format_date(
     alloc: Global,
@@ -23,8 +23,8 @@ pub extern "C" fn typed_headers_format_date(
     }
 }
 
-/// The line of `content-range` for a range, for the length of the whole, or for both (RFC 9110,
-/// section 14.4).
+/// Formats the field line of `content-range` for a range, for the complete length, or for both (RFC
+/// 9110, section 14.4).
 #[unsafe(no_mangle)]
 pub extern "C" fn typed_headers_format_content_range(
     alloc: Global,
@@ -41,7 +41,7 @@ pub extern "C" fn typed_headers_format_content_range(
     }
 }
 
-/// The entity tag with this opaque part (RFC 9110, section 8.8.3).
+/// Formats the entity tag with this opaque part (RFC 9110, section 8.8.3).
 #[unsafe(no_mangle)]
 pub extern "C" fn typed_headers_format_etag(
     alloc: Global,

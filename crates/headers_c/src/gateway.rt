@@ -13,8 +13,8 @@ use headers_c_gateway::{
 use headers_c_parts::{DONE, HashKeys, copy_into};
 use std::alloc::Global;
 
-/// What a gateway does with a request, and the field lines that it sends on the next connection (RFC
-/// 9110, section 7.6; RFC 7239).
+/// Decides what a gateway does with a request, and gives the field lines for the next connection
+/// (RFC 9110, section 7.6; RFC 7239).
 #[unsafe(no_mangle)]
 pub extern "C" fn typed_headers_forward_request(
     alloc: Global,
@@ -44,7 +44,7 @@ pub extern "C" fn typed_headers_forward_request(
     }
 }
 
-/// What a gateway does with a response, and the field lines that it sends to the client (RFC 9110,
+/// Decides what a gateway does with a response, and gives the field lines for the client (RFC 9110,
 /// section 7.6).
 #[unsafe(no_mangle)]
 pub extern "C" fn typed_headers_forward_response(
@@ -84,7 +84,7 @@ pub extern "C" fn typed_headers_forward_response(
     }
 }
 
-/// How the content of a message is delimited (RFC 9112, section 6.3).
+/// Tells how the content of a message is delimited (RFC 9112, section 6.3).
 #[unsafe(no_mangle)]
 pub extern "C" fn typed_headers_framing(
     alloc: Global,

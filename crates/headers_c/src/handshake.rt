@@ -10,8 +10,8 @@ use headers_c_parts::{DONE, Failure, HashKeys, copy_into, read_values};
 use std::alloc::Global;
 use websocket::handshake::server::accept_key;
 
-/// What `sec-websocket-accept` answers to the only line of `sec-websocket-key` (RFC 6455, section
-/// 4.2.2).
+/// Gives the value of `sec-websocket-accept` for the only line of `sec-websocket-key` (RFC 6455,
+/// section 4.2.2).
 #[unsafe(no_mangle)]
 pub extern "C" fn typed_headers_websocket_accept(
     alloc: Global,
@@ -44,7 +44,7 @@ fn read_accept(alloc: Global, lines: &[u8]) -> Result<[u8; 28], Failure>
     }
 }
 
-/// What a server answers to an opening handshake (RFC 6455, sections 4.2.1 and 4.2.2).
+/// Decides a server's answer to an opening handshake (RFC 6455, sections 4.2.1 and 4.2.2).
 #[unsafe(no_mangle)]
 pub extern "C" fn typed_headers_websocket_respond(
     alloc: Global,
@@ -70,7 +70,7 @@ pub extern "C" fn typed_headers_websocket_respond(
     }
 }
 
-/// The field lines of a client's opening handshake (RFC 6455, section 4.1).
+/// Gives the field lines of a client's opening handshake (RFC 6455, section 4.1).
 #[unsafe(no_mangle)]
 pub extern "C" fn typed_headers_websocket_request(
     alloc: Global,
@@ -87,7 +87,7 @@ pub extern "C" fn typed_headers_websocket_request(
     }
 }
 
-/// What a client that sent these fields finds in a response (RFC 6455, section 4.1).
+/// Checks the response to a client's opening handshake (RFC 6455, section 4.1).
 #[unsafe(no_mangle)]
 pub extern "C" fn typed_headers_websocket_check(
     alloc: Global,

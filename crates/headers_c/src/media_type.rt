@@ -9,8 +9,8 @@ use headers_c_parts::{DONE, Failure, copy_into, read_field};
 use memchr::memchr;
 use std::alloc::Global;
 
-/// The canonical text of the media type that the lines of `content-type` read (RFC 9110, section
-/// 8.3).
+/// Decodes the field lines of `content-type` to the canonical text of the media type (RFC 9110,
+/// section 8.3).
 #[unsafe(no_mangle)]
 pub extern "C" fn typed_headers_media_type(
     alloc: Global,
@@ -27,7 +27,7 @@ pub extern "C" fn typed_headers_media_type(
     }
 }
 
-/// Type and subtype of that media type, without its parameters.
+/// Decodes the field lines of `content-type` to type and subtype, without parameters.
 #[unsafe(no_mangle)]
 pub extern "C" fn typed_headers_essence(
     alloc: Global,

@@ -1,4 +1,4 @@
-//! What the preconditions of a request come to, and which part of a representation it selects.
+//! The preconditions of a request.
 ghost use Rattle.headers_c_parts.specs.Endings.{Gives};
 ghost use Rattle.headers_c_decisions.specs.Evaluations.{Evaluates};
 
@@ -7,7 +7,7 @@ use headers_c_decisions::{Target, evaluate_request};
 use headers_c_parts::HashKeys;
 use std::alloc::Global;
 
-/// What the preconditions of a request come to (RFC 9110, section 13.2.2): 0 if the method is
+/// Evaluates the preconditions of a request (RFC 9110, section 13.2.2): 0 if the method is
 /// performed, 304 or 412.
 #[unsafe(no_mangle)]
 pub extern "C" fn typed_headers_evaluate(

@@ -11,8 +11,8 @@ use headers_c_parts::{DONE, Failure, copy_into, read_field};
 use std::alloc::{AllocError, Global};
 use std::ops::Bound;
 
-/// The ranges that a representation of `length` bytes can satisfy of those that the lines of `range`
-/// ask for, in their order (RFC 9110, section 14.1.2).
+/// Decodes the field lines of `range` to the ranges that a representation of `length` bytes can
+/// satisfy, in order (RFC 9110, section 14.1.2).
 #[unsafe(no_mangle)]
 pub extern "C" fn typed_headers_ranges(
     alloc: Global,

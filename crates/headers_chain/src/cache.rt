@@ -47,25 +47,25 @@ pub struct Received {
     pub content: Vec<u8>,
 }
 
-/// What a cache does with a request. A place is that of a response among those that are stored under the key
-/// of the request: `Store::response` returns it.
+/// What a cache in a chain does with a request. A place is that of a response among those stored
+/// under the key of the request: `Store::response` returns it.
 #[derive(Debug, Drop)]
 pub enum Action {
-    /// The stored response at the place is the answer, with this field Age in place of its own; to HEAD without
-    /// its content.
+    /// Serve the stored response at the place, with this field Age instead of its own; to HEAD
+    /// without its content.
     Serve(usize, Encoded),
-    /// The same, and the request is sent on after that, as a newer response is wanted
+    /// Serve it, and send the request on after that, since a newer response is wanted
     /// (`stale-while-revalidate`).
     ServeAndFetch(usize, Encoded, Pending),
-    /// The request is sent on.
+    /// Send the request on.
     Fetch(Pending),
-    /// The request is sent on, but if the origin can't be reached or answers 500, 502, 503 or 504, the stored
-    /// response at the place may be the answer (`stale-if-error`).
+    /// Send the request on; if the origin can't be reached or responds with 500, 502, 503 or 504,
+    /// the stored response at the place may be served (`stale-if-error`).
     FetchOrServe(usize, Pending),
-    /// The answer is 504: no stored response is good enough, and the request forbids to send it on
+    /// Respond with 504: no stored response is good enough, and the request forbids to send it on
     /// (`only-if-cached`).
     Unavailable,
-    /// The request isn't plain. It is sent on, and the response to it isn't stored.
+    /// Send the request on, which isn't plain, and don't store the response.
     Forward,
 }
 
@@ -201,11 +201,13 @@ fn acted(
     })
 }
 
-/// What a cache does with a request for a target, which is a path and maybe a query: it asks its store for a
-/// plain request (RFC 9111, section 4), and any other is sent on. `now` is what its clock shows, in seconds
-/// since 1970. Where no lifetime is stated, at most `most` seconds are guessed.
+/// Decides what a cache in a chain does with a request (RFC 9111, section 4). For a plain request
+/// it asks its store, and any other is sent on. The target is a path and perhaps a query. `now` is
+/// what its clock shows, in seconds since 1970. If no lifetime is stated, at most `most` seconds
+/// are guessed.
 ///
-/// Fails only if it runs out of memory. Then the target of a plain request may be the most recently used.
+/// Fails only if an allocation fails. Then the target of a plain request may be the most recently
+/// used.
 pub fn answer_from_store(
     alloc: Global,
     store: &mut Store,

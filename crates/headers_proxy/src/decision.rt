@@ -33,7 +33,7 @@ pub struct Outgoing {
     pub fields: Vec<FieldLine>,
 }
 
-/// What a gateway does with a request.
+/// What a gateway server does with a request.
 #[derive(Debug, Drop)]
 pub enum Decision {
     /// It answers the request itself, with this status.

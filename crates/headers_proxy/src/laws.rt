@@ -18,7 +18,7 @@ ghost use Rattle.headers_proxy.specs.Passing.{stated_framing};
 ghost use Rattle.headers_proxy.specs.Responses.{keeps_origin, says_close, written_fields};
 ghost use Rattle.headers_proxy.specs.declared.decision.Outgoing.{Outgoing};
 
-/// What goes to the origin server of a request that passes is one request in the plain form.
+/// Theorem: what the origin server gets of a request that passes is one request in the plain form.
 pub fn passed_request_is_plain()
     ensures { (gateway : Gateway) (client client_after : Client) (request : Request) (outgoing : Outgoing)
         (d : Decoder) (before after : List ℕ) (left left_after held held_after : Option (List ℕ))
@@ -26,7 +26,7 @@ pub fn passed_request_is_plain()
         → (text : List ℕ) × Appends held held_after text × IsPlainRequest text }
 {}
 
-/// What goes to the client of a final response that passes is one response in the plain form.
+/// Theorem: what the client gets of a final response that passes is one response in the plain form.
 pub fn passed_response_is_plain()
     ensures { (gateway : Gateway) (server : Server) (response : Response) (sent : ForwardedResponse)
         (d : Decoder) (before after : List ℕ) (left left_after held held_after : Option (List ℕ))
@@ -34,7 +34,8 @@ pub fn passed_response_is_plain()
         → (text : List ℕ) × Appends held held_after text × IsPlainResponse server.request.method text }
 {}
 
-/// The head of a final response says `close` exactly if its plan ends the client's connection.
+/// Theorem: the head of a final response says `close` exactly if its plan ends the client's
+/// connection.
 pub fn passed_response_says_close()
     ensures { (server server_after : Server) (response : Response) (sent : ForwardedResponse)
         (held held_after : Option (List ℕ))
@@ -42,7 +43,7 @@ pub fn passed_response_says_close()
         → says_close (written_fields response sent ++ begins.plan.extra) ≡ not begins.plan.keep_alive }
 {}
 
-/// The client's connection ends after a response if the origin server's does.
+/// Theorem: the client's connection ends after a response if the origin server's does.
 pub fn passed_response_ends_with_the_origin()
     ensures { (server server_after : Server) (response : Response) (sent : ForwardedResponse)
         (held held_after : Option (List ℕ))

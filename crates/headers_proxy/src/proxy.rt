@@ -6,20 +6,20 @@ use headers_gateway::Gateway;
 use headers_next_hop::NextConnection;
 use http1::Limits;
 
-/// Tells the time.
+/// A clock, which tells the date.
 pub trait Clock {
-    /// The date now.
+    /// Returns the present date.
     fn now(&self) -> Date;
 }
 
-/// A gateway in front of an origin server.
+/// The settings of a gateway server in front of an origin server.
 #[derive(Debug, Drop)]
 pub struct Proxy {
-    /// What it is to the messages that pass it.
+    /// The gateway's name in Via, and which fields it consumes and protects.
     pub gateway: Gateway,
     /// The authority of the origin server, for a request of HTTP/1.0 that has no Host.
     pub authority: HeaderValue,
-    /// What it tells the origin server about who made the request.
+    /// What it tells the origin server about who sent the request.
     pub forwarding: Forwarding,
     /// The client.
     pub client: Node,

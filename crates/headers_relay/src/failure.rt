@@ -1,11 +1,11 @@
-//! Why a message could not be passed on.
+//! Why a message could not be relayed.
 
 use http1::{ReadError, WriteError};
 use std::alloc::AllocError;
 use std::error::Error;
 use std::fmt;
 
-/// Why a message could not be passed on.
+/// Why a message could not be relayed.
 #[derive(Clone, Copy, Debug, PartialEq, Eq)]
 pub enum Failure {
     /// Reading from the sender failed.

@@ -1,4 +1,4 @@
-//! What follows from the definitions alone. A proof cites a law by calling it.
+//! Theorems about the definitions alone. To cite one in a proof, call it.
 ghost use Rattle.std.specs.Prelude.{◌≡◌, ◌++◌, ℕ, Bool, List, Option, None, Ok};
 ghost use Rattle.http_header.specs.FieldValue.{FieldValue};
 ghost use Rattle.http_header.specs.HeaderMap.{Entries};
@@ -18,8 +18,8 @@ ghost use Rattle.http1.specs.declared.server.Server.{Server};
 ghost use Rattle.headers_relay.specs.Content.{ArePassed, after_pieces, pieces_text};
 ghost use Rattle.headers_relay.specs.Relay.{IsRelayed, Relays};
 
-/// What a relay passes on is the content of one message, and no byte of another: what was read begins
-/// with it by the grammar of RFC 9112, and what is left unread is what follows it.
+/// Theorem: a relay sends the content of one message, and no byte of another. What was read begins
+/// with it, by the grammar of RFC 9112, and what is left unread is what follows it.
 pub fn relayed_content_is_the_message()
     ensures { (ends_with_connection : Bool) (d : Decoder) (e : Encoder) (before after : List ℕ)
         (left left_after held held_after : Option (List ℕ)) (written : Writing) (trailers : Entries FieldValue)
@@ -27,8 +27,8 @@ pub fn relayed_content_is_the_message()
         → IsRelayed d e before after left left_after held held_after trailers }
 {}
 
-/// A request whose head a client wrote and whose content was relayed is in the plain form: at most one
-/// framing field, a plain one, and content that fits it.
+/// Theorem: a request whose head a client wrote and whose content was relayed is in the plain form.
+/// It has at most one framing field, a plain one, and content that fits it.
 pub fn relayed_request_is_plain()
     ensures { (client : Client) (method target : List ℕ) (size : BodySize) (headers : List Header) (plan : Plan)
         (pieces : List (List ℕ)) (trailers : List Header) → request_plan client method size headers ≡ Ok plan
@@ -40,7 +40,8 @@ pub fn relayed_request_is_plain()
         ++ end_text (after_pieces pieces (encoder_for plan.framing)) trailers)) }
 {}
 
-/// A response whose head a server wrote and whose content was relayed is in the plain form.
+/// Theorem: a response whose head a server wrote and whose content was relayed is in the plain
+/// form.
 pub fn relayed_response_is_plain()
     ensures { (server : Server) (status : ℕ) (reason : List ℕ) (size : BodySize) (headers : List Header)
         (plan : Plan) (pieces : List (List ℕ)) (trailers : List Header)

@@ -59,7 +59,7 @@ fn pass_piece<T: ContentSink>(
     Ok(())
 }
 
-/// The header map of the fields under the spans.
+/// Makes a header map of the fields in a text, by their spans.
 pub fn fields_at(
     alloc: Global,
     keys: RandomState,
@@ -76,8 +76,9 @@ pub fn fields_at(
     Ok(header_map(alloc, keys, &section, &spans[..count])?)
 }
 
-/// Passes the content of a message from a reader to a writer, piece by piece, in the frames of the
-/// sink. Returns the trailer fields; the end of the content is for the caller to write.
+/// Relays the content of a message from a reader to a writer, piece by piece, in the frames of the
+/// sink (RFC 9112, section 6). Returns the trailer fields; the caller writes the end of the
+/// content.
 pub fn relay_content<S: ContentSource, R: Read, T: ContentSink, W: Write>(
     alloc: Global,
     keys: RandomState,

@@ -17,10 +17,10 @@ use std::alloc::Global;
 use std::hash::RandomState;
 use std::io::Read;
 
-/// How many fields the head of a message may have.
+/// The greatest number of fields in the head of a message.
 pub const MAX_FIELDS: usize = 100;
 
-/// The head of a request.
+/// The head of a request, as it was received.
 #[derive(Debug, Drop)]
 pub struct Request {
     /// The method.
@@ -58,8 +58,8 @@ fn request_at(
     })
 }
 
-/// Reads the head of the next request, with a server that has read nothing. `None` if the client closed
-/// the connection before it.
+/// Reads the head of the next request, with a server that has read nothing. `None` if the client
+/// closed the connection before it.
 pub fn read_request<R: Read>(
     alloc: Global,
     keys: RandomState,

@@ -19,7 +19,7 @@ use std::alloc::Global;
 use std::hash::RandomState;
 use std::io::Read;
 
-/// The head of a response.
+/// The head of a response, as it was received.
 #[derive(Debug, Drop)]
 pub struct Response {
     /// The minor version of HTTP/1.

@@ -18,28 +18,28 @@ use headers_preconditions::{Plan, Response, is_known_by};
 use http::StatusCode;
 use std::alloc::{AllocError, Global};
 
-/// What an answer sends.
+/// What the answer to a request sends as content.
 #[derive(Debug, Drop)]
 pub enum Sends {
     /// Nothing of the resource. The server may explain the status.
     Nothing,
     /// A list of the representations that there are (RFC 9110, section 15.5.7).
     Alternatives,
-    /// What the plan says of the representation at the place, if there is one: all of it, parts, or
+    /// What the plan sends of the representation at the place, if there is one: all, parts, or
     /// nothing. A response to HEAD never has content (section 9.3.2).
     Planned(Option<usize>, Plan),
-    /// What comes of the method, which the server performs.
+    /// The result of the method, which the server performs.
     Perform,
 }
 
-/// The answer to a request.
+/// The answer of a resource to a request: why, which status, what is sent, and which fields.
 #[derive(Debug, Drop)]
 pub struct Answer {
-    /// Why it is this answer.
+    /// Why the answer is this one.
     pub reason: Reason,
-    /// The status, or `None` if it comes of the method, which the server performs.
+    /// The status, or `None` if the server performs the method, which decides it.
     pub status: Option<StatusCode>,
-    /// What is sent.
+    /// What is sent as content.
     pub sends: Sends,
     /// The fields, for `set_all` in their order: one without field lines is removed.
     pub fields: Vec<Encoded>,
@@ -167,12 +167,12 @@ fn given_by(
     Ok(given)
 }
 
-/// Answers a request for a resource: the first reason that stands in its way, or else its
-/// preconditions and Range, or else that the server performs the method (RFC 9110, sections 7.4 to
-/// 15). `present` is the time, in seconds since the start of 1970.
+/// Decides the answer of a resource to a request (RFC 9110, sections 7.4 to 15). The first reason
+/// that applies decides; or else the preconditions and Range; or else the server performs the
+/// method. `present` is the time, in seconds since 1970.
 ///
-/// A server sets the fields in a response that it makes by the answer, also in that of a method
-/// which it performs. Each call may run out of memory.
+/// A server sets the fields in the response, also in that of a method which it performs. Fails only
+/// if an allocation fails, which is possible for every request.
 pub fn answer_request(
     alloc: Global,
     resource: &Resource,

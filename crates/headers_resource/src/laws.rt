@@ -1,4 +1,4 @@
-//! What follows from the definitions alone. A proof cites a law by calling it.
+//! Theorems about the definitions alone. To cite one in a proof, call it.
 ghost use Rattle.std.specs.Prelude.{◌≡◌, ◌≢◌, ◌↔◌, ◌⊎◌, ◌∷◌, [], ℕ, Contains, Option, Some, codes, false};
 ghost use Rattle.headers.specs.LineMap.{LineMap, fields_of, set_all};
 ghost use Rattle.headers.specs.Merge.{merge};
@@ -24,7 +24,7 @@ ghost use Rattle.headers_resource.specs.declared.reason.Reason.TheVariants.{Admi
 ghost use Rattle.headers_resource.specs.declared.reason.Reason.TheVariants.{UnknownMethod, UnmetExpectation};
 ghost use Rattle.headers_resource.specs.declared.resource.Resource.{Resource};
 
-/// Every request has a first reason, and no other: reasons of one stage exclude each other.
+/// Theorem: every request has exactly one first reason: reasons of one stage exclude each other.
 pub fn request_has_one_reason()
     ensures some { (resource : Resource) (request : Request)
         → (reason : Reason) × IsFirst (applies resource request) reason }
@@ -32,7 +32,7 @@ pub fn request_has_one_reason()
         → IsFirst (applies resource request) a → IsFirst (applies resource request) b → a ≡ b }
 {}
 
-/// Every request selects a place, and no other: that of a representation, or none.
+/// Theorem: every request selects exactly one place: that of a representation, or none.
 pub fn request_selects_one_place()
     ensures some { (resource : Resource) (fields : LineMap)
         → (place : Option ℕ) × IsSelected resource fields place }
@@ -40,15 +40,16 @@ pub fn request_selects_one_place()
         → IsSelected resource fields a → IsSelected resource fields b → a ≡ b }
 {}
 
-/// A request has one answer at most: two have the same reason, status and fields, and send the same.
+/// Theorem: a request has at most one answer: one reason, one status, one list of fields, one
+/// content.
 pub fn request_has_one_answer()
     ensures { (present : ℕ) (resource : Resource) (request : Request) (a b : Answer)
         → IsAnswer present resource request a → IsAnswer present resource request b → AreSame a b }
 {}
 
-/// After `set_all` of the fields of any answer, errors included, whatever fields the response had
-/// before, a browser's CORS check holds exactly if the rules of the policy allow the origin and the
-/// credentials.
+/// Theorem: a browser's CORS check of any answer, errors included, passes exactly if the policy's
+/// rules allow the origin and the credentials. This holds after `set_all` of the answer's fields,
+/// whatever fields the response had before.
 pub fn answer_is_shared_by_rules()
     ensures { (present : ℕ) (resource : Resource) (request : Request) (answer : Answer) (rules : CorsRules)
         (policy : Policy) (before : LineMap) (sent : Sent) → resource.cors ≡ Some policy
@@ -58,8 +59,8 @@ pub fn answer_is_shared_by_rules()
         ↔ (AllowsOrigin rules sent.origin × AllowsCredentials rules sent.credentials) }
 {}
 
-/// The answer to a preflight, which is an OPTIONS, lets a browser send the request exactly if the
-/// rules of the policy allow it.
+/// Theorem: after the answer to a preflight, which is an OPTIONS, a browser sends the request
+/// exactly if the policy's rules allow it.
 pub fn preflight_passes_by_rules()
     ensures { (present : ℕ) (resource : Resource) (request : Request) (answer : Answer) (rules : CorsRules)
         (policy : Policy) (before : LineMap) (sent : Sent) (status : ℕ) → resource.cors ≡ Some policy
@@ -68,29 +69,30 @@ pub fn preflight_passes_by_rules()
         → PreflightPasses status (set_all before (fields_of answer.fields.items)) sent ↔ AllowsRequest rules sent }
 {}
 
-/// Whatever stands in the way of a request decides before its preconditions do (RFC 9110, section
-/// 13.2.1): they never turn a 404, a 405, a 406 or a redirect into a 304 or a 412.
+/// Theorem: whatever else keeps a request from being performed decides before its preconditions do:
+/// they never turn a 404, a 405, a 406 or a redirect into a 304 or a 412 (RFC 9110, section
+/// 13.2.1).
 pub fn preconditions_come_last()
     ensures { (reason : Reason) → reason ≢ Admitted → Before reason Admitted }
 {}
 
-/// Allow lists exactly the methods that aren't answered by 405 (RFC 9110, section 10.2.1).
+/// Theorem: Allow lists exactly the methods that aren't answered by 405 (RFC 9110, section 10.2.1).
 pub fn allow_is_exact()
     ensures { (resource : Resource) (request : Request) → Contains (methods resource.rules.items) request.method
         ↔ (applies resource request MethodNotAllowed ≡ false) }
 {}
 
-/// The answer to a GET without Range is the answer to a HEAD with the same fields (RFC 9110, section
-/// 9.3.2): it has the same status and the same fields. The server sends its content to GET alone.
+/// Theorem: a GET without Range gets the status and the fields of a HEAD with the same fields (RFC
+/// 9110, section 9.3.2). The server sends its content to GET alone.
 pub fn head_is_answered_as_get()
     ensures { (present : ℕ) (resource : Resource) (request : Request) (answer : Answer)
         → IsAnswer present resource (get_of request) answer → IsAnswer present resource (head_of request) answer }
 {}
 
-/// Vary is sound (RFC 9110, section 12.5.5): if the Vary of an answer lets a cache use it for another
-/// request of the same method, target, content and conditions, that request would have got the same
-/// answer. So each field that can change the answer is named. No cache stores an answer to OPTIONS
-/// (section 9.3.7).
+/// Theorem: Vary names each field that can change the answer (RFC 9110, section 12.5.5). If the
+/// Vary of an answer lets a cache use it for another request with the same method, target, content
+/// and conditions, that request would have got the same answer. No cache stores an answer to
+/// OPTIONS (section 9.3.7).
 pub fn vary_is_sound()
     ensures { (present : ℕ) (resource : Resource) (r s : Request) (a b : Answer) (before : LineMap)
         → IsAnswer present resource r a → IsAnswer present resource s b → AreAlike r s
@@ -98,8 +100,8 @@ pub fn vary_is_sound()
         → Serves (set_all before (fields_of a.fields.items) (codes "vary")) r.fields s.fields → AreSame a b }
 {}
 
-/// A 304 or a 412 is about the representation that the request would get without its conditions, so
-/// it was decided by the validators of that one (RFC 9110, section 13.1).
+/// Theorem: a 304 or a 412 is about the representation that the request would get without its
+/// conditions, so it was decided by the validators of that one (RFC 9110, section 13.1).
 pub fn conditions_are_about_the_selected()
     ensures { (present : ℕ) (resource : Resource) (request : Request) (a b : Answer) (p q : Option ℕ)
         (plan other : Plan) → IsAnswer present resource request a
@@ -107,25 +109,25 @@ pub fn conditions_are_about_the_selected()
         → p ≡ q }
 {}
 
-/// An answer depends on the method, the target, the content and these fields alone. Whatever other fields
-/// a request has, as those that a gateway adds, the answer is the same.
+/// Theorem: the answer depends on the method, the target, the content and these fields alone, and
+/// not on other fields, such as those that a gateway adds.
 pub fn other_fields_change_nothing()
     ensures { (present : ℕ) (resource : Resource) (r s : Request) (answer : Answer) → AreAlike r s
         → ChooseAlike r.fields s.fields
         → IsAnswer present resource r answer ↔ IsAnswer present resource s answer }
 {}
 
-/// Of Accept, Accept-Language and Accept-Encoding an answer depends on the members alone: into how many
-/// field lines they are split, and the white space around them, change nothing (RFC 9110, section 5.3).
+/// Theorem: of Accept, Accept-Language and Accept-Encoding only the members change the answer, and
+/// not their field lines or the white space around them (RFC 9110, section 5.3).
 pub fn members_alone_select()
     ensures { (present : ℕ) (resource : Resource) (r s : Request) (answer : Answer) → AreAlike r s
         → SelectTheSame r.fields s.fields
         → IsAnswer present resource r answer ↔ IsAnswer present resource s answer }
 {}
 
-/// What OPTIONS says agrees with what the methods then get (RFC 9110, sections 9.3.7 and 10.2.1): its
-/// Allow, and that of a 405, is the list of the methods of the resource. A method of the list is never
-/// answered by 405 or 501, and any other is answered by 400, 421, 501 or 405.
+/// Theorem: Allow of an OPTIONS and of a 405 is the list of the resource's methods (RFC 9110,
+/// sections 9.3.7 and 10.2.1). A method of the list never gets 405 or 501, and any other gets 400,
+/// 421, 501 or 405.
 pub fn options_agrees_with_methods()
     ensures told { (present : ℕ) (resource : Resource) (request : Request) (answer : Answer) (before : LineMap)
         → IsAnswer present resource request answer
@@ -140,8 +142,8 @@ pub fn options_agrees_with_methods()
         → Before answer.reason UnmetExpectation × (answer.reason ≢ Options) }
 {}
 
-/// A preflight for a resource with a policy is answered by 204, and a browser sends the request after
-/// it exactly if the rules of the policy allow it.
+/// Theorem: a preflight for a resource with a policy gets 204, and a browser sends the request
+/// after it exactly if the policy's rules allow it.
 pub fn preflight_is_answered()
     ensures { (present : ℕ) (resource : Resource) (request : Request) (answer : Answer) (rules : CorsRules)
         (policy : Policy) (before : LineMap) (sent : Sent) → resource.cors ≡ Some policy
@@ -151,8 +153,8 @@ pub fn preflight_is_answered()
         × (PreflightPasses 204 (set_all before (fields_of answer.fields.items)) sent ↔ AllowsRequest rules sent) }
 {}
 
-/// A 304 has the ETag of the 200 that the request would get without its conditions (RFC 9110, section
-/// 15.4.5).
+/// Theorem: a 304 has the ETag of the 200 that the request would get without its conditions (RFC
+/// 9110, section 15.4.5).
 pub fn not_modified_has_the_tag()
     ensures { (present : ℕ) (resource : Resource) (request : Request) (a b : Answer) (p q : Option ℕ)
         (before : LineMap) → IsAnswer present resource request a
@@ -161,8 +163,9 @@ pub fn not_modified_has_the_tag()
         ≡ set_all before (fields_of b.fields.items) (codes "etag") }
 {}
 
-/// A 304 without ETag has the Last-Modified of that 200, so a cache finds a validator by which to
-/// update what it stored (RFC 9110, section 15.4.5).
+/// Theorem: a 304 without ETag has the Last-Modified of the 200 that the request would get without
+/// its conditions, so a cache finds a validator to update what it stored (RFC 9110, section
+/// 15.4.5).
 pub fn not_modified_has_the_date()
     ensures { (present : ℕ) (resource : Resource) (request : Request) (a b : Answer) (p q : Option ℕ)
         (before : LineMap) → IsAnswer present resource request a

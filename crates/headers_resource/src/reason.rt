@@ -2,10 +2,10 @@
 ghost use Rattle.std.specs.Prelude.{◌≡◌};
 ghost use Rattle.headers_resource.specs.Reasons.{stage};
 
-/// Why a request is answered as it is: what stands in the way of its method, or that nothing does.
+/// Why a request gets its answer: what keeps its method from being performed, or that nothing does.
 #[derive(Clone, Copy, Debug, PartialEq, Eq)]
 pub enum Reason {
-    /// 400: Host is missing, is there twice, or is no host (RFC 9110, section 7.2).
+    /// 400: Host is missing, is present twice, or is no host (RFC 9110, section 7.2).
     InvalidHost,
     /// 421: the host isn't one of the resource's (section 7.4).
     Misdirected,
@@ -35,13 +35,13 @@ pub enum Reason {
     NotAcceptable,
     /// 428: the request has no precondition (RFC 6585, section 3).
     PreconditionRequired,
-    /// Nothing stands in the way: the preconditions and Range decide, and then the method.
+    /// Nothing keeps the method from being performed: the preconditions and Range decide.
     Admitted,
 }
 
 impl Reason {
-    /// Its stage. Of the reasons that apply to a request, that of the lowest stage decides, and those
-    /// of one stage exclude each other.
+    /// Returns the stage of the reason: of those that apply to a request, the one with the lowest
+    /// stage decides. Reasons of one stage exclude each other.
     pub fn stage(self) -> u8
         ensures { result ≡ stage self }
     {

@@ -24,15 +24,16 @@ pub struct Representation {
     pub current: Resource,
 }
 
-/// By which fields of a request a representation is chosen (RFC 9110, section 12.1). The others are
-/// ignored, and Vary doesn't name them.
+/// By which fields of a request a representation is selected (RFC 9110, section 12.1). The others
+/// are ignored, and Vary doesn't name them.
 #[derive(Clone, Copy, Debug, PartialEq, Eq)]
 pub struct Negotiation {
-    /// By Accept.
+    /// Whether Accept counts.
     pub media_type: bool,
-    /// By Accept-Language. It excludes none: 406 for a language isn't encouraged (section 12.5.4).
+    /// Whether Accept-Language counts. It excludes none: 406 for a language isn't encouraged
+    /// (section 12.5.4).
     pub language: bool,
-    /// By Accept-Encoding.
+    /// Whether Accept-Encoding counts.
     pub coding: bool,
     /// Whether a read is answered by 406 if no representation is acceptable. Otherwise it gets the
     /// first one, as if it weren't negotiated (section 12.4.1).

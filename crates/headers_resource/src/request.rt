@@ -7,15 +7,15 @@ use http::Method;
 /// The content of a request, by the framing of its message (RFC 9110, section 6.4).
 #[derive(Clone, Copy, Debug, PartialEq, Eq)]
 pub enum RequestContent {
-    /// There is none.
+    /// The request has no content.
     Absent,
-    /// It has this many bytes.
+    /// The content has this many bytes.
     Sized(u64),
-    /// Its length isn't stated.
+    /// The length of the content isn't stated.
     Unsized,
 }
 
-/// A request, without its content.
+/// A request for a resource, without its content.
 #[derive(Clone, Copy)]
 pub struct RequestHead<'a> {
     /// The version of HTTP. A later version than 1.1 counts as 1.1, with Host as `:authority`.

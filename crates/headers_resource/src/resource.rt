@@ -6,7 +6,7 @@ use headers_cors_policy::CorsPolicy;
 use headers_preconditions::Boundary;
 use http::Method;
 
-/// A method that a resource has, and what it asks of a request.
+/// A method of a resource, and what it requires of a request.
 #[derive(Debug, Drop)]
 pub struct MethodRule {
     /// The method. GET stands for HEAD too (RFC 9110, section 9.3.2). Each resource has OPTIONS, and
@@ -19,57 +19,57 @@ pub struct MethodRule {
     /// weights.
     pub takes: HeaderMap,
     /// Whether the method is performed if there is no current representation, as PUT is (section
-    /// 9.3.4). Any other method is answered by 404.
+    /// 9.3.4). Any other method then gets 404.
     pub creates: bool,
     /// Whether the request must have a precondition (RFC 6585, section 3).
     pub needs_condition: bool,
 }
 
-/// How the target of a request that moved is found (RFC 9110, section 15.4).
+/// Where a resource has moved, and whether the method stays (RFC 9110, section 15.4).
 #[derive(Clone, Copy, Debug, PartialEq, Eq)]
 pub enum Redirect {
-    /// 301: it has a new URI. A client may change POST to GET.
+    /// 301: the resource has a new URI. A client may change POST to GET.
     MovedPermanently,
-    /// 307: it is under another URI for now. The method stays.
+    /// 307: the resource is temporarily under another URI. The method stays.
     Temporary,
-    /// 308: it has a new URI. The method stays.
+    /// 308: the resource has a new URI. The method stays.
     Permanent,
 }
 
-/// What the target of a request is.
+/// The state of the target of a request.
 #[derive(Debug, Drop)]
 pub enum State {
-    /// It has a current representation.
+    /// The target has a current representation.
     Current,
-    /// It has none.
+    /// The target has no current representation.
     Absent,
-    /// It has none, and none is expected again (RFC 9110, section 15.5.11).
+    /// The target has none, and none is expected again (RFC 9110, section 15.5.11).
     Gone,
-    /// It is under another URI, that of Location.
+    /// The target is under another URI, that of Location.
     Moved(Redirect, HeaderValue),
 }
 
-/// What a server knows of the target of a request before it performs a method.
+/// What a server knows about the target of a request before it performs a method.
 #[derive(Debug, Drop)]
 pub struct Resource {
     /// The hosts that it is served for, as they are written in Host, or `None` for any (RFC 9110,
     /// section 7.4). They are compared without case.
     pub hosts: Option<Vec<HeaderValue>>,
-    /// The methods that it has. Of two rules for one method the first counts.
+    /// The methods of the resource. Of two rules for one method the first counts.
     pub rules: Vec<MethodRule>,
-    /// Whether it exists.
+    /// The state of the resource.
     pub state: State,
     /// Its current representations, the most wanted first. There may be none if the server makes
     /// them only as it performs GET.
     pub representations: Vec<Representation>,
     /// By which fields a representation is chosen.
     pub negotiation: Negotiation,
-    /// What stands between several parts. No part may hold it.
+    /// The boundary between several parts. The caller must make sure that no part contains it.
     pub boundary: Boundary,
     /// Whether content must have a length (RFC 9110, section 15.5.12).
     pub needs_length: bool,
-    /// The greatest length of content that is taken, if there is one (section 15.5.14).
+    /// The greatest length of content in bytes, if there is one (section 15.5.14).
     pub limit: Option<u64>,
-    /// What responses say to requests from other origins, if they say anything.
+    /// The policy for cross-origin requests, if there is one.
     pub cors: Option<CorsPolicy>,
 }

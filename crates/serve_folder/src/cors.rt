@@ -8,7 +8,7 @@ use http_header::{
 };
 use std::alloc::{AllocError, Global};
 
-/// The text is no origin.
+/// The error of a text that is no origin.
 #[derive(Clone, Copy)]
 pub struct NoOrigin;
 
@@ -30,9 +30,10 @@ fn origins_of(alloc: Global, text: &str) -> Result<Allowed<Origin>, Refused<NoOr
     }
 }
 
-/// The policy for scripts of one origin, or of any if it is `*`: they may ask for ranges and make
-/// conditions, and read what an answer says of its representation. Credentials aren't allowed.
-/// `NoOrigin` if the text is no origin that a browser sends.
+/// Makes the policy for scripts of one origin, or of any origin if the text is `*`. They may ask
+/// for ranges and make conditions, and read what a response says about its representation.
+/// Credentials aren't allowed. `Invalid` if the text is no origin that a browser sends, `Memory` if
+/// an allocation fails.
 pub fn policy_for(alloc: Global, text: &str) -> Result<CorsPolicy, Refused<NoOrigin>> {
     let mut rules = CorsRules::new(alloc, origins_of(alloc, text)?);
     let names = vec![in alloc;

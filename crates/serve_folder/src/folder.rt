@@ -21,20 +21,20 @@ const MAX_KEPT: u64 = 64 * 1024;
 /// another time.
 const SETTLED: u64 = 2;
 
-/// A folder of the system. A link in it that leads out of it leads to nothing.
+/// A folder of the system. A link that leads out of it is treated as missing.
 #[derive(Drop)]
 pub struct Folder<'a> {
-    /// Reads files and the clock.
+    /// The runtime, which reads files and the clock.
     pub rt: &'a HostRuntime,
-    /// Its path, with every link resolved.
+    /// The path of the folder, with every link resolved.
     pub root: &'a str,
-    /// A file that has more bytes may not be read.
+    /// The greatest length of a file that may be read, in bytes.
     pub max_file: u64,
-    /// Whether answers have dates: of the clock, and of the files.
+    /// Whether responses have dates: of the clock, and of the files.
     pub has_dates: bool,
-    /// Whom the log names as the client, if there is a log.
+    /// The client's name in the log, if there is a log.
     pub logged: Option<String>,
-    /// Files that were read before.
+    /// The files that were read before.
     pub kept: KeptFiles,
 }
 

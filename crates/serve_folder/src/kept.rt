@@ -7,7 +7,7 @@ use std::cell::RefCell;
 use std::num::NonZeroUsize;
 use std::time::SystemTime;
 
-/// So many files are kept at most.
+/// The greatest number of files in memory.
 const MAX_FILES: usize = 256;
 
 /// A file that changed fewer seconds before it was read isn't kept: it may change again without
@@ -28,7 +28,7 @@ pub struct KeptFiles {
 }
 
 impl KeptFiles {
-    /// No file.
+    /// Makes a store without files. Fails only if an allocation fails.
     pub fn new(alloc: Global) -> Result<KeptFiles, AllocError> {
         let most = NonZeroUsize::new(MAX_FILES).unwrap_or(NonZeroUsize::MIN);
         let files = LruCache::sparse(alloc, most)?;
@@ -37,7 +37,8 @@ impl KeptFiles {
         })
     }
 
-    /// The bytes of the file at a path, if they were kept and it has this length and this time still.
+    /// Returns the bytes of the file at a path, if they are stored and the file still has this
+    /// length and this time.
     pub fn get(
         &self,
         path: &str,
@@ -57,7 +58,7 @@ impl KeptFiles {
         }
     }
 
-    /// Keeps the bytes of a file, if it hasn't changed of late.
+    /// Stores the bytes of a file, unless it changed a short time ago.
     pub fn put(
         &self,
         alloc: Global,

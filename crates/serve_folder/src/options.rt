@@ -3,7 +3,7 @@
 use clap::{Arg, ArgAction, Command, value_parser};
 use std::alloc::{AllocError, Global};
 
-/// What the program takes: a folder, and options.
+/// Makes the description of the command line: a folder, and options.
 pub fn command<'a>(alloc: Global) -> Result<Command<'a>, AllocError> {
     let folder = Arg::new(alloc, "FOLDER")
         .required(true)

@@ -4,8 +4,8 @@ ghost use Rattle.std.specs.Path.{PathStartsWith, path_buf_bytes};
 use std::path::PathBuf;
 use std::{fs, io};
 
-/// A path with every link resolved, which begins with that of a root. Files are opened at such paths
-/// alone.
+/// A path with every link resolved, which begins with that of a root. Files are opened only at such
+/// paths.
 #[derive(Drop)]
 pub struct Place<'a> {
     root: &'a str,
@@ -14,7 +14,7 @@ pub struct Place<'a> {
 }
 
 impl<'a> Place<'a> {
-    /// Where a path leads. `None` if that is outside the root.
+    /// Resolves the links of a path. `None` if it leads out of the root.
     pub fn resolve(rt: &HostRuntime, root: &'a str, path: &str) -> io::Result<Option<Place<'a>>> {
         let path = fs::canonicalize(rt, path)?;
         if path.starts_with(root) {
@@ -24,7 +24,7 @@ impl<'a> Place<'a> {
         }
     }
 
-    /// Its text.
+    /// Returns the resolved path as text.
     pub fn as_str(&self) -> &str {
         self.path.as_str()
     }

@@ -3,7 +3,8 @@
 use clap::{Arg, ArgAction, Command};
 use std::alloc::{AllocError, Global};
 
-/// What the program takes: the origin server, the two files to which it is connected, and options.
+/// Makes the description of the command line: the origin server, the two files to which it is
+/// connected, and options.
 pub fn command<'a>(alloc: Global) -> Result<Command<'a>, AllocError> {
     let origin = Arg::new(alloc, "ORIGIN")
         .required(true)
