@@ -1,8 +1,11 @@
 /*
  * Calls of the library for C, timed or counted.
  *
- *     over_library times     nanoseconds of each decision that decisions.js or go/main.go has too, the least of many rounds
+ *     over_library times     nanoseconds of each decision that decisions.js or go/main.go has too, the least of many
+ *                            rounds, and how often a call allocates
  *     over_library growth    under callgrind: the instructions of each call, on texts that grow by four
+ *
+ * It is linked with --wrap=malloc,--wrap=realloc, to count.
  */
 #define _POSIX_C_SOURCE 200809L
 #include <stdio.h>
@@ -22,6 +25,20 @@ static char *text, *other;
 static uint8_t *room;
 static struct typed_headers_bytes_range *ranges;
 static size_t written;
+static unsigned long allocations;
+
+void *__real_malloc(size_t size);
+void *__real_realloc(void *block, size_t size);
+
+void *__wrap_malloc(size_t size) {
+    allocations++;
+    return __real_malloc(size);
+}
+
+void *__wrap_realloc(void *block, size_t size) {
+    allocations++;
+    return __real_realloc(block, size);
+}
 
 /* A request to callgrind, as its header file makes one. It does nothing where the program runs by itself. */
 static void ask_callgrind(unsigned long request, const char *argument) {
@@ -172,7 +189,11 @@ static uint64_t sum;
             if (time * (double)count < 5e6) count *= 2;                                                                \
             if (time < least) least = time;                                                                            \
         }                                                                                                              \
-        printf("%s\t%.1f\n", name, least);                                                                             \
+        allocations = 0;                                                                                               \
+        for (long at = 0; at < 2; at++) {                                                                              \
+            call;                                                                                                      \
+        }                                                                                                              \
+        printf("%s\t%.1f\t%.1f\n", name, least, (double)allocations / 2);                                             \
     } while (0)
 
 static uint64_t evaluated(const char *section) {

@@ -4,8 +4,9 @@
 //!     side_by_side counts [PART_OF_A_NAME..]                      under callgrind
 //!     side_by_side growth                                         under callgrind, the port alone
 //!
-//! `times` prints `name peer_ns port_ns` of each call, each the least of ROUNDS rounds that alternate. The others
-//! dump callgrind's counts, under names that tools/bench reads.
+//! `times` prints `name peer_ns port_ns toolchain_ns` of each call, each the least of ROUNDS rounds that alternate. The
+//! last is the time of what the port leaves to the toolchain, or 0 where no operation does that alone. The others dump
+//! callgrind's counts, under names that tools/bench reads.
 
 mod growth;
 mod inputs;
@@ -73,28 +74,47 @@ fn seconds(f: impl FnOnce() -> u64) -> (f64, u64) {
     (start.elapsed().as_secs_f64(), sum)
 }
 
+/// The operation of kind 4 that does what a call of the port leaves to the toolchain, and nothing else.
+fn of_toolchain(name: &str) -> Option<u32> {
+    match name {
+        "allow_methods_iter_1" | "allow_methods_iter_10" | "allow_methods_iter_100" | "allow_iter_10" => Some(0),
+        "age_encode" | "content_length_encode" => Some(1),
+        "host_encode" => Some(2),
+        "map_typed_insert_length" => Some(3),
+        "vary_encode" | "allow_methods_encode" | "allow_headers_encode" | "etag_encode" | "if_match_encode"
+        | "if_range_encode_tag" | "range_encode" | "server_encode" | "set_cookie_encode_20" => Some(4),
+        _ => None,
+    }
+}
+
 fn time(op: &Op, rounds: usize, target: f64) {
     let (text, words) = (op.text.as_bytes(), op.words.as_bytes());
     let run_peer = |n| seconds(|| peer::run(op.kind, op.op, black_box(text), black_box(words), n));
     let run_port = |n| seconds(|| port(op.kind, op.op, black_box(text), black_box(words), n));
+    let part = of_toolchain(op.name);
+    let run_part = |n| part.map_or((0.0, 0), |it| seconds(|| port(4, it, black_box(text), black_box(words), n)));
     // The setup is timed with no pass, and taken off.
     let setup = run_peer(0).0.max(run_port(0).0);
     let mut n = 1;
     while run_peer(n).0.min(run_port(n).0) < target + 2.0 * setup {
         n *= 2;
     }
-    let mut least = [f64::MAX; 4];
+    let mut least = [f64::MAX; 6];
     for _ in 0..rounds {
         let (peer_time, peer_sum) = run_peer(n);
         let (port_time, port_sum) = run_port(n);
+        let (part_time, part_sum) = run_part(n);
         assert_eq!(peer_sum, port_sum, "{}: the sums differ", op.name);
         assert_ne!(peer_sum, 0, "{}: no work", op.name);
-        for (i, t) in [peer_time, port_time, run_peer(0).0, run_port(0).0].into_iter().enumerate() {
-            least[i] = least[i].min(t);
+        assert!(part.is_none() || part_sum == port_sum, "{}: the toolchain's sum differs", op.name);
+        let times = [peer_time, port_time, part_time, run_peer(0).0, run_port(0).0, run_part(0).0];
+        for (least, time) in least.iter_mut().zip(times) {
+            *least = least.min(time);
         }
     }
     let ops = (n * op.per_pass) as f64;
-    println!("{} {:.2} {:.2}", op.name, (least[0] - least[2]) / ops * 1e9, (least[1] - least[3]) / ops * 1e9);
+    let [peer, port, part] = [0, 1, 2].map(|at| (least[at] - least[at + 3]) / ops * 1e9);
+    println!("{} {peer:.2} {port:.2} {part:.2}", op.name);
 }
 
 /// The instructions of few passes and of more, so that the setup can be taken off. The first run finds the allocator
