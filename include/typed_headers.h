@@ -693,7 +693,7 @@ enum typed_headers_resource_state {
  */
 struct typed_headers_resource {
     /* The hosts that it is served for, as they are written in Host (section 7.4). Empty: any. They are compared without
-       case. */
+       case, and one without a port is served at each port. */
     struct typed_headers_text hosts;
     /* The methods that it has, in the order of Allow. GET stands for HEAD too, and each resource has OPTIONS. */
     struct typed_headers_text methods;

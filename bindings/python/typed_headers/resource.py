@@ -199,7 +199,8 @@ class Resource:
     state: State = State.CURRENT
     #: Where it is, if it has moved.
     location: str = ""
-    #: The hosts that it is served for, as they are written in Host, compared without case. None: any.
+    #: The hosts that it is served for, as they are written in Host, compared without case. One without a port is served
+    #: at each port. None: any.
     hosts: Sequence[str] = ()
     #: Whether a representation is chosen by Accept.
     by_media_type: bool = False

@@ -1,12 +1,13 @@
 mod AllowLemmas
-mod AnswerLemmas
+pub mod AnswerLemmas
 mod ConditionLemmas
 mod HeadLemmas
+pub mod ItemLemmas
 mod MemberLemmas
 mod OneReasonLemmas
 mod OtherFieldLemmas
 mod OwnFieldLemmas
-mod PickLemmas
+pub mod PickLemmas
 mod PlanLemmas
 mod ReasonLemmas
 mod SamePlanLemmas

@@ -1,6 +1,8 @@
 -- When a reason applies to a request (RFC 9110).
 use Rattle.std.specs.Prelude.{ℕ, ◌==◌, Bool, true, false, not, ◌&&◌, ◌||◌, List, [], ◌∷◌, ◌++◌, Option, Some, None}
-use Rattle.std.specs.Prelude.{bytes_eq, codes, find, flat_map, is_some, length, nat_lt, if◌then◌else◌}
+use Rattle.std.specs.Prelude.{bytes_eq, codes, drop, find, flat_map, is_some, length, nat_le, nat_lt, take}
+use Rattle.std.specs.Prelude.{if◌then◌else◌}
+use Rattle.std.specs.Char.{is_ascii_digit}
 use Rattle.std.specs.List.{list_all, list_any}
 use Rattle.std.specs.Option.{option_map_or}
 use Rattle.http_header.specs.FieldValue.{FieldValue}
@@ -35,10 +37,21 @@ abbrev pub host_named : Option Line → List Line → Option Line
 host_named (Some authority) hosts = Some authority
 host_named None hosts = only_line hosts
 
+-- nothing, or a colon (58) and digits (RFC 3986, section 3.2.3)
+abbrev pub is_port : List ℕ → Bool
+is_port [] = true
+is_port (byte ∷ rest) = (byte == 58) && list_all is_ascii_digit rest
+
+-- the host is this one, in any case; one that is written without a port is served at each
+abbrev pub is_at_host : List ℕ → Line → Bool
+is_at_host own host =
+    nat_le (length own) (length host)
+    && (same_name own (take (length own) host) && is_port (drop (length own) host))
+
 -- the resource is served for the host; a request of HTTP/1.0 may name none
 abbrev pub is_own : List FieldValue → Option Line → Bool
 is_own hosts None = true
-is_own hosts (Some host) = list_any (λ own. same_name own.bytes host) hosts
+is_own hosts (Some host) = list_any (λ own. is_at_host own.bytes host) hosts
 
 abbrev pub is_misdirected : Resource → Request → Bool
 is_misdirected resource request =

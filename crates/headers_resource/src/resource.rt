@@ -53,7 +53,7 @@ pub enum State {
 #[derive(Debug, Drop)]
 pub struct Resource {
     /// The hosts that it is served for, as they are written in Host, or `None` for any (RFC 9110,
-    /// section 7.4). They are compared without case.
+    /// section 7.4). They are compared without case. One without a port is served at each port.
     pub hosts: Option<Vec<HeaderValue>>,
     /// The methods of the resource. Of two rules for one method the first counts.
     pub rules: Vec<MethodRule>,

@@ -251,7 +251,7 @@ pub(crate) fn metadata_fields(
         ≡ metadata_fields (keeps_encoding plan.now is_known) representation.now) }
 {
     // Those that the preconditions and Range give follow.
-    let mut fields = Vec::with_capacity(alloc, 16)?;
+    let mut fields = Vec::with_capacity(alloc, 12)?;
     if !keeps_encoding(plan, is_known) {
         fields.push(Encoded {
             name: CONTENT_LANGUAGE,

@@ -1,13 +1,14 @@
 //! The target of a request: its host, the method and the state of the resource.
 ghost use Rattle.std.specs.Prelude.{◌≡◌, ◌&&◌, bytes_eq, codes, not, option_map, option_copied};
-ghost use Rattle.std.specs.List.{list_any};
+ghost use Rattle.std.specs.Char.{is_ascii_digit};
+ghost use Rattle.std.specs.List.{list_all, list_any};
 ghost use Rattle.std.specs.Option.{option_map_or};
 ghost use Rattle.headers.specs.LineMap.{lines_at};
 ghost use Rattle.headers.specs.Lines.{only_line};
 ghost use Rattle.headers_syntax.specs.AsciiCase.{same_name};
-ghost use Rattle.headers_resource.specs.Applies.{creates, has_method_by, has_moved, host_named, is_absent, is_current};
-ghost use Rattle.headers_resource.specs.Applies.{is_gone, is_misdirected, is_own, is_read, is_standard, rule_for};
-ghost use Rattle.headers_resource.specs.Applies.{ruled};
+ghost use Rattle.headers_resource.specs.Applies.{creates, has_method_by, has_moved, host_named, is_absent, is_at_host};
+ghost use Rattle.headers_resource.specs.Applies.{is_current, is_gone, is_misdirected, is_own, is_port, is_read};
+ghost use Rattle.headers_resource.specs.Applies.{is_standard, rule_for, ruled};
 ghost use Rattle.headers_resource.specs.Requests.{request_of};
 
 use crate::request::RequestHead;
@@ -37,16 +38,37 @@ fn host_named<'a>(request: &RequestHead<'a>) -> Option<&'a HeaderValue>
     }
 }
 
-fn is_same_host(own: &HeaderValue, host: &HeaderValue) -> bool
-    ensures { result ≡ same_name own.now.bytes host.now.bytes }
+fn are_digits(text: &[u8]) -> bool
+    ensures { result ≡ list_all is_ascii_digit text.now }
 {
-    own.as_bytes().eq_ignore_ascii_case(host.as_bytes())
+    text.iter().all(|byte| byte.is_ascii_digit())
+}
+
+fn is_port(text: &[u8]) -> bool
+    ensures { result ≡ is_port text.now }
+{
+    text.is_empty() || (text[0] == b':' && are_digits(&text[1..]))
+}
+
+fn is_same(own: &[u8], host: &[u8]) -> bool
+    ensures { result ≡ same_name own.now host.now }
+{
+    own.eq_ignore_ascii_case(host)
+}
+
+// Whether a host is this one, at any port if this one is written without a port.
+fn is_at_host(own: &[u8], host: &[u8]) -> bool
+    ensures { result ≡ is_at_host own.now host.now }
+{
+    own.len() <= host.len() && is_same(own, &host[..own.len()]) && is_port(&host[own.len()..])
 }
 
 fn is_listed(hosts: &[HeaderValue], host: &HeaderValue) -> bool
-    ensures { result ≡ list_any (λ own. same_name own.bytes host.now.bytes) hosts.now }
+    ensures { result ≡ list_any (λ own. is_at_host own.bytes host.now.bytes) hosts.now }
 {
-    hosts.iter().any(|own| is_same_host(own, host))
+    hosts
+        .iter()
+        .any(|own| is_at_host(own.as_bytes(), host.as_bytes()))
 }
 
 // Whether a resource with these hosts is served for this one.

@@ -17,7 +17,7 @@ use Rattle.headers.specs.Text.{quote}
 use Rattle.headers_preconditions.specs.Boundaries.{is_boundary, is_boundary_byte}
 use Rattle.sha2.specs.Sha256.{digest_bytes, sha256}
 use Rattle.sha2.proofs.Facts256.{length-sha256}
-use Rattle.headers_serve.specs.File.{content_digest, strong_tag}
+use Rattle.headers_serve.specs.Tags.{content_digest, strong_tag}
 
 abbrev IsByte : ℕ → Type 0
 IsByte b = b < 256

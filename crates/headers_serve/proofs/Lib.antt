@@ -1,6 +1,7 @@
 pub mod AnswerLemmas
 pub mod ContentLemmas
 pub mod DigestLemmas
+pub mod FieldLemmas
 pub mod LogLemmas
 pub mod OneResponseLemmas
 pub mod PartLemmas

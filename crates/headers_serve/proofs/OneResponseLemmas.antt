@@ -1,300 +1,342 @@
 -- A request has one response at most.
-use Rattle.std.proofs.Common.{◌≡◌, ℕ, Bool, true, List, [], ◌∷◌, ◌++◌, Option, Some, None, refl}
+use Rattle.std.proofs.Common.{◌≡◌, ℕ, Bool, true, false, List, [], ◌∷◌, ◌++◌, Option, Some, None, refl, map}
 use Rattle.std.proofs.Common.{sym, ap, subst, ◌∙◌, inl, inr}
-use Rattle.std.specs.Prelude.{codes, flat_map, if◌then◌else◌, not}
+use Rattle.std.specs.Prelude.{codes, is_some, string_bytes}
 use Rattle.http.specs.declared.request.Request.{Request}
 use Rattle.http.specs.Request.{head_of}
-use Rattle.http_header.specs.FieldValue.{FieldValue}
-use Rattle.http_uri.specs.Uri.{uri_path, uri_query}
+use Rattle.http_uri.specs.declared.uri.Uri.{Uri}
+use Rattle.http_uri.specs.Uri.{uri_authority, uri_path, uri_query}
 use Rattle.http1.specs.Fields.{Header}
-use Rattle.headers.specs.Date.{fixdate}
-use Rattle.headers.specs.LineMap.{Field, LineMap, lines_at}
+use Rattle.headers.specs.LineMap.{Field, LineMap, fields_of as encoded_fields}
 use Rattle.headers.specs.Lines.{Line}
-use Rattle.headers_cors_policy.proofs.SameLemmas.{same_lines}
-use Rattle.headers_cors_policy.specs.Policy.{Policy}
 use Rattle.headers_exchange.specs.declared.piece.Piece.{Piece}
 use Rattle.headers_exchange.specs.declared.plan.Plan.{Plan as Response}
-use Rattle.headers_preconditions.specs.Conditions.{modified_of}
-use Rattle.headers_preconditions.specs.Contents.{is_divisible}
-use Rattle.headers_preconditions.specs.Fields.{etag_of, fields_sent, is_known_by, lines_sent, unless_known}
-use Rattle.headers_preconditions.specs.Limits.{usual_limits}
-use Rattle.headers_preconditions.specs.Plans.{IsSamePlan}
-use Rattle.headers_preconditions.specs.declared.content.Content.{Content}
+use Rattle.headers_gateway.specs.declared.protocol.Protocol.{Protocol}
+use Rattle.headers_preconditions.specs.Contents.{divisible_len, limits_of}
 use Rattle.headers_preconditions.specs.declared.part.Part.{Part}
 use Rattle.headers_preconditions.specs.declared.plan.Plan.{Plan}
-use Rattle.headers_preconditions.specs.declared.plan.Plan.TheVariants.{NotModified, Failed, Full, Single, Multiple}
-use Rattle.headers_preconditions.specs.declared.plan.Plan.TheVariants.{Unsatisfiable}
-use Rattle.headers_preconditions.specs.declared.resource.Resource.{Resource}
-use Rattle.headers_preconditions.specs.declared.response.Response.{Response as Answer}
-use Rattle.headers_preconditions.proofs.OnePlanLemmas.{one_plan}
-use Rattle.headers_serve.specs.Answer.{AnswersBehind, AnswersEntry, AnswersFile, AnswersHere, AnswersOther}
-use Rattle.headers_serve.specs.Answer.{Carries, IsAnswerAt, IsAnswerOf, IsSendable, LeadsTo, boundary_of, cache_sent, coding_sent}
-use Rattle.headers_serve.specs.Answer.{date_fields}
-use Rattle.headers_serve.specs.Answer.{clock, closing_fields, is_several, pieces_sent, sniff_field}
-use Rattle.headers_serve.specs.Cors.{IsShared}
-use Rattle.headers_serve.specs.File.{content_of, len_of, resource_of}
+use Rattle.headers_preconditions.specs.declared.plan.Plan.TheVariants.{Full, Multiple}
+use Rattle.headers_resource.specs.Answers.{AreSame, AreSent, IsAnswer, at_place, content_of, target_of}
+use Rattle.headers_resource.specs.Requests.{Request as Asked, head_of as as_head}
+use Rattle.headers_resource.specs.declared.answer.Answer.{Answer}
+use Rattle.headers_resource.specs.declared.answer.Sends.{Sends}
+use Rattle.headers_resource.specs.declared.answer.Sends.TheVariants.{Nothing, Alternatives, Planned, Perform}
+use Rattle.headers_resource.specs.declared.reason.Reason.{Reason}
+use Rattle.headers_resource.specs.declared.representation.Representation.{Representation}
+use Rattle.headers_resource.specs.declared.request.RequestContent.{RequestContent}
+use Rattle.headers_resource.specs.declared.resource.Resource.{Resource}
+use Rattle.headers_resource.specs.declared.resource.State.{State}
+use Rattle.headers_resource.proofs.AnswerLemmas.{one_answer}
+use Rattle.headers_resource.proofs.ItemLemmas.{same_answer}
+use Rattle.headers_serve.specs.Answer.{Carries, Decides, IsAnswerAt, IsDescribed, IsHeldBy, IsSendable, cache_sent, clock}
+use Rattle.headers_serve.specs.Answer.{explained_fields, file_at, file_sent, first_fields, pieces_for, sends_several}
+use Rattle.headers_serve.specs.Answer.{pieces_of, status_for}
+use Rattle.headers_serve.specs.Asked.{Asks, HasAuthority, IsAsked, IsAuthority, IsProtocolOf}
+use Rattle.headers_serve.specs.File.{representation_of}
+use Rattle.headers_serve.specs.Found.{FindsEntry, FindsFolder, HasMoved, IsAbsent, LeadsTo}
 use Rattle.headers_serve.specs.Multipart.{multipart}
-use Rattle.headers_serve.specs.Redirect.{AnswersFolder}
-use Rattle.headers_serve.specs.Response.{IsSameResponse, IsWith, headers_of, lines_under, no_lines}
-use Rattle.headers_serve.specs.Representations.{IsServedAt}
-use Rattle.headers_serve.specs.declared.coding.Coding.{Coding}
+use Rattle.headers_serve.specs.Response.{IsSameResponse, headers_sent, page_fields}
 use Rattle.headers_serve.specs.declared.file.Entry.{Entry}
 use Rattle.headers_serve.specs.declared.file.Entry.TheVariants.{Missing, Forbidden, Unavailable}
 use Rattle.headers_serve.specs.declared.file.Entry.TheVariants.{Folder, Readable}
 use Rattle.headers_serve.specs.declared.file.File.{File}
-use Rattle.headers_serve.specs.declared.settings.Settings.{Settings}
+use Rattle.headers_serve.specs.declared.found.Found.{Found}
+use Rattle.headers_serve.specs.declared.settings.Site.{Site}
 use Rattle.headers_serve.specs.declared.source.Source.{Source}
+use Rattle.headers_serve.proofs.AnswerLemmas.{IsPlanOf, IsPlannedIn, planned_in}
 use Rattle.headers_serve.proofs.PlanLemmas.{same_by_plan}
-use Rattle.headers_serve.proofs.RepresentationLemmas.{served_once}
+use Rattle.headers_serve.proofs.RepresentationLemmas.{contents_once}
 
-with_same : (before : List Header) (code : ℕ) (sent : List Header) (content : List Piece) (r s : Response)
-    → IsWith before code sent content r → IsWith before code sent content s → IsSameResponse r s
-with_same before code sent content r s h k =
-    (h.status ∙ sym k.status, h.headers ∙ sym k.headers, h.pieces ∙ sym k.pieces)
+-- ---- what a path leads to
 
--- ---- a read of a file
+-- both have the same state, status and contents
+record AreAlike (f g : Found) : Type 0 where
+  state : f.state ≡ g.state
+  status : f.status ≡ g.status
+  files : f.files.items ≡ g.files.items
 
-sendable_as : (boundary : List ℕ) (file : File) (p q : Plan) → is_several p ≡ is_several q
-    → IsSendable boundary file p → IsSendable boundary file q
-sendable_as boundary file p q e h = λ several. h (e ∙ several)
+absent_alike : (status : ℕ) (f g : Found) → IsAbsent status f → IsAbsent status g → AreAlike f g
+absent_alike status f g h k =
+    record { state = h.state ∙ sym k.state; status = h.status ∙ sym k.status; files = h.files ∙ sym k.files }
 
--- the fields of several parts are the same whatever the parts are: this field line has their type
-abbrev several_fields : Bool → Resource → Content → Line → List Field
-several_fields is_known resource content multipart =
-    (codes "etag", lines_sent (λ (tag : FieldValue). tag.bytes) (etag_of resource))
-    ∷ (codes "last-modified", lines_sent fixdate (unless_known is_known (modified_of resource)))
-    ∷ (
-      codes "accept-ranges",
-      lines_sent (λ (units : Line). units) (if is_divisible content then Some (codes "bytes") else None),
+folder_alike : (path : List ℕ) (query : Option (List ℕ)) (f g : Found) → FindsFolder path query f
+    → FindsFolder path query g → AreAlike f g
+folder_alike path query f g x y =
+    elim x [
+      | inl h ↦ elim y [ inl k ↦ absent_alike 404 f g h.1 k.1 | inr k ↦ absurd (k.has_index h.0) ]
+      | inr h ↦
+          elim y [
+            | inl k ↦ absurd (h.has_index k.0)
+            | inr k ↦
+                record {
+                  state = h.state ∙ sym k.state;
+                  status = h.status ∙ sym k.status;
+                  files = h.files ∙ sym k.files;
+                }
+          ]
+    ]
+
+module _ (negotiates : Bool) (look : List ℕ → Entry) (uri : Uri) (f g : Found) where
+  abbrev Has : List ℕ → Entry → Type 0
+  Has path entry = entry ≡ look path
+
+  entry_alike : (named : List ℕ) (entry : Entry) → FindsEntry negotiates Has uri named entry f
+      → FindsEntry negotiates Has uri named entry g → AreAlike f g
+  entry_alike named Missing h k = absent_alike 404 f g h k
+  entry_alike named Forbidden h k = absent_alike 403 f g h k
+  entry_alike named Unavailable h k = absent_alike 503 f g h k
+  entry_alike named Folder h k = folder_alike (uri_path uri) (uri_query uri) f g h k
+  entry_alike named (Readable file) h k =
+      record {
+        state = h.0 ∙ sym k.0;
+        status = h.1 ∙ sym k.1;
+        files = contents_once look negotiates named file f.files.items g.files.items h.2 k.2;
+      }
+
+  leads_alike : LeadsTo negotiates Has uri f → LeadsTo negotiates Has uri g → AreAlike f g
+  leads_alike x y =
+      elim x [
+        | inl h ↦
+            elim y [
+              | inl k ↦
+                  let named : h.0 ≡ k.0 = h.1.is_named ∙ sym k.1.is_named in
+                  let found : h.2.0 ≡ k.2.0 = h.2.1 ∙ ap look named ∙ sym k.2.1 in
+                  entry_alike k.0 k.2.0
+                  (subst (λ (p : List ℕ). FindsEntry negotiates Has uri p k.2.0 f) named
+                  (subst (λ (e : Entry). FindsEntry negotiates Has uri h.0 e f) found h.2.2))
+                  k.2.2
+              | inr k ↦ absurd (k.0 h.0 h.1)
+            ]
+        | inr h ↦ elim y [ inl k ↦ absurd (h.0 k.0 k.1) | inr k ↦ absent_alike 404 f g h.1 k.1 ]
+      ]
+
+-- ---- what is asked
+
+authority_once : (text : Option (List ℕ)) (a b : Option Line) → HasAuthority text a → HasAuthority text b → a ≡ b
+authority_once None a b h k = h ∙ sym k
+authority_once (Some text) None None h k = refl
+authority_once (Some text) None (Some line) h k = absurd (h k.0)
+authority_once (Some text) (Some line) None h k = absurd (k h.0)
+authority_once (Some text) (Some line) (Some other) h k = ap Some (h.1 ∙ sym k.1)
+
+protocol_once : (version : _) (a b : Protocol) → IsProtocolOf version a → IsProtocolOf version b → a ≡ b
+protocol_once version a b x y =
+    elim x [
+      | inl h ↦ elim y [ inl k ↦ h.1 ∙ sym k.1 | inr k ↦ absurd (k.0 h.0) ]
+      | inr h ↦ elim y [ inl k ↦ absurd (h.0 k.0) | inr k ↦ h.1 ∙ sym k.1 ]
+    ]
+
+abbrev asking : Protocol → List ℕ → Option Line → RequestContent → LineMap → Asked
+asking protocol method authority content fields =
+    record { protocol = protocol; method = method; authority = authority; content = content; fields = fields }
+
+pub asked_once : (request : Request (List ℕ)) (a b : Asked) → Asks request a → Asks request b → a ≡ b
+asked_once request a b h k =
+    let authority = authority_once (uri_authority (head_of request).uri) h.0 k.0 h.1 k.1 in
+    ap (λ (x : Protocol). asking x a.method a.authority a.content a.fields)
+    (protocol_once (head_of request).version a.protocol b.protocol h.2.protocol k.2.protocol)
+    ∙ ap (λ (x : List ℕ). asking b.protocol x a.authority a.content a.fields) (h.2.method ∙ sym k.2.method)
+    ∙ ap (λ (x : Option Line). asking b.protocol b.method x a.content a.fields)
+    (h.2.has_authority ∙ authority ∙ sym k.2.has_authority)
+    ∙ ap (λ (x : RequestContent). asking b.protocol b.method b.authority x a.fields) (h.2.content ∙ sym k.2.content)
+    ∙ ap (λ (x : LineMap). asking b.protocol b.method b.authority b.content x) (h.2.fields ∙ sym k.2.fields)
+
+-- ---- the answer
+
+module _ (present : ℕ) (resource : Resource) (asked : Asked) where
+  -- what goes by what is sent, and of several parts by their list alone, is the same for two that say the same
+  by_sends : {X : Type 0} (of : Sends → X) (several : Option ℕ → List Part → X)
+      → ((place : Option ℕ) (parts : _) → of (Planned place (Multiple parts)) ≡ several place parts.items)
+      → (a b : Sends) → AreSent a b → IsPlannedIn present resource asked a → IsPlannedIn present resource asked b
+      → of a ≡ of b
+  by_sends of several same_parts Nothing Nothing sent h k = refl
+  by_sends of several same_parts Alternatives Alternatives sent h k = refl
+  by_sends of several same_parts Perform Perform sent h k = refl
+  by_sends of several same_parts (Planned place p) (Planned other q) sent h k =
+      let representation = at_place resource.representations.items place in
+      same_by_plan present asked.method asked.fields (target_of resource.state representation)
+      (divisible_len (content_of representation)) (limits_of (content_of representation))
+      (λ plan. of (Planned place plan)) (several place) (same_parts place) p q h
+      (subst
+      (λ (at : Option ℕ). IsPlanOf present resource asked (at_place resource.representations.items at) q)
+      (sym sent.0) k) sent.1
+      ∙ ap (λ (at : Option ℕ). of (Planned at q)) sent.0
+  by_sends of several same_parts Nothing Alternatives sent h k = absurd sent
+  by_sends of several same_parts Nothing (Planned other q) sent h k = absurd sent
+  by_sends of several same_parts Nothing Perform sent h k = absurd sent
+  by_sends of several same_parts Alternatives Nothing sent h k = absurd sent
+  by_sends of several same_parts Alternatives (Planned other q) sent h k = absurd sent
+  by_sends of several same_parts Alternatives Perform sent h k = absurd sent
+  by_sends of several same_parts (Planned place p) Nothing sent h k = absurd sent
+  by_sends of several same_parts (Planned place p) Alternatives sent h k = absurd sent
+  by_sends of several same_parts (Planned place p) Perform sent h k = absurd sent
+  by_sends of several same_parts Perform Nothing sent h k = absurd sent
+  by_sends of several same_parts Perform Alternatives sent h k = absurd sent
+  by_sends of several same_parts Perform (Planned other q) sent h k = absurd sent
+
+-- two answers to one request
+record AreOne (present : ℕ) (resource : Resource) (a b : Answer) : Type 0 where
+  asked : Asked
+  same : AreSame a b
+  first : IsPlannedIn present resource asked a.sends
+  second : IsPlannedIn present resource asked b.sends
+
+one_of : (present : ℕ) (resource : Resource) (asked : Asked) (a b : Answer) → IsAnswer present resource asked a
+    → IsAnswer present resource asked b → AreOne present resource a b
+one_of present resource asked a b h k = record {
+  asked = asked;
+  same = one_answer present resource asked a b h k;
+  first = planned_in present resource asked a h;
+  second = planned_in present resource asked b k;
+}
+
+sendable_as : (present : ℕ) (resource : Resource) (divider : List ℕ) (files : List File) (a b : Answer)
+    → AreOne present resource a b → IsSendable divider files a.sends → IsSendable divider files b.sends
+sendable_as present resource divider files a b one h =
+    let several : sends_several a.sends ≡ sends_several b.sends =
+    by_sends present resource one.asked sends_several (λ place parts. true) (λ place parts. refl) a.sends b.sends
+    one.same.sends one.first one.second in
+    let file : file_sent files a.sends ≡ file_sent files b.sends =
+    by_sends present resource one.asked (file_sent files) (λ place parts. file_at files place) (λ place parts. refl)
+    a.sends b.sends one.same.sends one.first one.second in
+    λ more. subst (λ (of : Option File). ¬ (IsHeldBy divider of)) file (h (several ∙ more))
+
+decided_once : (present : ℕ) (divider : List ℕ) (files : List File) (resource : Resource) (asked : Asked)
+    (a b : Answer) → Decides present divider files resource asked a
+    → Decides present divider files resource asked b → AreOne present resource a b
+decided_once present divider files resource asked a b x y =
+    elim x [
+      | inl h ↦
+          elim y [
+            | inl k ↦ one_of present resource asked a b h.1 k.1
+            | inr k ↦
+                absurd (k.1
+                (sendable_as present resource divider files a k.0
+                (one_of present resource asked a k.0 h.1 k.2) h.0))
+          ]
+      | inr h ↦
+          elim y [
+            | inl k ↦
+                absurd (h.1
+                (sendable_as present resource divider files b h.0
+                (one_of present resource asked b h.0 k.1 h.2) k.0))
+            | inr k ↦ one_of present resource (as_head asked) a b h.3 k.3
+          ]
+    ]
+
+-- ---- the resource
+
+module _ (present : ℕ) (site : Resource) (f g : Found) (alike : AreAlike f g) (r s : Resource)
+    (d : IsDescribed present site f r) (e : IsDescribed present site g s) where
+  moves : (asked : Asked) (answer : Answer) → IsAnswer present r asked answer → IsAnswer present s asked answer
+  moves asked answer h =
+      subst (λ (x : Resource). IsAnswer present x asked answer) (sym e.is)
+      (same_answer present (record site { state = g.state; representations = d.representations }) d.representations
+      e.representations (d.are ∙ ap (map (representation_of present)) alike.files ∙ sym e.are) asked answer
+      (subst
+      (λ (x : State).
+      IsAnswer present (record site { state = x; representations = d.representations }) asked answer) alike.state
+      (subst (λ (x : Resource). IsAnswer present x asked answer) d.is h)))
+
+  moves_decided : (divider : List ℕ) (files : List File) (asked : Asked) (answer : Answer)
+      → Decides present divider files r asked answer → Decides present divider files s asked answer
+  moves_decided divider files asked answer x =
+      elim x [
+        | inl h ↦ inl (h.0, moves asked answer h.1)
+        | inr h ↦ inr (h.0, h.1, moves asked h.0 h.2, moves (as_head asked) answer h.3)
+      ]
+
+-- ---- the response
+
+-- the pieces that are sent, of which several parts go by their list
+abbrev several_in : List ℕ → Option File → List Part → List Piece
+several_in divider None parts = []
+several_in divider (Some file) parts = multipart divider file parts
+
+parts_alike : (divider : List ℕ) (file : Option File) (parts : _)
+    → pieces_of divider file (Multiple parts) ≡ several_in divider file parts.items
+parts_alike divider None parts = refl
+parts_alike divider (Some file) parts = refl
+
+module _ (present : ℕ) (resource : Resource) (before : List Header) (site : Site) (files : List File) (absent : ℕ)
+    (a b : Answer) (one : AreOne present resource a b) (r s : Response)
+    (x : Carries before site files (status_for absent a.reason a.status) a.sends (encoded_fields a.fields.items) r)
+    (y : Carries before site files (status_for absent b.reason b.status) b.sends (encoded_fields b.fields.items) s)
+  where
+    same_by : {X : Type 0} (of : Sends → X) (several : Option ℕ → List Part → X)
+        → ((place : Option ℕ) (parts : _) → of (Planned place (Multiple parts)) ≡ several place parts.items)
+        → of a.sends ≡ of b.sends
+    same_by of several same_parts =
+        by_sends present resource one.asked of several same_parts a.sends b.sends one.same.sends one.first one.second
+
+    status_same : status_for absent a.reason a.status ≡ status_for absent b.reason b.status
+    status_same =
+        ap (λ (reason : Reason). status_for absent reason a.status) one.same.reason
+        ∙ ap (λ (status : Option ℕ). status_for absent b.reason status) one.same.status
+
+    abbrev has_policy : Bool
+    has_policy = is_some site.resource.cors
+
+    abbrev together : List Header → List Field → List Header → List Header
+    together cached fields explained = ((before ++ cached) ++ headers_sent has_policy fields) ++ explained
+
+    fields_same : together (cache_sent a.sends site.cache_control) (encoded_fields a.fields.items)
+        (explained_fields (status_for absent a.reason a.status) a.sends)
+        ≡ together (cache_sent b.sends site.cache_control) (encoded_fields b.fields.items)
+        (explained_fields (status_for absent b.reason b.status) b.sends)
+    fields_same =
+        ap
+        (λ (l : List Header). together l (encoded_fields a.fields.items)
+        (explained_fields (status_for absent a.reason a.status) a.sends))
+        (same_by (λ sent. cache_sent sent site.cache_control)
+        (λ place parts. cache_sent (Planned place Full) site.cache_control) (λ place parts. refl))
+        ∙ ap
+        (λ (l : List Field). together (cache_sent b.sends site.cache_control) l
+        (explained_fields (status_for absent a.reason a.status) a.sends)) one.same.fields
+        ∙ ap
+        (λ (n : ℕ). together (cache_sent b.sends site.cache_control) (encoded_fields b.fields.items)
+        (explained_fields n a.sends)) status_same
+        ∙ ap
+        (λ (l : List Header). together (cache_sent b.sends site.cache_control) (encoded_fields b.fields.items) l)
+        (same_by (explained_fields (status_for absent b.reason b.status)) (λ place parts. []) (λ place parts. refl))
+
+    response_same : IsSameResponse r s
+    response_same = (
+      x.status ∙ status_same ∙ sym y.status,
+      x.headers ∙ fields_same ∙ sym y.headers,
+      x.pieces
+          ∙ ap (λ (n : ℕ). pieces_for (string_bytes site.divider) files n a.sends) status_same
+          ∙ same_by (pieces_for (string_bytes site.divider) files (status_for absent b.reason b.status))
+          (λ place parts. several_in (string_bytes site.divider) (file_at files place) parts)
+          (λ place parts. parts_alike (string_bytes site.divider) (file_at files place) parts)
+          ∙ sym y.pieces,
     )
-    ∷ (codes "content-range", [])
-    ∷ (codes "content-length", [])
-    ∷ (codes "content-type", multipart ∷ [])
-    ∷ (if not is_known then [] else (codes "content-encoding", []) ∷ [])
 
--- two values of the same bytes name the same type of several parts
-sent_same : (plan : Plan) (is_known : Bool) (resource : Resource) (content : Content) (x y : FieldValue)
-    → x.bytes ≡ y.bytes → fields_sent plan is_known resource content x ≡ fields_sent plan is_known resource content y
-sent_same Full is_known resource content x y e = refl
-sent_same (Single part) is_known resource content x y e = refl
-sent_same (Multiple parts) is_known resource content x y e = ap (several_fields is_known resource content) e
-sent_same NotModified is_known resource content x y e = refl
-sent_same Failed is_known resource content x y e = refl
-sent_same Unsatisfiable is_known resource content x y e = refl
-
--- several parts go without Content-Encoding
-abbrev coding_several : Option Coding → List Header
-coding_several None = []
-coding_several (Some coding) = (codes "vary", codes "accept-encoding") ∷ []
-
-several_alike : (is_known : Bool) (coding : Option Coding) (parts : _)
-    → coding_sent (Multiple parts) is_known coding ≡ coding_several coding
-several_alike is_known None parts = refl
-several_alike is_known (Some coding) parts = refl
-
-module _ (present : ℕ) (boundary method : List ℕ) (request : LineMap) (file : File) (a b : Answer)
-    (h : IsAnswerOf present boundary method request file a) (k : IsAnswerOf present boundary method request file b)
-  where
-    same_plan : IsSamePlan (Some a.plan) (Some b.plan)
-    same_plan =
-        one_plan present method request (resource_of present file) (len_of file.source) usual_limits (Some a.plan) (Some b.plan)
-        h.2.plan k.2.plan
-
-    by_plan : {X : Type 0} (of_plan : Plan → X) (several : List Part → X)
-        → ((parts : _) → of_plan (Multiple parts) ≡ several parts.items) → of_plan a.plan ≡ of_plan b.plan
-    by_plan of_plan several same_parts =
-        same_by_plan present method request (resource_of present file) (len_of file.source) usual_limits of_plan several
-        same_parts a.plan b.plan h.2.plan k.2.plan same_plan
-
-    several_same : is_several a.plan ≡ is_several b.plan
-    several_same = by_plan is_several (λ _. true) (λ _. refl)
-
-    fields_sent_same : headers_of a.fields.items ≡ headers_of b.fields.items
-    fields_sent_same =
-        let resource = resource_of present file in
-        let content = content_of file in
-        let is_known = is_known_by request in
-        ap (flat_map lines_under)
-        (h.2.fields
-        ∙ sent_same a.plan is_known resource content h.0 k.0 (h.1 ∙ sym k.1)
-        ∙ by_plan (λ plan. fields_sent plan is_known resource content k.0)
-        (λ _. several_fields is_known resource content k.0.bytes) (λ _. refl)
-        ∙ sym k.2.fields)
-
-module _ (present : ℕ) (before : List Header) (settings : Settings) (method : List ℕ) (request : LineMap) (file : File)
-  where
-    abbrev Of : List ℕ → Answer → Type 0
-    Of how answer = IsAnswerOf present (boundary_of settings) how request file answer
-
-    module _ (how : List ℕ) (a b : Answer) (h : Of how a) (k : Of how b) (r s : Response)
-        (x : Carries before settings (is_known_by request) file a r)
-        (y : Carries before settings (is_known_by request) file b s) where
-      same_by : {X : Type 0} (of_plan : Plan → X) (several : List Part → X)
-          → ((parts : _) → of_plan (Multiple parts) ≡ several parts.items) → of_plan a.plan ≡ of_plan b.plan
-      same_by = by_plan present (boundary_of settings) how request file a b h k
-
-      fields_same : before ++ cache_sent a.plan settings.cache_control
-          ++ coding_sent a.plan (is_known_by request) file.coding ++ headers_of a.fields.items
-          ≡ before ++ cache_sent b.plan settings.cache_control
-          ++ coding_sent b.plan (is_known_by request) file.coding ++ headers_of b.fields.items
-      fields_same =
-          ap
-          (λ (l : List Header). before ++ l ++ coding_sent a.plan (is_known_by request) file.coding
-          ++ headers_of a.fields.items)
-          (same_by (λ plan. cache_sent plan settings.cache_control) (λ _. cache_sent Full settings.cache_control)
-          (λ _. refl))
-          ∙ ap
-          (λ (l : List Header). before ++ cache_sent b.plan settings.cache_control ++ l
-          ++ headers_of a.fields.items)
-          (same_by (λ plan. coding_sent plan (is_known_by request) file.coding)
-          (λ _. coding_several file.coding) (several_alike (is_known_by request) file.coding))
-          ∙ ap
-          (λ (l : List Header). before ++ cache_sent b.plan settings.cache_control
-          ++ coding_sent b.plan (is_known_by request) file.coding ++ l)
-          (fields_sent_same present (boundary_of settings) how request file a b h k)
-
-      carried_same : IsSameResponse r s
-      carried_same =
-          let plans = same_plan present (boundary_of settings) how request file a b h k in (
-            x.status ∙ h.2.status ∙ plans.0 ∙ sym k.2.status ∙ sym y.status,
-            x.headers ∙ fields_same ∙ sym y.headers,
-            x.pieces
-                ∙ same_by (pieces_sent (boundary_of settings) file) (multipart (boundary_of settings) file) (λ _. refl)
-                ∙ sym y.pieces,
-          )
-
-    as_sendable : (a b : Answer) → Of method a → Of method b → IsSendable (boundary_of settings) file a.plan
-        → IsSendable (boundary_of settings) file b.plan
-    as_sendable a b h k =
-        sendable_as (boundary_of settings) file a.plan b.plan
-        (several_same present (boundary_of settings) method request file a b h k)
-
-    file_once : (r s : Response) → AnswersFile present before settings method request file r
-        → AnswersFile present before settings method request file s → IsSameResponse r s
-    file_once r s x y =
-        elim x.1 [
-          | inl h ↦
-              elim y.1 [
-                | inl k ↦ carried_same method x.0 y.0 h.1 k.1 r s x.2 y.2
-                | inr k ↦ absurd (k.1 (as_sendable x.0 k.0 h.1 k.2 h.0))
-              ]
-          | inr h ↦
-              elim y.1 [
-                | inl k ↦ absurd (h.1 (as_sendable y.0 h.0 k.1 h.2 k.0))
-                | inr k ↦ carried_same (codes "HEAD") x.0 y.0 h.3 k.3 r s x.2 y.2
-              ]
-        ]
-
--- ---- a request
-
-folder_once : (before : List Header) (path : List ℕ) (query : Option (List ℕ)) (r s : Response)
-    → AnswersFolder before path query r → AnswersFolder before path query s → IsSameResponse r s
-folder_once before path query r s x y =
-    elim x [
-      | inl h ↦ elim y [ inl k ↦ with_same _ _ _ _ r s h.1 k.1 | inr k ↦ absurd (k.0 h.0) ]
-      | inr h ↦ elim y [ inl k ↦ absurd (h.0 k.0) | inr k ↦ with_same _ _ _ _ r s h.1 k.1 ]
-    ]
-
-other_once : (before : List Header) (method : List ℕ) (r s : Response) → AnswersOther before method r
-    → AnswersOther before method s → IsSameResponse r s
-other_once before method r s x y =
-    elim x [
-      | inl h ↦ elim y [ inl k ↦ with_same _ _ _ _ r s h.1 k.1 | inr k ↦ absurd (k.0 h.0) ]
-      | inr h ↦ elim y [ inl k ↦ absurd (h.0 k.0) | inr k ↦ with_same _ _ _ _ r s h.1 k.1 ]
-    ]
-
-module _ (present : ℕ) (before : List Header) (settings : Settings) (request : Request (List ℕ)) (r s : Response) where
-  entry_once : (entry : Entry) → AnswersEntry present before settings request entry r
-      → AnswersEntry present before settings request entry s → IsSameResponse r s
-  entry_once Missing x y = with_same _ _ _ _ r s x y
-  entry_once Forbidden x y = with_same _ _ _ _ r s x y
-  entry_once Unavailable x y = with_same _ _ _ _ r s x y
-  entry_once Folder x y =
-      folder_once before (uri_path (head_of request).uri) (uri_query (head_of request).uri) r s x y
-  entry_once (Readable file) x y =
-      file_once present before settings (head_of request).method (lines_at (head_of request).headers) file r s x y
-
--- a path leads a request to one entry, where the store has one at each path
-pub leads_once : (negotiates : Bool) (look : List ℕ → Entry) (request : LineMap) (path : List ℕ) (e f : Entry)
-    → LeadsTo negotiates (λ named entry. entry ≡ look named) request path e
-    → LeadsTo negotiates (λ named entry. entry ≡ look named) request path f → e ≡ f
-leads_once negotiates look request path e f x y =
-    elim x [
-      | inl h ↦
-          elim y [
-            | inl k ↦
-                let named : h.0 ≡ k.0 = h.1.is_named ∙ sym k.1.is_named in
-                let found : h.2.0 ≡ k.2.0 = h.2.1 ∙ ap look named ∙ sym k.2.1 in
-                served_once look negotiates request k.0 k.2.0 e f
-                (subst (λ (p : List ℕ). IsServedAt negotiates (λ at entry. entry ≡ look at) request p k.2.0 e) named
-                (subst (λ (g : Entry). IsServedAt negotiates (λ at entry. entry ≡ look at) request h.0 g e) found
-                h.2.2))
-                k.2.2
-            | inr k ↦ absurd (k.0 h.0 h.1)
-          ]
-      | inr h ↦ elim y [ inl k ↦ absurd (h.0 k.0 k.1) | inr k ↦ h.1 ∙ sym k.1 ]
-    ]
-
--- what is said after the same fields is one response
-here_once : (present : ℕ) (before : List Header) (settings : Settings) (look : List ℕ → Entry)
-    (request : Request (List ℕ)) (r s : Response) (a b : Source)
-    → AnswersHere present before settings (λ named entry. entry ≡ look named) request r a
-    → AnswersHere present before settings (λ named entry. entry ≡ look named) request s b
-    → IsSameResponse r s
-here_once present before settings look request r s a b x y =
-    elim x [
-      | inl h ↦
-          elim y [
-            | inl k ↦
-                let same =
-                leads_once settings.negotiates look (lines_at (head_of request).headers)
-                (uri_path (head_of request).uri) h.1.0 k.1.0 h.1.1 k.1.1 in
-                entry_once present before settings request r s k.1.0
-                (subst (λ (e : Entry). AnswersEntry present before settings request e r) same h.1.2) k.1.2
-            | inr k ↦ absurd (k.0 h.0)
-          ]
-      | inr h ↦
-          elim y [
-            | inl k ↦ absurd (h.0 k.0)
-            | inr k ↦ other_once before (head_of request).method r s h.1 k.1
-          ]
-    ]
-
-behind_once : (present : ℕ) (before : List Header) (settings : Settings) (look : List ℕ → Entry)
-    (request : Request (List ℕ)) (r s : Response) (a b : Source)
-    → AnswersBehind present before settings (λ named entry. entry ≡ look named) request r a
-    → AnswersBehind present before settings (λ named entry. entry ≡ look named) request s b
-    → IsSameResponse r s
-behind_once present before settings look request r s a b x y =
-    elim x [
-      | inl h ↦ elim y [ inl k ↦ with_same _ _ _ _ r s h.1 k.1 | inr k ↦ absurd (cc (h.0, k.0)) ]
-      | inr h ↦
-          elim y [
-            | inl k ↦ absurd (cc (h.0, k.0))
-            | inr k ↦ here_once present before settings look request r s a b h.1 k.1
-          ]
-    ]
-
--- a policy says one list of fields of a request
-shared_once : (cors : Option Policy) (request : Request (List ℕ)) (f g : List Header) → IsShared cors request f
-    → IsShared cors request g → f ≡ g
-shared_once None request f g x y = x ∙ sym y
-shared_once (Some policy) request f g x y =
-    x.2
-    ∙ ap (flat_map lines_under)
-    (same_lines policy (head_of request).method (lines_at (head_of request).headers)
-    (lines_at (head_of request).headers) no_lines x.0 y.0 x.1 y.1 refl refl)
-    ∙ sym y.2
-
-pub one_response : (now : Option ℕ) (left : ℕ) (settings : Settings) (look : List ℕ → Entry) (request : Request (List ℕ))
-    (r s : Response) (a b : Source)
-    → IsAnswerAt now left settings (λ path entry. entry ≡ look path) request r a
-    → IsAnswerAt now left settings (λ path entry. entry ≡ look path) request s b → IsSameResponse r s
-one_response now left settings look request r s a b x y =
-    behind_once (clock now) (((date_fields now ++ sniff_field ∷ []) ++ closing_fields left) ++ y.0) settings look request r s a b
+pub one_response : (now : Option ℕ) (left : ℕ) (site : Site) (look : List ℕ → Entry) (request : Request (List ℕ))
+    (r s : Response) (a b : Option Source)
+    → IsAnswerAt now left site (λ path entry. entry ≡ look path) request r a
+    → IsAnswerAt now left site (λ path entry. entry ≡ look path) request s b → IsSameResponse r s
+one_response now left site look request r s a b x y =
+    let present : ℕ = clock now in
+    let divider : List ℕ = string_bytes site.divider in
+    let alike =
+    leads_alike site.resource.negotiation.coding look (head_of request).uri x.found y.found x.leads y.leads in
+    let asked : x.asked ≡ y.asked = asked_once request x.asked y.asked x.asks y.asks in
+    let decided =
+    moves_decided present site.resource x.found y.found alike x.resource y.resource x.described y.described divider
+    y.found.files.items y.asked x.answer
+    (subst (λ (l : List File). Decides present divider l x.resource y.asked x.answer) alike.files
+    (subst (λ (q : Asked). Decides present divider x.found.files.items x.resource q x.answer) asked x.decides)) in
+    let one =
+    decided_once present divider y.found.files.items y.resource y.asked x.answer y.answer decided y.decides in
+    response_same present y.resource (first_fields now left) site y.found.files.items y.found.status x.answer y.answer
+    one r s
     (subst
-    (λ (fields : List Header).
-    AnswersBehind (clock now) (((date_fields now ++ sniff_field ∷ []) ++ closing_fields left) ++ fields) settings
-    (λ path entry. entry ≡ look path) request r a)
-    (shared_once settings.cors request x.0 y.0 x.1 y.1) x.2)
-    y.2
+    (λ (n : ℕ).
+    Carries (first_fields now left) site y.found.files.items (status_for n x.answer.reason x.answer.status)
+    x.answer.sends (encoded_fields x.answer.fields.items) r) alike.status
+    (subst
+    (λ (l : List File).
+    Carries (first_fields now left) site l (status_for x.found.status x.answer.reason x.answer.status)
+    x.answer.sends (encoded_fields x.answer.fields.items) r) alike.files x.carries))
+    y.carries

@@ -1,27 +1,32 @@
 -- A part holds no bytes that the content doesn't.
 use Rattle.std.proofs.Common.{◌≡◌, ℕ, ◌+◌, ◌-◌, ◌<◌, List, [], ◌∷◌, length, drop, get_or, arith, ap, sym}
 use Rattle.std.proofs.Common.{◌∙◌, subst}
-use Rattle.std.proofs.Common.{length-drop, true, false, refl, inl, inr}
+use Rattle.std.proofs.Common.{Option, Some, length-drop, true, false, refl, inl, inr}
 use Rattle.std.proofs.lemmas.List.{get_or-drop, get_or-take, length-take}
 use Rattle.std.specs.Prelude.{codes, slice_range}
 use Rattle.memchr.specs.Find.{OccursAt}
 use Rattle.headers.specs.LineMap.{LineMap}
-use Rattle.headers_preconditions.specs.Limits.{usual_limits}
+use Rattle.headers_preconditions.specs.Contents.{divisible_len, limits_of}
 use Rattle.headers_preconditions.specs.Plans.{IsPlan}
 use Rattle.headers_preconditions.specs.declared.limits.RangeLimits.{RangeLimits}
 use Rattle.headers_preconditions.specs.declared.part.Part.{Part}
 use Rattle.headers_preconditions.specs.declared.plan.Plan.{Plan}
 use Rattle.headers_preconditions.specs.declared.plan.Plan.TheVariants.{NotModified, Failed, Full, Single, Multiple}
 use Rattle.headers_preconditions.specs.declared.plan.Plan.TheVariants.{Unsatisfiable}
-use Rattle.headers_preconditions.specs.declared.resource.Resource.{Resource}
-use Rattle.headers_preconditions.specs.declared.response.Response.{Response as Answer}
-use Rattle.headers_serve.specs.Answer.{AnswersRead, is_several}
-use Rattle.headers_serve.specs.File.{len_of, resource_of}
+use Rattle.headers_preconditions.specs.declared.resource.Resource.{Resource as Target}
+use Rattle.headers_resource.specs.Answers.{at_place, content_of, target_of}
+use Rattle.headers_resource.specs.Requests.{Request as Asked, head_of as as_head}
+use Rattle.headers_resource.specs.declared.answer.Answer.{Answer}
+use Rattle.headers_resource.specs.declared.answer.Sends.{Sends}
+use Rattle.headers_resource.specs.declared.answer.Sends.TheVariants.{Nothing, Alternatives, Planned, Perform}
+use Rattle.headers_resource.specs.declared.resource.Resource.{Resource}
+use Rattle.headers_serve.specs.Answer.{Decides, IsHeldBy, file_sent, is_several, sends_several}
 use Rattle.headers_serve.specs.Parts.{IsKnownToHold, Occurs, part_bytes}
 use Rattle.headers_serve.specs.declared.file.File.{File}
 use Rattle.headers_serve.specs.declared.kept.Kept.{Kept}
 use Rattle.headers_serve.specs.declared.source.Source.{Source}
 use Rattle.headers_serve.specs.declared.source.Source.TheVariants.{Kept as InMemory}
+use Rattle.headers_serve.proofs.AnswerLemmas.{IsPlannedIn, planned_in}
 
 OccursAt-from_slice : (content bytes : List ℕ) (a b k : ℕ) → 0 < length bytes
     → OccursAt (slice_range content a b) bytes k → OccursAt content bytes (a + k)
@@ -51,7 +56,7 @@ no_part_holds content (byte ∷ bytes) part none o =
     )
 
 -- a HEAD has no parts
-head_has_none : (present : ℕ) (request : LineMap) (resource : Resource) (len : ℕ) (limits : RangeLimits)
+head_has_none : (present : ℕ) (request : LineMap) (resource : Target) (len : ℕ) (limits : RangeLimits)
     (plan : Plan) → IsPlan present (codes "HEAD") request resource len limits plan → is_several plan ≡ false
 head_has_none present request resource len limits Full h = refl
 head_has_none present request resource len limits (Single part) h = refl
@@ -61,18 +66,31 @@ head_has_none present request resource len limits NotModified h = refl
 head_has_none present request resource len limits Failed h = refl
 head_has_none present request resource len limits Unsatisfiable h = refl
 
-pub no_part_holds_boundary : (present : ℕ) (boundary method : List ℕ) (request : LineMap) (file : File)
-    (answer : Answer) (kept : Kept)
-    → AnswersRead present boundary method request file answer → is_several answer.plan ≡ true
-    → file.source ≡ InMemory kept → (part : Part) → ¬ (Occurs boundary (part_bytes kept.content part))
-no_part_holds_boundary present boundary method request file answer kept h several memory part =
+-- nor has the answer to one
+head_sends_none : (present : ℕ) (resource : Resource) (asked : Asked) (sent : Sends)
+    → IsPlannedIn present resource (as_head asked) sent → sends_several sent ≡ false
+head_sends_none present resource asked Nothing h = refl
+head_sends_none present resource asked Alternatives h = refl
+head_sends_none present resource asked (Planned place plan) h =
+    let representation = at_place resource.representations.items place in
+    head_has_none present asked.fields (target_of resource.state representation)
+    (divisible_len (content_of representation)) (limits_of (content_of representation)) plan h
+head_sends_none present resource asked Perform h = refl
+
+pub no_part_holds_boundary : (present : ℕ) (divider : List ℕ) (files : List File) (resource : Resource)
+    (asked : Asked) (answer : Answer) (file : File) (kept : Kept)
+    → Decides present divider files resource asked answer → sends_several answer.sends ≡ true
+    → file_sent files answer.sends ≡ Some file → file.source ≡ InMemory kept
+    → (part : Part) → ¬ (Occurs divider (part_bytes kept.content part))
+no_part_holds_boundary present divider files resource asked answer file kept h several sent memory part =
     elim h [
-      | inl sent ↦
-          no_part_holds kept.content boundary part
-          (subst (λ (source : Source). ¬ (IsKnownToHold source boundary)) memory (sent.0 several).apart)
+      | inl sendable ↦
+          no_part_holds kept.content divider part
+          (subst (λ (source : Source). ¬ (IsKnownToHold source divider)) memory
+          (subst (λ (of : Option File). ¬ (IsHeldBy divider of)) sent (sendable.0 several)))
       | inr whole ↦
           let none =
-          head_has_none present request (resource_of present file) (len_of file.source) usual_limits answer.plan
-          whole.3.2.plan in
+          head_sends_none present resource asked answer.sends
+          (planned_in present resource (as_head asked) answer whole.3) in
           absurd (cc (none, several))
     ]

@@ -1,17 +1,14 @@
 -- A redirect leads to the host that was asked.
-use Rattle.std.proofs.Common.{◌≡◌, ℕ, Bool, true, false, List, [], ◌∷◌, ◌++◌, Option, refl, subst}
+use Rattle.std.proofs.Common.{◌≡◌, ℕ, Bool, true, false, List, [], ◌∷◌, ◌++◌, Option, Some, refl, subst}
 use Rattle.std.proofs.Common.{arith}
-use Rattle.std.proofs.Common.{ap, inl, inr, ◌∙◌}
+use Rattle.std.proofs.Common.{ap, inl, ◌∙◌}
 use Rattle.std.proofs.lemmas.Bool.{eq-eqb}
 use Rattle.std.proofs.lemmas.Bool.Decides.{nat_tests}
 use Rattle.std.specs.List.{list_all, onto_first, slice_split}
 use Rattle.std.specs.Prelude.{codes, if◌then◌else◌, ◌==◌}
 use Rattle.percent_encoding.specs.Percent.{percent_decode}
-use Rattle.http1.specs.Fields.{Header}
-use Rattle.headers_exchange.specs.declared.plan.Plan.{Plan as Response}
-use Rattle.headers_serve.specs.Path.{IsStorePath, ends_in_slash, is_name, is_plain, with_index}
-use Rattle.headers_serve.specs.Redirect.{AnswersFolder, IsOnHost, index_target}
-use Rattle.headers_serve.specs.Response.{fields_of, html_field}
+use Rattle.headers_serve.specs.Path.{IsStorePath, Names, ends_in_slash, is_name, is_plain, with_index}
+use Rattle.headers_serve.specs.Redirect.{HasNoIndex, IsOnHost, index_target}
 
 -- a byte that is no percent sign is its own
 keeps_slash : (rest : List ℕ) → percent_decode (47 ∷ rest) ≡ 47 ∷ percent_decode rest
@@ -71,12 +68,6 @@ on_host (root ∷ first ∷ rest) named query h unslashed = record {
       (subst (λ (byte : ℕ). named ≡ with_index (percent_decode (byte ∷ rest))) e h.is_named) h.plain;
 }
 
-pub stays_on_host : (before : List Header) (path named : List ℕ) (query : Option (List ℕ)) (response : Response)
-    → IsStorePath path named → AnswersFolder before path query response → response.status ≡ 301
-    → (target : List ℕ) × (fields_of response ≡ before ++ (codes "location", target) ∷ html_field ∷ []) × IsOnHost target
-stays_on_host before path named query response h x status =
-    elim x [
-      | inl missing ↦ let other = missing.1.status in absurd (omega (arith, other, status))
-      | inr moved ↦
-          (index_target path query, moved.1.headers, on_host path named query h (λ slash. moved.0 (inl slash)))
-    ]
+pub stays_on_host : (path named : List ℕ) (query : Option (List ℕ)) → Names path (Some named)
+    → ¬ (HasNoIndex path query) → IsOnHost (index_target path query)
+stays_on_host path named query h has_index = on_host path named query h (λ slash. has_index (inl slash))

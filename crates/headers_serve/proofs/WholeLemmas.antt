@@ -1,43 +1,88 @@
 -- A GET that makes no condition and asks for no range gets the content.
-use Rattle.std.proofs.Common.{◌≡◌, ℕ, List, [], ◌∷◌, true, false, Some, refl, subst, ◌∙◌}
-use Rattle.std.proofs.Common.{ap, inl, inr}
-use Rattle.std.specs.Prelude.{codes}
+use Rattle.std.proofs.Common.{◌≡◌, ℕ, ◌<◌, Bool, true, false, not, ◌&&◌, ◌||◌, List, [], ◌∷◌, length, get_or, cond}
+use Rattle.std.proofs.Common.{Option, Some, None, refl, sym, subst, ◌∙◌, ap, inl, inr, arith, lit<, map}
+use Rattle.std.specs.Option.{option_map_or}
+use Rattle.std.specs.Prelude.{bytes_eq, codes, find, is_some, nat_lt, option_map, slice_get, string_bytes}
+use Rattle.std.specs.Global.{Vec}
 use Rattle.http.specs.declared.request.Request.{Request}
 use Rattle.http.specs.Request.{head_of}
+use Rattle.http_header.specs.FieldValue.{FieldValue}
 use Rattle.http_uri.specs.Uri.{uri_path}
-use Rattle.http1.specs.Fields.{Header}
-use Rattle.headers.specs.LineMap.{LineMap, lines_at}
+use Rattle.headers.specs.LineMap.{Field, LineMap, lines_at}
+use Rattle.headers.specs.Lines.{Line}
 use Rattle.headers_exchange.specs.Pieces.{AreSent}
 use Rattle.headers_exchange.specs.declared.piece.Piece.{Piece}
 use Rattle.headers_exchange.specs.declared.piece.Piece.TheVariants.{Range}
 use Rattle.headers_exchange.specs.declared.plan.Plan.{Plan as Response}
-use Rattle.headers_preconditions.specs.Fields.{is_known_by}
-use Rattle.headers_preconditions.specs.Limits.{usual_limits}
-use Rattle.headers_preconditions.specs.Plans.{IsPlan, IsSamePlan}
+use Rattle.headers_fields.specs.Scan.{Member}
+use Rattle.headers_gateway.specs.Expectations.{has_known_expectation}
+use Rattle.headers_gateway.specs.Requests.{has_host}
+use Rattle.headers_gateway.specs.declared.protocol.Protocol.{Protocol}
+use Rattle.headers_negotiation.specs.Choice.{Picks, first_place}
+use Rattle.headers_negotiation.specs.Codings.{encoding_quality}
+use Rattle.headers_negotiation.specs.Languages.{language_says}
+use Rattle.headers_negotiation.specs.MediaRanges.{media_type_says}
+use Rattle.headers_negotiation.specs.Qualities.{quality_by, quality_in, rank}
+use Rattle.headers_negotiation.specs.declared.acceptability.Quality.{Quality}
+use Rattle.headers_negotiation.proofs.ChoiceLemmas.{picks_one}
+use Rattle.headers_preconditions.specs.Plans.{IsPlan, IsPlanned, IsSamePlan}
+use Rattle.headers_preconditions.specs.Responses.{IsAnswered}
 use Rattle.headers_preconditions.specs.Selection.{Selects}
 use Rattle.headers_preconditions.specs.declared.part.Part.{Part}
 use Rattle.headers_preconditions.specs.declared.plan.Plan.{Plan}
 use Rattle.headers_preconditions.specs.declared.plan.Plan.TheVariants.{Full, Multiple}
-use Rattle.headers_preconditions.specs.declared.response.Response.{Response as Answer}
+use Rattle.headers_preconditions.specs.declared.response.Response.{Response as Planning}
 use Rattle.headers_preconditions.specs.declared.selection.Selection.TheVariants.{Whole}
 use Rattle.headers_preconditions.proofs.OnePlanLemmas.{one_plan}
 use Rattle.headers_preconditions.proofs.PreconditionLemmas.{unconditional}
-use Rattle.headers_serve.specs.Answer.{AnswersBehind, AnswersEntry, AnswersFile, AnswersHere, AsksForAll}
-use Rattle.headers_serve.specs.Answer.{Carries, IsAnswerOf, Opens, boundary_of, is_several, pieces_sent}
-use Rattle.headers_serve.specs.File.{gives_at, len_of, resource_of, validators_of}
-use Rattle.headers_serve.specs.Hosts.{is_misdirected}
+use Rattle.headers_resource.specs.Answers.{GivesIf, Goes, GoesOn, IsAnswer, IsSelected, at_place, is_admitted, is_sent}
+use Rattle.headers_resource.specs.Answers.{place_of, status_sent}
+use Rattle.headers_resource.specs.Applies.{applies, exceeds, is_current, is_misdirected, is_read, is_unacceptable}
+use Rattle.headers_resource.specs.Applies.{is_unguarded, is_unsized, rule_for, ruled}
+use Rattle.headers_resource.specs.Reasons.{IsFirst}
+use Rattle.headers_resource.specs.Representations.{are_unacceptable, coding_of, joined, rank_by, score}
+use Rattle.headers_resource.specs.Requests.{Request as Asked}
+use Rattle.headers_resource.specs.declared.answer.Answer.{Answer}
+use Rattle.headers_resource.specs.declared.answer.Sends.{Sends}
+use Rattle.headers_resource.specs.declared.answer.Sends.TheVariants.{Planned}
+use Rattle.headers_resource.specs.declared.reason.Reason.{Reason}
+use Rattle.headers_resource.specs.declared.reason.Reason.TheVariants.{InvalidHost, Misdirected, UnknownMethod}
+use Rattle.headers_resource.specs.declared.reason.Reason.TheVariants.{MethodNotAllowed, Options, UnmetExpectation}
+use Rattle.headers_resource.specs.declared.reason.Reason.TheVariants.{Moved, Gone, NotFound, LengthRequired}
+use Rattle.headers_resource.specs.declared.reason.Reason.TheVariants.{ContentTooLarge, UnsupportedMediaType}
+use Rattle.headers_resource.specs.declared.reason.Reason.TheVariants.{UnsupportedCoding, NotAcceptable}
+use Rattle.headers_resource.specs.declared.reason.Reason.TheVariants.{PreconditionRequired, Admitted}
+use Rattle.headers_resource.specs.declared.representation.Negotiation.{Negotiation}
+use Rattle.headers_resource.specs.declared.representation.Representation.{Representation}
+use Rattle.headers_resource.specs.declared.request.RequestContent.{RequestContent}
+use Rattle.headers_resource.specs.declared.request.RequestContent.TheVariants.{Absent}
+use Rattle.headers_resource.specs.declared.resource.MethodRule.{MethodRule}
+use Rattle.headers_resource.specs.declared.resource.Resource.{Resource}
+use Rattle.headers_resource.specs.declared.resource.State.{State}
+use Rattle.headers_resource.specs.declared.resource.State.TheVariants.{Current}
+use Rattle.headers_resource.proofs.PickLemmas.{picks_alike}
+use Rattle.headers_serve.specs.Answer.{AsksForAll, Carries, Decides, IsAnswerAt, IsDescribed, IsSendable, clock, file_at}
+use Rattle.headers_serve.specs.Answer.{file_sent, is_several, pieces_for, pieces_of, pieces_sent, sends_several}
+use Rattle.headers_serve.specs.Answer.{source_of, source_sent, status_for}
+use Rattle.headers_serve.specs.Asked.{Asks}
+use Rattle.headers_serve.specs.File.{current_of, gives_at, gives_of, len_of, limits_of, representation_of, validators_of}
+use Rattle.headers_serve.specs.Found.{FindsEntry, LeadsTo}
 use Rattle.headers_serve.specs.Multipart.{multipart}
 use Rattle.headers_serve.specs.Path.{Names}
+use Rattle.headers_serve.specs.Representations.{AreContents}
+use Rattle.headers_serve.specs.Sites.{IsSite}
 use Rattle.headers_serve.specs.declared.file.Entry.{Entry}
 use Rattle.headers_serve.specs.declared.file.Entry.TheVariants.{Readable}
 use Rattle.headers_serve.specs.declared.file.File.{File}
+use Rattle.headers_serve.specs.declared.found.Found.{Found}
 use Rattle.headers_serve.specs.declared.kept.Kept.{Kept}
-use Rattle.headers_serve.specs.declared.settings.Settings.{Settings}
+use Rattle.headers_serve.specs.declared.settings.Site.{Site}
 use Rattle.headers_serve.specs.declared.source.Source.{Source}
 use Rattle.headers_serve.specs.declared.source.Source.TheVariants.{Kept as InMemory}
 use Rattle.headers_serve.proofs.ContentLemmas.{sent_whole}
-use Rattle.headers_serve.proofs.RepresentationLemmas.{leads_own}
+use Rattle.headers_serve.proofs.OneResponseLemmas.{asked_once}
 use Rattle.headers_serve.proofs.PlanLemmas.{same_by_plan}
+use Rattle.headers_serve.proofs.RepresentationLemmas.{contents_own}
 
 abbrev get : List ℕ
 get = codes "GET"
@@ -46,109 +91,375 @@ get = codes "GET"
 abbrev pub all_of : Source → List Piece
 all_of source = Range (record { start = 0; len = len_of source }) ∷ []
 
--- 200, with all of the source
-abbrev pub HasAll : Source → Response → Type 0
-HasAll source response = (response.status ≡ 200) × (response.pieces.items ≡ all_of source)
+-- ---- the plan
 
-module _ (negotiates : _) (present : ℕ) (request : LineMap) (file : File) (all : AsksForAll negotiates request) where
-  selects_whole : Selects present get request (validators_of present file) (len_of file.source) usual_limits Whole
+-- the plan goes by what a whole file does
+record IsWholePlan (own : File) (plan : Plan) : Type 0 where
+  one : is_several plan ≡ false
+  pieces : (divider : List ℕ) → pieces_sent divider own plan ≡ all_of own.source
+
+module _ (negotiates : Bool) (present : ℕ) (fields : LineMap) (own : File) (all : AsksForAll negotiates fields) where
+  selects_whole : Selects present get fields (validators_of present own) (len_of own.source) (limits_of own.coding) Whole
   selects_whole = inl (λ set applies. let asked = rw all.range at applies.asked in absurd (cc asked))
 
-  full : IsPlan present get request (resource_of present file) (len_of file.source) usual_limits Full
+  full : IsPlan present get fields (current_of present own) (len_of own.source) (limits_of own.coding) Full
   full = (
-    validators_of present file,
+    validators_of present own,
     record {
       performs =
-          unconditional present request (resource_of present file) get all.if_match all.if_none_match all.if_modified_since
-          all.if_unmodified_since;
+          unconditional present fields (current_of present own) get all.if_match all.if_none_match
+          all.if_modified_since all.if_unmodified_since;
       is_read = inl refl;
       is_current = refl;
     },
     selects_whole,
   )
 
-  module _ (boundary : List ℕ) (answer : Answer) (h : IsAnswerOf present boundary get request file answer) where
-    same : IsSamePlan (Some answer.plan) (Some Full)
-    same =
-        one_plan present get request (resource_of present file) (len_of file.source) usual_limits (Some answer.plan)
-        (Some Full) h.2.plan full
+  abbrev Plans : Option Plan → Type 0
+  Plans plan = IsPlanned present get fields (current_of present own) (len_of own.source) (limits_of own.coding) plan
 
+  same : (plan : Option Plan) → Plans plan → IsSamePlan plan (Some Full)
+  same plan h =
+      one_plan present get fields (current_of present own) (len_of own.source) (limits_of own.coding) plan (Some Full) h
+      full
+
+  module _ (plan : Plan) (h : Plans (Some plan)) where
     by_plan : {X : Type 0} (of_plan : Plan → X) (several : List Part → X)
-        → ((parts : _) → of_plan (Multiple parts) ≡ several parts.items) → of_plan answer.plan ≡ of_plan Full
+        → ((parts : _) → of_plan (Multiple parts) ≡ several parts.items) → of_plan plan ≡ of_plan Full
     by_plan of_plan several same_parts =
-        same_by_plan present get request (resource_of present file) (len_of file.source) usual_limits of_plan several
-        same_parts answer.plan Full h.2.plan full same
+        same_by_plan present get fields (current_of present own) (len_of own.source) (limits_of own.coding) of_plan
+        several same_parts plan Full h full (same (Some plan) h)
 
-    one_part : is_several answer.plan ≡ false
-    one_part = by_plan is_several (λ _. true) (λ _. refl)
+    whole_plan : IsWholePlan own plan
+    whole_plan = record {
+      one = by_plan is_several (λ _. true) (λ _. refl);
+      pieces = λ divider. by_plan (pieces_sent divider own) (multipart divider own) (λ _. refl);
+    }
 
-    whole_pieces : pieces_sent boundary file answer.plan ≡ all_of file.source
-    whole_pieces = by_plan (pieces_sent boundary file) (multipart boundary file) (λ _. refl)
+-- ---- the representation
 
-  carried : (before : List Header) (settings : Settings) (answer : Answer) (response : Response)
-      → IsAnswerOf present (boundary_of settings) get request file answer
-      → Carries before settings (is_known_by request) file answer response → HasAll file.source response
-  carried before settings answer response h x = (
-    x.status ∙ h.2.status ∙ (same (boundary_of settings) answer h).0,
-    x.pieces ∙ whole_pieces (boundary_of settings) answer h,
-  )
+abbrev top : ℕ
+top = joined 1001 1001 1001
 
-  file_whole : (before : List Header) (settings : Settings) (response : Response)
-      → AnswersFile present before settings get request file response → HasAll file.source response
-  file_whole before settings response x =
-      elim x.1 [
-        | inl sent ↦ carried before settings x.0 response sent.1 x.2
-        | inr whole ↦
-            absurd (whole.1 (λ several.
-            let no = one_part (boundary_of settings) whole.0 whole.2 in absurd (cc (no, several))))
-      ]
+rank_top : (gives : List Member → List ℕ → Quality) (used : Bool) (lines : List Line) (offer : Option Line)
+    → (used ≡ true → lines ≡ []) → rank_by gives used lines offer ≡ 1001
+rank_top gives used lines None silent = refl
+rank_top gives false lines (Some offer) silent = refl
+rank_top gives true lines (Some offer) silent = ap (λ (ls : List Line). rank (quality_in gives ls offer)) (silent refl)
+
+-- where nothing is asked, all are liked alike
+score_top : (negotiation : Negotiation) (fields : LineMap) (x : Representation) → negotiation.media_type ≡ false
+    → negotiation.language ≡ false → (negotiation.coding ≡ true → fields (codes "accept-encoding") ≡ [])
+    → score negotiation fields x ≡ top
+unfolding score
+score_top negotiation fields x media_type language coding =
+    let media_offer : Option Line = option_map (λ (v : FieldValue). v.bytes) x.content.media_type in
+    let language_offer : Option Line = option_map (λ (v : FieldValue). v.bytes) x.language in
+    let media_rank : ℕ = rank_by (quality_by media_type_says) negotiation.media_type (fields (codes "accept"))
+    media_offer in
+    let language_rank : ℕ = rank_by (quality_by language_says) negotiation.language
+    (fields (codes "accept-language")) language_offer in
+    let coding_rank : ℕ = rank_by encoding_quality negotiation.coding (fields (codes "accept-encoding"))
+    (Some (coding_of x)) in
+    let first : media_rank ≡ 1001 =
+    rank_top (quality_by media_type_says) negotiation.media_type (fields (codes "accept")) media_offer
+    (λ used. absurd (cc (used, media_type))) in
+    let second : language_rank ≡ 1001 =
+    rank_top (quality_by language_says) negotiation.language (fields (codes "accept-language")) language_offer
+    (λ used. absurd (cc (used, language))) in
+    let third : coding_rank ≡ 1001 =
+    rank_top encoding_quality negotiation.coding (fields (codes "accept-encoding")) (Some (coding_of x)) coding in
+    ap (λ (n : ℕ). joined n language_rank coding_rank) first
+    ∙ ap (λ (n : ℕ). joined 1001 n coding_rank) second
+    ∙ ap (λ (n : ℕ). joined 1001 1001 n) third
+
+-- of things of one score the first is picked
+picks_first : {A : Type 0} (n : ℕ) (xs : List A) → 0 < n → Picks (λ (x : A). n) xs (first_place xs)
+picks_first n [] some = λ k other low. absurd (omega (arith, low))
+picks_first n (x ∷ xs) some =
+    record {
+      within = omega arith;
+      positive = λ other. some;
+      greatest = λ k other low. omega arith;
+      first = λ k other low. absurd (omega (arith, low));
+    }
+
+-- ---- the reason
+
+rule_found : (rules : List MethodRule) (rule : MethodRule) → rules ≡ rule ∷ [] → rule.method ≡ get
+    → rule_for rules get ≡ Some rule
+unfolding rule_for
+rule_found rules rule e m =
+    ap (find (λ (r : MethodRule). bytes_eq r.method get)) e
+    ∙ ap (λ (name : List ℕ). cond (bytes_eq name get) (Some rule) None) m
+
+abbrev reading : Protocol → Option Line → LineMap → Asked
+reading protocol authority fields =
+    record { protocol = protocol; method = get; authority = authority; content = Absent; fields = fields }
+
+module _ (site : Resource) (divider : List ℕ) (is_site : IsSite divider site) (v : Vec Representation)
+    (protocol : Protocol) (authority : Option Line) (fields : LineMap)
+    (host : has_host protocol (fields (codes "host")) ≡ true)
+    (own_host : is_misdirected site (reading protocol authority fields) ≡ false)
+    (expects : has_known_expectation (fields (codes "expect")) ≡ true) where
+  abbrev file : Resource
+  file = record site { state = Current; representations = v }
+
+  abbrev asked : Asked
+  asked = reading protocol authority fields
+
+  rule : rule_for site.rules.items get ≡ Some is_site.rule
+  rule = rule_found site.rules.items is_site.rule is_site.rules is_site.is_read.method
+
+  acceptable : is_unacceptable file asked ≡ false
+  unfolding is_unacceptable
+  acceptable =
+      ap
+      (λ (strict : Bool). strict && (nat_lt 0 (length v.items)
+      && are_unacceptable site.negotiation fields v.items)) is_site.lenient
+
+  free : (option_map_or (λ (r : MethodRule). r.needs_condition) (rule_for site.rules.items get) false
+      && is_unguarded fields) ≡ false
+  free =
+      ap
+      (λ (r : Option MethodRule). option_map_or (λ (x : MethodRule). x.needs_condition) r false
+      && is_unguarded fields) rule
+      ∙ ap (λ (b : Bool). b && is_unguarded fields) is_site.is_read.is_free
+
+  never : (b : Bool) (reason : Reason) → b ≡ true → b ≡ false → reason ≡ Admitted
+  never b reason t f = absurd (cc (t, f))
+
+  admitted : (reason : Reason) → applies file asked reason ≡ true → reason ≡ Admitted
+  admitted InvalidHost t = never _ InvalidHost t (ap not host)
+  admitted Misdirected t = never _ Misdirected t own_host
+  admitted UnknownMethod t = never _ UnknownMethod t refl
+  admitted MethodNotAllowed t = never _ MethodNotAllowed t (ap (λ (r : Option MethodRule). not (is_some r)) rule)
+  admitted Options t = never _ Options t refl
+  admitted UnmetExpectation t = never _ UnmetExpectation t (ap not expects)
+  admitted Moved t = never _ Moved t refl
+  admitted Gone t = never _ Gone t refl
+  admitted NotFound t = never _ NotFound t refl
+  admitted LengthRequired t =
+      never _ LengthRequired t (ap (λ (b : Bool). b && is_unsized Absent) is_site.needs_length)
+  admitted ContentTooLarge t = never _ ContentTooLarge t (ap (λ (l : Option ℕ). exceeds l Absent) is_site.limit)
+  admitted UnsupportedMediaType t = never _ UnsupportedMediaType t refl
+  admitted UnsupportedCoding t = never _ UnsupportedCoding t refl
+  admitted NotAcceptable t = never _ NotAcceptable t acceptable
+  admitted PreconditionRequired t = never _ PreconditionRequired t free
+  admitted Admitted t = refl
+
+  -- ---- the answer
+
+  -- the answer sends all of the file
+  record IsWhole (own : File) (why : Reason) (code : Option ℕ) (sent : Sends) : Type 0 where
+    plan : Plan
+    admits : why ≡ Admitted
+    status : code ≡ Some 200
+    sends : sent ≡ Planned (Some 0) plan
+    whole : IsWholePlan own plan
+
+  module _ (present : ℕ) (own : File) (others : List File) (all : AsksForAll site.negotiation.coding fields)
+      (items : v.items ≡ representation_of present own ∷ map (representation_of present) others) where
+    abbrev mine : Representation
+    mine = representation_of present own
+
+    first_selected : (place : Option ℕ) → IsSelected file fields place → place ≡ Some 0
+    first_selected place h =
+        let choice =
+        picks_one (λ (x : Representation). top) v.items h.choice (first_place v.items)
+        (picks_alike (score site.negotiation fields) (λ x. top)
+        (λ x. score_top site.negotiation fields x is_site.media_type is_site.language all.accept_encoding) v.items
+        h.choice h.picks) (picks_first top v.items (lit< tt)) in
+        h.is ∙ ap (place_of v.items) choice
+        ∙ ap (λ (xs : List Representation). place_of xs (first_place xs)) items
+
+    planned : (status : Option ℕ) (sent : Sends) (response : Option Planning)
+        → IsAnswered present get fields (current_of present own) mine.content site.boundary response
+        → status ≡ status_sent response → sent ≡ is_sent (Some 0) response → IsWhole own Admitted status sent
+    planned status sent None h same_status same_sent =
+        absurd (same site.negotiation.coding present fields own all None h)
+    planned status sent (Some response) h same_status same_sent =
+        let plan = h.plan in
+        record {
+          plan = response.plan;
+          admits = refl;
+          status =
+              same_status
+              ∙ ap Some (h.status ∙ (same site.negotiation.coding present fields own all (Some response.plan) plan).0);
+          sends = same_sent;
+          whole = whole_plan site.negotiation.coding present fields own all response.plan plan;
+        }
+
+    goes_whole : (status : Option ℕ) (sent : Sends) (given : List Field)
+        → Goes present file asked status sent given → IsWhole own Admitted status sent
+    goes_whole status sent given h =
+        let place = first_selected h.place h.selected in
+        let goes : GoesOn present file asked (Some 0) (Some mine) status sent given =
+        subst
+        (λ (xs : List Representation). GoesOn present file asked (Some 0) (slice_get xs 0) status sent given) items
+        (subst
+        (λ (at : Option ℕ). GoesOn present file asked at (at_place v.items at) status sent given) place h.goes) in
+        planned status sent goes.response goes.answered goes.has_status goes.sends
+
+    answer_whole : (answer : Answer) → IsAnswer present file asked answer
+        → IsWhole own answer.reason answer.status answer.sends
+    answer_whole answer h =
+        let reason = admitted answer.reason h.first.is in
+        let gives : GivesIf true present file asked Admitted answer.status answer.sends h.own =
+        subst (λ (r : Reason). GivesIf (is_admitted r) present file asked r answer.status answer.sends h.own) reason
+        h.gives in
+        let whole = goes_whole answer.status answer.sends h.own gives in
+        record {
+          plan = whole.plan;
+          admits = reason;
+          status = whole.status;
+          sends = whole.sends;
+          whole = whole.whole;
+        }
+
+    decided_whole : (by : List ℕ) (files : List File) (answer : Answer) → Decides present by files file asked answer
+        → IsWhole own answer.reason answer.status answer.sends
+    decided_whole by files answer x =
+        elim x [
+          | inl h ↦ answer_whole answer h.1
+          | inr h ↦
+              let whole = answer_whole h.0 h.2 in
+              let one = ap sends_several whole.sends ∙ whole.whole.one in
+              absurd (h.1 (λ several. absurd (cc (one, several))))
+        ]
+
+-- ---- the response
+
+-- 200, with all of the source
+record HasAll (own : Source) (response : Response) (source : Option Source) : Type 0 where
+  status : response.status ≡ 200
+  pieces : response.pieces.items ≡ all_of own
+  opens : source ≡ Some own
 
 -- of a file in memory its content is sent
-all_sent : (own source : Source) (response : Response) (kept : Kept) (sent : List ℕ) → source ≡ own
-    → own ≡ InMemory kept → response.pieces.items ≡ all_of own
-    → AreSent (gives_at source) response.pieces.items sent → sent ≡ kept.content
-all_sent own source response kept sent opens memory pieces h =
+all_sent : (own : Source) (source : Option Source) (response : Response) (kept : Kept) (sent : List ℕ)
+    → HasAll own response source → own ≡ InMemory kept → AreSent (gives_of source) response.pieces.items sent
+    → sent ≡ kept.content
+all_sent own source response kept sent has memory h =
     sent_whole kept sent
-    (subst (λ (s : Source). AreSent (gives_at s) (all_of (InMemory kept)) sent) (opens ∙ memory)
-    (subst (λ (l : List Piece). AreSent (gives_at source) l sent) (pieces ∙ ap all_of memory) h))
+    (subst (λ (s : Source). AreSent (gives_of (Some s)) (all_of s) sent) memory
+    (subst (λ (s : Option Source). AreSent (gives_of s) (all_of own) sent) has.opens
+    (subst (λ (l : List Piece). AreSent (gives_of source) l sent) has.pieces h)))
 
-here_whole : (present : ℕ) (settings : Settings) (look : List ℕ → Entry) (before : List Header)
-    (request : Request (List ℕ)) (named : List ℕ) (file : File) (response : Response) (source : Source)
-    → (head_of request).method ≡ get → Names (uri_path (head_of request).uri) (Some named) → look named ≡ Readable file
-    → AsksForAll settings.negotiates (lines_at (head_of request).headers)
-    → AnswersHere present before settings (λ path entry. entry ≡ look path) request response source
-    → (response.status ≡ 200)
-    × ((kept : Kept) (sent : List ℕ) → file.source ≡ InMemory kept
-    → AreSent (gives_at source) response.pieces.items sent → sent ≡ kept.content)
-here_whole present settings look before request named file response source method names found all x =
+found_file : (negotiates : Bool) (look : List ℕ → Entry) (request : Request (List ℕ)) (named : List ℕ) (file : File)
+    (found : Found) → Names (uri_path (head_of request).uri) (Some named) → look named ≡ Readable file
+    → LeadsTo negotiates (λ path entry. entry ≡ look path) (head_of request).uri found
+    → FindsEntry negotiates (λ path entry. entry ≡ look path) (head_of request).uri named (Readable file) found
+found_file negotiates look request named file found names stands x =
     elim x [
       | inl h ↦
-          let lines : LineMap = lines_at (head_of request).headers in
-          let own = leads_own look settings.negotiates lines (uri_path (head_of request).uri) named file h.1.0 names
-          found all.accept_encoding h.1.1 in
-          let answers =
-          subst (λ (e : Entry). AnswersEntry present before settings request e response) own.1 h.1.2 in
-          let opens = subst (λ (e : Entry). Opens e source) own.1 h.1.3 in
-          let whole =
-          file_whole settings.negotiates present lines own.0 all before settings response
-          (subst (λ (m : List ℕ). AnswersFile present before settings m lines own.0 response) method answers) in (
-            whole.0,
-            λ kept sent memory.
-                all_sent own.0.source source response kept sent opens (own.2 ∙ memory) whole.1,
-          )
-      | inr h ↦ absurd (h.0 (inl method))
+          let same : h.0 ≡ named = h.1.is_named ∙ sym names.is_named in
+          let entry : h.2.0 ≡ Readable file = h.2.1 ∙ ap look same ∙ stands in
+          subst
+          (λ (p : List ℕ).
+          FindsEntry negotiates (λ path e. e ≡ look path) (head_of request).uri p (Readable file) found) same
+          (subst
+          (λ (e : Entry). FindsEntry negotiates (λ path o. o ≡ look path) (head_of request).uri h.0 e found) entry
+          h.2.2)
+      | inr h ↦ absurd (h.0 named names)
     ]
 
-pub get_whole : (present : ℕ) (settings : Settings) (look : List ℕ → Entry) (before : List Header)
-    (request : Request (List ℕ)) (named : List ℕ) (file : File) (response : Response) (source : Source)
-    → is_misdirected settings.hosts.items request ≡ false → (head_of request).method ≡ get → Names (uri_path (head_of request).uri) (Some named)
-    → look named ≡ Readable file → AsksForAll settings.negotiates (lines_at (head_of request).headers)
-    → AnswersBehind present before settings (λ path entry. entry ≡ look path) request response source
+module _ (now : Option ℕ) (left : ℕ) (site : Site) (divider : List ℕ) (look : List ℕ → Entry)
+    (request : Request (List ℕ)) (named : List ℕ) (file : File) (response : Response) (source : Option Source)
+    (asked : Asked) where
+  get_has_all : IsSite divider site.resource → Asks request asked
+      → has_host asked.protocol (asked.fields (codes "host")) ≡ true → is_misdirected site.resource asked ≡ false
+      → has_known_expectation (asked.fields (codes "expect")) ≡ true → (head_of request).method ≡ get
+      → Names (uri_path (head_of request).uri) (Some named) → look named ≡ Readable file
+      → AsksForAll site.resource.negotiation.coding (lines_at (head_of request).headers)
+      → IsAnswerAt now left site (λ path entry. entry ≡ look path) request response source
+      → (own : Source) × (own ≡ file.source) × HasAll own response source
+  get_has_all is_site asks host own_host expects method names stands all x =
+      let present : ℕ = clock now in
+      let by : List ℕ = string_bytes site.divider in
+      let finds =
+      found_file site.resource.negotiation.coding look request named file x.found names stands x.leads in
+      let contents =
+      contents_own site.resource.negotiation.coding (λ path entry. entry ≡ look path) named file x.found.files.items
+      finds.2 in
+      let reads : x.asked ≡ reading asked.protocol asked.authority asked.fields =
+      sym (asked_once request asked x.asked asks x.asks)
+      ∙ ap
+      (λ (m : List ℕ).
+      record {
+        protocol = asked.protocol;
+        method = m;
+        authority = asked.authority;
+        content = asked.content;
+        fields = asked.fields;
+      }) (asks.2.method ∙ method)
+      ∙ ap
+      (λ (c : RequestContent).
+      record {
+        protocol = asked.protocol;
+        method = get;
+        authority = asked.authority;
+        content = c;
+        fields = asked.fields;
+      }) asks.2.content in
+      let described = x.described in
+      let resource : x.resource ≡ record site.resource {
+        state = Current;
+        representations = described.representations;
+      } =
+      described.is
+      ∙ ap
+      (λ (s : State). record site.resource { state = s; representations = described.representations })
+      finds.0 in
+      let items =
+      described.are ∙ ap (map (representation_of present)) contents.2 in
+      let whole =
+      decided_whole site.resource divider is_site described.representations asked.protocol asked.authority
+      asked.fields host own_host expects present contents.0 contents.1
+      (subst (λ (f : LineMap). AsksForAll site.resource.negotiation.coding f) (sym asks.2.fields) all) items by
+      x.found.files.items x.answer
+      (subst (λ (r : Resource). Decides present by x.found.files.items r (reading asked.protocol asked.authority asked.fields) x.answer) resource
+      (subst (λ (q : Asked). Decides present by x.found.files.items x.resource q x.answer) reads x.decides)) in
+      let carries = x.carries in
+      let status =
+      ap (λ (r : Reason). status_for x.found.status r x.answer.status) whole.admits
+      ∙ ap (λ (s : Option ℕ). status_for x.found.status Admitted s) whole.status in (
+        contents.0.source,
+        contents.3,
+        record {
+          status = carries.status ∙ status;
+          pieces =
+              carries.pieces
+              ∙ ap
+              (pieces_for by x.found.files.items (status_for x.found.status x.answer.reason x.answer.status))
+              whole.sends
+              ∙ ap (λ (l : List File). pieces_of by (slice_get l 0) whole.plan) contents.2
+              ∙ whole.whole.pieces by;
+          opens =
+              x.opens
+              ∙ ap (source_sent x.found.files.items) whole.sends
+              ∙ ap (λ (l : List File). source_of (slice_get l 0)) contents.2;
+        },
+      )
+
+pub get_whole : (now : Option ℕ) (left : ℕ) (site : Site) (divider : List ℕ) (look : List ℕ → Entry)
+    (request : Request (List ℕ)) (named : List ℕ) (file : File) (response : Response) (source : Option Source)
+    (asked : Asked)
+    → IsSite divider site.resource → Asks request asked
+    → has_host asked.protocol (asked.fields (codes "host")) ≡ true → is_misdirected site.resource asked ≡ false
+    → has_known_expectation (asked.fields (codes "expect")) ≡ true
+    → (head_of request).method ≡ codes "GET"
+    → Names (uri_path (head_of request).uri) (Some named) → look named ≡ Readable file
+    → AsksForAll site.resource.negotiation.coding (lines_at (head_of request).headers)
+    → IsAnswerAt now left site (λ path entry. entry ≡ look path) request response source
     → (response.status ≡ 200)
     × ((kept : Kept) (sent : List ℕ) → file.source ≡ InMemory kept
-    → AreSent (gives_at source) response.pieces.items sent → sent ≡ kept.content)
-get_whole present settings look before request named file response source own method names found all x =
-    elim x [
-      | inl h ↦ absurd (cc (h.0, own))
-      | inr h ↦ here_whole present settings look before request named file response source method names found all h.1
-    ]
+    → AreSent (gives_of source) response.pieces.items sent → sent ≡ kept.content)
+get_whole now left site divider look request named file response source asked is_site asks host own_host expects method
+    names stands all x =
+    let has =
+    get_has_all now left site divider look request named file response source asked is_site asks host own_host expects
+    method names stands all x in (
+      has.2.status,
+      λ kept sent memory. all_sent has.0 source response kept sent has.2 (has.1 ∙ memory),
+    )

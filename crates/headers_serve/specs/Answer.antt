@@ -1,56 +1,49 @@
 -- What a request is answered with.
-use Rattle.std.specs.Prelude.{◌≡◌, ◌≢◌, ◌⊎◌, ℕ, Bool, true, false, nat_lt, List, [], ◌∷◌, ◌++◌, codes}
-use Rattle.std.specs.Prelude.{Option, Some, None, ⊤, if◌then◌else◌, string_bytes}
+use Rattle.std.specs.Prelude.{◌≡◌, ◌⊎◌, ℕ, ◌==◌, Bool, true, false, nat_lt, List, [], ◌∷◌, ◌++◌, codes, map, slice_get}
+use Rattle.std.specs.Prelude.{Option, Some, None, ⊤, if◌then◌else◌, is_some, string_bytes}
+use Rattle.std.specs.Global.{Vec}
 use Rattle.http.specs.declared.request.Request.{Request}
 use Rattle.http.specs.Request.{head_of}
 use Rattle.http_header.specs.FieldValue.{FieldValue}
-use Rattle.http_uri.specs.declared.uri.Uri.{Uri}
-use Rattle.http_uri.specs.Uri.{uri_path, uri_query}
 use Rattle.http1.specs.Fields.{Header}
 use Rattle.headers.specs.Date.{fixdate}
-use Rattle.headers.specs.LineMap.{LineMap, lines_at}
+use Rattle.headers.specs.LineMap.{Field, LineMap, fields_of as encoded_fields, lines_at}
 use Rattle.headers_exchange.specs.declared.plan.Plan.{Plan as Response}
 use Rattle.headers_exchange.specs.declared.piece.Piece.{Piece}
 use Rattle.headers_exchange.specs.declared.piece.Piece.TheVariants.{Range}
-use Rattle.headers_preconditions.specs.Boundaries.{multipart_type}
-use Rattle.headers_preconditions.specs.Fields.{is_known_by}
-use Rattle.headers_preconditions.specs.Preconditions.{IsGetOrHead}
-use Rattle.headers_preconditions.specs.Responses.{IsResponse}
 use Rattle.headers_preconditions.specs.declared.plan.Plan.{Plan}
 use Rattle.headers_preconditions.specs.declared.plan.Plan.TheVariants.{NotModified, Failed, Full, Single, Multiple}
 use Rattle.headers_preconditions.specs.declared.plan.Plan.TheVariants.{Unsatisfiable}
-use Rattle.headers_preconditions.specs.declared.response.Response.{Response as Answer}
-use Rattle.headers_serve.specs.Codings.{coding_name, is_encoded}
-use Rattle.headers_serve.specs.Cors.{IsShared}
-use Rattle.headers_serve.specs.File.{content_of, len_of, resource_of}
-use Rattle.headers_serve.specs.Hosts.{is_misdirected}
+use Rattle.headers_resource.specs.Answers.{IsAnswer as IsAnswerOf}
+use Rattle.headers_resource.specs.Requests.{Request as Asked, head_of as as_head}
+use Rattle.headers_resource.specs.declared.answer.Answer.{Answer}
+use Rattle.headers_resource.specs.declared.answer.Sends.{Sends}
+use Rattle.headers_resource.specs.declared.answer.Sends.TheVariants.{Nothing, Alternatives, Planned, Perform}
+use Rattle.headers_resource.specs.declared.reason.Reason.{Reason}
+use Rattle.headers_resource.specs.declared.reason.Reason.TheVariants.{NotFound}
+use Rattle.headers_resource.specs.declared.representation.Representation.{Representation}
+use Rattle.headers_resource.specs.declared.resource.Resource.{Resource}
+use Rattle.headers_serve.specs.Asked.{Asks}
+use Rattle.headers_serve.specs.File.{len_of, representation_of}
+use Rattle.headers_serve.specs.Found.{LeadsTo}
 use Rattle.headers_serve.specs.Multipart.{multipart}
-use Rattle.headers_serve.specs.Parts.{IsKnownToHold, part_extent}
-use Rattle.headers_serve.specs.Path.{Names}
-use Rattle.headers_serve.specs.Redirect.{AnswersFolder}
-use Rattle.headers_serve.specs.Representations.{IsServedAt}
-use Rattle.headers_serve.specs.Response.{IsExplained, IsWith, fields_of, headers_of}
-use Rattle.headers_serve.specs.declared.coding.Coding.{Coding}
-use Rattle.headers_serve.specs.declared.coding.Coding.TheVariants.{Identity, Brotli, Gzip}
+use Rattle.headers_serve.specs.Parts.{Fits, IsKnownToHold, part_extent}
+use Rattle.headers_serve.specs.Response.{fields_of, headers_sent, page_fields, page_sent}
 use Rattle.headers_serve.specs.declared.file.Entry.{Entry}
-use Rattle.headers_serve.specs.declared.file.Entry.TheVariants.{Missing, Forbidden, Unavailable}
-use Rattle.headers_serve.specs.declared.file.Entry.TheVariants.{Folder, Readable}
 use Rattle.headers_serve.specs.declared.file.File.{File}
+use Rattle.headers_serve.specs.declared.found.Found.{Found}
+use Rattle.headers_serve.specs.declared.settings.Site.{Site}
 use Rattle.headers_serve.specs.declared.source.Source.{Source}
-use Rattle.headers_serve.specs.declared.settings.Settings.{Settings}
 
--- ---- a read of a file
+-- ---- the resource that a request is about
 
--- what stands between several parts
-abbrev pub boundary_of : Settings → List ℕ
-boundary_of settings = string_bytes settings.divider.text
+-- The resource of what was found: the site's, with this state, and with the contents as representations.
+pub record IsDescribed (present : ℕ) (site : Resource) (found : Found) (resource : Resource) : Type 0 where
+  pub representations : Vec Representation
+  pub are : representations.items ≡ map (representation_of present) found.files.items
+  pub is : resource ≡ record site { state = found.state; representations = representations }
 
--- The answer of `headers_preconditions` to a request for the file: by the time, in seconds since 1970, its method, its
--- conditions and its ranges, with this boundary.
-abbrev pub IsAnswerOf : ℕ → List ℕ → List ℕ → LineMap → File → Answer → Type 0
-IsAnswerOf present boundary method request file answer =
-    (kind : FieldValue) × (kind.bytes ≡ multipart_type boundary)
-    × IsResponse present method request (resource_of present file) (content_of file) kind answer
+-- ---- its answer
 
 -- the plan sends several parts
 abbrev pub is_several : Plan → Bool
@@ -61,29 +54,42 @@ is_several NotModified = false
 is_several Failed = false
 is_several Unsatisfiable = false
 
--- the coding changes the file's content
-abbrev pub is_encoded_in : Option Coding → Bool
-is_encoded_in None = false
-is_encoded_in (Some coding) = is_encoded coding
+abbrev pub sends_several : Sends → Bool
+sends_several Nothing = false
+sends_several Alternatives = false
+sends_several (Planned place plan) = is_several plan
+sends_several Perform = false
 
--- The file can be sent in parts: its content has no coding, which would be that of the parts and what stands between
--- them (RFC 9110, section 8.4), and no part is known to hold what stands between the parts (RFC 2046, section 5.1.1).
-pub record IsDivisible (boundary : List ℕ) (file : File) : Type 0 where
-  pub plain : is_encoded_in file.coding ≡ false
-  pub apart : ¬ (IsKnownToHold file.source boundary)
+-- the file at the place of a representation
+abbrev pub file_at : List File → Option ℕ → Option File
+file_at files None = None
+file_at files (Some place) = slice_get files place
 
--- the plan sends no parts, or they can be sent
-abbrev pub IsSendable : List ℕ → File → Plan → Type 0
-IsSendable boundary file plan = is_several plan ≡ true → IsDivisible boundary file
+-- the file of which an answer sends something
+abbrev pub file_sent : List File → Sends → Option File
+file_sent files Nothing = None
+file_sent files Alternatives = None
+file_sent files (Planned place plan) = file_at files place
+file_sent files Perform = None
 
--- The answer to a read of the file. If its parts can't be sent, Range is ignored, as RFC 9110, section 14.2, lets a
--- server do: the plan is that of a HEAD, which is that of a GET without Range.
-abbrev pub AnswersRead : ℕ → List ℕ → List ℕ → LineMap → File → Answer → Type 0
-AnswersRead present boundary method request file answer =
-    (IsSendable boundary file answer.plan × IsAnswerOf present boundary method request file answer)
-    ⊎ ((asked : Answer) × (¬ (IsSendable boundary file asked.plan))
-    × IsAnswerOf present boundary method request file asked
-    × IsAnswerOf present boundary (codes "HEAD") request file answer)
+-- the bytes are known to stand in the file, if there is one
+abbrev pub IsHeldBy : List ℕ → Option File → Type 0
+IsHeldBy bytes None = ⊥
+IsHeldBy bytes (Some file) = IsKnownToHold file.source bytes
+
+-- No part of the answer is known to hold what stands between the parts (RFC 2046, section 5.1.1).
+abbrev pub IsSendable : List ℕ → List File → Sends → Type 0
+IsSendable divider files sends = sends_several sends ≡ true → ¬ (IsHeldBy divider (file_sent files sends))
+
+-- The answer of the resource with these contents. If its parts can't be sent, Range is ignored, as RFC 9110, section
+-- 14.2, lets a server do: it is the answer to a HEAD, which is that to a GET without Range.
+abbrev pub Decides : ℕ → List ℕ → List File → Resource → Asked → Answer → Type 0
+Decides present divider files resource asked answer =
+    (IsSendable divider files answer.sends × IsAnswerOf present resource asked answer)
+    ⊎ ((first : Answer) × (¬ (IsSendable divider files first.sends)) × IsAnswerOf present resource asked first
+    × IsAnswerOf present resource (as_head asked) answer)
+
+-- ---- the response that carries it
 
 -- a cache may use the answer again
 abbrev pub is_reusable : Plan → Bool
@@ -94,135 +100,83 @@ is_reusable NotModified = true
 is_reusable Failed = false
 is_reusable Unsatisfiable = false
 
+abbrev pub is_stored : Sends → Bool
+is_stored Nothing = false
+is_stored Alternatives = false
+is_stored (Planned place plan) = is_reusable plan
+is_stored Perform = false
+
 -- one field of a value, or none
 abbrev pub cache_fields : Option FieldValue → List Header
 cache_fields None = []
 cache_fields (Some value) = (codes "cache-control", value.bytes) ∷ []
 
 -- Cache-Control, if it is asked for: of 200, 206 and 304
-abbrev pub cache_sent : Plan → Option FieldValue → List Header
-cache_sent plan cache_control = if is_reusable plan then cache_fields cache_control else []
-
--- Content-Encoding of a content in a coding
-abbrev pub encoding_fields : Coding → List Header
-encoding_fields Identity = []
-encoding_fields Brotli = (codes "content-encoding", coding_name Brotli) ∷ []
-encoding_fields Gzip = (codes "content-encoding", coding_name Gzip) ∷ []
-
--- Content-Encoding (section 8.4): of 200, and of 206 with one part unless the client knows it (section 15.3.7)
-abbrev pub encoding_sent : Plan → Bool → Coding → List Header
-encoding_sent Full is_known coding = encoding_fields coding
-encoding_sent (Single part) is_known coding = if is_known then [] else encoding_fields coding
-encoding_sent (Multiple parts) is_known coding = []
-encoding_sent NotModified is_known coding = []
-encoding_sent Failed is_known coding = []
-encoding_sent Unsatisfiable is_known coding = []
-
--- what is said of a coding that was negotiated: Vary (section 12.5.5), of answers that a cache may use again, and
--- Content-Encoding
-abbrev pub coding_fields : Plan → Bool → Option Coding → List Header
-coding_fields plan is_known None = []
-coding_fields plan is_known (Some coding) =
-    (codes "vary", codes "accept-encoding") ∷ encoding_sent plan is_known coding
-
-abbrev pub coding_sent : Plan → Bool → Option Coding → List Header
-coding_sent plan is_known coding = if is_reusable plan then coding_fields plan is_known coding else []
+abbrev pub cache_sent : Sends → Option FieldValue → List Header
+cache_sent sends cache_control = if is_stored sends then cache_fields cache_control else []
 
 -- the pieces that a plan sends of the file; to a HEAD the connection sends none
 abbrev pub pieces_sent : List ℕ → File → Plan → List Piece
-pieces_sent boundary file Full = Range (record { start = 0; len = len_of file.source }) ∷ []
-pieces_sent boundary file (Single part) = Range (part_extent part) ∷ []
-pieces_sent boundary file (Multiple parts) = multipart boundary file parts.items
-pieces_sent boundary file NotModified = []
-pieces_sent boundary file Failed = []
-pieces_sent boundary file Unsatisfiable = []
+pieces_sent divider file Full = Range (record { start = 0; len = len_of file.source }) ∷ []
+pieces_sent divider file (Single part) = Range (part_extent part) ∷ []
+pieces_sent divider file (Multiple parts) = multipart divider file parts.items
+pieces_sent divider file NotModified = []
+pieces_sent divider file Failed = []
+pieces_sent divider file Unsatisfiable = []
 
--- the response has the answer's status, its fields after those from before, and the pieces of its plan
-pub record Carries (before : List Header) (settings : Settings) (is_known : Bool) (file : File) (answer : Answer)
-    (response : Response) : Type 0 where
-  pub status : response.status ≡ answer.status
+abbrev pub pieces_of : List ℕ → Option File → Plan → List Piece
+pieces_of divider None plan = []
+pieces_of divider (Some file) plan = pieces_sent divider file plan
+
+-- what is sent: of a file by a plan, or a page that explains the status
+abbrev pub pieces_for : List ℕ → List File → ℕ → Sends → List Piece
+pieces_for divider files status Nothing = page_sent status
+pieces_for divider files status Alternatives = page_sent status
+pieces_for divider files status (Planned place plan) = pieces_of divider (file_at files place) plan
+pieces_for divider files status Perform = []
+
+-- the media type of a page
+abbrev pub explained_fields : ℕ → Sends → List Header
+explained_fields status Nothing = page_fields status
+explained_fields status Alternatives = page_fields status
+explained_fields status (Planned place plan) = []
+explained_fields status Perform = []
+
+-- the status of an answer; what can't be read has one of its own in the place of 404
+abbrev pub status_for : ℕ → Reason → Option ℕ → ℕ
+status_for absent NotFound status = absent
+status_for absent reason (Some status) = status
+status_for absent reason None = 200
+
+-- the parts of a plan lie in the file of which they are sent
+abbrev pub FitsOf : Option File → Plan → Type 0
+FitsOf None plan = ⊤
+FitsOf (Some file) plan = Fits (len_of file.source) plan
+
+abbrev pub FitsIn : List File → Sends → Type 0
+FitsIn files Nothing = ⊤
+FitsIn files Alternatives = ⊤
+FitsIn files (Planned place plan) = FitsOf (file_at files place) plan
+FitsIn files Perform = ⊤
+
+-- the response has this status, these fields after those from before, and the pieces that are sent
+pub record Carries (before : List Header) (site : Site) (files : List File) (code : ℕ) (sent : Sends)
+    (given : List Field) (response : Response) : Type 0 where
+  pub status : response.status ≡ code
   pub headers : fields_of response
-      ≡ before ++ cache_sent answer.plan settings.cache_control ++ coding_sent answer.plan is_known file.coding
-      ++ headers_of answer.fields.items
-  pub pieces : response.pieces.items ≡ pieces_sent (boundary_of settings) file answer.plan
+      ≡ ((before ++ cache_sent sent site.cache_control) ++ headers_sent (is_some site.resource.cors) given)
+      ++ explained_fields code sent
+  pub pieces : response.pieces.items ≡ pieces_for (string_bytes site.divider) files code sent
 
--- the response to a read of the file
-abbrev pub AnswersFile : ℕ → List Header → Settings → List ℕ → LineMap → File → Response → Type 0
-AnswersFile present before settings method request file response =
-    (answer : Answer) × AnswersRead present (boundary_of settings) method request file answer
-    × Carries before settings (is_known_by request) file answer response
+-- the source from which the ranges of a response are read, if it has any
+abbrev pub source_of : Option File → Option Source
+source_of None = None
+source_of (Some file) = Some file.source
+
+abbrev pub source_sent : List File → Sends → Option Source
+source_sent files sends = source_of (file_sent files sends)
 
 -- ---- a request
-
-module _ (present : ℕ) (before : List Header) (settings : Settings) (request : Request (List ℕ)) where
-  abbrev pub method_of : List ℕ
-  method_of = (head_of request).method
-
-  abbrev pub uri_of : Uri
-  uri_of = (head_of request).uri
-
-  -- the response to a GET or a HEAD where this was found
-  abbrev pub AnswersEntry : Entry → Response → Type 0
-  AnswersEntry Missing response = IsExplained before 404 [] response
-  AnswersEntry Forbidden response = IsExplained before 403 [] response
-  AnswersEntry Unavailable response = IsExplained before 503 [] response
-  AnswersEntry Folder response = AnswersFolder before (uri_path uri_of) (uri_query uri_of) response
-  AnswersEntry (Readable file) response =
-      AnswersFile present before settings method_of (lines_at (head_of request).headers) file response
-
--- the methods that are answered
-abbrev pub allow_field : Header
-allow_field = (codes "allow", codes "GET, HEAD, OPTIONS")
-
--- the response to a method that is no read: 204 to OPTIONS (RFC 9110, section 9.3.7), else 405 (section 15.5.6)
-abbrev pub AnswersOther : List Header → List ℕ → Response → Type 0
-AnswersOther before method response =
-    ((method ≡ codes "OPTIONS") × IsWith before 204 (allow_field ∷ []) [] response)
-    ⊎ ((method ≢ codes "OPTIONS") × IsExplained before 405 (allow_field ∷ []) response)
-
--- what the path of a URI leads a request to in a store: what it gets where the store has something at the path that is
--- named, or nothing if none is named
-abbrev pub LeadsTo : Bool → (List ℕ → Entry → Type 0) → LineMap → List ℕ → Entry → Type 0
-LeadsTo negotiates has request path entry =
-    ((named : List ℕ) × Names path (Some named)
-    × ((found : Entry) × has named found × IsServedAt negotiates has request named found entry))
-    ⊎ (Names path None × (entry ≡ Missing))
-
--- the source from which the ranges of a response are read: the file's, where one was found
-abbrev pub Opens : Entry → Source → Type 0
-Opens Missing source = ⊤
-Opens Forbidden source = ⊤
-Opens Unavailable source = ⊤
-Opens Folder source = ⊤
-Opens (Readable file) source = source ≡ file.source
-
--- the response to a request for a host that is served, where the store has this at its paths, and the source of its
--- ranges
-abbrev pub AnswersHere : ℕ → List Header → Settings → (List ℕ → Entry → Type 0) → Request (List ℕ) → Response
-    → Source → Type 0
-AnswersHere present before settings has request response source =
-    (IsGetOrHead (head_of request).method
-    × ((entry : Entry)
-    × LeadsTo settings.negotiates has (lines_at (head_of request).headers) (uri_path (head_of request).uri) entry
-    × AnswersEntry present before settings request entry response × Opens entry source))
-    ⊎ ((¬ (IsGetOrHead (head_of request).method)) × AnswersOther before (head_of request).method response)
-
--- the response to a request: 421 if it is for another host (section 15.5.20)
-abbrev pub AnswersBehind : ℕ → List Header → Settings → (List ℕ → Entry → Type 0) → Request (List ℕ) → Response
-    → Source → Type 0
-AnswersBehind present before settings has request response source =
-    ((is_misdirected settings.hosts.items request ≡ true) × IsExplained before 421 [] response)
-    ⊎ ((is_misdirected settings.hosts.items request ≡ false)
-    × AnswersHere present before settings has request response source)
-
--- the request makes no condition, and asks for no range, and for no coding where codings are negotiated
-pub record AsksForAll (negotiates : Bool) (request : LineMap) : Type 0 where
-  pub if_match : request (codes "if-match") ≡ []
-  pub if_none_match : request (codes "if-none-match") ≡ []
-  pub if_modified_since : request (codes "if-modified-since") ≡ []
-  pub if_unmodified_since : request (codes "if-unmodified-since") ≡ []
-  pub range : request (codes "range") ≡ []
-  pub accept_encoding : negotiates ≡ true → request (codes "accept-encoding") ≡ []
 
 -- the fields of a date
 abbrev pub date_fields : Option ℕ → List Header
@@ -242,16 +196,43 @@ abbrev pub clock : Option ℕ → ℕ
 clock None = 0
 clock (Some seconds) = seconds
 
--- The response to a request at a moment, if there is a clock, where the store has this at its paths and so many
--- responses are left: after the date, that browsers shall not guess its type, whether it is the last, and what a policy for requests from other origins says, if there is one. The
--- answer to a preflight (OPTIONS) is 204, which lets it pass. Its ranges are of this source.
-abbrev pub IsAnswerAt : Option ℕ → ℕ → Settings → (List ℕ → Entry → Type 0) → Request (List ℕ) → Response → Source → Type 0
-IsAnswerAt now left settings has request response source =
-    (shared : List Header) × IsShared settings.cors request shared
-    × AnswersBehind (clock now) (((date_fields now ++ sniff_field ∷ []) ++ closing_fields left) ++ shared) settings has
-    request response source
+-- the fields before those of the answer: the date, that browsers shall not guess the type, and whether it is the last
+abbrev pub first_fields : Option ℕ → ℕ → List Header
+first_fields now left = (date_fields now ++ sniff_field ∷ []) ++ closing_fields left
 
--- the response to a request at some moment
-abbrev pub IsAnswer : ℕ → Settings → (List ℕ → Entry → Type 0) → Request (List ℕ) → Response → Source → Type 0
-IsAnswer left settings has request response source =
-    (now : Option ℕ) × IsAnswerAt now left settings has request response source
+-- The response to a request at a time, if there is a clock, where the store has this at its paths and so many responses
+-- are left: the answer of `headers_resource` for what the path leads to. Its ranges are of this source.
+pub record IsAnswerAt (now : Option ℕ) (left : ℕ) (site : Site) (has : List ℕ → Entry → Type 0)
+    (request : Request (List ℕ)) (response : Response) (source : Option Source) : Type 0 where
+  pub found : Found
+  pub leads : LeadsTo site.resource.negotiation.coding has (head_of request).uri found
+  pub resource : Resource
+  pub described : IsDescribed (clock now) site.resource found resource
+  pub asked : Asked
+  pub asks : Asks request asked
+  pub answer : Answer
+  pub decides : Decides (clock now) (string_bytes site.divider) found.files.items resource asked answer
+  pub carries : Carries (first_fields now left) site found.files.items
+      (status_for found.status answer.reason answer.status) answer.sends (encoded_fields answer.fields.items) response
+  pub opens : source ≡ source_sent found.files.items answer.sends
+
+-- the response to a request at some time
+abbrev pub IsAnswer : ℕ → Site → (List ℕ → Entry → Type 0) → Request (List ℕ) → Response → Option Source → Type 0
+IsAnswer left site has request response source =
+    (now : Option ℕ) × IsAnswerAt now left site has request response source
+
+-- both sites say the same of all resources: they differ in the state and the representations of the last request
+pub record IsSameSite (before after : Site) : Type 0 where
+  pub cache_control : after.cache_control ≡ before.cache_control
+  pub divider : after.divider ≡ before.divider
+  pub resource : after.resource
+      ≡ record before.resource { state = after.resource.state; representations = after.resource.representations }
+
+-- the request makes no condition, and asks for no range, and for no coding where codings are negotiated
+pub record AsksForAll (negotiates : Bool) (request : LineMap) : Type 0 where
+  pub if_match : request (codes "if-match") ≡ []
+  pub if_none_match : request (codes "if-none-match") ≡ []
+  pub if_modified_since : request (codes "if-modified-since") ≡ []
+  pub if_unmodified_since : request (codes "if-unmodified-since") ≡ []
+  pub range : request (codes "range") ≡ []
+  pub accept_encoding : negotiates ≡ true → request (codes "accept-encoding") ≡ []

@@ -1,15 +1,18 @@
 -- What a file gives: its bytes, and its validators.
-use Rattle.std.specs.Prelude.{◌≡◌, ℕ, ◌+◌, Bool, false, nat_le, List, length, take, drop, Option, Some, None, ⊤}
+use Rattle.std.specs.Prelude.{◌≡◌, ℕ, ◌+◌, Bool, false, nat_le, List, [], length, take, drop, Option, Some, None, ⊤}
+use Rattle.std.specs.Prelude.{if◌then◌else◌}
 use Rattle.http_header.specs.FieldValue.{FieldValue, plain_value}
-use Rattle.sha2.specs.Sha256.{sha256}
-use Rattle.hex.specs.Hex.{encode_lower}
-use Rattle.headers.specs.EntityTag.{tag_text}
 use Rattle.headers_exchange.specs.Pieces.{Gives}
 use Rattle.headers_preconditions.specs.Limits.{usual_limits}
 use Rattle.headers_preconditions.specs.declared.content.Content.{Content}
+use Rattle.headers_preconditions.specs.declared.limits.RangeLimits.{RangeLimits}
 use Rattle.headers_preconditions.specs.declared.resource.Resource.{Resource}
 use Rattle.headers_preconditions.specs.declared.resource.Resource.TheVariants.{Current}
 use Rattle.headers_preconditions.specs.declared.resource.Validators.{Validators}
+use Rattle.headers_resource.specs.declared.representation.Representation.{Representation}
+use Rattle.headers_serve.specs.Codings.{coding_name, is_encoded}
+use Rattle.headers_serve.specs.Tags.{content_digest, strong_tag}
+use Rattle.headers_serve.specs.declared.coding.Coding.{Coding}
 use Rattle.headers_serve.specs.declared.file.File.{File}
 use Rattle.headers_serve.specs.declared.source.Source.{Source}
 use Rattle.headers_serve.specs.declared.source.Source.TheVariants.{Kept, Opened}
@@ -24,14 +27,6 @@ len_of (Opened opened) = opened.len
 abbrev pub gives_at : Source → Gives
 gives_at (Kept kept) start bytes = bytes ≡ take (length bytes) (drop start kept.content)
 gives_at (Opened opened) start bytes = ⊤
-
--- the digits of a content's SHA-256
-unfoldable pub content_digest : List ℕ → List ℕ
-content_digest content = encode_lower (sha256 content)
-
--- an entity tag as it is written: strong, with these digits
-abbrev pub strong_tag : List ℕ → List ℕ
-strong_tag digits = tag_text (record { is_weak = false; opaque = digits })
 
 -- the tag: of bytes in memory the digest of them, of an open file the one that it came with
 abbrev pub tag_of : Source → Option FieldValue
@@ -53,13 +48,37 @@ validators_of present file = record {
   is_date_strong = is_settled present file.modified;
 }
 
-abbrev pub resource_of : ℕ → File → Resource
-resource_of present file = Current (validators_of present file)
+abbrev pub current_of : ℕ → File → Resource
+current_of present file = Current (validators_of present file)
+
+-- Which ranges of a content are sent. A coding would be that of several parts and what stands between them (section
+-- 8.4), so of a content in a coding there is one part at most.
+abbrev pub limits_of : Coding → RangeLimits
+limits_of coding =
+    if is_encoded coding then record { gap = usual_limits.gap; head = usual_limits.head; parts = 1 } else usual_limits
 
 -- its length, its media type, and which ranges of it are sent
 abbrev pub content_of : File → Content
 content_of file = record {
   len = Some (len_of file.source);
   media_type = Some file.media_type;
-  ranges = Some usual_limits;
+  ranges = Some (limits_of file.coding);
 }
+
+-- the value of Content-Encoding (section 8.4), if the coding changes a content
+abbrev pub coding_value : Coding → Option FieldValue
+coding_value coding = if is_encoded coding then Some (plain_value (coding_name coding)) else None
+
+-- a file as a representation at a time
+abbrev pub representation_of : ℕ → File → Representation
+representation_of present file = record {
+  coding = coding_value file.coding;
+  language = None;
+  content = content_of file;
+  current = current_of present file;
+}
+
+-- what is read from an open source, or from none
+abbrev pub gives_of : Option Source → Gives
+gives_of None start bytes = bytes ≡ []
+gives_of (Some source) start bytes = gives_at source start bytes

@@ -1,8 +1,8 @@
 pub mod Answer
+pub mod Asked
 pub mod Codings
-pub mod Cors
 pub mod File
-pub mod Hosts
+pub mod Found
 pub mod Log
 pub mod MediaTypes
 pub mod Memory
@@ -12,3 +12,6 @@ pub mod Path
 pub mod Redirect
 pub mod Representations
 pub mod Response
+pub mod SiteSettings
+pub mod Sites
+pub mod Tags

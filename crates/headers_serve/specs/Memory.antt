@@ -1,5 +1,6 @@
 -- What a store of one file has.
-use Rattle.std.specs.Prelude.{◌≡◌, ◌≢◌, ℕ, List, None, string_bytes}
+use Rattle.std.specs.Prelude.{◌≡◌, ◌≢◌, ℕ, List, string_bytes}
+use Rattle.headers_serve.specs.declared.coding.Coding.TheVariants.{Identity}
 use Rattle.headers_serve.specs.declared.file.Entry.{Entry}
 use Rattle.headers_serve.specs.declared.file.Entry.TheVariants.{Missing, Forbidden, Unavailable}
 use Rattle.headers_serve.specs.declared.file.Entry.TheVariants.{Folder, Readable}
@@ -20,4 +21,4 @@ HasOne store path Unavailable = ⊥
 HasOne store path Folder = ⊥
 HasOne store path (Readable file) =
     (path ≡ string_bytes store.path) × IsKept store.content.content file.source
-    × (file.media_type ≡ store.media_type) × (file.modified ≡ store.modified) × (file.coding ≡ None)
+    × (file.media_type ≡ store.media_type) × (file.modified ≡ store.modified) × (file.coding ≡ Identity)

@@ -1,10 +1,7 @@
--- The answer to a request for a folder.
-use Rattle.std.specs.Prelude.{◌≡◌, ◌≢◌, ◌⊎◌, ℕ, true, List, [], ◌∷◌, ◌++◌, Option, Some, None, codes, slice_index}
-use Rattle.http_header.specs.FieldValue.{IsFieldValue}
-use Rattle.http1.specs.Fields.{Header}
-use Rattle.headers_exchange.specs.declared.plan.Plan.{Plan as Response}
+-- Where the index of a folder is found.
+use Rattle.std.specs.Prelude.{◌≡◌, ◌≢◌, ◌⊎◌, ℕ, true, List, [], ◌++◌, Option, Some, None, codes, slice_index}
+use Rattle.http_header.specs.FieldValue.{FieldValue, IsFieldValue, plain_value}
 use Rattle.headers_serve.specs.Path.{ends_in_slash}
-use Rattle.headers_serve.specs.Response.{IsExplained}
 
 -- a query after its question mark
 abbrev pub query_text : Option (List ℕ) → List ℕ
@@ -19,10 +16,10 @@ index_target path query = path ++ codes "/" ++ query_text query
 abbrev pub HasNoIndex : List ℕ → Option (List ℕ) → Type 0
 HasNoIndex path query = (ends_in_slash path ≡ true) ⊎ ¬ (IsFieldValue (index_target path query))
 
--- the line of Location, if there is one
-abbrev pub IsLocation : List ℕ → Option (List ℕ) → Option (List ℕ) → Type 0
+-- the value of Location, if there is one
+abbrev pub IsLocation : List ℕ → Option (List ℕ) → Option FieldValue → Type 0
 IsLocation path query None = HasNoIndex path query
-IsLocation path query (Some line) = (¬ (HasNoIndex path query)) × (line ≡ index_target path query)
+IsLocation path query (Some value) = (¬ (HasNoIndex path query)) × (value ≡ plain_value (index_target path query))
 
 -- The target names no other host: it begins with a slash, and neither a slash nor a backslash follows. `//` begins a
 -- host (RFC 3986, section 4.2), and browsers read a backslash as a slash.
@@ -30,9 +27,3 @@ pub record IsOnHost (target : List ℕ) : Type 0 where
   pub rooted : slice_index target 0 ≡ 47
   pub no_slash : slice_index target 1 ≢ 47
   pub no_backslash : slice_index target 1 ≢ 92
-
--- 301 to the index of the folder, or 404 if there is no such place
-abbrev pub AnswersFolder : List Header → List ℕ → Option (List ℕ) → Response → Type 0
-AnswersFolder before path query response =
-    (HasNoIndex path query × IsExplained before 404 [] response)
-    ⊎ ((¬ (HasNoIndex path query)) × IsExplained before 301 ((codes "location", index_target path query) ∷ []) response)

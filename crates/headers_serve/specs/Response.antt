@@ -1,7 +1,8 @@
 -- What stands in a response. It is the plan by which `headers_exchange` sends it.
-use Rattle.std.specs.Prelude.{◌≡◌, ℕ, List, [], ◌∷◌, ◌++◌, codes, decimal, flat_map, map}
-use Rattle.headers.specs.LineMap.{Field, LineMap, fields_of as encoded_fields, lines_at}
-use Rattle.headers.specs.declared.Encoded.{Encoded}
+use Rattle.std.specs.Prelude.{◌≡◌, ℕ, ◌==◌, Bool, List, [], ◌∷◌, ◌++◌, bytes_eq, codes, decimal, flat_map, if◌then◌else◌}
+use Rattle.std.specs.Prelude.{map}
+use Rattle.std.specs.List.{list_any}
+use Rattle.headers.specs.LineMap.{Field}
 use Rattle.http1.specs.Fields.{Header}
 use Rattle.http1_typed.specs.Parts.{reason_of}
 use Rattle.http_server.specs.Response.{fields}
@@ -12,13 +13,6 @@ use Rattle.headers_exchange.specs.declared.plan.Plan.{Plan as Response}
 -- the names and the values of its field lines, in order
 abbrev pub fields_of : Response → List Header
 fields_of response = fields response.headers.items
-
--- the response has this status, these fields after those from before, and these pieces
-pub record IsWith (before : List Header) (code : ℕ) (sent : List Header) (content : List Piece) (response : Response)
-    : Type 0 where
-  pub status : response.status ≡ code
-  pub headers : fields_of response ≡ before ++ sent
-  pub pieces : response.pieces.items ≡ content
 
 -- a status as people read it
 abbrev pub title : ℕ → List ℕ
@@ -39,9 +33,12 @@ page_of code = Literal (page code) ∷ []
 abbrev pub html_field : Header
 html_field = (codes "content-type", codes "text/html; charset=utf-8")
 
--- the response has this status, which a page explains, and these fields after those from before
-abbrev pub IsExplained : List Header → ℕ → List Header → Response → Type 0
-IsExplained before code sent response = IsWith before code (sent ++ html_field ∷ []) (page_of code) response
+-- 204 has no content (section 15.3.5), so no page explains it
+abbrev pub page_fields : ℕ → List Header
+page_fields code = if code == 204 then [] else html_field ∷ []
+
+abbrev pub page_sent : ℕ → List Piece
+page_sent code = if code == 204 then [] else page_of code
 
 -- both have the same status, the same fields in the same order, and the same pieces
 abbrev pub IsSameResponse : Response → Response → Type 0
@@ -52,10 +49,23 @@ IsSameResponse r s =
 abbrev pub lines_under : Field → List Header
 lines_under field = map (λ line. (field.0, line)) field.1
 
--- the field lines of the fields, in order: a field without field lines is absent
-abbrev pub headers_of : List Encoded → List Header
-headers_of fields = flat_map lines_under (encoded_fields fields)
+-- a field of this name is among some
+abbrev pub is_named : List ℕ → List Field → Bool
+is_named name fields = list_any (λ field. bytes_eq field.0 name) fields
 
--- no name has a field line
-abbrev pub no_lines : LineMap
-no_lines = lines_at []
+abbrev pub lines_unless : Bool → Field → List Header
+lines_unless replaced field = if replaced then [] else lines_under field
+
+-- the field lines of fields that are set in their order: a later field replaces an earlier one of the same name
+abbrev pub headers_set : List Field → List Header
+headers_set [] = []
+headers_set (field ∷ fields) = lines_unless (is_named field.0 fields) field ++ headers_set fields
+
+-- the field lines of fields, in order
+abbrev pub headers_of : List Field → List Header
+headers_of fields = flat_map lines_under fields
+
+-- The field lines of an answer's fields. Where there is a policy for requests from other origins, its Vary replaces the
+-- one before it.
+abbrev pub headers_sent : Bool → List Field → List Header
+headers_sent has_policy fields = if has_policy then headers_set fields else headers_of fields

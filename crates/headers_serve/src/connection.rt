@@ -2,8 +2,8 @@
 ghost use Rattle.std.specs.Prelude.{◌≡◌, ◌-◌, ℕ, List, is_ok};
 ghost use Rattle.std.specs.Io.KnownBytes.{Appends, Consumes};
 ghost use Rattle.headers_exchange.specs.Connection.{Exchanged};
-ghost use Rattle.headers_serve.specs.Answer.{IsAnswer};
-ghost use Rattle.headers_serve.specs.File.{gives_at};
+ghost use Rattle.headers_serve.specs.Answer.{IsAnswer, IsSameSite};
+ghost use Rattle.headers_serve.specs.File.{gives_of};
 
 use crate::service::FileService;
 use crate::store::Store;
@@ -30,9 +30,9 @@ pub fn serve_store<S: Store, R: Read, W: Write>(
         × Consumes (R.remaining reader.old) (R.remaining reader.new) received
         × Appends (W.contents writer.old) (W.contents writer.new) sent
         × Exchanged
-        (λ before request plan after. IsAnswer before.left before.settings (S.has before.store) request plan after.source
-        × (after.settings ≡ before.settings) × (after.store ≡ before.store) × (after.left ≡ before.left - 1))
-        (λ now. gives_at now.source) config service.old service.new received sent (is_ok result) }
+        (λ before request plan after. IsAnswer before.left before.site (S.has before.store) request plan after.source
+        × IsSameSite before.site after.site × (after.store ≡ before.store) × (after.left ≡ before.left - 1))
+        (λ now. gives_of now.source) config service.old service.new received sent (is_ok result) }
 {
     serve_exchanges(service.alloc, keys, config, service, reader, writer)
 }

@@ -1,10 +1,12 @@
 //! The fields of a response.
-ghost use Rattle.std.specs.Prelude.{◌≡◌, [], ◌∷◌, ◌++◌, OnOk};
-ghost use Rattle.headers.specs.LineMap.{field_of};
+ghost use Rattle.std.specs.Prelude.{◌≡◌, [], ◌∷◌, ◌++◌, OnOk, bytes_eq};
+ghost use Rattle.std.specs.List.{list_any};
+ghost use Rattle.headers.specs.LineMap.{field_of, fields_of as encoded_fields};
 ghost use Rattle.headers_serve.specs.Answer.{closing_fields, date_fields, sniff_field};
-ghost use Rattle.headers_serve.specs.Response.{fields_of, headers_of, lines_under};
+ghost use Rattle.headers_serve.specs.Response.{fields_of, headers_of, headers_sent, headers_set};
+ghost use Rattle.headers_serve.specs.Response.{is_named, lines_under, lines_unless};
 
-use headers::{Date, Encoded, HeaderValue, encoding};
+use headers::{Date, Encoded, HeaderName, HeaderValue, encoding};
 use headers_exchange::Plan as Response;
 use http_header::{CONNECTION, X_CONTENT_TYPE_OPTIONS};
 use std::alloc::{AllocError, Global};
@@ -66,10 +68,65 @@ fn add_field(response: &mut Response, field: Encoded) -> Result<(), AllocError>
     Ok(())
 }
 
-/// Adds the field lines of an answer's fields, in order.
-pub(crate) fn add_fields(response: &mut Response, fields: Vec<Encoded>) -> Result<(), AllocError>
+// Whether a field of this name is among some.
+fn any_named(name: &HeaderName, fields: &[Encoded]) -> bool
+    ensures { result ≡ list_any (λ field. bytes_eq field.name name.now) fields.now }
+{
+    fields.iter().any(|field| field.name == *name)
+}
+
+fn is_named(name: &HeaderName, fields: &[Encoded]) -> bool
+    ensures { result ≡ is_named name.now (encoded_fields fields.now) }
+{
+    any_named(name, fields)
+}
+
+// Adds the field lines of a field.
+fn add_copy(response: &mut Response, field: &Encoded) -> Result<(), AllocError>
     ensures headers { OnOk result
-        (fields_of response.new ≡ fields_of response.old ++ headers_of fields.items) }
+        (fields_of response.new ≡ fields_of response.old ++ lines_under (field_of field.now)) }
+    ensures status { response.new.status ≡ response.old.status }
+    ensures pieces { response.new.pieces.items ≡ response.old.pieces.items }
+{
+    for line in &field.lines {
+        response.add_header(field.name.clone()?, line.clone()?)?;
+    }
+    Ok(())
+}
+
+// Adds the field lines of a field, unless a later one has its name.
+fn set_field(response: &mut Response, field: &Encoded, later: &[Encoded]) -> Result<(), AllocError>
+    ensures headers { OnOk result (fields_of response.new ≡ fields_of response.old
+        ++ lines_unless (is_named field.now.name (encoded_fields later.now)) (field_of field.now)) }
+    ensures status { response.new.status ≡ response.old.status }
+    ensures pieces { response.new.pieces.items ≡ response.old.pieces.items }
+{
+    if is_named(&field.name, later) {
+        return Ok(());
+    }
+    add_copy(response, field)
+}
+
+// Adds the field lines of fields that are set in their order: a later field replaces an earlier one of
+// the same name.
+fn set_fields(response: &mut Response, fields: &[Encoded]) -> Result<(), AllocError>
+    ensures headers { OnOk result
+        (fields_of response.new ≡ fields_of response.old ++ headers_set (encoded_fields fields.now)) }
+    ensures status { response.new.status ≡ response.old.status }
+    ensures pieces { response.new.pieces.items ≡ response.old.pieces.items }
+{
+    let mut rest = fields;
+    while let [field, later @ ..] = rest {
+        set_field(response, field, later)?;
+        rest = later;
+    }
+    Ok(())
+}
+
+// Adds the field lines of fields, in order.
+fn append_fields(response: &mut Response, fields: Vec<Encoded>) -> Result<(), AllocError>
+    ensures headers { OnOk result
+        (fields_of response.new ≡ fields_of response.old ++ headers_of (encoded_fields fields.items)) }
     ensures status { response.new.status ≡ response.old.status }
     ensures pieces { response.new.pieces.items ≡ response.old.pieces.items }
 {
@@ -77,4 +134,22 @@ pub(crate) fn add_fields(response: &mut Response, fields: Vec<Encoded>) -> Resul
         add_field(response, field)?;
     }
     Ok(())
+}
+
+/// Adds the field lines of an answer's fields. Those of a policy replace others of the same name.
+pub(crate) fn add_fields(
+    response: &mut Response,
+    has_policy: bool,
+    fields: Vec<Encoded>,
+) -> Result<(), AllocError>
+    ensures headers { OnOk result (fields_of response.new
+        ≡ fields_of response.old ++ headers_sent has_policy (encoded_fields fields.items)) }
+    ensures status { response.new.status ≡ response.old.status }
+    ensures pieces { response.new.pieces.items ≡ response.old.pieces.items }
+{
+    if has_policy {
+        set_fields(response, &fields)
+    } else {
+        append_fields(response, fields)
+    }
 }

@@ -13,8 +13,8 @@ pub struct File {
     pub media_type: HeaderValue,
     /// When it was last modified, if that is known and before the year 10000.
     pub modified: Option<LastModified>,
-    /// The coding of its bytes, if it was negotiated.
-    pub coding: Option<Coding>,
+    /// The coding of its bytes.
+    pub coding: Coding,
 }
 
 /// What a store has at a path.

@@ -1,26 +1,28 @@
 //! Bytes in memory.
 ghost use Rattle.std.specs.Prelude.{◌≡◌, ◌≤◌, ◌-◌, IfOk, drop, length, take};
-ghost use Rattle.sha2.specs.Sha256.{sha256};
+ghost use Rattle.http_header.specs.FieldValue.{plain_value};
+ghost use Rattle.headers_serve.specs.Tags.{content_digest, strong_tag};
 
+use crate::tag::content_tag;
 use bytes::Bytes;
-use sha2::{Digest, Sha256};
-use std::alloc::AllocError;
+use headers::ETag;
+use std::alloc::{AllocError, Global};
 
-/// Bytes in memory, with the SHA-256 of which their entity tag is made.
+/// Bytes in memory, with their entity tag, which says their SHA-256.
 #[derive(Debug, Drop)]
 pub struct Kept {
     content: Bytes,
-    digest: [u8; 32],
-    ghost is_digest: { digest ≡ sha256 content },
+    tag: ETag,
+    ghost is_tag: { tag ≡ plain_value (strong_tag (content_digest content)) },
 }
 
 impl Kept {
-    /// Keeps these bytes, and makes their digest.
-    pub fn new(content: Bytes) -> Kept
-        ensures { result.content ≡ content }
+    /// Keeps these bytes, and makes their tag.
+    pub fn new(alloc: Global, content: Bytes) -> Result<Kept, AllocError>
+        ensures { IfOk result (λ kept. kept.content ≡ content) }
     {
-        let digest = digest_of(content.as_slice());
-        Kept { content, digest }
+        let tag = content_tag(alloc, content.as_slice())?;
+        Ok(Kept { content, tag })
     }
 
     /// The bytes.
@@ -30,22 +32,20 @@ impl Kept {
         &self.content
     }
 
-    /// The digest.
-    pub fn digest(&self) -> [u8; 32]
-        ensures { result ≡ sha256 self.now.content }
+    /// Their tag.
+    pub fn tag(&self) -> &ETag
+        ensures { result.now ≡ plain_value (strong_tag (content_digest self.now.content)) }
     {
-        self.digest
+        &self.tag
     }
 
     /// A copy, which shares the bytes.
-    pub fn clone(&self) -> Result<Kept, AllocError>
+    pub fn clone(&self, alloc: Global) -> Result<Kept, AllocError>
         ensures { IfOk result (λ copy. copy.content ≡ self.now.content) }
     {
         let content = self.content.clone()?;
-        Ok(Kept {
-            content,
-            digest: self.digest,
-        })
+        let tag = self.tag.clone(alloc)?;
+        Ok(Kept { content, tag })
     }
 
     /// Copies bytes from a place on, as many as there are and the buffer has room for.
@@ -63,10 +63,4 @@ impl Kept {
         buffer[..count].copy_from_slice(&rest[..count]);
         count
     }
-}
-
-fn digest_of(content: &[u8]) -> [u8; 32]
-    ensures { result ≡ sha256 content.now }
-{
-    Sha256::digest(content)
 }

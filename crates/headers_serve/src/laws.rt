@@ -1,41 +1,45 @@
 //! What follows from the definitions alone. A proof cites a law by calling it.
-ghost use Rattle.std.specs.Prelude.{◌≡◌, ℕ, ◌<◌, All, Bool, true, false, List, [], ◌∷◌, ◌++◌};
+ghost use Rattle.std.specs.Prelude.{◌≡◌, ℕ, ◌<◌, All, Bool, true, false, List};
 ghost use Rattle.std.specs.Prelude.{Option, Some, codes};
 ghost use Rattle.std.specs.List.{list_all};
 ghost use Rattle.http.specs.Request.{head_of};
 ghost use Rattle.http.specs.declared.request.Request.{Request};
-ghost use Rattle.http_header.specs.FieldValue.{FieldValue};
 ghost use Rattle.http_uri.specs.Uri.{uri_path};
-ghost use Rattle.http1.specs.Fields.{Header};
-ghost use Rattle.headers.specs.LineMap.{LineMap, lines_at};
+ghost use Rattle.headers.specs.LineMap.{lines_at};
 ghost use Rattle.headers_exchange.specs.Pieces.{AreSent};
 ghost use Rattle.headers_exchange.specs.declared.piece.Piece.{Piece};
 ghost use Rattle.headers_exchange.specs.declared.plan.Plan.{Plan as Response};
+ghost use Rattle.headers_gateway.specs.Expectations.{has_known_expectation};
+ghost use Rattle.headers_gateway.specs.Requests.{has_host};
 ghost use Rattle.headers_preconditions.specs.declared.part.Part.{Part};
-ghost use Rattle.headers_preconditions.specs.declared.response.Response.{Response as Answer};
-ghost use Rattle.headers_serve.specs.Answer.{AnswersBehind, AnswersRead, AsksForAll, IsAnswerAt, is_several};
-ghost use Rattle.headers_serve.specs.File.{gives_at};
-ghost use Rattle.headers_serve.specs.Hosts.{is_misdirected};
+ghost use Rattle.headers_resource.specs.Applies.{is_misdirected};
+ghost use Rattle.headers_resource.specs.Requests.{Request as Asked};
+ghost use Rattle.headers_resource.specs.declared.answer.Answer.{Answer};
+ghost use Rattle.headers_resource.specs.declared.resource.Resource.{Resource};
+ghost use Rattle.headers_serve.specs.Answer.{AsksForAll, Decides, IsAnswerAt, file_sent, sends_several};
+ghost use Rattle.headers_serve.specs.Asked.{Asks};
+ghost use Rattle.headers_serve.specs.File.{gives_at, gives_of};
 ghost use Rattle.headers_serve.specs.Log.{is_quotable, logged};
 ghost use Rattle.headers_serve.specs.Parts.{Occurs, bytes_of, part_bytes};
 ghost use Rattle.headers_serve.specs.Path.{Names};
-ghost use Rattle.headers_serve.specs.Redirect.{AnswersFolder, IsOnHost};
-ghost use Rattle.headers_serve.specs.Response.{IsSameResponse, fields_of, html_field};
+ghost use Rattle.headers_serve.specs.Redirect.{HasNoIndex, IsOnHost, index_target};
+ghost use Rattle.headers_serve.specs.Response.{IsSameResponse};
+ghost use Rattle.headers_serve.specs.Sites.{IsSite};
 ghost use Rattle.headers_serve.specs.declared.file.Entry.TheVariants.{Readable};
 ghost use Rattle.headers_serve.specs.declared.file.Entry.{Entry};
 ghost use Rattle.headers_serve.specs.declared.file.File.{File};
 ghost use Rattle.headers_serve.specs.declared.kept.Kept.{Kept};
 ghost use Rattle.headers_serve.specs.declared.source.Source.{Source};
 ghost use Rattle.headers_serve.specs.declared.source.Source.TheVariants.{Kept as InMemory};
-ghost use Rattle.headers_serve.specs.declared.settings.Settings.{Settings};
+ghost use Rattle.headers_serve.specs.declared.settings.Site.{Site};
 
 /// A request has one response at most at a moment, where the store has one entry at each path: two
 /// responses have the same status, the same fields in the same order, and the same pieces.
 pub fn request_has_one_response()
-    ensures { (now : Option ℕ) (left : ℕ) (settings : Settings) (look : List ℕ → Entry) (request : Request (List ℕ))
-        (r s : Response) (a b : Source)
-        → IsAnswerAt now left settings (λ path entry. entry ≡ look path) request r a
-        → IsAnswerAt now left settings (λ path entry. entry ≡ look path) request s b
+    ensures { (now : Option ℕ) (left : ℕ) (site : Site) (look : List ℕ → Entry) (request : Request (List ℕ))
+        (r s : Response) (a b : Option Source)
+        → IsAnswerAt now left site (λ path entry. entry ≡ look path) request r a
+        → IsAnswerAt now left site (λ path entry. entry ≡ look path) request s b
         → IsSameResponse r s }
 {}
 
@@ -49,34 +53,35 @@ pub fn sent_bytes_are_those_of_the_ranges()
 /// A GET of a file, for a host that is served, that makes no condition and asks for no range, and for no
 /// coding where the store negotiates codings, is answered by 200. Of a file in memory exactly the content is sent.
 pub fn get_gets_the_content()
-    ensures { (present : ℕ) (settings : Settings) (look : List ℕ → Entry)
-        (before : List Header) (request : Request (List ℕ)) (named : List ℕ) (file : File) (response : Response)
-        (source : Source)
-        → is_misdirected settings.hosts.items request ≡ false → (head_of request).method ≡ codes "GET"
+    ensures { (now : Option ℕ) (left : ℕ) (site : Site) (divider : List ℕ) (look : List ℕ → Entry)
+        (request : Request (List ℕ)) (named : List ℕ) (file : File) (response : Response) (source : Option Source)
+        (asked : Asked)
+        → IsSite divider site.resource → Asks request asked
+        → has_host asked.protocol (asked.fields (codes "host")) ≡ true → is_misdirected site.resource asked ≡ false
+        → has_known_expectation (asked.fields (codes "expect")) ≡ true
+        → (head_of request).method ≡ codes "GET"
         → Names (uri_path (head_of request).uri) (Some named) → look named ≡ Readable file
-        → AsksForAll settings.negotiates (lines_at (head_of request).headers)
-        → AnswersBehind present before settings (λ path entry. entry ≡ look path) request response source
+        → AsksForAll site.resource.negotiation.coding (lines_at (head_of request).headers)
+        → IsAnswerAt now left site (λ path entry. entry ≡ look path) request response source
         → (response.status ≡ 200)
         × ((kept : Kept) (sent : List ℕ) → file.source ≡ InMemory kept
-        → AreSent (gives_at source) response.pieces.items sent → sent ≡ kept.content) }
+        → AreSent (gives_of source) response.pieces.items sent → sent ≡ kept.content) }
 {}
 
 /// A redirect of a path that names something leads to the host that was asked.
 pub fn redirects_stay_on_the_host()
-    ensures { (before : List Header) (path named : List ℕ) (query : Option (List ℕ)) (response : Response)
-        → Names path (Some named) → AnswersFolder before path query response → response.status ≡ 301
-        → (target : List ℕ) × (fields_of response ≡ before ++ (codes "location", target) ∷ html_field ∷ [])
-        × IsOnHost target }
+    ensures { (path named : List ℕ) (query : Option (List ℕ)) → Names path (Some named)
+        → ¬ (HasNoIndex path query) → IsOnHost (index_target path query) }
 {}
 
 /// If an answer sends several parts of bytes in memory, none holds the boundary between them (RFC 2046,
 /// section 5.1.1), whichever part it is.
 pub fn no_part_holds_the_boundary()
-    ensures { (present : ℕ) (boundary method : List ℕ) (request : LineMap) (file : File) (answer : Answer)
-        (kept : Kept)
-        → AnswersRead present boundary method request file answer → is_several answer.plan ≡ true
-        → file.source ≡ InMemory kept
-        → (part : Part) → ¬ (Occurs boundary (part_bytes kept.content part)) }
+    ensures { (present : ℕ) (divider : List ℕ) (files : List File) (resource : Resource) (asked : Asked)
+        (answer : Answer) (file : File) (kept : Kept)
+        → Decides present divider files resource asked answer → sends_several answer.sends ≡ true
+        → file_sent files answer.sends ≡ Some file → file.source ≡ InMemory kept
+        → (part : Part) → ¬ (Occurs divider (part_bytes kept.content part)) }
 {}
 
 /// What a client chose is logged in visible ASCII and spaces, without a quote. So it ends neither the

@@ -3,13 +3,13 @@
 #![tactic(auto)]
 
 mod answer;
+mod asked;
 mod cache;
 mod coding;
 mod connection;
-mod cors;
 mod fields;
 mod file;
-mod hosts;
+mod found;
 mod kept;
 pub mod laws;
 mod log;
@@ -22,8 +22,10 @@ mod redirect;
 mod representation;
 mod service;
 mod settings;
+mod site;
 mod source;
 mod store;
+mod tag;
 
 pub use crate::coding::Coding;
 pub use crate::connection::serve_store;
@@ -34,6 +36,6 @@ pub use crate::media_type::media_type_of;
 pub use crate::memory::Memory;
 pub use crate::path::{is_plain, store_path};
 pub use crate::service::FileService;
-pub use crate::settings::{Divider, Settings};
+pub use crate::settings::{Divider, Settings, Site};
 pub use crate::source::{Opened, Source};
 pub use crate::store::Store;

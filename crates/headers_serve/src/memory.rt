@@ -1,5 +1,6 @@
 //! One file in memory.
 
+use crate::coding::Coding;
 use crate::file::{Entry, File};
 use crate::kept::Kept;
 use crate::source::Source;
@@ -32,13 +33,13 @@ impl Store for Memory {
         if path != self.path.as_str() {
             return Ok(Entry::Missing);
         }
-        let kept = self.content.clone()?;
+        let kept = self.content.clone(alloc)?;
         let media_type = self.media_type.clone()?;
         Ok(Entry::Readable(File {
             source: Source::Kept(kept),
             media_type,
             modified: self.modified,
-            coding: None,
+            coding: Coding::Identity,
         }))
     }
 

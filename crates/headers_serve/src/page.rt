@@ -1,7 +1,7 @@
 //! What a response without a representation shows to people.
 ghost use Rattle.std.specs.Prelude.{◌≡◌, ◌∷◌, ◌++◌, [], IfOk, OnOk, codes, decimal, string_bytes};
 ghost use Rattle.http1_typed.specs.Parts.{reason_of};
-ghost use Rattle.headers_serve.specs.Response.{fields_of, html_field, page, page_of, page_with};
+ghost use Rattle.headers_serve.specs.Response.{fields_of, html_field, page, page_fields, page_of, page_sent, page_with};
 
 use bytes::Bytes;
 use headers::HeaderValue;
@@ -61,20 +61,29 @@ fn put_type(response: &mut Response) -> Result<(), AllocError>
     )
 }
 
-/// Makes it a response of this status, which a page explains (RFC 9110, section 15.5).
+// Adds the page that explains a status (RFC 9110, section 15.5).
+fn put_page(alloc: Global, status: StatusCode, response: &mut Response) -> Result<(), AllocError>
+    requires { response.old.pieces.items ≡ [] }
+    ensures headers { OnOk result (fields_of response.new ≡ fields_of response.old ++ html_field ∷ []) }
+    ensures pieces { OnOk result (response.new.pieces.items ≡ page_of status) }
+{
+    put_type(response)?;
+    let text = page(alloc, status)?;
+    response.push(Piece::Literal(Bytes::from_string(text)?))
+}
+
+/// Explains a status by a page, if its responses have content.
 pub(crate) fn explain(
     alloc: Global,
     status: StatusCode,
     response: &mut Response,
 ) -> Result<(), AllocError>
     requires { response.old.pieces.items ≡ [] }
-    ensures status { OnOk result (response.new.status ≡ status) }
-    ensures headers { OnOk result (fields_of response.new ≡ fields_of response.old ++ html_field ∷ []) }
-    ensures pieces { OnOk result (response.new.pieces.items ≡ page_of status) }
+    ensures headers { OnOk result (fields_of response.new ≡ fields_of response.old ++ page_fields status) }
+    ensures pieces { OnOk result (response.new.pieces.items ≡ page_sent status) }
 {
-    put_type(response)?;
-    let text = page(alloc, status)?;
-    response.push(Piece::Literal(Bytes::from_string(text)?))?;
-    response.status = status;
-    Ok(())
+    if status == StatusCode::NO_CONTENT {
+        return Ok(());
+    }
+    put_page(alloc, status, response)
 }

@@ -1,48 +1,19 @@
-//! The answer to a request for a folder.
-ghost use Rattle.std.specs.Prelude.{◌≡◌, [], IfOk, OnOk, option_copied, option_map, string_bytes};
-ghost use Rattle.headers_serve.specs.Redirect.{AnswersFolder, IsLocation, index_target};
-ghost use Rattle.headers_serve.specs.Response.{fields_of};
+//! Where the index of a folder is found.
+ghost use Rattle.std.specs.Prelude.{◌≡◌, IfOk, option_copied, string_bytes};
+ghost use Rattle.headers_serve.specs.Redirect.{IsLocation, index_target};
 
-use crate::page::explain;
 use crate::path::ends_in_slash;
 use headers::HeaderValue;
-use headers_exchange::Plan as Response;
-use http::StatusCode;
-use http_header::{HeaderValueError, LOCATION};
+use http_header::HeaderValueError;
 use std::alloc::{AllocError, Global};
 
-/// Answers a request for a folder: 301, to the path with a slash after it and the query (RFC 9110,
-/// section 15.4.2), or 404 if it has one already.
-pub(crate) fn answer_folder(
-    alloc: Global,
-    path: &str,
-    query: Option<&str>,
-    response: &mut Response,
-) -> Result<(), AllocError>
-    requires { response.old.pieces.items ≡ [] }
-    ensures { OnOk result (AnswersFolder (fields_of response.old) path.now (option_copied query.entry) response.new) }
-{
-    match location(alloc, path, query)? {
-        Some(value) => {
-            response.add_header(LOCATION, value)?;
-            explain(alloc, StatusCode::MOVED_PERMANENTLY, response)?;
-            Ok(())
-        }
-        None => {
-            explain(alloc, StatusCode::NOT_FOUND, response)?;
-            Ok(())
-        }
-    }
-}
-
-// Where a folder's index is found, if its path has no slash at its end and is a value of a field.
-fn location(
+/// Where a folder's index is found, if its path has no slash at its end and is a value of a field.
+pub(crate) fn location(
     alloc: Global,
     path: &str,
     query: Option<&str>,
 ) -> Result<Option<HeaderValue>, AllocError>
-    ensures { IfOk result (λ value. IsLocation path.now (option_copied query.entry)
-        (option_map (λ found. found.bytes) value)) }
+    ensures { IfOk result (IsLocation path.now (option_copied query.entry)) }
 {
     if ends_in_slash(path.as_bytes()) {
         return Ok(None);

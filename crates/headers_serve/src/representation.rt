@@ -1,21 +1,18 @@
-//! Which representation of a file a request gets.
-ghost use Rattle.std.specs.Prelude.{◌≡◌, ◌<◌, ◌++◌, ◌∷◌, ℕ, [], true, length, map, IfOk, OnOk, codes, string_bytes};
-ghost use Rattle.std.specs.Prelude.{get_or};
-ghost use Rattle.headers.specs.LineMap.{lines_at};
-ghost use Rattle.headers_negotiation.specs.Choice.{Chooses};
-ghost use Rattle.headers_negotiation.specs.Codings.{encoding_quality};
-ghost use Rattle.headers_negotiation.specs.Qualities.{quality_in};
+//! The contents of a file, and the representations that they are.
+ghost use Rattle.std.specs.Prelude.{◌≡◌, ◌++◌, ◌∷◌, IfOk, OnOk, map, string_bytes};
 ghost use Rattle.headers_serve.specs.Codings.{coding_suffix};
-ghost use Rattle.headers_serve.specs.Representations.{AreOffers, IsServedAt, IsServedFor, Represents, StandsAt};
-ghost use Rattle.headers_serve.specs.Representations.{name_of, offered};
-ghost use Rattle.headers_serve.specs.Representations.{place_of, represented};
+ghost use Rattle.headers_serve.specs.File.{coding_value, content_of, current_of, is_settled, limits_of};
+ghost use Rattle.headers_serve.specs.File.{representation_of, tag_of};
+ghost use Rattle.headers_serve.specs.Representations.{AreContents, AreOffers, StandsAt, offered, represented};
 
 use crate::coding::Coding;
 use crate::file::{Entry, File};
 use crate::path::is_plain;
+use crate::source::Source;
 use crate::store::Store;
-use headers::{HeaderMap, HeaderValue};
-use headers_negotiation::{AcceptEncoding, negotiate};
+use headers::{ETag, HeaderValue, LastModified};
+use headers_preconditions::{Content, RangeLimits, Resource, Validators};
+use headers_resource::Representation;
 use std::alloc::{AllocError, Global};
 
 // A stored content as a representation of this media type.
@@ -24,7 +21,7 @@ fn represented(media_type: &HeaderValue, coding: Coding, stored: File) -> Result
 {
     let mut made = stored;
     made.media_type = media_type.clone()?;
-    made.coding = Some(coding);
+    made.coding = coding;
     Ok(made)
 }
 
@@ -116,104 +113,125 @@ fn offers_of<S: Store>(
     Ok(offers)
 }
 
-fn name_of(file: &File) -> HeaderValue
-    ensures { result ≡ name_of file.now }
-{
-    match file.coding {
-        Some(coding) => coding.name(),
-        None => Coding::Identity.name(),
-    }
-}
-
-fn names_of(alloc: Global, offers: &[File]) -> Result<Vec<HeaderValue>, AllocError>
-    ensures { IfOk result (λ names. names.items ≡ map name_of offers.now) }
-{
-    let mut names = Vec::new(alloc);
-    for offer in offers {
-        names.push(name_of(offer))?;
-    }
-    Ok(names)
-}
-
-// The place of the offer that a client prefers.
-fn chosen_place(
-    alloc: Global,
-    request: &HeaderMap,
-    offers: &[File],
-) -> Result<Option<usize>, AllocError>
-    ensures { IfOk result (Chooses
-        (quality_in encoding_quality (lines_at request.now (codes "accept-encoding")))
-        (map name_of offers.now)) }
-{
-    let names = names_of(alloc, offers)?;
-    Ok(negotiate::<AcceptEncoding>(request, names.as_slice()))
-}
-
-// The offer at a place, where the first stands for none.
-fn take(offers: Vec<File>, choice: Option<usize>) -> File
-    requires { place_of choice < length offers.items }
-    ensures within { place_of choice < length offers.items }
-    ensures offer { result ≡ get_or offers.items (place_of choice) result }
-{
-    let mut offers = offers;
-    match choice {
-        Some(place) => offers.swap_remove(place),
-        None => offers.swap_remove(0),
-    }
-}
-
-// The representation of a file that a request gets.
-fn choose<S: Store>(
-    alloc: Global,
-    store: &S,
-    request: &HeaderMap,
-    path: &str,
-    file: File,
-) -> Result<File, AllocError>
-    ensures { IfOk result (Represents (S.has store.now) (lines_at request.now) path.now file) }
-{
-    let offers = offers_of(alloc, store, path, file)?;
-    let choice = chosen_place(alloc, request, offers.as_slice())?;
-    let chosen = take(offers, choice);
-    Ok(chosen)
-}
-
-// What a request gets where this was found: of a file a representation.
-fn served_for<S: Store>(
-    alloc: Global,
-    store: &S,
-    request: &HeaderMap,
-    path: &str,
-    found: Entry,
-) -> Result<Entry, AllocError>
-    ensures { IfOk result (IsServedFor (S.has store.now) (lines_at request.now) path.now found) }
-{
-    match found {
-        Entry::Readable(file) => {
-            let chosen = choose(alloc, store, request, path, file)?;
-            Ok(Entry::Readable(chosen))
-        }
-        Entry::Missing => Ok(Entry::Missing),
-        Entry::Forbidden => Ok(Entry::Forbidden),
-        Entry::Unavailable => Ok(Entry::Unavailable),
-        Entry::Folder => Ok(Entry::Folder),
-    }
-}
-
-/// What a request gets where this was found: of a file a representation, if that is negotiated.
-pub(crate) fn served_at<S: Store>(
+/// The contents of the file at a path: its own, and what stands beside it in a coding, if codings are
+/// negotiated.
+pub(crate) fn contents_of<S: Store>(
     alloc: Global,
     store: &S,
     negotiates: bool,
-    request: &HeaderMap,
     path: &str,
-    found: Entry,
-) -> Result<Entry, AllocError>
-    ensures { IfOk result (IsServedAt negotiates (S.has store.now) (lines_at request.now) path.now found) }
+    file: File,
+) -> Result<Vec<File>, AllocError>
+    ensures { IfOk result (λ files. AreContents negotiates (S.has store.now) path.now file files.items) }
 {
-    if !negotiates {
-        return Ok(found);
+    if negotiates {
+        let offers = offers_of(alloc, store, path, file)?;
+        return Ok(offers);
     }
-    let entry = served_for(alloc, store, request, path, found)?;
-    Ok(entry)
+    Ok(vec![in alloc; file]?)
+}
+
+fn copy_of(alloc: Global, tag: &Option<ETag>) -> Result<Option<ETag>, AllocError>
+    ensures { IfOk result (λ copy. copy ≡ tag.now) }
+{
+    match tag {
+        Some(tag) => Ok(Some(tag.clone(alloc)?)),
+        None => Ok(None),
+    }
+}
+
+fn tag_of(alloc: Global, source: &Source) -> Result<Option<ETag>, AllocError>
+    ensures { IfOk result (λ tag. tag ≡ tag_of source.now) }
+{
+    match source {
+        Source::Kept(kept) => Ok(Some(kept.tag().clone(alloc)?)),
+        Source::Opened(opened) => copy_of(alloc, &opened.tag),
+    }
+}
+
+// Whether a date is a strong validator.
+fn is_settled(present: u64, modified: Option<LastModified>) -> bool
+    ensures { result ≡ is_settled present modified }
+{
+    match modified {
+        Some(modified) => modified.unix_secs() + 60 <= present,
+        None => false,
+    }
+}
+
+fn current_of(alloc: Global, present: u64, file: &File) -> Result<Resource, AllocError>
+    ensures { IfOk result (λ current. current ≡ current_of present file.now) }
+{
+    let etag = tag_of(alloc, &file.source)?;
+    Ok(Resource::Current(Validators {
+        etag,
+        last_modified: file.modified,
+        is_date_strong: is_settled(present, file.modified),
+    }))
+}
+
+// Which ranges of a content in a coding are sent.
+fn limits_of(coding: Coding) -> RangeLimits
+    ensures { result ≡ limits_of coding }
+{
+    let usual = RangeLimits::usual();
+    if coding.is_encoded() {
+        return RangeLimits {
+            gap: usual.gap,
+            head: usual.head,
+            parts: 1,
+        };
+    }
+    usual
+}
+
+fn content_of(file: &File) -> Result<Content, AllocError>
+    ensures { IfOk result (λ content. content ≡ content_of file.now) }
+{
+    let media_type = file.media_type.clone()?;
+    Ok(Content {
+        len: Some(file.source.len()),
+        media_type: Some(media_type),
+        ranges: Some(limits_of(file.coding)),
+    })
+}
+
+// The value of Content-Encoding, if the coding changes a content.
+fn coding_value(coding: Coding) -> Option<HeaderValue>
+    ensures { result ≡ coding_value coding }
+{
+    if coding.is_encoded() {
+        Some(coding.name())
+    } else {
+        None
+    }
+}
+
+fn representation_of(alloc: Global, present: u64, file: &File) -> Result<Representation, AllocError>
+    ensures { IfOk result (λ made. made ≡ representation_of present file.now) }
+{
+    let content = content_of(file)?;
+    let current = current_of(alloc, present, file)?;
+    Ok(Representation {
+        coding: coding_value(file.coding),
+        language: None,
+        content,
+        current,
+    })
+}
+
+/// Contents as representations, at a time.
+pub(crate) fn representations_of(
+    alloc: Global,
+    present: u64,
+    files: &[File],
+) -> Result<Vec<Representation>, AllocError>
+    ensures { IfOk result (λ made. made.items ≡ map (representation_of present) files.now) }
+{
+    let mut made = Vec::new(alloc);
+    for file in files {
+        let representation = representation_of(alloc, present, file)?;
+        made.push(representation)?;
+    }
+    Ok(made)
 }

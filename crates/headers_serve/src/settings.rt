@@ -5,14 +5,15 @@ ghost use Rattle.headers_preconditions.specs.Boundaries.{multipart_type};
 use headers::{HeaderValue, Refused};
 use headers_cors_policy::CorsPolicy;
 use headers_preconditions::{Boundary, InvalidBoundary};
+use headers_resource::Resource;
 use std::alloc::Global;
 
 /// What stands between several parts of a file. Take digits that nobody can foresee, so that no file
 /// can be made to hold them.
 #[derive(Debug, Drop)]
 pub struct Divider {
-    text: String,
-    boundary: Boundary,
+    pub(crate) text: String,
+    pub(crate) boundary: Boundary,
     ghost is_boundary: { boundary.bytes ≡ multipart_type (string_bytes text) },
 }
 
@@ -23,18 +24,6 @@ impl Divider {
     {
         let boundary = Boundary::new(alloc, text.as_str())?;
         Ok(Divider { text, boundary })
-    }
-
-    pub(crate) fn text(&self) -> &str
-        ensures { result.now ≡ string_bytes self.now.text }
-    {
-        self.text.as_str()
-    }
-
-    pub(crate) fn boundary(&self) -> &Boundary
-        ensures { result.now.bytes ≡ multipart_type (string_bytes self.now.text) }
-    {
-        &self.boundary
     }
 }
 
@@ -52,4 +41,15 @@ pub struct Settings {
     pub cors: Option<CorsPolicy>,
     /// What stands between several parts.
     pub divider: Divider,
+}
+
+/// What all resources of a store have in common: they are read by GET and HEAD.
+#[derive(Debug, Drop)]
+pub struct Site {
+    /// What Cache-Control says of the answers that a cache may use again: 200, 206 and 304.
+    pub cache_control: Option<HeaderValue>,
+    /// The text that stands between several parts.
+    pub divider: String,
+    /// The resource of the last request. Its state and its representations change with each.
+    pub resource: Resource,
 }

@@ -4,7 +4,6 @@ ghost use Rattle.std.specs.Io.{ReadsAtMost};
 ghost use Rattle.headers_serve.specs.File.{gives_at, len_of};
 
 use crate::kept::Kept;
-use bytes::Bytes;
 use headers::ETag;
 use std::os::unix::fs::FileExt;
 use std::{fs, io};
@@ -30,11 +29,6 @@ pub enum Source {
 }
 
 impl Source {
-    /// No bytes.
-    pub fn empty() -> Source {
-        Source::Kept(Kept::new(Bytes::new()))
-    }
-
     /// How many bytes there are.
     pub fn len(&self) -> u64
         ensures { result ≡ len_of self.now }

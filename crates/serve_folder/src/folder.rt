@@ -5,7 +5,7 @@ use crate::place::Place;
 use bytes::Bytes;
 use headers::{Date, ETag, HeaderValue, LastModified, Refused};
 use headers_exchange::Plan as Response;
-use headers_serve::{Entry, File, Kept, Opened, Source, Store, log_line, media_type_of};
+use headers_serve::{Coding, Entry, File, Kept, Opened, Source, Store, log_line, media_type_of};
 use http::Request;
 use std::alloc::{AllocError, Global};
 use std::io::{ErrorKind, Read, Write};
@@ -118,7 +118,7 @@ impl Folder<'_> {
         let alloc = self.rt.alloc();
         let mut bytes = Vec::with_capacity(alloc, (metadata.len() as usize).saturating_add(1))?;
         file.take(MAX_KEPT).read_to_end(&mut bytes)?;
-        let kept = Kept::new(Bytes::from_vec(bytes)?);
+        let kept = Kept::new(alloc, Bytes::from_vec(bytes)?)?;
         self.kept.put(alloc, place.as_str(), &kept, metadata.modified().ok(), now)?;
         Ok(kept)
     }
@@ -159,7 +159,7 @@ impl Folder<'_> {
             source,
             media_type,
             modified: self.date(metadata.modified().ok()),
-            coding: None,
+            coding: Coding::Identity,
         }))
     }
 
@@ -178,12 +178,16 @@ impl Folder<'_> {
         }
         let modified = metadata.modified().ok();
         let media_type = media_type_at(self.rt.alloc(), name)?;
-        match self.kept.get(place.as_str(), metadata.len(), modified)? {
+        let alloc = self.rt.alloc();
+        match self
+            .kept
+            .get(alloc, place.as_str(), metadata.len(), modified)?
+        {
             Some(kept) => Ok(Entry::Readable(File {
                 source: Source::Kept(kept),
                 media_type,
                 modified: self.date(modified),
-                coding: None,
+                coding: Coding::Identity,
             })),
             None => self.open(&place, media_type),
         }

@@ -41,6 +41,7 @@ impl KeptFiles {
     /// length and this time.
     pub fn get(
         &self,
+        alloc: Global,
         path: &str,
         len: u64,
         modified: Option<SystemTime>,
@@ -51,7 +52,7 @@ impl KeptFiles {
         match files.get(path) {
             Some(file)
                 if Some(file.modified) == modified && file.kept.content().len() as u64 == len => {
-                let kept = file.kept.clone()?;
+                let kept = file.kept.clone(alloc)?;
                 Ok(Some(kept))
             }
             _ => Ok(None),
@@ -77,7 +78,7 @@ impl KeptFiles {
             return Ok(());
         };
         let path = String::from_str(alloc, path)?;
-        let kept = kept.clone()?;
+        let kept = kept.clone(alloc)?;
         files.put(path, KeptFile { kept, modified })?;
         Ok(())
     }

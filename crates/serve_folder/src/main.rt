@@ -14,7 +14,7 @@ use crate::options::command;
 use clap::ArgMatches;
 use headers::{HeaderValue, Refused};
 use headers_cors_policy::CorsPolicy;
-use headers_serve::{Divider, FileService, Settings, Source, serve_store};
+use headers_serve::{Divider, FileService, Settings, Site, serve_store};
 use http_header::HeaderValueError;
 use http_server::Config;
 use std::alloc::{AllocError, Global};
@@ -158,9 +158,9 @@ fn serve(
     let mut service = FileService {
         alloc: rt.alloc(),
         store,
-        settings,
+        site: Site::new(rt.alloc(), settings)?,
         left: requests,
-        source: Source::empty(),
+        source: None,
     };
     let (mut reader, mut writer) = (rt.stdin(), rt.stdout());
     match serve_store(

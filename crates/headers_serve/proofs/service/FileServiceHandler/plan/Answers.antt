@@ -1,27 +1,98 @@
-use Rattle.std.proofs.Common.{ℕ, List, [], ◌∷◌, ◌++◌, ap, refl, subst, ◌∙◌}
+use Rattle.std.proofs.Common.{◌≡◌, ℕ, List, [], ◌∷◌, ◌++◌, Option, ap, refl, subst, sym, ◌∙◌}
+use Rattle.std.specs.Prelude.{option_map, string_bytes}
+use Rattle.http_header.specs.FieldValue.{FieldValue}
 use Rattle.http1.specs.Fields.{Header}
-use Rattle.headers_serve.specs.Answer.{AnswersBehind, closing_fields, date_fields, sniff_field}
+use Rattle.headers.specs.LineMap.{Field, fields_of as encoded_fields}
+use Rattle.headers.specs.Lines.{Line}
+use Rattle.headers_resource.specs.Requests.{request_of}
+use Rattle.headers_resource.specs.declared.answer.Answer.{Answer}
+use Rattle.headers_resource.specs.declared.answer.Sends.{Sends}
+use Rattle.headers_resource.specs.declared.reason.Reason.{Reason}
+use Rattle.headers_resource.specs.declared.resource.Resource.{Resource}
+use Rattle.headers_serve.specs.Answer.{Carries, Decides, IsDescribed, clock, closing_fields, first_fields, sniff_field}
+use Rattle.headers_serve.specs.Answer.{source_sent, status_for}
+use Rattle.headers_serve.specs.Asked.{IsAsked}
+use Rattle.headers_serve.specs.Response.{fields_of}
+use Rattle.headers_serve.specs.declared.file.File.{File}
+use Rattle.headers_serve.specs.declared.settings.Site.{Site}
+use Rattle.headers_serve.proofs.AnswerLemmas.{Carries-at, bytes_copied}
 use Rattle.headers_serve.proofs.service.FileServiceHandler.plan.Goals as goal
 
 pub returns : goal.returns
 returns g c =
-    let settings = c.args.self.now.settings in
-    let has = g.S.Store.has c.args.self.now.store in
+    let site = c.args.self.now.site in
+    let left = c.args.self.now.left in
+    let now = c.date_of-date.result in
+    let found = c.in_ok-found.found in
+    let resource = c.describe.new.resource in
+    let answer = c.in_ok-reason.field-0 in
+    let asked = request_of c.asked-head.result in
+    let after : Site = record { cache_control = site.cache_control; divider = site.divider; resource = resource } in
+    let before : List Header = fields_of c.put_closing.new.response in
     let date = c.in_ok-put_date.ensures.headers in
     let sniff = c.in_ok-put_sniff.ensures.headers ∙ ap (λ (l : List Header). l ++ sniff_field ∷ []) date in
-    let closing =
-    c.in_ok-put_closing.ensures.headers ∙ ap (λ (l : List Header). l ++ closing_fields c.args.self.now.left) sniff in
-    let shared = c.in_ok-put_shared.ensures.headers in
-    let source = c.in_ok-source.source in
-    let behind =
-    subst
-    (λ (before : List Header). AnswersBehind c.clock.result before settings has c.args.request.now
-    c.answer.new.response source)
-    (shared.2 ∙ ap (λ (l : List Header). l ++ shared.0) closing) c.in_ok-source.ensures in
-    let timed =
-    subst
-    (λ (present : ℕ). AnswersBehind present
-    (((date_fields c.date_of-date.result ++ sniff_field ∷ []) ++ closing_fields c.args.self.now.left) ++ shared.0)
-    settings has c.args.request.now c.answer.new.response source)
-    c.clock.ensures behind in
-    ((c.date_of-date.result, (shared.0, shared.1, timed)), refl, refl, c.saturating_sub-self.ensures)
+    let first = c.in_ok-put_closing.ensures.headers ∙ ap (λ (l : List Header). l ++ closing_fields left) sniff in
+    let described = c.in_ok-describe.ensures.described in
+    let files = ap (λ (v : _). v.items) c.in_ok-describe.ensures.files in
+    let cors : resource.cors ≡ site.resource.cors = ap (λ (r : Resource). r.cors) described.is in
+    let status =
+    c.status_for-status.ensures
+    ∙ ap (λ (n : ℕ). status_for n answer.reason answer.status) c.in_ok-describe.ensures.status in
+    let decides =
+    subst (λ (t : ℕ). Decides t (string_bytes site.divider) found.files.items resource asked answer)
+    c.clock-present.ensures
+    (subst
+    (λ (d : List ℕ). Decides c.clock-present.result d found.files.items resource asked answer) c.as_str.ensures.value
+    (subst
+    (λ (l : List File). Decides c.clock-present.result c.as_str.result.now l resource asked answer)
+    (c.deref.ensures.value ∙ files) c.in_ok-reason.ensures.answers)) in
+    let carries =
+    Carries-at (first_fields now left) site after found.files.items
+    (status_for found.status answer.reason answer.status) answer.sends (encoded_fields answer.fields.items)
+    c.carry.new.response refl refl cors
+    (subst
+    (λ (h : List Header).
+    Carries h after found.files.items (status_for found.status answer.reason answer.status) answer.sends
+    (encoded_fields answer.fields.items) c.carry.new.response) first
+    (subst
+    (λ (n : ℕ).
+    Carries before after found.files.items n answer.sends (encoded_fields answer.fields.items) c.carry.new.response) status
+    (subst
+    (λ (l : List File).
+    Carries before after l c.status_for-status.result answer.sends (encoded_fields answer.fields.items) c.carry.new.response)
+    (c.deref-2.ensures.value ∙ files) c.in_ok-carry.ensures))) in (
+      (
+        now,
+        record {
+          found = found;
+          leads = c.in_ok-found.ensures;
+          resource = resource;
+          described =
+              subst (λ (t : ℕ). IsDescribed t site.resource found resource) c.clock-present.ensures described;
+          asked = asked;
+          asks = (
+            option_map (λ (it : FieldValue). it.bytes) c.in_ok-authority.authority,
+            c.in_ok-authority.ensures,
+            subst (λ (a : Option Line). IsAsked c.args.request.now a asked)
+                (bytes_copied c.as_ref.result c.in_ok-authority.authority c.as_ref.ensures.value)
+                c.asked-head.ensures,
+          );
+          answer = answer;
+          decides = decides;
+          carries = carries;
+          opens = c.source_sent.ensures ∙ ap (λ (l : List File). source_sent l answer.sends) files;
+        },
+      ),
+      record {
+        cache_control = refl;
+        divider = refl;
+        resource =
+            described.is
+            ∙ ap
+            (λ (r : Resource).
+            record site.resource { state = r.state; representations = r.representations })
+            (sym described.is);
+      },
+      refl,
+      c.saturating_sub-self.ensures,
+    )

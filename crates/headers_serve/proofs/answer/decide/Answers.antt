@@ -1,0 +1,21 @@
+use Rattle.std.proofs.Common.{inl, inr, subst}
+use Rattle.headers_resource.specs.Requests.{head_of as as_head, request_of}
+use Rattle.headers_serve.proofs.AnswerLemmas.{FitsIn-from_answer}
+use Rattle.headers_serve.proofs.answer.decide.Goals as goal
+
+pub returns-then-is_sendable-clause-answers : goal.returns-then-is_sendable-clause-answers
+returns-then-is_sendable-clause-answers c = inl (c.if-is_sendable.ensures, c.in_ok-asked.ensures)
+
+pub returns-then-is_sendable-clause-fits : goal.returns-then-is_sendable-clause-fits
+returns-then-is_sendable-clause-fits c =
+    FitsIn-from_answer c.args.present c.args.resource.now (request_of c.args.request.now) c.args.files.now c.requires
+    c.in_ok-asked.asked c.in_ok-asked.ensures
+
+pub returns-clause-answers : goal.returns-clause-answers
+returns-clause-answers c =
+    inr (c.in_ok-asked.asked, c.if-is_sendable.ensures, c.in_ok-asked.ensures, c.in_ok-answer.ensures)
+
+pub returns-clause-fits : goal.returns-clause-fits
+returns-clause-fits c =
+    FitsIn-from_answer c.args.present c.args.resource.now (as_head (request_of c.args.request.now))
+    c.args.files.now c.requires c.in_ok-answer.answer c.in_ok-answer.ensures

@@ -1,8 +1,0 @@
-use Rattle.std.proofs.Common.{◌≡◌, ◌++◌}
-use Rattle.headers_serve.specs.Response.{fields_of, headers_of}
-use Rattle.headers_serve.proofs.fields.add_fields.Given as goal
-
-abbrev pub invariant-loop-field : goal.invariant-loop-field
-invariant-loop-field l =
-    (fields_of l.response ≡ fields_of l.fn.response ++ headers_of l.yielded)
-    × (l.response.status ≡ l.fn.response.status) × (l.response.pieces.items ≡ l.fn.response.pieces.items)

@@ -1,0 +1,46 @@
+-- What the path of a request leads to.
+use Rattle.std.specs.Prelude.{◌≡◌, ◌⊎◌, ℕ, Bool, List, [], Option, Some, None}
+use Rattle.http_header.specs.FieldValue.{plain_value}
+use Rattle.http_uri.specs.declared.uri.Uri.{Uri}
+use Rattle.http_uri.specs.Uri.{uri_path, uri_query}
+use Rattle.headers_resource.specs.declared.resource.Redirect.TheVariants.{MovedPermanently}
+use Rattle.headers_resource.specs.declared.resource.State.TheVariants as state
+use Rattle.headers_serve.specs.Path.{Names}
+use Rattle.headers_serve.specs.Redirect.{HasNoIndex, index_target}
+use Rattle.headers_serve.specs.Representations.{AreContents}
+use Rattle.headers_serve.specs.declared.file.Entry.{Entry}
+use Rattle.headers_serve.specs.declared.file.Entry.TheVariants.{Missing, Forbidden, Unavailable}
+use Rattle.headers_serve.specs.declared.file.Entry.TheVariants.{Folder, Readable}
+use Rattle.headers_serve.specs.declared.found.Found.{Found}
+
+-- there is nothing to send, and a read is answered by this status
+pub record IsAbsent (code : ℕ) (found : Found) : Type 0 where
+  pub state : found.state ≡ state.Absent
+  pub status : found.status ≡ code
+  pub files : found.files.items ≡ []
+
+-- it moved to the path with a slash and the query (RFC 9110, section 15.4.2)
+pub record HasMoved (path : List ℕ) (query : Option (List ℕ)) (found : Found) : Type 0 where
+  pub has_index : ¬ (HasNoIndex path query)
+  pub state : found.state ≡ state.Moved MovedPermanently (plain_value (index_target path query))
+  pub status : found.status ≡ 404
+  pub files : found.files.items ≡ []
+
+abbrev pub FindsFolder : List ℕ → Option (List ℕ) → Found → Type 0
+FindsFolder path query found = (HasNoIndex path query × IsAbsent 404 found) ⊎ HasMoved path query found
+
+-- what an entry at a path of the store is to a request for a URI
+abbrev pub FindsEntry : Bool → (List ℕ → Entry → Type 0) → Uri → List ℕ → Entry → Found → Type 0
+FindsEntry negotiates has uri named Missing found = IsAbsent 404 found
+FindsEntry negotiates has uri named Forbidden found = IsAbsent 403 found
+FindsEntry negotiates has uri named Unavailable found = IsAbsent 503 found
+FindsEntry negotiates has uri named Folder found = FindsFolder (uri_path uri) (uri_query uri) found
+FindsEntry negotiates has uri named (Readable file) found =
+    (found.state ≡ state.Current) × (found.status ≡ 404) × AreContents negotiates has named file found.files.items
+
+-- what the path of a URI leads to in a store: what stands at the path that it names, or nothing if it names none
+abbrev pub LeadsTo : Bool → (List ℕ → Entry → Type 0) → Uri → Found → Type 0
+LeadsTo negotiates has uri found =
+    ((named : List ℕ) × Names (uri_path uri) (Some named)
+    × ((entry : Entry) × has named entry × FindsEntry negotiates has uri named entry found))
+    ⊎ (Names (uri_path uri) None × IsAbsent 404 found)

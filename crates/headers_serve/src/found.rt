@@ -1,0 +1,112 @@
+//! What the path of a request leads to.
+ghost use Rattle.std.specs.Prelude.{◌≡◌, IfOk, option_copied};
+ghost use Rattle.http.specs.Request.{head_of};
+ghost use Rattle.http_uri.specs.Uri.{uri_path, uri_query};
+ghost use Rattle.headers_serve.specs.Found.{FindsEntry, FindsFolder, IsAbsent, LeadsTo};
+
+use crate::file::{Entry, File};
+use crate::path::store_path;
+use crate::redirect::location;
+use crate::representation::contents_of;
+use crate::store::Store;
+use bytes::Bytes;
+use headers_resource::{Redirect, State};
+use http::{Request, StatusCode};
+use std::alloc::{AllocError, Global};
+
+/// What the path of a request leads to.
+#[derive(Drop)]
+pub(crate) struct Found {
+    /// The state of the resource.
+    pub(crate) state: State,
+    /// What a read is answered by if there is nothing to send.
+    pub(crate) status: StatusCode,
+    /// Its contents, of which the client gets one.
+    pub(crate) files: Vec<File>,
+}
+
+fn absent(alloc: Global, status: StatusCode) -> Found
+    ensures { IsAbsent status result }
+{
+    Found {
+        state: State::Absent,
+        status,
+        files: Vec::new(alloc),
+    }
+}
+
+// A folder moved to its path with a slash, unless it is there.
+fn folder_at(alloc: Global, path: &str, query: Option<&str>) -> Result<Found, AllocError>
+    ensures { IfOk result (FindsFolder path.now (option_copied query.entry)) }
+{
+    match location(alloc, path, query)? {
+        Some(value) => Ok(Found {
+            state: State::Moved(Redirect::MovedPermanently, value),
+            status: StatusCode::NOT_FOUND,
+            files: Vec::new(alloc),
+        }),
+        None => Ok(absent(alloc, StatusCode::NOT_FOUND)),
+    }
+}
+
+fn path_of(request: &Request<Bytes>) -> &str
+    ensures { result.now ≡ uri_path (head_of request.now).uri }
+{
+    request.uri().path()
+}
+
+fn query_of(request: &Request<Bytes>) -> Option<&str>
+    ensures { option_copied result ≡ uri_query (head_of request.now).uri }
+{
+    request.uri().query()
+}
+
+// What an entry at a path of the store is to a request.
+fn found_by<S: Store>(
+    alloc: Global,
+    store: &S,
+    negotiates: bool,
+    request: &Request<Bytes>,
+    named: &str,
+    entry: Entry,
+) -> Result<Found, AllocError>
+    ensures { IfOk result (FindsEntry negotiates (S.has store.now) (head_of request.now).uri named.now entry) }
+{
+    match entry {
+        Entry::Missing => Ok(absent(alloc, StatusCode::NOT_FOUND)),
+        Entry::Forbidden => Ok(absent(alloc, StatusCode::FORBIDDEN)),
+        Entry::Unavailable => Ok(absent(alloc, StatusCode::SERVICE_UNAVAILABLE)),
+        Entry::Folder => {
+            let found = folder_at(alloc, path_of(request), query_of(request))?;
+            Ok(found)
+        }
+        Entry::Readable(file) => {
+            let files = contents_of(alloc, store, negotiates, named, file)?;
+            Ok(Found {
+                state: State::Current,
+                status: StatusCode::NOT_FOUND,
+                files,
+            })
+        }
+    }
+}
+
+/// What the path of a request leads to.
+pub(crate) fn look_up<S: Store>(
+    alloc: Global,
+    store: &S,
+    negotiates: bool,
+    request: &Request<Bytes>,
+) -> Result<Found, AllocError>
+    ensures { IfOk result (LeadsTo negotiates (S.has store.now) (head_of request.now).uri) }
+{
+    match store_path(alloc, path_of(request))? {
+        Some(named) => {
+            let path = named.as_str();
+            let entry = store.find(alloc, path)?;
+            let found = found_by(alloc, store, negotiates, request, path, entry)?;
+            Ok(found)
+        }
+        None => Ok(absent(alloc, StatusCode::NOT_FOUND)),
+    }
+}

@@ -1,0 +1,59 @@
+//! What all resources of a store have in common.
+ghost use Rattle.std.specs.Prelude.{◌≡◌, IfOk};
+ghost use Rattle.headers_serve.specs.SiteSettings.{IsSiteOf, hosts_listed};
+
+use crate::settings::{Divider, Settings, Site};
+use headers::{HeaderMap, HeaderValue};
+use headers_resource::{MethodRule, Negotiation, Resource, State};
+use http::Method;
+use std::alloc::{AllocError, Global};
+
+// The hosts of a resource, or none for any.
+fn hosts_listed(hosts: Vec<HeaderValue>) -> Option<Vec<HeaderValue>>
+    ensures { result ≡ hosts_listed hosts }
+{
+    if hosts.is_empty() { None } else { Some(hosts) }
+}
+
+impl Site {
+    /// What these settings say of all resources.
+    pub fn new(alloc: Global, settings: Settings) -> Result<Site, AllocError>
+        ensures { IfOk result (IsSiteOf settings) }
+    {
+        let Settings {
+            cache_control,
+            negotiates,
+            hosts,
+            cors,
+            divider,
+        } = settings;
+        let Divider { text, boundary } = divider;
+        let get = MethodRule {
+            method: Method::GET,
+            takes: HeaderMap::new(alloc),
+            creates: false,
+            needs_condition: false,
+        };
+        let rules = vec![in alloc; get]?;
+        Ok(Site {
+            cache_control,
+            divider: text,
+            resource: Resource {
+                hosts: hosts_listed(hosts),
+                rules,
+                state: State::Absent,
+                representations: Vec::new(alloc),
+                negotiation: Negotiation {
+                    media_type: false,
+                    language: false,
+                    coding: negotiates,
+                    is_strict: false,
+                },
+                boundary,
+                needs_length: false,
+                limit: None,
+                cors,
+            },
+        })
+    }
+}
