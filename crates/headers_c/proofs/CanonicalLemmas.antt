@@ -16,8 +16,8 @@ HasTooManyFields-none input none many =
     no_fields many.0 (subst (λ (lines : List Line). AreFields lines many.0) none many.1) many.2
 
 -- its canonical text is empty, and marks nothing
-pub IsCanonicalText-none : (input : List ℕ) → section input ≡ [] → IsCanonicalText input [] false
-IsCanonicalText-none input none =
+pub IsCanonicalText-none : (input text : List ℕ) → section input ≡ [] → text ≡ [] → IsCanonicalText input text false
+IsCanonicalText-none input text none empty =
     record {
       fields = [];
       are_fields = subst (λ (lines : List Line). AreFields lines []) (sym none) tt;
@@ -26,7 +26,7 @@ IsCanonicalText-none input none =
             blocks = [];
             in_order = refl;
             each = All-nil (λ (block : List ℕ × Block). IsBlock block.0 (lines_under [] block.0) block.1);
-            text_is = refl;
+            text_is = empty;
             refused_is = refl;
           };
     }
