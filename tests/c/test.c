@@ -1373,21 +1373,22 @@ struct resource_of {
     const char *name;
     const char *texts[12];
     size_t count;
-    bool is_note, is_strict;
+    bool is_note, is_strict, is_dated;
 };
 
 static const struct resource_of RESOURCES[] = {
     {"note",
      {"a.example", "GET\nPUT\nDELETE\nPATCH\n", "PUT", "DELETE", "\napplication/json\n\napplication/merge-patch+json",
       "\ngzip\n\ngzip", "", "application/json", "", "", "\"n1\"", "THIS_STRING_SEPARATES"},
-     1, true, true},
+     1, true, true, false},
     {"page",
      {"", "GET", "", "", "", "", "", "text/html\ntext/html\ntext/html\n", "en\nde\nen", "\n\ngzip",
       "\"en\"\n\"de\"\n\"gz\"", ""},
-     3, false, false},
-    {"report", {"", "GET", "", "", "", "", "", "application/pdf", "", "", "\"r1\"", ""}, 1, false, true},
-    {"inbox", {"", "POST", "", "", "", "", "", "", "", "", "", ""}, 0, false, false},
-    {"feed", {"", "POST", "", "", "application/json", "gzip", "", "", "", "", "", ""}, 0, false, false},
+     3, false, false, false},
+    {"report", {"", "GET", "", "", "", "", "", "application/pdf", "", "", "\"r1\"", ""}, 1, false, true, false},
+    {"inbox", {"", "POST", "", "", "", "", "", "", "", "", "", ""}, 0, false, false, false},
+    {"feed", {"", "POST", "", "", "application/json", "gzip", "", "", "", "", "", ""}, 0, false, false, false},
+    {"archive", {"", "GET\nDELETE", "", "", "", "", "", "text/plain", "", "", "", ""}, 1, false, false, true},
 };
 enum { RESOURCE_TEXTS = 12, LOCATION = 6, ETAGS = 10, BOUNDARY = 11 };
 static struct area resource_areas[RESOURCE_TEXTS];
@@ -1438,7 +1439,11 @@ static void put_resource(struct resource_call *call, const struct resource_of *r
     call->count = resource->count;
     for (size_t place = 0; place < resource->count; place++) {
         call->representations[place] =
-            (struct typed_headers_representation){.length = 20, .has_length = true, .sends_ranges = true};
+            (struct typed_headers_representation){.length = resource->is_dated ? 8000 : 20,
+                                                  .last_modified = 783459811,
+                                                  .has_length = true,
+                                                  .sends_ranges = true,
+                                                  .has_last_modified = resource->is_dated};
     }
     call->resource.by_media_type = true;
     call->resource.by_language = call->resource.by_coding = !resource->is_note;

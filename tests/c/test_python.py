@@ -316,6 +316,11 @@ RESOURCES = {
     },
     "inbox": {"methods": ["POST"], **NEGOTIATED},
     "feed": {"methods": [headers.Method("POST", "application/json", "gzip")], **NEGOTIATED},
+    "archive": {
+        "methods": ["GET", "DELETE"],
+        "representations": [headers.Representation("text/plain", 8000, last_modified=783459811)],
+        **NEGOTIATED,
+    },
 }
 STATES = {"current": 0, "absent": 1, "gone": 2}
 

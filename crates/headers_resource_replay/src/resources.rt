@@ -6,8 +6,9 @@
 //!
 //! `page` has GET of HTML in English, in German, and in English with gzip; a client that accepts none
 //! of them gets the first. `report` is a PDF document that only GET has, for any host, and 406 is
-//! sent. `inbox` has POST alone, of any content, and `feed` POST of JSON.
-use headers::{ETag, HeaderMap, HeaderValue, Origin, decode_values};
+//! sent. `inbox` has POST alone, of any content, and `feed` POST of JSON. `archive` is a text of
+//! 8,000 bytes with GET and DELETE, last modified on 29 October 1994 at 19:43:31, without a tag.
+use headers::{ETag, HeaderMap, HeaderValue, LastModified, Origin, decode_values};
 use headers_cors_policy::{Allowed, CorsPolicy, CorsRules};
 use headers_preconditions::{Boundary, Content, RangeLimits, Resource as Target, Validators};
 use headers_resource::{MethodRule, Negotiation, Representation, Resource, State};
@@ -17,6 +18,9 @@ use http::Method;
 use http_header::{ACCEPT, ACCEPT_ENCODING};
 use matchit::Router;
 use std::alloc::Global;
+
+/// When `archive` was last modified.
+const ARCHIVED: u64 = 783_459_811;
 
 // A rule of a method that takes any content.
 fn rule(alloc: Global, method: Method, needs_condition: bool) -> MethodRule {
@@ -212,6 +216,30 @@ fn feed(alloc: Global, state: State) -> Result<Resource, Failure> {
     open_resource(alloc, state, rules, Vec::new(alloc), false)
 }
 
+fn archived(alloc: Global) -> Result<Representation, Failure> {
+    let last_modified = Some(LastModified::from_unix_secs(ARCHIVED));
+    let mut text = content(alloc, "text/plain")?;
+    text.len = Some(8000);
+    Ok(Representation {
+        coding: None,
+        language: None,
+        content: text,
+        current: Target::Current(Validators {
+            etag: None,
+            last_modified,
+            is_date_strong: false,
+        }),
+    })
+}
+
+fn archive(alloc: Global, state: State) -> Result<Resource, Failure> {
+    let mut rules = only_rule(alloc, Method::GET)?;
+    rules.push(rule(alloc, Method::DELETE, false))?;
+    let mut texts = Vec::new(alloc);
+    texts.push(archived(alloc)?)?;
+    open_resource(alloc, state, rules, texts, false)
+}
+
 /// `note` at `/note`, `page` at `/pages/{name}`, and `report` at all that is below `/reports/`.
 pub fn routes(alloc: Global) -> Result<Routes<&'static str>, Failure> {
     let mut router = Router::new(alloc);
@@ -242,6 +270,7 @@ pub fn resource_named(alloc: Global, name: &str, state: State) -> Result<Resourc
         "report" => report(alloc, state),
         "inbox" => inbox(alloc, state),
         "feed" => feed(alloc, state),
+        "archive" => archive(alloc, state),
         _ => Err(Failure::NoCall),
     }
 }
