@@ -122,7 +122,7 @@ impl Policy<'_> {
     {
         if matches(stored, request, response) {
             let tells = self.read_governing(response).directives;
-            self.answer(request.fields, &tells, freshness)
+            self.decide_by_directives(request.fields, &tells, freshness)
         } else {
             decide_unstored(request)
         }
@@ -138,11 +138,18 @@ impl Policy<'_> {
             lifetime: stated.unwrap_or(0),
             age: current_age(response, times),
         };
-        self.answer(request, &by.directives, freshness)
+        self.decide_by_directives(request, &by.directives, freshness)
     }
 
-    // The answer by what the response directs.
-    fn answer(&self, request: &HeaderMap, tells: &Directives, freshness: Freshness) -> Decision
+    /// Decides what a cache does with a request that a stored response matches, by this policy, by the
+    /// directives that govern the response, and by a given lifetime and age. It parses Cache-Control of
+    /// the request alone; `decide_by` also tests whether the response matches, and parses its directives.
+    pub fn decide_by_directives(
+        &self,
+        request: &HeaderMap,
+        tells: &Directives,
+        freshness: Freshness,
+    ) -> Decision
         ensures { Answers self.now.kind
             (counted self.now.immutable (directed (lines_at request.now)) tells.now freshness) tells.now freshness
             result }

@@ -28,5 +28,6 @@ pub use crate::updating::{has_strong_tag, has_validator, is_updated};
 pub use crate::validating::validation_fields;
 pub use crate::vary::matches;
 pub use headers_cache_fields::{
-    Directives, Governing, Kind, Times, current_age, date, read_directives,
+    Directives, Governing, Kind, Times, current_age, date, heuristic_by, lifetime_by,
+    read_directives,
 };

@@ -12,6 +12,6 @@ returns-then-matches c =
       subst (λ (by : Governing). Answers c.args.self.now.kind
           (counted c.args.self.now.immutable (directed (lines_at c.args.request.now.fields.now)) by.directives
           c.args.freshness)
-          by.directives c.args.freshness c.answer.result)
-          c.read_governing.ensures c.answer.ensures,
+          by.directives c.args.freshness c.decide_by_directives.result)
+          c.read_governing.ensures c.decide_by_directives.ensures,
     )

@@ -4,7 +4,7 @@ use Rattle.headers_cache_policy.specs.Decisions.{counted}
 use Rattle.headers_cache_fields.specs.Directives.{directed}
 use Rattle.headers_cache_fields.specs.declared.directives.Directives.{Directives}
 use Rattle.headers_cache_policy.proofs.DecisionLemmas.{Answers-at}
-use Rattle.headers_cache_policy.proofs.policy.Policy.answer.Goals as goal
+use Rattle.headers_cache_policy.proofs.policy.Policy.decide_by_directives.Goals as goal
 
 pub returns : goal.returns
 returns c =
