@@ -1,6 +1,6 @@
 -- The most recent of the first stored responses, and of all.
 use Rattle.std.proofs.Common.{◌≡◌, ◌⊎◌, ℕ, ◌+◌, ◌<◌, ◌≤◌, Bool, true, false, List, length}
-use Rattle.std.proofs.Common.{get_or, Option, Some, None, inl, inr}
+use Rattle.std.proofs.Common.{get_or, Bor, Option, Some, None, inl, inr}
 use Rattle.std.proofs.Common.{refl, sym, ◌∙◌, ap, subst, arith}
 use Rattle.std.specs.Prelude.{option_map, nat_lt, if◌then◌else◌}
 use Rattle.std.specs.List.{slice_get}
@@ -24,14 +24,12 @@ module _ (Is : StoredResponse → Type 0) (all : List StoredResponse) where
   -- of the first n this is the most recent one that has the property
   pub record Leads (n : ℕ) (leader : Newest) : Type 0 where
     pub within : leader.place < n
-    pub response : StoredResponse
-    pub at : slice_get all leader.place ≡ Some response
-    pub is : Is response
-    pub made : leader.made ≡ made_at response
+    pub at : slice_get all leader.place ≡ Some leader.response.now
+    pub is : Is leader.response.now
     pub newest : (k : ℕ) (other : StoredResponse) → k < n → slice_get all k ≡ Some other → Is other
-        → made_at other ≤ leader.made
+        → made_at other ≤ made_at leader.response.now
     pub last : (k : ℕ) (other : StoredResponse) → k < n → slice_get all k ≡ Some other → Is other
-        → leader.place < k → made_at other < leader.made
+        → leader.place < k → made_at other < made_at leader.response.now
 
   abbrev pub LeadsOf : ℕ → Option Newest → Type 0
   LeadsOf n None = (k : ℕ) (other : StoredResponse) → k < n → slice_get all k ≡ Some other → ¬ (Is other)
@@ -52,45 +50,12 @@ module _ (Is : StoredResponse → Type 0) (all : List StoredResponse) where
               ]
         ]
 
-    alone : Is x → LeadsOf n None → Leads (n + 1) (record { place = n; made = made_at x })
-    alone is none =
-        record {
-          within = omega arith;
-          response = x;
-          at = at;
-          is = is;
-          made = refl;
-          newest = λ k other low here has. elim (cases k other low here) [
-            | inl lower ↦ absurd (none k other lower here has)
-            | inr same ↦ omega (arith, ap made_at same.1)
-          ];
-          last = λ k other low here has later. absurd (omega (arith, low, later));
-        }
-
-    takes_over : (newest : Newest) → Is x → newest.made ≤ made_at x → Leads n newest
-        → Leads (n + 1) (record { place = n; made = made_at x })
-    takes_over newest is more h =
-        record {
-          within = omega arith;
-          response = x;
-          at = at;
-          is = is;
-          made = refl;
-          newest = λ k other low here has. elim (cases k other low here) [
-            | inl lower ↦ omega (arith, h.newest k other lower here has, more)
-            | inr same ↦ omega (arith, ap made_at same.1)
-          ];
-          last = λ k other low here has later. absurd (omega (arith, low, later));
-        }
-
-    stays : (newest : Newest) → made_at x < newest.made → Leads n newest → Leads (n + 1) newest
+    stays : (newest : Newest) → made_at x < made_at newest.response.now → Leads n newest → Leads (n + 1) newest
     stays newest less h =
         record {
           within = omega (arith, h.within);
-          response = h.response;
           at = h.at;
           is = h.is;
-          made = h.made;
           newest = λ k other low here has. elim (cases k other low here) [
             | inl lower ↦ h.newest k other lower here has
             | inr same ↦ omega (arith, ap made_at same.1, less)
@@ -100,16 +65,6 @@ module _ (Is : StoredResponse → Type 0) (all : List StoredResponse) where
             | inr same ↦ omega (arith, ap made_at same.1, less)
           ];
         }
-
-    pub one_more : (newest : Option Newest) → Is x → LeadsOf n newest
-        → LeadsOf (n + 1) (renewed newest n (made_at x))
-    one_more None is h = alone is h
-    one_more (Some newest) is h = by (nat_lt (made_at x) newest.made) refl
-      where
-        by : (less : Bool) → nat_lt (made_at x) newest.made ≡ less
-            → LeadsOf (n + 1) (if less then Some newest else Some (record { place = n; made = made_at x }))
-        by true e = stays newest (ltb-true (made_at x) newest.made e) h
-        by false e = takes_over newest is (ltb-false (made_at x) newest.made e) h
 
     pub none_more : (newest : Option Newest) → ¬ (Is x) → LeadsOf n newest → LeadsOf (n + 1) newest
     none_more None not none =
@@ -120,10 +75,8 @@ module _ (Is : StoredResponse → Type 0) (all : List StoredResponse) where
     none_more (Some newest) not h =
         record {
           within = omega (arith, h.within);
-          response = h.response;
           at = h.at;
           is = h.is;
-          made = h.made;
           newest = λ k other low here has. elim (cases k other low here) [
             | inl lower ↦ h.newest k other lower here has
             | inr same ↦ absurd (not (subst Is same.1 has))
@@ -134,28 +87,62 @@ module _ (Is : StoredResponse → Type 0) (all : List StoredResponse) where
           ];
         }
 
+  module _ (n : ℕ) (x : Bor StoredResponse) (at : slice_get all n ≡ Some x.now) where
+    alone : Is x.now → LeadsOf n None → Leads (n + 1) (record { place = n; response = x })
+    alone is none =
+        record {
+          within = omega arith;
+          at = at;
+          is = is;
+          newest = λ k other low here has. elim (cases n x.now at k other low here) [
+            | inl lower ↦ absurd (none k other lower here has)
+            | inr same ↦ omega (arith, ap made_at same.1)
+          ];
+          last = λ k other low here has later. absurd (omega (arith, low, later));
+        }
+
+    takes_over : (newest : Newest) → Is x.now → made_at newest.response.now ≤ made_at x.now → Leads n newest
+        → Leads (n + 1) (record { place = n; response = x })
+    takes_over newest is more h =
+        record {
+          within = omega arith;
+          at = at;
+          is = is;
+          newest = λ k other low here has. elim (cases n x.now at k other low here) [
+            | inl lower ↦ omega (arith, h.newest k other lower here has, more)
+            | inr same ↦ omega (arith, ap made_at same.1)
+          ];
+          last = λ k other low here has later. absurd (omega (arith, low, later));
+        }
+
+    pub one_more : (newest : Option Newest) → Is x.now → LeadsOf n newest → LeadsOf (n + 1) (renewed newest n x)
+    one_more None is h = alone is h
+    one_more (Some newest) is h = by (nat_lt (made_at x.now) (made_at newest.response.now)) refl
+      where
+        by : (less : Bool) → nat_lt (made_at x.now) (made_at newest.response.now) ≡ less
+            → LeadsOf (n + 1) (if less then Some newest else Some (record { place = n; response = x }))
+        by true e = stays n x.now at newest (ltb-true (made_at x.now) (made_at newest.response.now) e) h
+        by false e = takes_over newest is (ltb-false (made_at x.now) (made_at newest.response.now) e) h
+
   -- who leads in the end is selected
   pub leader_is_selected : (newest : Option Newest) → LeadsOf (length all) newest
       → IsSelected Is all (option_map (λ (n : Newest). n.place) newest)
   leader_is_selected None none = λ k other here. none k other (slice_get_within all k other here) here
   leader_is_selected (Some newest) h =
       record {
-        response = h.response;
+        response = newest.response.now;
         at = h.at;
         is = h.is;
-        newest = λ k other here has.
-            omega (arith, h.newest k other (slice_get_within all k other here) here has, h.made);
-        last = λ k other here has later.
-            omega (arith, h.last k other (slice_get_within all k other here) here has later, h.made);
+        newest = λ k other here has. h.newest k other (slice_get_within all k other here) here has;
+        last = λ k other here has later. h.last k other (slice_get_within all k other here) here has later;
       }
 
   -- one step of a loop over the list, of a response that has the property, and of one that hasn't
-  pub step_in : (n : ℕ) (x : StoredResponse) (newest next : Option Newest) (made : ℕ) → n < length all
-      → x ≡ get_or all n x → Is x → made ≡ made_at x → next ≡ renewed newest n made → LeadsOf n newest
-      → LeadsOf (n + 1) next
-  step_in n x newest next made low here is e f h =
-      subst (LeadsOf (n + 1)) (sym (f ∙ ap (λ (m : ℕ). renewed newest n m) e))
-      (one_more n x (slice_get_read all (length all) n x refl low here) newest is h)
+  pub step_in : (n : ℕ) (x : Bor StoredResponse) (newest next : Option Newest) → n < length all
+      → x.now ≡ get_or all n x.now → Is x.now → next ≡ renewed newest n x → LeadsOf n newest → LeadsOf (n + 1) next
+  step_in n x newest next low here is e h =
+      subst (LeadsOf (n + 1)) (sym e)
+      (one_more n x (slice_get_read all (length all) n x.now refl low here) newest is h)
 
   pub step_out : (n : ℕ) (x : StoredResponse) (newest next : Option Newest) → n < length all
       → x ≡ get_or all n x → ¬ (Is x) → next ≡ newest → LeadsOf n newest → LeadsOf (n + 1) next

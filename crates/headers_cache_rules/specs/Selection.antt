@@ -1,6 +1,7 @@
 -- Which of several stored responses is chosen (RFC 9111, sections 4 and 4.1).
 use Rattle.std.specs.Prelude.{◌≡◌, ◌↔◌, ℕ, ◌<◌, ◌≤◌, List, Option, Some, None, nat_lt, if◌then◌else◌}
 use Rattle.std.specs.List.{AllPairs, Contains, slice_get}
+use denote.Ref.{Bor}
 use Rattle.headers.specs.LineMap.{LineMap}
 use Rattle.headers_cache_policy.specs.Requests.{Request}
 use Rattle.headers_cache_policy.specs.Updating.{IsUpdated}
@@ -55,10 +56,11 @@ IsSomewhere At = (place : ℕ) × At place
 -- ---- how it is found
 
 -- the most recent one so far, once one more is known
-abbrev pub renewed : Option Newest → ℕ → ℕ → Option Newest
-renewed None place made = Some (record { place = place; made = made })
-renewed (Some newest) place made = if nat_lt made newest.made then Some newest else
-    Some (record { place = place; made = made })
+abbrev pub renewed : Option Newest → ℕ → Bor StoredResponse → Option Newest
+renewed None place response = Some (record { place = place; response = response })
+renewed (Some newest) place response =
+    if nat_lt (made_at response.now) (made_at newest.response.now) then Some newest else
+    Some (record { place = place; response = response })
 
 -- which stored responses a search is about: all that may answer the request, or of these those that a 304 is about
 abbrev pub IsSought : Request → Option LineMap → StoredResponse → Type 0

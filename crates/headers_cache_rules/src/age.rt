@@ -16,7 +16,15 @@ pub fn age_field(alloc: Global, response: &HeaderMap, times: Times) -> Result<En
     ensures { IfOk result (λ field.
         field_of field ≡ (codes "age", decimal (capped (age_at times (lines_at response.now))) ∷ [])) }
 {
-    let age = HeaderValue::from_u64(alloc, current_age(response, times))?;
+    age_field_of(alloc, current_age(response, times))
+}
+
+/// Returns the field Age with this number of seconds, for a response whose current age is known (RFC
+/// 9111, section 5.1). Fails only if an allocation fails.
+pub fn age_field_of(alloc: Global, seconds: u64) -> Result<Encoded, AllocError>
+    ensures { IfOk result (λ field. field_of field ≡ (codes "age", decimal seconds ∷ [])) }
+{
+    let age = HeaderValue::from_u64(alloc, seconds)?;
     Ok(Encoded {
         name: AGE,
         lines: vec![in alloc; age]?,

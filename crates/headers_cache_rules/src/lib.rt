@@ -15,7 +15,7 @@ mod selection;
 mod stored;
 mod storing;
 
-pub use crate::age::age_field;
+pub use crate::age::{age_field, age_field_of};
 pub use crate::conditions::{
     StoredAnswer, answer_conditions, is_for_cache, one_part, validators_of,
 };

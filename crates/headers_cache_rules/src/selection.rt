@@ -8,13 +8,13 @@ ghost use Rattle.headers_cache_rules.specs.Selection.{IsCandidate, IsSelected, I
 use crate::stored::StoredResponse;
 use headers::HeaderMap;
 use headers_cache_policy::{RequestHead, is_updated, matches};
-use headers_dates::Timestamp;
 
-// The most recent stored response so far: its place, and when it was made.
+// The most recent stored response so far, and its place. Its Date is parsed only if another one may
+// be more recent.
 #[derive(Clone, Copy)]
-struct Newest {
+struct Newest<'a> {
     place: usize,
-    made: Timestamp,
+    response: &'a StoredResponse,
 }
 
 /// Returns the place of the stored response that answers a request, by method and Vary (RFC 9111,
@@ -46,12 +46,16 @@ pub(crate) fn is_sought(
 }
 
 // The most recent one, once one more is known.
-fn renewed(newest: Option<Newest>, place: usize, made: Timestamp) -> Option<Newest>
-    ensures { result ≡ renewed newest place made }
+fn renewed<'a>(
+    newest: Option<Newest<'a>>,
+    place: usize,
+    response: &'a StoredResponse,
+) -> Option<Newest<'a>>
+    ensures { result ≡ renewed newest.entry place response.entry }
 {
     match newest {
-        Some(newest) if made < newest.made => Some(newest),
-        _ => Some(Newest { place, made }),
+        Some(newest) if response.made_at() < newest.response.made_at() => Some(newest),
+        _ => Some(Newest { place, response }),
     }
 }
 
@@ -68,7 +72,7 @@ pub(crate) fn most_recent(
     let mut newest = None;
     for (place, response) in stored.iter().enumerate() {
         if is_sought(response, request, update) {
-            newest = renewed(newest, place, response.made_at());
+            newest = renewed(newest, place, response);
         }
     }
     match newest {

@@ -1,15 +1,15 @@
-use Rattle.std.proofs.Common.{◌∙◌}
 use Rattle.headers_cache_rules.proofs.SelectionLemmas.{end_none, end_some, step_in, step_out}
 use Rattle.headers_cache_rules.proofs.selection.most_recent.Goals as goal
 use Rattle.headers_cache_rules.proofs.selection.most_recent.Goals.{then-is_sought, else-is_sought}
+use Rattle.std.proofs.Common.{◌∙◌}
 
 pub loop-place-preserved : goal.loop-place-preserved
 loop-place-preserved c =
     elim c.if-is_sought.branch [
       | then-is_sought w ↦
-          step_in _ c.args.stored.now c.loop-place.place c.index-stored-place.result c.loop-place.newest
-          c.if-is_sought.newest w.made_at.result c.loop-place-test.true c.index-stored-place.is
-          (rw w.if-is_sought.true at c.is_sought.ensures) w.made_at.ensures (w.newest-is ∙ w.renewed-newest.ensures)
+          step_in _ c.args.stored.now c.loop-place.place _ c.loop-place.newest
+          c.if-is_sought.newest c.loop-place-test.true c.index-stored-place.is
+          (rw w.if-is_sought.true at c.is_sought.ensures) (w.newest-is ∙ w.renewed-newest.ensures)
           c.loop-place.invariant
       | else-is_sought w ↦
           step_out _ c.args.stored.now c.loop-place.place c.index-stored-place.result c.loop-place.newest
