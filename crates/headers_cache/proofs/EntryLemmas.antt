@@ -4,6 +4,7 @@ use Rattle.std.proofs.Common.{◌++◌, length, take, get_or}
 use Rattle.std.proofs.Common.{Option, Some, None, refl, sym, ap, subst, arith, filter, sum_by, bytes_eq, string_bytes}
 use Rattle.std.proofs.Common.{string_eq, String, Vec, slice_get, option_map, ◌∙◌}
 use Rattle.std.specs.List.{AllByRecursion, IsDistinct}
+use Rattle.std.specs.Prelude.{⊤}
 use Rattle.std.specs.Map.{keys_of, lookup, lookup_entry, remove_entry}
 use Rattle.std.specs.Option.{option_map_or}
 use Rattle.lru.specs.LruCache.{lru_cache, promoted, put_entries}
@@ -44,6 +45,10 @@ IsAbsent-take target (suc n) (entry ∷ contents) h = (h.0, IsAbsent-take target
 abbrev pub is_key : {Y : Type 0} → List ℕ → String Y → Bool
 is_key target key = bytes_eq target (string_bytes key)
 
+abbrev IsNone : {A : Type 0} → Option A → Type 0
+IsNone None = ⊤
+IsNone (Some x) = ⊥
+
 module _ {Y Z : Type 0} where
   -- a key other than one that is the target's isn't the target's
   absent_by_key : (target : List ℕ) (key : String Y) (es : List (String Y × Vec StoredResponse Z)) → bytes_eq target
@@ -66,6 +71,23 @@ module _ {Y Z : Type 0} where
           | true ↦ refl
           | false ↦ lookup-shown es
         ]
+
+    -- the responses of the first entry, if its key is that of the target
+    pub first-shown : (es : List (String Y × Vec StoredResponse Z)) (e : String Y × Vec StoredResponse Z) → slice_get es
+        0 ≡ Some e → is_key target e.0 ≡ true → e.1.items ≡ responses_at target (shown es)
+    first-shown [] e at same = absurd (subst IsNone at tt)
+    first-shown (f ∷ es) e at same =
+        subst (λ (o : Option (String Y × Vec StoredResponse Z)). items_at o ≡ responses_at target (shown (f ∷ es))) at
+        (sym (ap (λ b. cond b f.1.items (responses_at target (shown es)))
+        (subst (λ o. is_key_at o ≡ true) (sym at) same)))
+      where
+        items_at : Option (String Y × Vec StoredResponse Z) → List StoredResponse
+        items_at None = []
+        items_at (Some entry) = entry.1.items
+
+        is_key_at : Option (String Y × Vec StoredResponse Z) → Bool
+        is_key_at None = false
+        is_key_at (Some entry) = is_key target entry.0
 
     pub shown-remove_entry : (es : List (String Y × Vec StoredResponse Z)) → IsDistinct string_eq (keys_of es) → shown
         (remove_entry (is_key target) es) ≡ without target (shown es)

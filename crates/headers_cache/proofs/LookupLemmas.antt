@@ -2,18 +2,22 @@
 use Rattle.std.proofs.Common.{◌≡◌, ◌≢◌, ℕ, List, get_or, Result, Ok, Err, IfOk}
 use Rattle.std.proofs.Common.{OnErr, OnOk, refl, sym, subst, inl, inr, ◌∙◌}
 use Rattle.std.proofs.lemmas.Option.{get_or_from_slice_get}
-use Rattle.headers.specs.LineMap.{field_of, fields_of}
-use Rattle.headers_cache_policy.specs.Decisions.{AnswersUnstored}
+use Rattle.headers.specs.LineMap.{LineMap, field_of, fields_of}
+use Rattle.headers_cache_policy.specs.Decisions.{Answers, AnswersUnstored, counted}
 use Rattle.headers_cache_policy.specs.Age.{age_at}
+use Rattle.headers_cache_policy.specs.Directives.{directed}
 use Rattle.headers_cache_policy.specs.Fields.{capped}
 use Rattle.headers_cache_policy.specs.Requests.{Request}
+use Rattle.headers_cache_policy.specs.Targets.{governing}
+use Rattle.headers_cache_policy.specs.declared.Governing.{Governing}
 use Rattle.headers_cache_policy.specs.declared.decision.Decision.{Decision}
 use Rattle.headers_cache_policy.specs.declared.decision.Decision.TheVariants as decisions
-use Rattle.headers_cache_policy.specs.Policies.{AnswersUnder, DecidesByUnder, Policy}
+use Rattle.headers_cache_policy.specs.Policies.{AnswersUnder, Policy}
 use Rattle.headers_cache_rules.specs.Selection.{IsCandidate, IsMostRecent}
-use Rattle.headers_cache_rules.specs.Stored.{fields_of_stored, request_of_stored, times_of}
+use Rattle.headers_cache_rules.specs.Stored.{fields_of_stored, times_of}
 use Rattle.headers_cache_rules.specs.declared.stored.StoredResponse.{StoredResponse}
-use Rattle.headers_cache.specs.Lookups.{HasFields, IsAnswer, IsAsked, IsDecisionOf, IsFound, IsFreshFor, IsLookupOf}
+use Rattle.headers_cache.specs.Lookups.{HasFields, IsAnswer, IsAsked, IsDecisionOf, IsFound, IsFreshBy, IsFreshFor}
+use Rattle.headers_cache.specs.Lookups.{IsLookupOf}
 use Rattle.headers_cache.specs.Lookups.{IsServed, freshness_of}
 use Rattle.headers_cache.specs.declared.lookup.Lookup.{Lookup}
 use Rattle.headers_cache.specs.declared.lookup.Lookup.TheVariants.{Serve, ServeAndRevalidate, Validate, ValidateOrServe}
@@ -32,6 +36,10 @@ pub if_ok : {A E : Type 0} {P Q : A → Type 0} (result : Result A E) → ((x : 
 if_ok (Ok x) weaker h = weaker x h
 if_ok (Err e) weaker h = h
 
+-- how old a stored response is at a present
+abbrev pub age_now : ℕ → StoredResponse → ℕ
+age_now now stored = capped (age_at (times_of stored now) (fields_of_stored stored))
+
 module _ (policy : Policy) (most : ℕ) (request : Request) (now : ℕ) (responses : List StoredResponse) (place : ℕ)
     (selected : IsMostRecent (IsCandidate request) responses place) (decision : Decision) where
   -- the policy decides so about the selected response
@@ -47,7 +55,8 @@ module _ (policy : Policy) (most : ℕ) (request : Request) (now : ℕ) (respons
       let d = subst IsDecided same decided in
       record { selected = selected; lifetime = d.0; fresh_for = d.1; decided = d.2 }
 
-  answer_by : IsDecided decision → (lookup : Lookup) → IsLookupOf selected.response now decision place lookup
+  answer_by : IsDecided decision → (lookup : Lookup)
+      → IsLookupOf selected.response (age_now now selected.response) decision place lookup
       → IsAnswer policy most request now responses lookup
   unfolding found_as
   answer_by decided (Serve at age) is = elim is.0 [
@@ -72,45 +81,42 @@ module _ (policy : Policy) (most : ℕ) (request : Request) (now : ℕ) (respons
   answer_by decided Forward is = absurd (subst IsDecided is decided).2
 
   -- the response at the place, as the code has it
-  module _ (stored : StoredResponse) (at : stored ≡ get_or responses place stored)
-      (decides : IsDecisionOf policy most request now stored decision) where
+  module _ (stored : StoredResponse) (at : stored ≡ get_or responses place stored) (age : ℕ)
+      (aged : age ≡ age_now now stored) (decides : IsDecisionOf policy most request.fields age stored decision) where
     same_stored : stored ≡ selected.response
     same_stored = at ∙ get_or_from_slice_get responses place selected.response stored selected.at
 
     is_decided : IsDecided decision
     is_decided =
-        let by_stored = subst (λ s. IsDecisionOf policy most request now s decision) same_stored decides in
-        elim by_stored.2 [
-          | inl suits ↦ (by_stored.0, by_stored.1, suits.1)
-          | inr other ↦ absurd (other.0 selected.is)
-        ]
+        subst (λ s. IsDecisionOf policy most request.fields (age_now now s) s decision) same_stored
+        (subst (λ a. IsDecisionOf policy most request.fields a stored decision) aged decides)
 
-    pub answer_decided : (lookup : Lookup) → IsLookupOf stored now decision place lookup
+    pub answer_decided : (lookup : Lookup) → IsLookupOf stored age decision place lookup
         → IsAnswer policy most request now responses lookup
     answer_decided lookup is =
-        answer_by is_decided lookup (subst (λ s. IsLookupOf s now decision place lookup) same_stored is)
+        answer_by is_decided lookup
+        (subst (λ s. IsLookupOf s (age_now now s) decision place lookup) same_stored
+        (subst (λ a. IsLookupOf stored a decision place lookup) aged is))
 
     pub has_fields : decision ≢ decisions.Unavailable → HasFields policy most request now responses
     has_fields other = (decision, place, found_as is_decided decision refl, other)
 
--- the decision by a lifetime and an age, as the code has them
-pub decision-by : (policy : Policy) (most : ℕ) (request : Request) (now : ℕ) (stored : StoredResponse)
-    (decision : Decision)
-    (head : Request) → head ≡ request_of_stored stored → (lifetime : ℕ) → IsFreshFor policy most stored lifetime
-    → (age : ℕ) → age ≡ capped (age_at (times_of stored now) (fields_of_stored stored))
-    → DecidesByUnder policy head request (fields_of_stored stored) (record { lifetime = lifetime; age = age }) decision
-    → IsDecisionOf policy most request now stored decision
-decision-by policy most request now stored decision head is_head lifetime fresh_for age is_age decides = (
+-- the decision by what governs the stored response, as the code has it
+pub decision-by : (policy : Policy) (most : ℕ) (request : LineMap) (age : ℕ) (stored : StoredResponse)
+    (decision : Decision) (by : Governing) → by ≡ governing policy.targets (fields_of_stored stored) → (lifetime : ℕ)
+    → IsFreshBy policy.kind by most stored lifetime
+    → Answers policy.kind
+    (counted policy.immutable (directed request) by.directives (record { lifetime = lifetime; age = age }))
+    by.directives (record { lifetime = lifetime; age = age }) decision
+    → IsDecisionOf policy most request age stored decision
+decision-by policy most request age stored decision by is lifetime fresh_by answers = (
   lifetime,
-  fresh_for,
+  subst (λ b. IsFreshBy policy.kind b most stored lifetime) is fresh_by,
   subst
-      (λ a. DecidesByUnder policy (request_of_stored stored) request (fields_of_stored stored) (record {
-        lifetime = lifetime;
-        age = a;
-      }) decision)
-      is_age
-      (subst (λ h. DecidesByUnder policy h request (fields_of_stored stored) (record { lifetime = lifetime; age = age })
-      decision) is_head decides),
+      (λ b. Answers policy.kind
+      (counted policy.immutable (directed request) b.directives (record { lifetime = lifetime; age = age }))
+      b.directives (record { lifetime = lifetime; age = age }) decision)
+      is answers,
 )
 
 -- a request that no stored response suits is forwarded, if it isn't 504

@@ -1,66 +1,76 @@
 -- What a store answers to a request (RFC 9111, section 4).
 use Rattle.std.specs.Prelude.{◌≡◌, ◌≢◌, ◌⊎◌, ℕ, List, [], ◌∷◌, Option, Some, None, codes, decimal, min, unwrap_or}
-use Rattle.headers.specs.LineMap.{Field, field_of, fields_of}
+use Rattle.headers.specs.LineMap.{Field, LineMap, field_of, fields_of}
 use Rattle.headers_cache_policy.specs.Age.{age_at}
 use Rattle.headers_cache_policy.specs.Decisions.{AnswersUnstored}
 use Rattle.headers_cache_policy.specs.Fields.{capped}
-use Rattle.headers_cache_policy.specs.Policies.{AnswersUnder, DecidesByUnder, HasHeuristicUnder, HasLifetimeUnder}
-use Rattle.headers_cache_policy.specs.Policies.{Policy}
+use Rattle.headers_cache_policy.specs.Freshness.{HasHeuristicBy, HasLifetimeBy}
+use Rattle.headers_cache_policy.specs.Policies.{AnswersUnder, Policy}
 use Rattle.headers_cache_policy.specs.Requests.{Request}
+use Rattle.headers_cache_policy.specs.Targets.{governing}
 use Rattle.headers_cache_policy.specs.Validating.{validation_fields}
+use Rattle.headers_cache_policy.specs.declared.Governing.{Governing}
+use Rattle.headers_cache_policy.specs.declared.Kind.{Kind}
 use Rattle.headers_cache_policy.specs.declared.decision.Decision.{Decision}
 use Rattle.headers_cache_policy.specs.declared.decision.Decision.TheVariants as decisions
 use Rattle.headers_cache_policy.specs.declared.decision.Freshness.{Freshness}
 use Rattle.headers_cache_rules.specs.Selection.{IsCandidate, IsMostRecent, IsSelected}
-use Rattle.headers_cache_rules.specs.Stored.{fields_of_stored, request_of_stored, times_of}
+use Rattle.headers_cache_rules.specs.Stored.{fields_of_stored, times_of}
 use Rattle.headers_cache_rules.specs.declared.stored.StoredResponse.{StoredResponse}
 use Rattle.headers_cache.specs.declared.lookup.Lookup.{Lookup}
 use Rattle.headers_cache.specs.declared.lookup.Lookup.TheVariants.{Serve, ServeAndRevalidate, Validate, ValidateOrServe}
 use Rattle.headers_cache.specs.declared.lookup.Lookup.TheVariants.{Unavailable, Forward}
 
--- Age of a stored response that is served (section 5.1)
+-- Age with so many seconds (section 5.1)
+abbrev pub age_of_seconds : ℕ → Field
+age_of_seconds seconds = (codes "age", decimal seconds ∷ [])
+
+-- Age of a stored response that is served
 abbrev pub age_of_stored : StoredResponse → ℕ → Field
-age_of_stored stored now = (codes "age", decimal (capped (age_at (times_of stored now) (fields_of_stored stored))) ∷ [])
+age_of_stored stored now = age_of_seconds (capped (age_at (times_of stored now) (fields_of_stored stored)))
 
 -- the fields by which a request asks whether a stored response is still good (section 4.3.1)
 abbrev pub conditions_of : StoredResponse → List Field
 conditions_of stored = validation_fields stored.received (fields_of_stored stored)
 
--- what the decision about a stored response comes to
+-- what the decision about a stored response of an age comes to
 abbrev pub IsLookupOf : StoredResponse → ℕ → Decision → ℕ → Lookup → Type 0
-IsLookupOf stored now decision place (Serve at age) =
+IsLookupOf stored age decision place (Serve at field) =
     ((decision ≡ decisions.Serve) ⊎ (decision ≡ decisions.ServeStale)) × (at ≡ place)
-    × (field_of age ≡ age_of_stored stored now)
-IsLookupOf stored now decision place (ServeAndRevalidate at age) =
-    (decision ≡ decisions.ServeAndRevalidate) × (at ≡ place) × (field_of age ≡ age_of_stored stored now)
-IsLookupOf stored now decision place (Validate at fields) =
+    × (field_of field ≡ age_of_seconds age)
+IsLookupOf stored age decision place (ServeAndRevalidate at field) =
+    (decision ≡ decisions.ServeAndRevalidate) × (at ≡ place) × (field_of field ≡ age_of_seconds age)
+IsLookupOf stored age decision place (Validate at fields) =
     (decision ≡ decisions.Revalidate) × (at ≡ place) × (fields_of fields.items ≡ conditions_of stored)
-IsLookupOf stored now decision place (ValidateOrServe at fields) =
+IsLookupOf stored age decision place (ValidateOrServe at fields) =
     (decision ≡ decisions.RevalidateOrServe) × (at ≡ place) × (fields_of fields.items ≡ conditions_of stored)
-IsLookupOf stored now decision place Unavailable = decision ≡ decisions.Unavailable
-IsLookupOf stored now decision place Forward = decision ≡ decisions.Fetch
+IsLookupOf stored age decision place Unavailable = decision ≡ decisions.Unavailable
+IsLookupOf stored age decision place Forward = decision ≡ decisions.Fetch
 
--- How many seconds a stored response is fresh in a cache that guesses up to `most` seconds: as many as its origin
--- states, or else as many as a cache may guess (section 4.2.2), or none.
+-- How many seconds a stored response is fresh, by what governs it, in a cache that guesses up to `most` seconds: as
+-- many as its origin states, or else as many as a cache may guess (section 4.2.2), or none.
+abbrev pub IsFreshBy : Kind → Governing → ℕ → StoredResponse → ℕ → Type 0
+IsFreshBy kind by most stored seconds =
+    HasLifetimeBy kind stored.received by (fields_of_stored stored) (Some seconds)
+    ⊎ (HasLifetimeBy kind stored.received by (fields_of_stored stored) None
+    × ((guess : Option ℕ) × HasHeuristicBy kind stored.status stored.received by (fields_of_stored stored) guess
+    × (seconds ≡ min (unwrap_or guess 0) most)))
+
+-- the same in a cache with a policy
 abbrev pub IsFreshFor : Policy → ℕ → StoredResponse → ℕ → Type 0
 IsFreshFor policy most stored seconds =
-    HasLifetimeUnder policy stored.received (fields_of_stored stored) (Some seconds)
-    ⊎ (HasLifetimeUnder policy stored.received (fields_of_stored stored) None
-    × ((guess : Option ℕ) × HasHeuristicUnder policy stored.status stored.received (fields_of_stored stored) guess
-    × (seconds ≡ min (unwrap_or guess 0) most)))
+    IsFreshBy policy.kind (governing policy.targets (fields_of_stored stored)) most stored seconds
 
 -- such a lifetime, and its age
 abbrev pub freshness_of : ℕ → StoredResponse → ℕ → Freshness
 freshness_of seconds stored now =
     record { lifetime = seconds; age = capped (age_at (times_of stored now) (fields_of_stored stored)) }
 
--- the policy decides so about a stored response, which suits the request or doesn't
-abbrev pub IsDecisionOf : Policy → ℕ → Request → ℕ → StoredResponse → Decision → Type 0
-IsDecisionOf policy most request now stored decision =
+-- the policy decides so about a stored response of an age, if it suits a request with these fields
+abbrev pub IsDecisionOf : Policy → ℕ → LineMap → ℕ → StoredResponse → Decision → Type 0
+IsDecisionOf policy most request age stored decision =
     (lifetime : ℕ) × IsFreshFor policy most stored lifetime
-    × DecidesByUnder policy (request_of_stored stored) request (fields_of_stored stored)
-    (freshness_of lifetime stored now)
-    decision
+    × AnswersUnder policy request (fields_of_stored stored) (record { lifetime = lifetime; age = age }) decision
 
 module _ (policy : Policy) (most : ℕ) (request : Request) (now : ℕ) (responses : List StoredResponse) where
   -- The response at the place is the one that is selected for the request (section 4.1), and the policy decides so

@@ -1,20 +1,25 @@
 //! The answer of a store to a request.
 ghost use Rattle.std.specs.Prelude.{◌≡◌, ◌≢◌, IfOk, OnErr, option_copied, slice_get};
+ghost use Rattle.headers.specs.LineMap.{lines_at};
+ghost use Rattle.headers_cache_policy.specs.Age.{age_at};
+ghost use Rattle.headers_cache_policy.specs.Fields.{capped};
 ghost use Rattle.headers_cache_policy.specs.Policies.{policy_of};
 ghost use Rattle.headers_cache_policy.specs.Requests.{request_of};
 ghost use Rattle.headers_cache_policy.specs.declared.decision.Decision.TheVariants as decisions;
+ghost use Rattle.headers_cache_rules.specs.Stored.{fields_of_stored, times_of};
 ghost use Rattle.headers_cache.specs.Contents.{responses_at, used};
 ghost use Rattle.headers_cache.specs.History.Call.{Looked};
 ghost use Rattle.headers_cache.specs.History.{Step};
 ghost use Rattle.headers_cache.specs.Kept.{contents_of, policy_of_store};
-ghost use Rattle.headers_cache.specs.Lookups.{HasFields, IsAnswer, IsDecisionOf, IsFreshFor, IsLookupOf};
+ghost use Rattle.headers_cache.specs.Lookups.{HasFields, IsAnswer, IsDecisionOf, IsFreshBy, IsLookupOf};
 
 use crate::store::Store;
-use headers::Encoded;
+use headers::{Encoded, HeaderMap};
 use headers_cache_policy::{
-    Decision, Freshness, Policy, RequestHead, current_age, decide_unstored, validation_fields,
+    Decision, Freshness, Governing, Kind, Policy, RequestHead, current_age, decide_unstored,
+    heuristic_by, lifetime_by, validation_fields,
 };
-use headers_cache_rules::{StoredResponse, age_field, select};
+use headers_cache_rules::{StoredResponse, age_field_of, select};
 use std::alloc::{AllocError, Global};
 
 /// What a cache does with a request. A place is that of a response among those stored under the
@@ -40,29 +45,21 @@ pub enum Lookup {
     Forward,
 }
 
-// What is done with a request that the response at the place is selected for.
+// What is done with a request that the response at the place is selected for, which has this age.
 fn found(
     alloc: Global,
     stored: &StoredResponse,
     place: usize,
     decision: Decision,
-    now: u64,
+    age: u64,
 ) -> Result<Lookup, AllocError>
-    ensures answer { IfOk result (λ lookup. IsLookupOf stored.now now decision place lookup) }
+    ensures answer { IfOk result (λ lookup. IsLookupOf stored.now age decision place lookup) }
     ensures memory { OnErr result (decision ≢ decisions.Unavailable) }
 {
     Ok(match decision {
-        Decision::Serve | Decision::ServeStale => {
-            Lookup::Serve(
-                place,
-                age_field(alloc, &stored.response, stored.times(now))?,
-            )
-        }
+        Decision::Serve | Decision::ServeStale => Lookup::Serve(place, age_field_of(alloc, age)?),
         Decision::ServeAndRevalidate => {
-            Lookup::ServeAndRevalidate(
-                place,
-                age_field(alloc, &stored.response, stored.times(now))?,
-            )
+            Lookup::ServeAndRevalidate(place, age_field_of(alloc, age)?)
         }
         Decision::Revalidate => {
             Lookup::Validate(
@@ -81,34 +78,42 @@ fn found(
     })
 }
 
-// How many seconds a stored response is fresh, if at most so many are guessed.
-fn lifetime_of(stored: &StoredResponse, policy: &Policy<'_>, most: u64) -> u64
-    ensures { IsFreshFor (policy_of policy.now) most stored.now result }
+// How many seconds a stored response is fresh by what governs it, if at most so many are guessed.
+fn lifetime_of(stored: &StoredResponse, by: &Governing, kind: Kind, most: u64) -> u64
+    ensures { IsFreshBy kind by.now most stored.now result }
 {
-    match policy.lifetime(&stored.response, stored.received) {
+    match lifetime_by(by, &stored.response, stored.received, kind) {
         Some(seconds) => seconds,
         None => {
-            let guess = policy.heuristic_lifetime(stored.status, &stored.response, stored.received);
+            let guess = heuristic_by(by, stored.status, &stored.response, stored.received, kind);
             guess.unwrap_or(0).min(most)
         }
     }
 }
 
-// What is done with a request, by a stored response.
+// What is done with a request by a stored response of this age that suits it.
 fn decision_for(
     stored: &StoredResponse,
-    request: &RequestHead<'_>,
-    now: u64,
+    request: &HeaderMap,
+    age: u64,
     policy: &Policy<'_>,
     most: u64,
 ) -> Decision
-    ensures { IsDecisionOf (policy_of policy.now) most (request_of request.now) now stored.now result }
+    ensures { IsDecisionOf (policy_of policy.now) most (lines_at request.now) age stored.now result }
 {
+    let by = policy.read_governing(&stored.response);
     let freshness = Freshness {
-        lifetime: lifetime_of(stored, policy, most),
-        age: current_age(&stored.response, stored.times(now)),
+        lifetime: lifetime_of(stored, &by, policy.kind, most),
+        age,
     };
-    policy.decide_by(&stored.head(), request, &stored.response, freshness)
+    policy.decide_by_directives(request, &by.directives, freshness)
+}
+
+// How old a stored response is.
+fn age_of(stored: &StoredResponse, now: u64) -> u64
+    ensures { result ≡ capped (age_at (times_of stored.now now) (fields_of_stored stored.now)) }
+{
+    current_age(&stored.response, stored.times(now))
 }
 
 // What is done with a request to a target under which these responses are stored.
@@ -127,8 +132,9 @@ pub(crate) fn answer(
     match select(responses, request) {
         Some(place) => {
             let stored = &responses[place];
-            let decision = decision_for(stored, request, now, policy, most);
-            found(alloc, stored, place, decision, now)
+            let age = age_of(stored, now);
+            let decision = decision_for(stored, request.fields, age, policy, most);
+            found(alloc, stored, place, decision, age)
         }
         None => match decide_unstored(request) {
             Decision::Unavailable => Ok(Lookup::Unavailable),
@@ -199,6 +205,17 @@ impl Store {
     /// Returns the responses that are stored under a target, in the order in which they were
     /// stored.
     pub fn responses(&self, target: &str) -> &[StoredResponse]
+        ensures { result.now ≡ responses_at target.now (contents_of self.now) }
+    {
+        // The most recently used target needs no search.
+        match self.targets.peek_mru() {
+            Some((key, responses)) if target == key.as_str() => responses.as_slice(),
+            _ => self.responses_by_key(target),
+        }
+    }
+
+    // The same for each target, by a search.
+    fn responses_by_key(&self, target: &str) -> &[StoredResponse]
         ensures { result.now ≡ responses_at target.now (contents_of self.now) }
     {
         match self.targets.peek(target) {

@@ -9,7 +9,7 @@ returns-in-Some-clause-answer c =
     (λ lookup is. answer_decided (policy_of c.args.policy.now) c.args.most
     (request_of c.args.request.now) c.args.now c.args.responses.now
     c.in-Some.place c.in-Some.ensures c.decision_for-decision.result c.index-responses-place.result
-    c.index-responses-place.is c.decision_for-decision.ensures lookup is)
+    c.index-responses-place.is c.age_of-age.result c.age_of-age.ensures c.decision_for-decision.ensures lookup is)
     c.found.ensures.answer
 
 pub returns-in-Some-clause-memory : goal.returns-in-Some-clause-memory
@@ -18,5 +18,5 @@ returns-in-Some-clause-memory c =
     (λ other. has_fields (policy_of c.args.policy.now) c.args.most
     (request_of c.args.request.now) c.args.now c.args.responses.now
     c.in-Some.place c.in-Some.ensures c.decision_for-decision.result c.index-responses-place.result
-    c.index-responses-place.is c.decision_for-decision.ensures other)
+    c.index-responses-place.is c.age_of-age.result c.age_of-age.ensures c.decision_for-decision.ensures other)
     c.found.ensures.memory

@@ -1,7 +1,7 @@
 use Rattle.std.proofs.Common.{[], ap, ◌∙◌}
 use Rattle.std.specs.Option.{option_map_or}
 use Rattle.headers_cache.proofs.EntryLemmas.{lookup-shown}
-use Rattle.headers_cache.proofs.store.Store.responses.Goals as goal
+use Rattle.headers_cache.proofs.store.Store.responses_by_key.Goals as goal
 
 pub returns-in-Some : goal.returns-in-Some
 returns-in-Some c = c.as_slice.ensures.value ∙ (ap (λ o. option_map_or (λ responses. responses.items) o [])
