@@ -1,0 +1,18 @@
+//! Typed values of fields for C: credentials, cookies, hosts, origins, policies, ranges and lists.
+#![tactic(auto)]
+
+mod content;
+mod cookies;
+mod credentials;
+mod hosts;
+mod members;
+mod policies;
+
+pub use crate::content::{read_content_range, read_disposition};
+pub use crate::cookies::{cookies_text, find_cookie};
+pub use crate::credentials::{UserPassword, read_token, read_user_password};
+pub use crate::hosts::{HostText, OriginParts, OriginText, PortNumber, read_host, read_origin};
+pub use crate::members::{has_member, members_text};
+pub use crate::policies::{
+    RetryTime, TransportSecurity, read_retry_after, read_transport_security,
+};
