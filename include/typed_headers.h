@@ -1223,6 +1223,143 @@ uint8_t typed_headers_framing(const uint8_t *method, size_t method_length, uint1
                               const uint8_t *section, size_t section_length, const struct typed_headers_keys *keys,
                               struct typed_headers_framing_outcome *outcome);
 
+/* ---- Typed values of fields, since version 1.1 */
+
+/* The number of a port. */
+struct typed_headers_port {
+    /* The number, or 0 if there is no port. */
+    uint16_t number;
+    /* 1 if there is a port, else 0. */
+    uint8_t is_set;
+};
+
+/* The parts of an origin beside its scheme and its host. */
+struct typed_headers_origin_parts {
+    /* How many bytes the scheme has. */
+    size_t scheme_length;
+    struct typed_headers_port port;
+    /* 1 if the origin is `null`, else 0. Then it has neither scheme, host nor port. */
+    uint8_t is_null;
+};
+
+/* For how long a host may be reached only by secure transport. */
+struct typed_headers_transport_security {
+    /* The seconds. */
+    uint64_t max_age;
+    /* 1 if its subdomains are included, else 0. */
+    uint8_t include_subdomains;
+};
+
+/* When a client may send its request again. */
+struct typed_headers_retry_time {
+    /* The seconds of the delay, or those of the date since the start of 1970. */
+    uint64_t seconds;
+    /* 1 if it is a date, 0 if it is a delay. */
+    uint8_t is_date;
+};
+
+/* How a recipient is to present content (RFC 6266, section 4.2). */
+enum typed_headers_disposition {
+    /* By another word. RFC 6266 has it treated as an attachment. */
+    TYPED_HEADERS_OTHER_DISPOSITION = 0,
+    TYPED_HEADERS_INLINE = 1,
+    TYPED_HEADERS_ATTACHMENT = 2,
+    /* It is a part of a form (RFC 7578, section 4.2). */
+    TYPED_HEADERS_FORM_DATA = 3
+};
+
+/*
+ * The user name and the password of Basic, by the first line of `authorization` or of `proxy-authorization` (RFC 7617,
+ * section 2). The text is the user name and, right after its `*user_length` bytes, the password. Both are UTF-8.
+ * `*user_length` is given also if the text doesn't fit.
+ *
+ * Refused: the line has another scheme, or what follows isn't the base64 of UTF-8 with a colon.
+ */
+uint8_t typed_headers_basic(const uint8_t *lines, size_t lines_length, size_t *user_length, uint8_t *room,
+                            size_t room_length, size_t *written);
+
+/*
+ * The token of Bearer, by the first line of `authorization` or of `proxy-authorization` (RFC 6750, section 2.1): what
+ * follows the scheme and white space. Refused: the line has another scheme, or isn't text.
+ */
+uint8_t typed_headers_bearer(const uint8_t *lines, size_t lines_length, uint8_t *room, size_t room_length,
+                             size_t *written);
+
+/*
+ * The value of the first cookie of this name, by all lines of `cookie` (RFC 6265, section 5.4). Names are compared byte
+ * for byte, and a value in quotes has them. Cookies stand between semicolons that aren't in quotes. Lines with a byte
+ * outside of printable ASCII have no cookies. Absent: there is no such cookie. Refused: a line can't be one.
+ */
+uint8_t typed_headers_cookie(const uint8_t *lines, size_t lines_length, const uint8_t *name, size_t name_length,
+                             uint8_t *room, size_t room_length, size_t *written);
+
+/*
+ * All cookies of all lines of `cookie`, in order: each is its name, `=`, its value and a LF. A name has no `=`, and
+ * what stands between semicolons without one is skipped. Else as `typed_headers_cookie`.
+ */
+uint8_t typed_headers_cookies(const uint8_t *lines, size_t lines_length, uint8_t *room, size_t room_length,
+                              size_t *written);
+
+/*
+ * The host and the port of `host`: its first line (RFC 9110, section 7.2). The text is the host; an IPv6 address has
+ * its brackets. `*port` is given also if the text doesn't fit. Refused: the line is no host with a port or without, or
+ * has more than 65,534 bytes.
+ */
+uint8_t typed_headers_host(const uint8_t *lines, size_t lines_length, struct typed_headers_port *port, uint8_t *room,
+                           size_t room_length, size_t *written);
+
+/*
+ * The scheme, the host and the port of `origin`: the only line (RFC 6454, section 7). The text is the scheme and, right
+ * after its `parts->scheme_length` bytes, the host; it is empty for `null`. `*parts` is given also if the text doesn't
+ * fit. Refused: there are several lines, or the line is neither `null` nor an origin.
+ */
+uint8_t typed_headers_origin(const uint8_t *lines, size_t lines_length, struct typed_headers_origin_parts *parts,
+                             uint8_t *room, size_t room_length, size_t *written);
+
+/*
+ * The policy of `strict-transport-security`: the only line (RFC 6797, section 6.1). Refused: there are several lines,
+ * the line hasn't exactly one max-age, a number below 2^64, or has `includeSubDomains` twice.
+ */
+uint8_t typed_headers_strict_transport_security(const uint8_t *lines, size_t lines_length,
+                                                struct typed_headers_transport_security *policy);
+
+/*
+ * The delay or the date of `retry-after`: its first line (RFC 9110, section 10.2.3). Refused: the line is neither a
+ * number below 2^64 nor a date up to the year 9999.
+ */
+uint8_t typed_headers_retry_after(const uint8_t *lines, size_t lines_length, struct typed_headers_retry_time *time);
+
+/*
+ * The range and the complete length of `content-range`: its first line (RFC 9110, section 14.4). Numbers that aren't
+ * said are 0. Refused: the line isn't `bytes`, a space, a range or `*`, a slash, and a length or `*`, or the first
+ * position is past the last.
+ */
+uint8_t typed_headers_content_range(const uint8_t *lines, size_t lines_length,
+                                    struct typed_headers_content_range *range);
+
+/*
+ * The kind of the disposition of `content-disposition`: what its first line has before a semicolon, byte for byte (RFC
+ * 6266, section 4.2). `*disposition` is one of `typed_headers_disposition`. Refused: a line can't be one.
+ */
+uint8_t typed_headers_content_disposition(const uint8_t *lines, size_t lines_length, uint8_t *disposition);
+
+/*
+ * The members of a list between commas, by all its lines, as `allow`, `connection` and `vary` are (RFC 9110, section
+ * 5.6.1): each with a LF, in order, without white space at their ends. A comma in quotes is part of a member, and what
+ * is empty between commas is none. Lines with a byte outside of printable ASCII have no members. Refused: a line can't
+ * be one.
+ */
+uint8_t typed_headers_members(const uint8_t *lines, size_t lines_length, uint8_t *room, size_t room_length,
+                              size_t *written);
+
+/*
+ * Whether a list has a member, by the lines of `allow`, `connection`, `vary` and others: `*has` is 1 if it has, 0 if
+ * not. With `any_case` the case of ASCII letters doesn't count, as of connection options and field names; methods and
+ * `*` are compared byte for byte. Else as `typed_headers_members`.
+ */
+uint8_t typed_headers_has_member(const uint8_t *lines, size_t lines_length, const uint8_t *member,
+                                 size_t member_length, bool any_case, uint8_t *has);
+
 #ifdef __cplusplus
 }
 #endif

@@ -21,3 +21,4 @@ mod resource;
 mod response;
 mod selection;
 mod tags;
+mod typed;
