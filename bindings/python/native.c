@@ -383,60 +383,40 @@ static PyObject *etag(PyObject *module, PyObject *arguments) {
     return found;
 }
 
-/* A number of the canonical text, and what follows it. */
-static const char *read_decimal(const char *at, uint64_t *number) {
-    for (*number = 0; *at >= '0' && *at <= '9'; at++) {
-        *number = *number * 10 + (uint64_t)(*at - '0');
-    }
-    return at;
-}
-
-static PyObject *range_value(PyObject *type, const char **at) {
-    uint64_t first, last;
-    if (**at == '*') {
-        ++*at;
+static PyObject *range_value(PyObject *type, const struct typed_headers_content_range *it) {
+    if (!it->has_range) {
         Py_RETURN_NONE;
     }
-    *at = read_decimal(read_decimal(*at, &first) + 1, &last);
     PyObject *range = new_value(type);
-    if (range && (!set_member(range, FIRST, PyLong_FromUnsignedLongLong(first)) ||
-                  !set_member(range, LAST, PyLong_FromUnsignedLongLong(last)))) {
+    if (range && (!set_member(range, FIRST, PyLong_FromUnsignedLongLong(it->first)) ||
+                  !set_member(range, LAST, PyLong_FromUnsignedLongLong(it->last)))) {
         Py_CLEAR(range);
     }
     return range;
 }
 
-/* The value of a canonical field line. */
-static PyObject *content_range_value(PyObject *type, PyObject *range_type, const char *line) {
-    const char *at = line + strlen("bytes ");
-    PyObject *value = new_value(type), *range = range_value(range_type, &at);
-    uint64_t length = 0;
-    const bool has_length = *++at != '*';
-    read_decimal(at, &length);
+static PyObject *content_range_value(PyObject *type, PyObject *range_type,
+                                     const struct typed_headers_content_range *it) {
+    PyObject *value = new_value(type), *range = range_value(range_type, it);
     if (!value) {
         Py_XDECREF(range);
-    } else if (!set_member(value, RANGE, range) || !set_member(value, LENGTH, optional(length, has_length))) {
+    } else if (!set_member(value, RANGE, range) || !set_member(value, LENGTH, optional(it->length, it->has_length))) {
         Py_CLEAR(value);
     }
     return value;
 }
 
 static PyObject *content_range(PyObject *module, PyObject *arguments) {
-    static const char name[] = "content-range";
     struct lines lines = NO_LINES;
+    struct typed_headers_content_range it;
     PyObject *type, *range_type, *given, *found = NULL;
-    /* (the longest canonical line, and its end) */
-    uint8_t line[sizeof "bytes 18446744073709551615-18446744073709551615/18446744073709551615\n"];
     uint8_t status = TYPED_HEADERS_REFUSED;
-    size_t written;
     (void)module;
     if (PyArg_ParseTuple(arguments, "OOO", &type, &range_type, &given) && read_lines(given, &lines)) {
         if (!lines.is_rejected) {
-            status = typed_headers_field((const uint8_t *)name, strlen(name), BYTES(lines.text), line, sizeof line,
-                                         &written);
+            status = typed_headers_content_range(BYTES(lines.text), &it);
         }
-        found = status == TYPED_HEADERS_DONE ? content_range_value(type, range_type, (const char *)line)
-                                             : PyLong_FromLong(status);
+        found = status == TYPED_HEADERS_DONE ? content_range_value(type, range_type, &it) : PyLong_FromLong(status);
     }
     free_lines(&lines);
     return found;
@@ -1630,6 +1610,152 @@ static PyObject *framing(PyObject *module, PyObject *arguments) {
                          outcome.status, outcome.reason);
 }
 
+/* Typed calls: what the field lines encode, after the status. */
+
+TEXT_OF_LINES(bearer)
+TEXT_OF_LINES(cookies)
+TEXT_OF_LINES(members)
+
+/* What is told of a text beside it. */
+struct told_of {
+    struct text lines;
+    size_t length;
+    struct typed_headers_port port;
+    bool is_null;
+};
+
+static uint8_t write_basic(const void *given, uint8_t *room, size_t room_length, size_t *written) {
+    struct told_of *it = *(struct told_of *const *)given;
+    return typed_headers_basic(BYTES(it->lines), &it->length, room, room_length, written);
+}
+
+static uint8_t write_host(const void *given, uint8_t *room, size_t room_length, size_t *written) {
+    struct told_of *it = *(struct told_of *const *)given;
+    return typed_headers_host(BYTES(it->lines), &it->port, room, room_length, written);
+}
+
+static uint8_t write_origin(const void *given, uint8_t *room, size_t room_length, size_t *written) {
+    struct told_of *it = *(struct told_of *const *)given;
+    struct typed_headers_origin_parts parts = {0, {0, 0}, 0};
+    const uint8_t status = typed_headers_origin(BYTES(it->lines), &parts, room, room_length, written);
+    it->length = parts.scheme_length, it->port = parts.port, it->is_null = parts.is_null;
+    return status;
+}
+
+/* The text of a call that tells something beside it. */
+static PyObject *told_text(text_call *call, PyObject *arguments, struct told_of *it, uint8_t *status) {
+    struct lines lines = NO_LINES;
+    PyObject *found = NULL;
+    *it = (struct told_of){{NULL, 0}, 0, {0, 0}, false};
+    *status = TYPED_HEADERS_REFUSED;
+    if (read_only_lines(arguments, &lines)) {
+        it->lines = lines.text;
+        found = lines.is_rejected ? PyBytes_FromString("") : written_text(call, &it, status);
+    }
+    free_lines(&lines);
+    return found;
+}
+
+static PyObject *basic(PyObject *module, PyObject *arguments) {
+    struct told_of it;
+    uint8_t status;
+    PyObject *found = told_text(write_basic, arguments, &it, &status);
+    (void)module;
+    return found ? Py_BuildValue("BnN", status, (Py_ssize_t)it.length, found) : NULL;
+}
+
+static PyObject *host(PyObject *module, PyObject *arguments) {
+    struct told_of it;
+    uint8_t status;
+    PyObject *found = told_text(write_host, arguments, &it, &status);
+    (void)module;
+    return found ? Py_BuildValue("BNN", status, optional(it.port.number, it.port.is_set), found) : NULL;
+}
+
+static PyObject *origin(PyObject *module, PyObject *arguments) {
+    struct told_of it;
+    uint8_t status;
+    PyObject *found = told_text(write_origin, arguments, &it, &status);
+    (void)module;
+    return found ? Py_BuildValue("BnNNN", status, (Py_ssize_t)it.length, optional(it.port.number, it.port.is_set),
+                                 PyBool_FromLong(it.is_null), found)
+                 : NULL;
+}
+
+static uint8_t write_cookie(const void *given, uint8_t *room, size_t room_length, size_t *written) {
+    const struct named_lines *it = given;
+    return typed_headers_cookie(BYTES(it->lines), BYTES(it->name), room, room_length, written);
+}
+
+static PyObject *cookie(PyObject *module, PyObject *arguments) {
+    struct named_lines it;
+    struct lines lines = NO_LINES;
+    PyObject *given, *found = NULL;
+    (void)module;
+    if (PyArg_ParseTuple(arguments, "O" TEXT, &given, INTO(it.name)) && read_lines(given, &lines)) {
+        it.lines = lines.text;
+        found = lines.is_rejected ? Py_BuildValue("By", TYPED_HEADERS_REFUSED, "") : with_text(write_cookie, &it);
+    }
+    free_lines(&lines);
+    return found;
+}
+
+static PyObject *strict_transport_security(PyObject *module, PyObject *arguments) {
+    struct lines lines = NO_LINES;
+    struct typed_headers_transport_security it = {0, 0};
+    uint8_t status = TYPED_HEADERS_REFUSED;
+    const bool is_read = read_only_lines(arguments, &lines);
+    (void)module;
+    if (is_read && !lines.is_rejected) {
+        status = typed_headers_strict_transport_security(BYTES(lines.text), &it);
+    }
+    free_lines(&lines);
+    return is_read ? Py_BuildValue("BKN", status, (unsigned long long)it.max_age,
+                                   PyBool_FromLong(it.include_subdomains))
+                   : NULL;
+}
+
+static PyObject *retry_after(PyObject *module, PyObject *arguments) {
+    struct lines lines = NO_LINES;
+    struct typed_headers_retry_time it = {0, 0};
+    uint8_t status = TYPED_HEADERS_REFUSED;
+    const bool is_read = read_only_lines(arguments, &lines);
+    (void)module;
+    if (is_read && !lines.is_rejected) {
+        status = typed_headers_retry_after(BYTES(lines.text), &it);
+    }
+    free_lines(&lines);
+    return is_read ? Py_BuildValue("BKN", status, (unsigned long long)it.seconds, PyBool_FromLong(it.is_date)) : NULL;
+}
+
+static PyObject *content_disposition(PyObject *module, PyObject *arguments) {
+    struct lines lines = NO_LINES;
+    uint8_t status = TYPED_HEADERS_REFUSED, disposition = 0;
+    const bool is_read = read_only_lines(arguments, &lines);
+    (void)module;
+    if (is_read && !lines.is_rejected) {
+        status = typed_headers_content_disposition(BYTES(lines.text), &disposition);
+    }
+    free_lines(&lines);
+    return is_read ? with_number(status, disposition) : NULL;
+}
+
+static PyObject *has_member(PyObject *module, PyObject *arguments) {
+    struct lines lines = NO_LINES;
+    struct text member;
+    uint8_t status = TYPED_HEADERS_REFUSED, has = 0;
+    PyObject *given;
+    int any_case;
+    (void)module;
+    const bool is_read = PyArg_ParseTuple(arguments, "O" TEXT "p", &given, INTO(member), &any_case) &&
+                         read_lines(given, &lines);
+    if (is_read && !lines.is_rejected) {
+        status = typed_headers_has_member(BYTES(lines.text), BYTES(member), any_case != 0, &has);
+    }
+    free_lines(&lines);
+    return is_read ? with_number(status, has) : NULL;
+}
+
 #define METHOD(name) {#name, name, METH_VARARGS, NULL}
 static PyMethodDef methods[] = {
     METHOD(age),         METHOD(cache_control), METHOD(canonical),  METHOD(content_length), METHOD(content_range),
@@ -1645,6 +1771,8 @@ static PyMethodDef methods[] = {
     METHOD(cache_freshen_by_head), METHOD(cache_invalidate), METHOD(cache_lookup), METHOD(cache_new),
     METHOD(cache_remove), METHOD(cache_response), METHOD(cache_store),
     METHOD(forward_request), METHOD(forward_response), METHOD(framing),
+    METHOD(basic), METHOD(bearer), METHOD(content_disposition), METHOD(cookie), METHOD(cookies), METHOD(has_member),
+    METHOD(host), METHOD(members), METHOD(origin), METHOD(retry_after), METHOD(strict_transport_security),
     METHOD(weak_eq),     METHOD(websocket_accept), {"select", select_part, METH_VARARGS, NULL}, {NULL, NULL, 0, NULL},
 };
 

@@ -8,11 +8,17 @@ from typing import Any, Callable, Tuple
 from typed_headers import (
     ByteRange,
     CacheControl,
+    ContentDisposition,
     ContentRange,
+    Cookie,
+    Credentials,
     ETag,
     HeaderError,
+    Headers,
+    Host,
     InvalidField,
     MediaType,
+    Origin,
     Range,
     ReferrerPolicy,
     RetryAfter,
@@ -21,8 +27,11 @@ from typed_headers import (
     content_length,
     date,
     expires,
+    find_cookie,
     format_date,
+    has_member,
     last_modified,
+    members,
     websocket_accept,
 )
 
@@ -265,3 +274,90 @@ class Others(unittest.TestCase):
             if not isinstance(value, ReferrerPolicy):
                 with self.assertRaises(AttributeError):
                     setattr(value, "opaque", 1)
+
+
+class TypedValues(unittest.TestCase):
+    def test_credentials(self) -> None:
+        # The examples of RFC 7617, sections 2 and 2.1.
+        basic = Credentials.parse("basic dGVzdDoxMjPCow==")
+        self.assertEqual((basic.user, basic.password, basic.token), ("test", "123£", None))
+        self.assertEqual(Credentials("test", "123£"), basic)
+        self.assertEqual(str(Credentials("Aladdin", "open:sesame")), "Basic QWxhZGRpbjpvcGVuOnNlc2FtZQ==")
+        self.assertEqual(Credentials.parse("Bearer a b").token, "a b")
+        for wrong in ((None, None, None), ("a", None, None), ("a", "b", "c"), ("a:b", "c", None), (None, None, " a")):
+            with self.assertRaises(HeaderError):
+                Credentials(*wrong)
+        for line in ("Digest a", "Basic !", "Basic YQ==", "", "Bearer é"):
+            with self.assertRaises(InvalidField) as caught:
+                Credentials.parse(line)
+            self.assertNotIn(repr(line), str(caught.exception))
+
+    def test_secrets_are_not_shown(self) -> None:
+        for given in (Credentials("user", "secret"), Credentials(token="secret")):
+            self.assertNotIn("secret", repr(given))
+
+    def test_cookies(self) -> None:
+        given = Cookie.parse('a=1; flag; b="x;y"', "a=2; c==")
+        self.assertEqual(list(given), [("a", "1"), ("b", '"x;y"'), ("a", "2"), ("c", "=")])
+        self.assertEqual((len(given), given.get("a"), given.get("A")), (4, "1", None))
+        self.assertEqual(str(given), 'a=1; b="x;y"; a=2; c==')
+        self.assertEqual((find_cookie("a", "a=1; a=2"), find_cookie(b"\xff", "a=1")), ("1", None))
+        for pairs in ((("a;b", "1"),), (("a=", "1"),), (("a", "1;2"),)):
+            with self.assertRaises(HeaderError):
+                Cookie(pairs)
+
+    def test_hosts_and_origins(self) -> None:
+        for text, host in (("a.example", Host("a.example")), ("[::1]:80", Host("[::1]", 80))):
+            self.assertEqual((Host.parse(text), str(host)), (host, text))
+        for text, origin in (("null", Origin()), ("https://a.example:1", Origin("https", "a.example", 1))):
+            self.assertEqual((Origin.parse(text), str(origin)), (origin, text))
+        wrong: Any
+        for wrong in (lambda: Host("a b"), lambda: Host("a", 65536), lambda: Host("a:1"), lambda: Origin("https")):
+            with self.assertRaises(HeaderError):
+                wrong()
+        for text in ("a", "https://a/b", "https://a?b"):
+            with self.assertRaises(InvalidField):
+                Origin.parse(text)
+
+    def test_dispositions(self) -> None:
+        for text, found in (
+            ("inline", ContentDisposition.INLINE),
+            ("attachment; filename=x", ContentDisposition.ATTACHMENT),
+            ("form-data;name=x", ContentDisposition.FORM_DATA),
+            ("Inline", ContentDisposition.OTHER),
+        ):
+            self.assertIs(ContentDisposition.parse(text), found)
+
+    def test_lists(self) -> None:
+        self.assertEqual(members("a,, b ,", '"c, d"', ""), ["a", "b", '"c, d"'])
+        self.assertEqual(members("a, é"), [])
+        self.assertTrue(has_member("ACCEPT", "accept, origin"))
+        self.assertFalse(has_member("GET", "get", any_case=False))
+        self.assertFalse(has_member("", "a,,b"))
+        with self.assertRaises(InvalidField):
+            members("a\n")
+
+    def test_headers_have_them(self) -> None:
+        headers = Headers(
+            [
+                ("Host", "a.example"),
+                ("Origin", "null"),
+                ("Cookie", "a=1"),
+                ("Cookie", "b=2"),
+                ("Authorization", "Bearer x"),
+                ("Proxy-Authorization", "Basic QTpC"),
+                ("Connection", "close"),
+                ("Vary", "*"),
+                ("Allow", "GET, HEAD"),
+                ("Content-Disposition", "inline"),
+            ]
+        )
+        self.assertEqual((headers.host, headers.origin), (Host("a.example"), Origin()))
+        self.assertEqual(headers.cookie, Cookie((("a", "1"), ("b", "2"))))
+        self.assertEqual(headers.authorization, Credentials(token="x"))
+        self.assertEqual(headers.proxy_authorization, Credentials("A", "B"))
+        self.assertEqual((headers.connection, headers.vary, headers.allow), (["close"], ["*"], ["GET", "HEAD"]))
+        self.assertIs(headers.content_disposition, ContentDisposition.INLINE)
+        none = Headers()
+        self.assertIsNone(none.host or none.origin or none.cookie or none.authorization or none.proxy_authorization)
+        self.assertIsNone(none.connection or none.vary or none.allow or none.content_disposition)

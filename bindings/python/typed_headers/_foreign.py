@@ -54,6 +54,22 @@ class _ContentRange(ctypes.Structure):
     ]
 
 
+class _Port(ctypes.Structure):
+    _fields_ = [("number", ctypes.c_uint16), ("is_set", ctypes.c_uint8)]
+
+
+class _OriginParts(ctypes.Structure):
+    _fields_ = [("scheme_length", ctypes.c_size_t), ("port", _Port), ("is_null", ctypes.c_uint8)]
+
+
+class _TransportSecurity(ctypes.Structure):
+    _fields_ = [("max_age", ctypes.c_uint64), ("include_subdomains", ctypes.c_uint8)]
+
+
+class _RetryTime(ctypes.Structure):
+    _fields_ = [("seconds", ctypes.c_uint64), ("is_date", ctypes.c_uint8)]
+
+
 class _Target(ctypes.Structure):
     _fields_ = [
         ("last_modified", ctypes.c_uint64),
@@ -341,6 +357,18 @@ _forward_response = _call(
 _framing = _call(
     "framing", *_TEXT, ctypes.c_uint16, ctypes.c_uint8, *_SECTION, ctypes.POINTER(_FramingOutcome)
 )
+_basic = _call("basic", *_TEXT, _SIZE, *_ROOM)
+_bearer = _call("bearer", *_TEXT, *_ROOM)
+_cookie = _call("cookie", *_TEXT, *_TEXT, *_ROOM)
+_cookies = _call("cookies", *_TEXT, *_ROOM)
+_host = _call("host", *_TEXT, ctypes.POINTER(_Port), *_ROOM)
+_origin = _call("origin", *_TEXT, ctypes.POINTER(_OriginParts), *_ROOM)
+_strict_transport_security = _call("strict_transport_security", *_TEXT, ctypes.POINTER(_TransportSecurity))
+_retry_after = _call("retry_after", *_TEXT, ctypes.POINTER(_RetryTime))
+_content_range = _call("content_range", *_TEXT, ctypes.POINTER(_ContentRange))
+_content_disposition = _call("content_disposition", *_TEXT, _FLAG)
+_members = _call("members", *_TEXT, *_ROOM)
+_has_member = _call("has_member", *_TEXT, *_TEXT, ctypes.c_bool, _FLAG)
 
 
 def version() -> str:
@@ -450,18 +478,14 @@ def etag(cls: Type[Value], given: Union[Text, Lines]) -> Union[Value, int]:
     return _value(cls, opaque=text[3:-1] if weak else text[1:-1], weak=weak)
 
 
-_CONTENT_RANGE = re.compile(rb"bytes (?:(\d+)-(\d+)|\*)/(?:(\d+)|\*)\n")
-
-
 def content_range(cls: Type[Value], range_cls: Type[Any], lines: Lines) -> Union[Value, int]:
     """A content range as an instance of the class, with its range as one of another class, or the status."""
-    status, line = field(b"content-range", lines)
+    text, it = _joined(lines), _ContentRange()
+    status = _REFUSED if text is None else _content_range(text, len(text), ctypes.byref(it))
     if status:
         return status
-    found = _CONTENT_RANGE.fullmatch(line)
-    assert found, "this is the library's canonical field line"
-    part = None if found[1] is None else _value(range_cls, first=int(found[1]), last=int(found[2]))
-    return _value(cls, range=part, length=None if found[3] is None else int(found[3]))
+    part = _value(range_cls, first=it.first, last=it.last) if it.has_range else None
+    return _value(cls, range=part, length=it.length if it.has_length else None)
 
 
 # A parameter in the canonical text of a media type.
@@ -1068,3 +1092,79 @@ def framing(method: bytes, code: int, version: int, section: bytes) -> Tuple[int
     texts = (method, len(method), code, version, section, len(section), ctypes.byref(_keys))
     status = _framing(*texts, ctypes.byref(outcome))
     return status, outcome.framing.kind, outcome.framing.length, outcome.status, outcome.reason
+
+
+def basic(lines: Lines) -> Tuple[int, int, bytes]:
+    """How many bytes the user name has, and the user name and the password."""
+    text, length = _joined(lines), ctypes.c_size_t()
+    if text is None:
+        return _REFUSED, 0, b""
+    status, found = _text(_basic, text, len(text), ctypes.byref(length))
+    return status, length.value, found
+
+
+def bearer(lines: Lines) -> Tuple[int, bytes]:
+    return _text_of_lines(_bearer, lines)
+
+
+def cookie(lines: Lines, name: bytes) -> Tuple[int, bytes]:
+    text = _joined(lines)
+    return (_REFUSED, b"") if text is None else _text(_cookie, text, len(text), name, len(name))
+
+
+def cookies(lines: Lines) -> Tuple[int, bytes]:
+    """The cookies, each with its name, `=` and a line end."""
+    return _text_of_lines(_cookies, lines)
+
+
+def _number_of(port: Any) -> Optional[int]:
+    return port.number if port.is_set else None
+
+
+def host(lines: Lines) -> Tuple[int, Optional[int], bytes]:
+    """The port and the host."""
+    text, port = _joined(lines), _Port()
+    if text is None:
+        return _REFUSED, None, b""
+    status, found = _text(_host, text, len(text), ctypes.byref(port))
+    return status, _number_of(port), found
+
+
+def origin(lines: Lines) -> Tuple[int, int, Optional[int], bool, bytes]:
+    """How many bytes the scheme has, the port, whether the origin is `null`, and the scheme and the host."""
+    text, parts = _joined(lines), _OriginParts()
+    if text is None:
+        return _REFUSED, 0, None, False, b""
+    status, found = _text(_origin, text, len(text), ctypes.byref(parts))
+    return status, parts.scheme_length, _number_of(parts.port), bool(parts.is_null), found
+
+
+def strict_transport_security(lines: Lines) -> Tuple[int, int, bool]:
+    text, it = _joined(lines), _TransportSecurity()
+    status = _REFUSED if text is None else _strict_transport_security(text, len(text), ctypes.byref(it))
+    return status, it.max_age, bool(it.include_subdomains)
+
+
+def retry_after(lines: Lines) -> Tuple[int, int, bool]:
+    """The seconds, and whether they are those of a date."""
+    text, it = _joined(lines), _RetryTime()
+    status = _REFUSED if text is None else _retry_after(text, len(text), ctypes.byref(it))
+    return status, it.seconds, bool(it.is_date)
+
+
+def content_disposition(lines: Lines) -> Tuple[int, int]:
+    text, kind = _joined(lines), ctypes.c_uint8()
+    status = _REFUSED if text is None else _content_disposition(text, len(text), ctypes.byref(kind))
+    return status, kind.value
+
+
+def members(lines: Lines) -> Tuple[int, bytes]:
+    """The members of a list, each with a line end."""
+    return _text_of_lines(_members, lines)
+
+
+def has_member(lines: Lines, member: bytes, any_case: bool) -> Tuple[int, int]:
+    text, has = _joined(lines), ctypes.c_uint8()
+    if text is None:
+        return _REFUSED, 0
+    return _has_member(text, len(text), member, len(member), any_case, ctypes.byref(has)), has.value

@@ -10,9 +10,14 @@ from ._names import FIELDS
 from .errors import InvalidField
 from .values import (
     CacheControl,
+    ContentDisposition,
     ContentRange,
+    Cookie,
+    Credentials,
     ETag,
+    Host,
     MediaType,
+    Origin,
     Range,
     ReferrerPolicy,
     RetryAfter,
@@ -22,6 +27,7 @@ from .values import (
     date,
     expires,
     last_modified,
+    members,
 )
 
 __all__ = ["Headers", "HeadersLike", "canonical_field", "canonical_section"]
@@ -218,6 +224,60 @@ class Headers:
         """The policy of `Strict-Transport-Security`."""
         lines = self.lines("strict-transport-security")
         return StrictTransportSecurity.parse(*lines) if lines else None
+
+    @property
+    def allow(self) -> Optional[List[str]]:
+        """The methods of `Allow`."""
+        lines = self.lines("allow")
+        return members(*lines) if lines else None
+
+    @property
+    def authorization(self) -> Optional[Credentials]:
+        """The credentials of `Authorization`."""
+        lines = self.lines("authorization")
+        return Credentials.parse(*lines) if lines else None
+
+    @property
+    def connection(self) -> Optional[List[str]]:
+        """The options of `Connection`."""
+        lines = self.lines("connection")
+        return members(*lines) if lines else None
+
+    @property
+    def content_disposition(self) -> Optional[ContentDisposition]:
+        """The disposition of `Content-Disposition`."""
+        lines = self.lines("content-disposition")
+        return ContentDisposition.parse(*lines) if lines else None
+
+    @property
+    def cookie(self) -> Optional[Cookie]:
+        """The cookies of `Cookie`."""
+        lines = self.lines("cookie")
+        return Cookie.parse(*lines) if lines else None
+
+    @property
+    def host(self) -> Optional[Host]:
+        """The host and the port of `Host`."""
+        lines = self.lines("host")
+        return Host.parse(*lines) if lines else None
+
+    @property
+    def origin(self) -> Optional[Origin]:
+        """The origin of `Origin`."""
+        lines = self.lines("origin")
+        return Origin.parse(*lines) if lines else None
+
+    @property
+    def proxy_authorization(self) -> Optional[Credentials]:
+        """The credentials of `Proxy-Authorization`."""
+        lines = self.lines("proxy-authorization")
+        return Credentials.parse(*lines) if lines else None
+
+    @property
+    def vary(self) -> Optional[List[str]]:
+        """The names of `Vary`, or `*`."""
+        lines = self.lines("vary")
+        return members(*lines) if lines else None
 
 
 def section_of(fields: "HeadersLike") -> bytes:

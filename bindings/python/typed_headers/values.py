@@ -4,14 +4,15 @@ Texts are `str` with a character for each byte (ISO 8859-1), as in WSGI and `htt
 """
 
 import re
-from dataclasses import dataclass, fields
+from base64 import b64encode
+from dataclasses import dataclass, field, fields
 from datetime import datetime, timedelta, timezone
 from enum import Enum
-from typing import Any, List, Optional, Tuple, Type, TypeVar
+from typing import Any, Iterator, List, Optional, Tuple, Type, TypeVar
 
 from . import _library
 from ._library import Text, Time
-from .errors import HeaderError
+from .errors import HeaderError, InvalidField
 
 # (a name of this module is found in half the time)
 _read_etag = _library.calls.etag
@@ -19,9 +20,14 @@ _read_etag = _library.calls.etag
 __all__ = [
     "ByteRange",
     "CacheControl",
+    "ContentDisposition",
     "ContentRange",
+    "Cookie",
+    "Credentials",
     "ETag",
+    "Host",
     "MediaType",
+    "Origin",
     "Range",
     "ReferrerPolicy",
     "RetryAfter",
@@ -30,8 +36,11 @@ __all__ = [
     "content_length",
     "date",
     "expires",
+    "find_cookie",
     "format_date",
+    "has_member",
     "last_modified",
+    "members",
     "websocket_accept",
 ]
 
@@ -418,10 +427,12 @@ class RetryAfter:
     @classmethod
     def parse(cls, line: Text, *more: Text) -> "RetryAfter":
         """The delay or the time of the first field line. A delay of more than 999,999,999 days is that long."""
-        text = _only("retry-after", (line, *more))
-        if not text.isdigit():
-            return _made(cls, delay=None, date=date(text))
-        days, seconds = divmod(int(text), 86400)
+        status, found, is_date = _library.calls.retry_after((line, *more))
+        if status:
+            raise _library.failed(status, "retry-after", (line, *more))
+        if is_date:
+            return _made(cls, delay=None, date=_library.to_datetime(found))
+        days, seconds = divmod(found, 86400)
         return _made(cls, delay=timedelta(min(days, timedelta.max.days), seconds), date=None)
 
     def __str__(self) -> str:
@@ -429,9 +440,6 @@ class RetryAfter:
             return format_date(self.date)
         assert self.delay is not None, "there is either a delay or a date"
         return str(self.delay // timedelta(seconds=1))
-
-
-_SECURITY = re.compile(r"max-age=(\d+)(; includeSubdomains)?")
 
 
 @dataclass(frozen=True)
@@ -451,9 +459,10 @@ class StrictTransportSecurity:
     @classmethod
     def parse(cls, line: Text, *more: Text) -> "StrictTransportSecurity":
         """The policy of the only field line."""
-        found = _SECURITY.fullmatch(_only("strict-transport-security", (line, *more)))
-        assert found, "this is the library's canonical field line"
-        return _made(cls, max_age=int(found[1]), include_subdomains=found[2] is not None)
+        status, max_age, include_subdomains = _library.calls.strict_transport_security((line, *more))
+        if status:
+            raise _library.failed(status, "strict-transport-security", (line, *more))
+        return _made(cls, max_age=max_age, include_subdomains=include_subdomains)
 
     def __str__(self) -> str:
         return f"max-age={self.max_age}{'; includeSubdomains' if self.include_subdomains else ''}"
@@ -482,3 +491,237 @@ class ReferrerPolicy(Enum):
 
     def __str__(self) -> str:
         return str(self.value)
+
+
+@dataclass(frozen=True)
+class Credentials:
+    """The credentials of Basic, a user name and a password (RFC 7617), or those of Bearer, a token (RFC 6750).
+
+    >>> given = Credentials.parse("Basic QWxhZGRpbjpvcGVuIHNlc2FtZQ==")
+    >>> given.user, given.password
+    ('Aladdin', 'open sesame')
+    >>> given
+    Credentials(user='Aladdin')
+    >>> str(Credentials(token="mF_9.B5f-4.1JqM"))
+    'Bearer mF_9.B5f-4.1JqM'
+    """
+
+    #: The user name of Basic, or `None`.
+    user: Optional[str] = None
+    #: The password of Basic, or `None`.
+    password: Optional[str] = field(default=None, repr=False)
+    #: The token of Bearer, or `None`.
+    token: Optional[str] = field(default=None, repr=False)
+
+    def __post_init__(self) -> None:
+        if (self.user is None) != (self.password is None) or (self.user is None) == (self.token is None):
+            raise HeaderError("credentials: expected either a user name and a password, or a token")
+        if Credentials.parse(str(self)) != self:
+            raise HeaderError("credentials: a user name has no colon, and a token is printable ASCII")
+
+    @classmethod
+    def parse(cls, line: Text, *more: Text) -> "Credentials":
+        """The credentials of the first field line of `Authorization` or of `Proxy-Authorization`."""
+        lines = (line, *more)
+        status, length, found = _library.calls.basic(lines)
+        if not status:
+            user, password = found[:length].decode("utf-8"), found[length:].decode("utf-8")
+            return _made(cls, user=user, password=password, token=None)
+        if status != _library.Status.NO_MEMORY:
+            status, found = _library.calls.bearer(lines)
+        if not status:
+            return _made(cls, user=None, password=None, token=_library.to_str(found))
+        if status == _library.Status.NO_MEMORY:
+            raise MemoryError
+        _library.to_lines("authorization", lines)
+        # (the message doesn't show the lines, which may hold a secret)
+        reason = "expected credentials of Basic or Bearer (RFC 7617, section 2; RFC 6750, section 2.1)"
+        raise InvalidField("authorization", reason)
+
+    def __str__(self) -> str:
+        if self.token is not None:
+            return f"Bearer {self.token}"
+        return "Basic " + b64encode(f"{self.user}:{self.password}".encode("utf-8")).decode("ascii")
+
+
+@dataclass(frozen=True)
+class Cookie:
+    """The cookies of a request, in order (RFC 6265, section 5.4).
+
+    >>> cookies = Cookie.parse("SID=31d4d96e407aad42; lang=en-US; lang=de")
+    >>> cookies.get("lang"), cookies.get("theme")
+    ('en-US', None)
+    >>> [name for name, value in cookies]
+    ['SID', 'lang', 'lang']
+    >>> str(Cookie((("SID", "31d4d96e407aad42"), ("lang", "en-US"))))
+    'SID=31d4d96e407aad42; lang=en-US'
+    """
+
+    #: Names and values.
+    pairs: Tuple[Tuple[str, str], ...] = ()
+
+    def __post_init__(self) -> None:
+        object.__setattr__(self, "pairs", tuple((name, value) for name, value in self.pairs))
+        if Cookie.parse(str(self)).pairs != self.pairs:
+            raise _library.rejected("cookie", _library.to_lines("cookie", [str(self)]))
+
+    @classmethod
+    def parse(cls, line: Text, *more: Text) -> "Cookie":
+        """The cookies of all field lines. What has no `=` is skipped."""
+        status, found = _library.calls.cookies((line, *more))
+        if status:
+            raise _library.failed(status, "cookie", (line, *more))
+        pairs = (it.partition("=") for it in _library.to_str(found).split("\n")[:-1])
+        return _made(cls, pairs=tuple((name, value) for name, _, value in pairs))
+
+    def get(self, name: str) -> Optional[str]:
+        """The value of the first cookie with this name."""
+        return next((value for other, value in self.pairs if other == name), None)
+
+    def __iter__(self) -> Iterator[Tuple[str, str]]:
+        return iter(self.pairs)
+
+    def __len__(self) -> int:
+        return len(self.pairs)
+
+    def __str__(self) -> str:
+        return "; ".join(f"{name}={value}" for name, value in self.pairs)
+
+
+def find_cookie(name: Text, line: Text, *more: Text) -> Optional[str]:
+    """The value of the first cookie with this name, of all field lines of `Cookie` (RFC 6265, section 5.4).
+
+    >>> find_cookie("lang", "SID=31d4d96e407aad42; lang=en-US")
+    'en-US'
+    """
+    status, found = _library.calls.cookie((line, *more), _library.to_bytes(name, "name"))
+    if status == _library.ABSENT:
+        return None
+    if status:
+        raise _library.failed(status, "cookie", (line, *more))
+    return _library.to_str(found)
+
+
+@dataclass(frozen=True)
+class Host:
+    """The host of a request's target, and its port (RFC 9110, section 7.2).
+
+    >>> Host.parse("example.org:8080")
+    Host(name='example.org', port=8080)
+    >>> str(Host("[::1]"))
+    '[::1]'
+    """
+
+    #: The host. An IPv6 address has its brackets.
+    name: str
+    port: Optional[int] = None
+
+    def __post_init__(self) -> None:
+        if self.port is not None:
+            _library.to_number(self.port, "port", 16)
+        if Host.parse(str(self)) != self:
+            raise _library.rejected("host", _library.to_lines("host", [str(self)]))
+
+    @classmethod
+    def parse(cls, line: Text, *more: Text) -> "Host":
+        """The host of the first field line."""
+        status, port, found = _library.calls.host((line, *more))
+        if status:
+            raise _library.failed(status, "host", (line, *more))
+        return _made(cls, name=_library.to_str(found), port=port)
+
+    def __str__(self) -> str:
+        return self.name if self.port is None else f"{self.name}:{self.port}"
+
+
+@dataclass(frozen=True)
+class Origin:
+    """The origin of a request: its scheme, host and port, or `null` (RFC 6454, section 7).
+
+    >>> Origin.parse("https://example.org:8443")
+    Origin(scheme='https', host='example.org', port=8443)
+    >>> str(Origin()), Origin.parse("null").is_null
+    ('null', True)
+    """
+
+    #: The scheme, or the empty text of `null`.
+    scheme: str = ""
+    #: The host, or the empty text of `null`. An IPv6 address has its brackets.
+    host: str = ""
+    port: Optional[int] = None
+
+    def __post_init__(self) -> None:
+        if self.port is not None:
+            _library.to_number(self.port, "port", 16)
+        if Origin.parse(str(self)) != self:
+            raise _library.rejected("origin", _library.to_lines("origin", [str(self)]))
+
+    @classmethod
+    def parse(cls, line: Text, *more: Text) -> "Origin":
+        """The origin that the only field line is."""
+        status, length, port, _, found = _library.calls.origin((line, *more))
+        if status:
+            raise _library.failed(status, "origin", (line, *more))
+        text = _library.to_str(found)
+        return _made(cls, scheme=text[:length], host=text[length:], port=port)
+
+    @property
+    def is_null(self) -> bool:
+        """Whether this is `null`."""
+        return self == Origin()
+
+    def __str__(self) -> str:
+        if not self.scheme and not self.host and self.port is None:
+            return "null"
+        return f"{self.scheme}://{self.host}" + ("" if self.port is None else f":{self.port}")
+
+
+class ContentDisposition(Enum):
+    """How content is to be presented (RFC 6266, section 4.2).
+
+    >>> ContentDisposition.parse('attachment; filename="a.txt"')
+    <ContentDisposition.ATTACHMENT: 'attachment'>
+    """
+
+    #: Another word, which RFC 6266 has treated as an attachment.
+    OTHER = ""
+    INLINE = "inline"
+    ATTACHMENT = "attachment"
+    #: A part of a form (RFC 7578, section 4.2).
+    FORM_DATA = "form-data"
+
+    @classmethod
+    def parse(cls, line: Text, *more: Text) -> "ContentDisposition":
+        """The disposition of the first field line, without parameters. Its word is compared byte for byte."""
+        found = _library.number(_library.calls.content_disposition, "content-disposition", (line, *more))
+        return list(cls)[found]
+
+    def __str__(self) -> str:
+        return str(self.value)
+
+
+def members(line: Text, *more: Text) -> List[str]:
+    """The members of a list between commas, as `Allow`, `Connection` and `Vary` are (RFC 9110, section 5.6.1).
+
+    >>> members("GET, HEAD", "OPTIONS")
+    ['GET', 'HEAD', 'OPTIONS']
+    """
+    status, found = _library.calls.members((line, *more))
+    if status:
+        raise _library.failed(status, "list", (line, *more), "expected a list (RFC 9110, section 5.6.1)")
+    return _library.to_str(found).split("\n")[:-1]
+
+
+def has_member(member: Text, line: Text, *more: Text, any_case: bool = True) -> bool:
+    """Whether a list between commas has a member, as `Connection` and `Vary` are, whose members have no case. Those of
+    `Allow` have.
+
+    >>> has_member("close", "Keep-Alive, Close")
+    True
+    >>> has_member("get", "GET, HEAD", any_case=False)
+    False
+    """
+    status, found = _library.calls.has_member((line, *more), _library.to_bytes(member, "member"), any_case)
+    if status:
+        raise _library.failed(status, "list", (line, *more), "expected a list (RFC 9110, section 5.6.1)")
+    return found == 1
