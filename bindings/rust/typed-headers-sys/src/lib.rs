@@ -778,3 +778,107 @@ extern "C" {
     ) -> u8;
     pub fn typed_headers_cache_remove(cache: *mut Cache, target: *const u8, target_length: usize) -> u8;
 }
+
+// Typed calls.
+
+#[repr(C)]
+#[derive(Clone, Copy, Debug, Default, PartialEq, Eq, Hash)]
+pub struct Port {
+    pub number: u16,
+    pub is_set: u8,
+}
+
+#[repr(C)]
+#[derive(Clone, Copy, Debug, Default, PartialEq, Eq, Hash)]
+pub struct OriginParts {
+    pub scheme_length: usize,
+    pub port: Port,
+    pub is_null: u8,
+}
+
+#[repr(C)]
+#[derive(Clone, Copy, Debug, Default, PartialEq, Eq, Hash)]
+pub struct TransportSecurity {
+    pub max_age: u64,
+    pub include_subdomains: u8,
+}
+
+#[repr(C)]
+#[derive(Clone, Copy, Debug, Default, PartialEq, Eq, Hash)]
+pub struct RetryTime {
+    pub seconds: u64,
+    pub is_date: u8,
+}
+
+extern "C" {
+    pub fn typed_headers_basic(
+        lines: *const u8,
+        lines_length: usize,
+        user_length: *mut usize,
+        room: *mut u8,
+        room_length: usize,
+        written: *mut usize,
+    ) -> u8;
+    pub fn typed_headers_bearer(
+        lines: *const u8,
+        lines_length: usize,
+        room: *mut u8,
+        room_length: usize,
+        written: *mut usize,
+    ) -> u8;
+    pub fn typed_headers_cookie(
+        lines: *const u8,
+        lines_length: usize,
+        name: *const u8,
+        name_length: usize,
+        room: *mut u8,
+        room_length: usize,
+        written: *mut usize,
+    ) -> u8;
+    pub fn typed_headers_cookies(
+        lines: *const u8,
+        lines_length: usize,
+        room: *mut u8,
+        room_length: usize,
+        written: *mut usize,
+    ) -> u8;
+    pub fn typed_headers_host(
+        lines: *const u8,
+        lines_length: usize,
+        port: *mut Port,
+        room: *mut u8,
+        room_length: usize,
+        written: *mut usize,
+    ) -> u8;
+    pub fn typed_headers_origin(
+        lines: *const u8,
+        lines_length: usize,
+        parts: *mut OriginParts,
+        room: *mut u8,
+        room_length: usize,
+        written: *mut usize,
+    ) -> u8;
+    pub fn typed_headers_strict_transport_security(
+        lines: *const u8,
+        lines_length: usize,
+        policy: *mut TransportSecurity,
+    ) -> u8;
+    pub fn typed_headers_retry_after(lines: *const u8, lines_length: usize, time: *mut RetryTime) -> u8;
+    pub fn typed_headers_content_range(lines: *const u8, lines_length: usize, range: *mut ContentRange) -> u8;
+    pub fn typed_headers_content_disposition(lines: *const u8, lines_length: usize, disposition: *mut u8) -> u8;
+    pub fn typed_headers_members(
+        lines: *const u8,
+        lines_length: usize,
+        room: *mut u8,
+        room_length: usize,
+        written: *mut usize,
+    ) -> u8;
+    pub fn typed_headers_has_member(
+        lines: *const u8,
+        lines_length: usize,
+        member: *const u8,
+        member_length: usize,
+        any_case: bool,
+        has: *mut u8,
+    ) -> u8;
+}

@@ -33,6 +33,7 @@ mod resource;
 mod response;
 mod store;
 mod text;
+mod typed;
 
 pub use caching::{current_age, decide, lifetime, may_store, validators, Decision, Times};
 pub use conditions::{evaluate, select, Precondition, Selection, Target};
@@ -54,6 +55,10 @@ pub use resource::{
 pub use response::{respond, Content, Response};
 pub use store::{Cache, CacheOptions, CacheRequest, CacheResponse, Freshened, Lookup, Stored, StoredAnswer};
 pub use text::Section;
+pub use typed::{
+    basic, bearer, content_disposition, content_range, cookies, find_cookie, has_member, host, members, origin,
+    retry_after, strict_transport_security, ContentRange, Disposition, Host, Origin, RetryAfter, TransportSecurity,
+};
 
 use typed_headers_sys as sys;
 
@@ -136,6 +141,27 @@ mod tests {
         let directives = cache_control(["no-cache, max-age=60"]).unwrap().unwrap();
         assert_eq!((directives.no_cache, directives.no_store, directives.max_age), (true, false, Some(60)));
         assert_eq!(cache_control(NONE), Ok(None));
+    }
+
+    #[test]
+    fn typed_values() {
+        let long = alloc::format!("a={}; b=\"1;2\"", "x".repeat(600));
+        assert_eq!(find_cookie([&long], "b"), Ok(Some("\"1;2\"".to_string())));
+        assert_eq!((find_cookie([&long], "c"), find_cookie(NONE, "a")), (Ok(None), Ok(None)));
+        assert_eq!(cookies([&long]).unwrap().unwrap()[0].1.len(), 600);
+        assert_eq!(cookies(["a"]), Ok(Some(Vec::new())));
+        assert_eq!((basic(["Bearer x"]), basic(NONE)), (Err(Error::Rejected), Ok(None)));
+        assert_eq!(bearer(["bearer  x"]), Ok(Some("x".to_string())));
+        assert_eq!(host(["[::1]"]), Ok(Some(Host { name: "[::1]".to_string(), port: None })));
+        assert_eq!((host(["a b"]), host(NONE)), (Err(Error::Rejected), Ok(None)));
+        assert_eq!((origin(["null"]), origin(NONE)), (Ok(Some(Origin::Null)), Ok(None)));
+        assert_eq!((origin(["a"]), origin(["null", "null"])), (Err(Error::Rejected), Err(Error::Rejected)));
+        assert_eq!((strict_transport_security(NONE), retry_after(NONE)), (Ok(None), Ok(None)));
+        assert_eq!(content_range(["bytes */*"]), Ok(Some(ContentRange { range: None, length: None })));
+        assert_eq!(content_disposition(["Inline"]), Ok(Some(Disposition::Other)));
+        assert_eq!(members(["a,,b"]), Ok(Some(alloc::vec!["a".to_string(), "b".to_string()])));
+        assert_eq!((has_member(["GET"], "get", false), has_member(NONE, "*", true)), (Ok(Some(false)), Ok(None)));
+        assert_eq!(has_member([","], "", true), Ok(Some(false)));
     }
 
     #[test]
