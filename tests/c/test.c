@@ -15,6 +15,7 @@
 #include <string.h>
 #include <strings.h>
 #include <sys/mman.h>
+#include <time.h>
 
 enum { MOST_WORDS = 2048, AREA = 1 << 24, SHORT = 300, FILL = 0xA5 };
 
@@ -1928,6 +1929,354 @@ static void check_gateway(const struct row *row) {
     }
 }
 
+/* Typed calls: the rows `TYPE.decode LINE..`, whose answers have the values of the getters behind the lines. */
+
+/* Credentials: the length of the user name, and both texts. */
+static uint8_t call_basic(const void *arguments, uint64_t *number, uint8_t *room, size_t room_length,
+                          size_t *written) {
+    const struct text *lines = arguments;
+    size_t user_length = NO_NUMBER;
+    uint8_t status = typed_headers_basic(lines->bytes, lines->length, &user_length, room, room_length, written);
+    *number = user_length;
+    return status;
+}
+
+/* Two words as one text. */
+static struct word both(const struct word *one, const struct word *other) {
+    static char text[AREA];
+    memcpy(text, one->bytes, one->length);
+    memcpy(text + one->length, other->bytes, other->length);
+    return (struct word){text, one->length + other->length};
+}
+
+static void check_basic(const struct row *row) {
+    struct text text = lines(row, 0);
+    if (is_answer(row, "(refused)")) {
+        check(row, call_basic, &text, refusal(text), NO_NUMBER, NO_TEXT);
+        return;
+    }
+    const struct word *answer = answer_words(row)->words;
+    check(row, call_basic, &text, TYPED_HEADERS_DONE, answer[2].length, both(&answer[2], &answer[3]));
+}
+
+static void check_bearer(const struct row *row) {
+    struct bytes_call call = {typed_headers_bearer, lines(row, 0)};
+    if (is_answer(row, "(refused)")) {
+        check(row, call_bytes, &call, refusal(call.lines), NO_NUMBER, NO_TEXT);
+    } else {
+        check(row, call_bytes, &call, TYPED_HEADERS_DONE, NO_NUMBER, answer_words(row)->words[2]);
+    }
+}
+
+/* A call over the words of a row: one word, and the lines that the others are. */
+struct word_call {
+    struct text lines, word;
+    bool any_case;
+};
+
+static uint8_t call_cookie(const void *arguments, uint64_t *number, uint8_t *room, size_t room_length,
+                           size_t *written) {
+    const struct word_call *call = arguments;
+    (void)number;
+    return typed_headers_cookie(call->lines.bytes, call->lines.length, call->word.bytes, call->word.length, room,
+                                room_length, written);
+}
+
+/* `Cookie.get NAME LINE..` */
+static void check_cookie(const struct row *row) {
+    struct word_call call = {lines(row, 1), put(second_area, row->words[0].bytes, row->words[0].length), false};
+    if (is_answer(row, "(none)")) {
+        check(row, call_cookie, &call, TYPED_HEADERS_ABSENT, NO_NUMBER, NO_TEXT);
+    } else {
+        check(row, call_cookie, &call, TYPED_HEADERS_DONE, NO_NUMBER, answer_word(row, 0));
+    }
+}
+
+/* The words of an answer from one on that aren't empty, as text: after each stands one of the bytes in turn. */
+static struct word joined_words(const struct row *answer, size_t from, const char *ends, bool keeps_empty) {
+    static char text[AREA];
+    size_t length = 0;
+    for (size_t i = from; i < answer->count; i++) {
+        const struct word *word = &answer->words[i];
+        if (word->length || keeps_empty) {
+            memcpy(text + length, word->bytes, word->length);
+            length += word->length;
+            text[length++] = ends[(i - from) % strlen(ends)];
+        }
+    }
+    return (struct word){text, length};
+}
+
+static void check_cookies(const struct row *row) {
+    struct bytes_call call = {typed_headers_cookies, lines(row, 0)};
+    if (!call.lines.length) {
+        check(row, call_bytes, &call, TYPED_HEADERS_ABSENT, NO_NUMBER, NO_TEXT);
+    } else {
+        check(row, call_bytes, &call, TYPED_HEADERS_DONE, NO_NUMBER, joined_words(answer_words(row), 3, "=\n", true));
+    }
+}
+
+/* Hosts and origins, whose numbers are put into one. */
+static uint64_t number_of_port(struct typed_headers_port port) { return port.number | (uint64_t)port.is_set << 16; }
+
+static uint8_t call_host(const void *arguments, uint64_t *number, uint8_t *room, size_t room_length,
+                         size_t *written) {
+    const struct text *lines = arguments;
+    struct typed_headers_port port = {FILL, FILL};
+    uint8_t status = typed_headers_host(lines->bytes, lines->length, &port, room, room_length, written);
+    if (port.is_set != FILL) {
+        *number = number_of_port(port);
+    }
+    return status;
+}
+
+static struct typed_headers_port port_of(const struct word *word) {
+    struct typed_headers_port port = {0, !is_word(word, "(none)")};
+    if (port.is_set) {
+        word->bytes[word->length] = 0;
+        port.number = (uint16_t)strtoul(word->bytes, NULL, 10);
+    }
+    return port;
+}
+
+static void check_host(const struct row *row) {
+    struct text text = lines(row, 0);
+    if (is_answer(row, "(refused)")) {
+        check(row, call_host, &text, refusal(text), NO_NUMBER, NO_TEXT);
+        return;
+    }
+    const struct word *answer = answer_words(row)->words;
+    check(row, call_host, &text, TYPED_HEADERS_DONE, number_of_port(port_of(&answer[3])), answer[2]);
+}
+
+static uint64_t number_of_origin(struct typed_headers_origin_parts parts) {
+    return parts.scheme_length | number_of_port(parts.port) << 24 | (uint64_t)parts.is_null << 56;
+}
+
+static uint8_t call_origin(const void *arguments, uint64_t *number, uint8_t *room, size_t room_length,
+                           size_t *written) {
+    const struct text *lines = arguments;
+    struct typed_headers_origin_parts parts = {0, {FILL, FILL}, FILL};
+    uint8_t status = typed_headers_origin(lines->bytes, lines->length, &parts, room, room_length, written);
+    if (parts.is_null != FILL) {
+        *number = number_of_origin(parts);
+    }
+    return status;
+}
+
+static void check_origin(const struct row *row) {
+    struct text text = lines(row, 0);
+    if (is_answer(row, "(refused)")) {
+        check(row, call_origin, &text, refusal(text), NO_NUMBER, NO_TEXT);
+        return;
+    }
+    const struct word *answer = answer_words(row)->words;
+    struct typed_headers_origin_parts parts = {answer[3].length, port_of(&answer[5]), is_word(&answer[2], "true")};
+    check(row, call_origin, &text, TYPED_HEADERS_DONE, number_of_origin(parts), both(&answer[3], &answer[4]));
+}
+
+/* Structs that a call gives: their bytes are what is compared. */
+static uint8_t shown(uint8_t status, const void *given, size_t size, const char *text, uint8_t *room,
+                     size_t room_length, size_t *written) {
+    if (status != TYPED_HEADERS_DONE) {
+        return is_filled(given, (const uint8_t *)given + size) ? status : FILL;
+    }
+    *written = strlen(text);
+    if (*written > room_length) {
+        return TYPED_HEADERS_NO_ROOM;
+    }
+    memcpy(room, text, *written);
+    return status;
+}
+
+static uint8_t call_security(const void *arguments, uint64_t *number, uint8_t *room, size_t room_length,
+                             size_t *written) {
+    const struct text *lines = arguments;
+    struct typed_headers_transport_security given;
+    char text[64] = "";
+    (void)number;
+    memset(&given, FILL, sizeof given);
+    uint8_t status = typed_headers_strict_transport_security(lines->bytes, lines->length, &given);
+    sprintf(text, "%llu %s", (unsigned long long)given.max_age,
+            given.include_subdomains == 1 ? "true" : given.include_subdomains ? "neither" : "false");
+    return shown(status, &given, sizeof given, text, room, room_length, written);
+}
+
+static uint8_t call_retry_after(const void *arguments, uint64_t *number, uint8_t *room, size_t room_length,
+                                size_t *written) {
+    const struct text *lines = arguments;
+    struct typed_headers_retry_time given;
+    char text[64] = "";
+    (void)number;
+    memset(&given, FILL, sizeof given);
+    uint8_t status = typed_headers_retry_after(lines->bytes, lines->length, &given);
+    sprintf(text, "%s %llu", given.is_date == 1 ? "date" : given.is_date ? "neither" : "delay",
+            (unsigned long long)given.seconds);
+    return shown(status, &given, sizeof given, text, room, room_length, written);
+}
+
+static uint8_t call_content_range(const void *arguments, uint64_t *number, uint8_t *room, size_t room_length,
+                                  size_t *written) {
+    const struct text *lines = arguments;
+    struct typed_headers_content_range given;
+    char text[128] = "";
+    (void)number;
+    memset(&given, FILL, sizeof given);
+    uint8_t status = typed_headers_content_range(lines->bytes, lines->length, &given);
+    size_t length = given.has_range == 1 ? sprintf(text, "%llu %llu ", (unsigned long long)given.first,
+                                                   (unsigned long long)given.last)
+                    : given.has_range || given.first || given.last ? sprintf(text, "neither ")
+                                                                   : sprintf(text, "(none) ");
+    if (given.has_length == 1) {
+        sprintf(text + length, "%llu", (unsigned long long)given.length);
+    } else {
+        sprintf(text + length, given.has_length || given.length ? "neither" : "(none)");
+    }
+    return shown(status, &given, sizeof given, text, room, room_length, written);
+}
+
+/* Checks a call that gives a struct, which is shown as this text. */
+static void check_shown(const struct row *row, call_fn *call, const char *wanted) {
+    struct text text = lines(row, 0);
+    if (is_answer(row, "(refused)")) {
+        check(row, call, &text, refusal(text), NO_NUMBER, NO_TEXT);
+    } else {
+        static char copy[AREA];
+        snprintf(copy, sizeof copy, "%s", wanted);
+        check(row, call, &text, TYPED_HEADERS_DONE, NO_NUMBER, (struct word){copy, strlen(copy)});
+    }
+}
+
+/* What follows the line in an answer. */
+static const char *getters(const struct row *row) {
+    const char *line = strchr(row->answer, ' '), *found = line ? strchr(line + 1, ' ') : NULL;
+    return found ? found + 1 : "";
+}
+
+/* The canonical line of `retry-after` is a number or an IMF-fixdate. */
+static void check_retry_after(const struct row *row) {
+    char text[64] = "";
+    struct word line = answer_word(row, 1);
+    struct tm time = {0};
+    line.bytes[line.length] = 0;
+    const char *end = strptime(line.bytes, "%a, %d %b %Y %H:%M:%S GMT", &time);
+    if (end && !*end) {
+        snprintf(text, sizeof text, "date %lld", (long long)timegm(&time));
+    } else {
+        snprintf(text, sizeof text, "delay %s", line.bytes);
+    }
+    check_shown(row, call_retry_after, text);
+}
+
+static uint8_t call_disposition(const void *arguments, uint64_t *number, uint8_t *room, size_t room_length,
+                                size_t *written) {
+    const struct text *lines = arguments;
+    uint8_t disposition = FILL;
+    (void)room, (void)room_length, (void)written;
+    uint8_t status = typed_headers_content_disposition(lines->bytes, lines->length, &disposition);
+    if (disposition != FILL) {
+        *number = disposition;
+    }
+    return status;
+}
+
+static void check_disposition(const struct row *row) {
+    struct text text = lines(row, 0);
+    if (is_answer(row, "(refused)")) {
+        check(row, call_disposition, &text, refusal(text), NO_NUMBER, NO_TEXT);
+        return;
+    }
+    const char *said = getters(row);
+    const uint64_t number = strcmp(said, "true false false") == 0   ? TYPED_HEADERS_INLINE
+                            : strcmp(said, "false true false") == 0 ? TYPED_HEADERS_ATTACHMENT
+                            : strcmp(said, "false false true") == 0 ? TYPED_HEADERS_FORM_DATA
+                                                                    : TYPED_HEADERS_OTHER_DISPOSITION;
+    check(row, call_disposition, &text, TYPED_HEADERS_DONE, number, NO_TEXT);
+}
+
+static uint8_t call_has_member(const void *arguments, uint64_t *number, uint8_t *room, size_t room_length,
+                               size_t *written) {
+    const struct word_call *call = arguments;
+    uint8_t has = FILL;
+    (void)room, (void)room_length, (void)written;
+    uint8_t status = typed_headers_has_member(call->lines.bytes, call->lines.length, call->word.bytes,
+                                              call->word.length, call->any_case, &has);
+    if (has != FILL) {
+        *number = has;
+    }
+    return status;
+}
+
+/* Whether the lines have a member. */
+static void check_member(const struct row *row, size_t from, struct word word, bool any_case, bool has) {
+    struct word_call call = {lines(row, from), put(second_area, word.bytes, word.length), any_case};
+    if (!call.lines.length) {
+        check(row, call_has_member, &call, TYPED_HEADERS_ABSENT, NO_NUMBER, NO_TEXT);
+    } else {
+        check(row, call_has_member, &call, TYPED_HEADERS_DONE, has, NO_TEXT);
+    }
+}
+
+/* `Connection.contains OPTION LINE..`: the empty text is no member, though an empty item is an option upstream. */
+static void check_option(const struct row *row) {
+    check_member(row, 1, row->words[0], true, row->words[0].length && is_answer(row, "true"));
+}
+
+/* `Vary.decode LINE..`: whether it is `*`, and the items, of which those that are empty are no members. */
+static void check_vary(const struct row *row) {
+    struct bytes_call call = {typed_headers_members, lines(row, 0)};
+    if (!call.lines.length) {
+        check(row, call_bytes, &call, TYPED_HEADERS_ABSENT, NO_NUMBER, NO_TEXT);
+        return;
+    }
+    struct row *answer = answer_words(row);
+    const bool is_any = is_word(&answer->words[2], "true");
+    check(row, call_bytes, &call, TYPED_HEADERS_DONE, NO_NUMBER, joined_words(answer, 4, "\n", false));
+    check_member(row, 0, (struct word){"*", 1}, false, is_any);
+    check_member(row, 0, EMPTY, true, false);
+}
+
+/* `Allow.decode LINE..`: each method is a member, byte for byte. */
+static void check_allow(const struct row *row) {
+    const struct row *answer = answer_words(row);
+    for (size_t i = 3; row->count && i < answer->count; i++) {
+        check_member(row, 0, answer->words[i], false, true);
+    }
+}
+
+/* The typed calls of a row. */
+static void check_typed(const struct row *row) {
+    const char *call = row->call;
+    if (strcmp(call, "AuthorizationBasic.decode") == 0 || strcmp(call, "ProxyAuthorizationBasic.decode") == 0) {
+        check_basic(row);
+    } else if (strcmp(call, "AuthorizationBearer.decode") == 0 ||
+               strcmp(call, "ProxyAuthorizationBearer.decode") == 0) {
+        check_bearer(row);
+    } else if (strcmp(call, "Cookie.get") == 0) {
+        check_cookie(row);
+    } else if (strcmp(call, "Cookie.decode") == 0) {
+        check_cookies(row);
+    } else if (strcmp(call, "Host.decode") == 0) {
+        check_host(row);
+    } else if (strcmp(call, "Origin.decode") == 0) {
+        check_origin(row);
+    } else if (strcmp(call, "StrictTransportSecurity.decode") == 0) {
+        check_shown(row, call_security, getters(row));
+    } else if (strcmp(call, "RetryAfter.decode") == 0) {
+        check_retry_after(row);
+    } else if (strcmp(call, "ContentRange.decode") == 0) {
+        check_shown(row, call_content_range, getters(row));
+    } else if (strcmp(call, "ContentDisposition.decode") == 0) {
+        check_disposition(row);
+    } else if (strcmp(call, "Connection.contains") == 0 || strcmp(call, "Connection.contains_name") == 0) {
+        check_option(row);
+    } else if (strcmp(call, "Vary.decode") == 0) {
+        check_vary(row);
+    } else if (strcmp(call, "Allow.decode") == 0) {
+        check_allow(row);
+    }
+}
+
 static void make_row(struct row *row) {
     if (strstr(row->file, "headers_gateway_replay")) {
         check_gateway(row);
@@ -1939,6 +2288,7 @@ static void make_row(struct row *row) {
         snprintf(type, sizeof type, "%.*s", (int)(decode - row->call), row->call);
         check_field(row, type);
     }
+    check_typed(row);
     static const char *numbers[] = {"Age", "ContentLength", "Date", "Expires", "LastModified"};
     for (int i = 0; i < 5; i++) {
         char call[32];

@@ -464,6 +464,101 @@ def forwarding(words, wanted):
     return [it for it in given.fields if it[0] not in ("host", "via")] == shown_fields(wanted)
 
 
+# Typed values.
+
+
+def credentials(words, wanted, is_bearer):
+    """Those of one scheme. A line of the other scheme is rejected in the row alone."""
+    given = decoded(headers.Credentials.parse, words)
+    if given in (REFUSED, None):
+        return wanted[0] == REFUSED
+    is_other = (given.user is None) != is_bearer
+    if wanted[0] == REFUSED or is_other:
+        return wanted[0] == REFUSED and is_other
+    texts = [given.token] if is_bearer else [given.user, given.password]
+    return [text.encode() for text in texts] == list(map(decode, wanted[2:-1]))
+
+
+def cookies(words, wanted):
+    given = decoded(headers.Cookie.parse, words)
+    texts = [decode(word).decode("latin-1") for word in wanted[3:]]
+    return given is None if not words else list(given) == list(zip(texts[::2], texts[1::2]))
+
+
+def cookie(words, wanted):
+    if not words[1:]:
+        return wanted == ["(none)"]
+    given = answer(headers.find_cookie, *map(decode, words))
+    return given == (None if wanted == ["(none)"] else decode(wanted[0]).decode("latin-1"))
+
+
+def port_of(word):
+    return None if word == "(none)" else int(word)
+
+
+def host(words, wanted):
+    given = decoded(headers.Host.parse, words)
+    if wanted[0] == REFUSED:
+        return given == (REFUSED if words else None)
+    return (given.name.encode("latin-1"), given.port) == (decode(wanted[2]), port_of(wanted[3]))
+
+
+def origin(words, wanted):
+    given = decoded(headers.Origin.parse, words)
+    if wanted[0] == REFUSED:
+        return given == (REFUSED if words else None)
+    texts = [given.scheme.encode("latin-1"), given.host.encode("latin-1")]
+    return (given.is_null, texts, given.port) == (
+        wanted[2] == "true", list(map(decode, wanted[3:5])), port_of(wanted[5])
+    )
+
+
+def transport_security(words, wanted):
+    given = decoded(headers.StrictTransportSecurity.parse, words)
+    if wanted[0] == REFUSED:
+        return given == (REFUSED if words else None)
+    return [str(given.max_age), str(given.include_subdomains).lower()] == wanted[2:]
+
+
+def retry_after(words, wanted):
+    given = decoded(headers.RetryAfter.parse, words)
+    if wanted[0] == REFUSED:
+        return given == (REFUSED if words else None)
+    line = decode(wanted[1]).decode("ascii")
+    is_long = line.isdigit() and int(line) > timedelta.max // timedelta(seconds=1)
+    return given.delay.days == timedelta.max.days if is_long else str(given) == line
+
+
+def disposition(words, wanted):
+    given = decoded(headers.ContentDisposition.parse, words)
+    if wanted[0] == REFUSED:
+        return given == (REFUSED if words else None)
+    kinds = [it for it in headers.ContentDisposition if it is not headers.ContentDisposition.OTHER]
+    return [str(given is kind).lower() for kind in kinds] == wanted[2:]
+
+
+def vary(words, wanted):
+    given = decoded(headers.members, words)
+    if not words:
+        return given is None
+    texts = [decode(word).decode("latin-1") for word in wanted[4:]]
+    is_any = headers.has_member("*", *map(decode, words), any_case=False)
+    return (given, is_any) == ([text for text in texts if text], wanted[2] == "true")
+
+
+def allow(words, wanted):
+    given = decoded(headers.members, words)
+    return given is None if not words else {decode(it).decode("latin-1") for it in wanted[3:]} <= set(given)
+
+
+def option(words, wanted):
+    if not words[1:]:
+        return wanted == ["false"]
+    given = answer(headers.has_member, *map(decode, words))
+    return given == (wanted == ["true"] and words[0] != "()")
+
+
+CREDENTIALS = ("Authorization", "ProxyAuthorization")
 GATEWAY = {"request": gateway_request, "response": gateway_response, "forwarding": forwarding}
 
 CALLS = {
@@ -500,6 +595,19 @@ CALLS = {
     "check": opened,
     "answer": resource_answer,
     "request": offer,
+    **{f"{field}Basic.decode": lambda *row: credentials(*row, is_bearer=False) for field in CREDENTIALS},
+    **{f"{field}Bearer.decode": lambda *row: credentials(*row, is_bearer=True) for field in CREDENTIALS},
+    "Cookie.decode": cookies,
+    "Cookie.get": cookie,
+    "Host.decode": host,
+    "Origin.decode": origin,
+    "StrictTransportSecurity.decode": transport_security,
+    "RetryAfter.decode": retry_after,
+    "ContentDisposition.decode": disposition,
+    "Vary.decode": vary,
+    "Allow.decode": allow,
+    "Connection.contains": option,
+    "Connection.contains_name": option,
 }
 
 
