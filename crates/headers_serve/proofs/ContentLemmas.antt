@@ -8,7 +8,7 @@ use Rattle.headers_exchange.specs.declared.piece.Piece.{Piece}
 use Rattle.headers_exchange.specs.declared.piece.Piece.TheVariants.{Literal, Range}
 use Rattle.headers_serve.specs.File.{gives_at}
 use Rattle.headers_serve.specs.Parts.{bytes_of, piece_bytes}
-use Rattle.headers_serve.specs.declared.kept.Kept.{Kept}
+use Rattle.headers_files.specs.declared.kept.Kept.{Kept}
 use Rattle.headers_serve.specs.declared.source.Source.TheVariants.{Kept as InMemory}
 
 -- the first bytes, and those after them

@@ -1,12 +1,8 @@
 pub mod AnswerLemmas
 pub mod ContentLemmas
-pub mod DigestLemmas
 pub mod FieldLemmas
-pub mod LogLemmas
 pub mod OneResponseLemmas
 pub mod PartLemmas
-pub mod PathLemmas
 pub mod PlanLemmas
-pub mod RedirectLemmas
 pub mod RepresentationLemmas
 pub mod WholeLemmas

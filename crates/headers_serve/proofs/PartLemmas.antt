@@ -23,7 +23,7 @@ use Rattle.headers_resource.specs.declared.resource.Resource.{Resource}
 use Rattle.headers_serve.specs.Answer.{Decides, IsHeldBy, file_sent, is_several, sends_several}
 use Rattle.headers_serve.specs.Parts.{IsKnownToHold, Occurs, part_bytes}
 use Rattle.headers_serve.specs.declared.file.File.{File}
-use Rattle.headers_serve.specs.declared.kept.Kept.{Kept}
+use Rattle.headers_files.specs.declared.kept.Kept.{Kept}
 use Rattle.headers_serve.specs.declared.source.Source.{Source}
 use Rattle.headers_serve.specs.declared.source.Source.TheVariants.{Kept as InMemory}
 use Rattle.headers_serve.proofs.AnswerLemmas.{IsPlannedIn, planned_in}

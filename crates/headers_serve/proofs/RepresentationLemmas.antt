@@ -1,8 +1,8 @@
 -- A file has one list of contents.
 use Rattle.std.proofs.Common.{◌≡◌, ℕ, Bool, true, false, List, [], ◌∷◌, ◌++◌, refl, sym, ap, ◌∙◌, inl, inr}
-use Rattle.headers_serve.specs.Codings.{coding_suffix}
+use Rattle.headers_files.specs.Codings.{coding_suffix}
 use Rattle.headers_serve.specs.Representations.{AreContents, AreOffers, StandsAt, offered, represented}
-use Rattle.headers_serve.specs.declared.coding.Coding.TheVariants.{Identity, Brotli, Gzip}
+use Rattle.headers_files.specs.declared.coding.Coding.TheVariants.{Identity, Brotli, Gzip}
 use Rattle.headers_serve.specs.declared.file.Entry.{Entry}
 use Rattle.headers_serve.specs.declared.file.File.{File}
 

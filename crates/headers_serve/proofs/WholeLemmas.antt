@@ -68,14 +68,14 @@ use Rattle.headers_serve.specs.Asked.{Asks}
 use Rattle.headers_serve.specs.File.{current_of, gives_at, gives_of, len_of, limits_of, representation_of, validators_of}
 use Rattle.headers_serve.specs.Found.{FindsEntry, LeadsTo}
 use Rattle.headers_serve.specs.Multipart.{multipart}
-use Rattle.headers_serve.specs.Path.{Names}
+use Rattle.headers_files.specs.Path.{Names}
 use Rattle.headers_serve.specs.Representations.{AreContents}
 use Rattle.headers_serve.specs.Sites.{IsSite}
 use Rattle.headers_serve.specs.declared.file.Entry.{Entry}
 use Rattle.headers_serve.specs.declared.file.Entry.TheVariants.{Readable}
 use Rattle.headers_serve.specs.declared.file.File.{File}
 use Rattle.headers_serve.specs.declared.found.Found.{Found}
-use Rattle.headers_serve.specs.declared.kept.Kept.{Kept}
+use Rattle.headers_files.specs.declared.kept.Kept.{Kept}
 use Rattle.headers_serve.specs.declared.settings.Site.{Site}
 use Rattle.headers_serve.specs.declared.source.Source.{Source}
 use Rattle.headers_serve.specs.declared.source.Source.TheVariants.{Kept as InMemory}

@@ -10,9 +10,9 @@ use Rattle.headers_preconditions.specs.declared.resource.Resource.{Resource}
 use Rattle.headers_preconditions.specs.declared.resource.Resource.TheVariants.{Current}
 use Rattle.headers_preconditions.specs.declared.resource.Validators.{Validators}
 use Rattle.headers_resource.specs.declared.representation.Representation.{Representation}
-use Rattle.headers_serve.specs.Codings.{coding_name, is_encoded}
-use Rattle.headers_serve.specs.Tags.{content_digest, strong_tag}
-use Rattle.headers_serve.specs.declared.coding.Coding.{Coding}
+use Rattle.headers_files.specs.Codings.{coding_name, is_encoded}
+use Rattle.headers_files.specs.Tags.{content_digest, strong_tag}
+use Rattle.headers_files.specs.declared.coding.Coding.{Coding}
 use Rattle.headers_serve.specs.declared.file.File.{File}
 use Rattle.headers_serve.specs.declared.source.Source.{Source}
 use Rattle.headers_serve.specs.declared.source.Source.TheVariants.{Kept, Opened}

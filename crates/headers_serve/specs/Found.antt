@@ -5,8 +5,8 @@ use Rattle.http_uri.specs.declared.uri.Uri.{Uri}
 use Rattle.http_uri.specs.Uri.{uri_path, uri_query}
 use Rattle.headers_resource.specs.declared.resource.Redirect.TheVariants.{MovedPermanently}
 use Rattle.headers_resource.specs.declared.resource.State.TheVariants as state
-use Rattle.headers_serve.specs.Path.{Names}
-use Rattle.headers_serve.specs.Redirect.{HasNoIndex, index_target}
+use Rattle.headers_files.specs.Path.{Names}
+use Rattle.headers_files.specs.Redirect.{HasNoIndex, index_target}
 use Rattle.headers_serve.specs.Representations.{AreContents}
 use Rattle.headers_serve.specs.declared.file.Entry.{Entry}
 use Rattle.headers_serve.specs.declared.file.Entry.TheVariants.{Missing, Forbidden, Unavailable}

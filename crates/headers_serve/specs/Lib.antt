@@ -1,17 +1,11 @@
 pub mod Answer
 pub mod Asked
-pub mod Codings
 pub mod File
 pub mod Found
-pub mod Log
-pub mod MediaTypes
 pub mod Memory
 pub mod Multipart
 pub mod Parts
-pub mod Path
-pub mod Redirect
 pub mod Representations
 pub mod Response
 pub mod SiteSettings
 pub mod Sites
-pub mod Tags

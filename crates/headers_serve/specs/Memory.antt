@@ -1,6 +1,6 @@
 -- What a store of one file has.
 use Rattle.std.specs.Prelude.{◌≡◌, ◌≢◌, ℕ, List, string_bytes}
-use Rattle.headers_serve.specs.declared.coding.Coding.TheVariants.{Identity}
+use Rattle.headers_files.specs.declared.coding.Coding.TheVariants.{Identity}
 use Rattle.headers_serve.specs.declared.file.Entry.{Entry}
 use Rattle.headers_serve.specs.declared.file.Entry.TheVariants.{Missing, Forbidden, Unavailable}
 use Rattle.headers_serve.specs.declared.file.Entry.TheVariants.{Folder, Readable}

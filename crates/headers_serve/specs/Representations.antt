@@ -1,10 +1,10 @@
 -- The contents of a file.
 use Rattle.std.specs.Prelude.{◌≡◌, ◌⊎◌, ℕ, Bool, true, false, List, [], ◌∷◌, ◌++◌}
 use Rattle.http_header.specs.FieldValue.{FieldValue}
-use Rattle.headers_serve.specs.Codings.{coding_suffix}
-use Rattle.headers_serve.specs.Path.{is_plain}
-use Rattle.headers_serve.specs.declared.coding.Coding.{Coding}
-use Rattle.headers_serve.specs.declared.coding.Coding.TheVariants.{Identity, Brotli, Gzip}
+use Rattle.headers_files.specs.Codings.{coding_suffix}
+use Rattle.headers_files.specs.Path.{is_plain}
+use Rattle.headers_files.specs.declared.coding.Coding.{Coding}
+use Rattle.headers_files.specs.declared.coding.Coding.TheVariants.{Identity, Brotli, Gzip}
 use Rattle.headers_serve.specs.declared.file.Entry.{Entry}
 use Rattle.headers_serve.specs.declared.file.Entry.TheVariants.{Missing, Forbidden, Unavailable}
 use Rattle.headers_serve.specs.declared.file.Entry.TheVariants.{Folder, Readable}

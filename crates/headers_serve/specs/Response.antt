@@ -1,32 +1,19 @@
 -- What stands in a response. It is the plan by which `headers_exchange` sends it.
-use Rattle.std.specs.Prelude.{◌≡◌, ℕ, ◌==◌, Bool, List, [], ◌∷◌, ◌++◌, bytes_eq, codes, decimal, flat_map, if◌then◌else◌}
-use Rattle.std.specs.Prelude.{map}
+use Rattle.std.specs.Prelude.{◌≡◌, ℕ, ◌==◌, Bool, List, [], ◌∷◌, ◌++◌, bytes_eq, codes, flat_map, if◌then◌else◌, map}
 use Rattle.std.specs.List.{list_any}
 use Rattle.headers.specs.LineMap.{Field}
 use Rattle.http1.specs.Fields.{Header}
-use Rattle.http1_typed.specs.Parts.{reason_of}
 use Rattle.http_server.specs.Response.{fields}
 use Rattle.headers_exchange.specs.declared.piece.Piece.{Piece}
 use Rattle.headers_exchange.specs.declared.piece.Piece.TheVariants.{Literal}
 use Rattle.headers_exchange.specs.declared.plan.Plan.{Plan as Response}
+use Rattle.headers_files.specs.Pages.{page}
 
 -- the names and the values of its field lines, in order
 abbrev pub fields_of : Response → List Header
 fields_of response = fields response.headers.items
 
--- a status as people read it
-abbrev pub title : ℕ → List ℕ
-title code = decimal code ++ codes " " ++ reason_of code
-
-abbrev pub page_with : List ℕ → List ℕ
-page_with text =
-    (codes "<!DOCTYPE html>\n<title>" ++ text ++ codes "</title>\n")
-    ++ (codes "<h1>" ++ text ++ codes "</h1>\n")
-
--- The page that explains a status (RFC 9110, section 15.5). Nothing of the request is in it.
-abbrev pub page : ℕ → List ℕ
-page code = page_with (title code)
-
+-- the page that explains a status
 abbrev pub page_of : ℕ → List Piece
 page_of code = Literal (page code) ∷ []
 

@@ -1,8 +1,8 @@
 //! What a store has at a path.
 
-use crate::coding::Coding;
 use crate::source::Source;
 use headers::{HeaderValue, LastModified};
+use headers_files::Coding;
 
 /// A file's current content.
 #[derive(Debug, Drop)]

@@ -5,11 +5,10 @@ ghost use Rattle.http_uri.specs.Uri.{uri_path, uri_query};
 ghost use Rattle.headers_serve.specs.Found.{FindsEntry, FindsFolder, IsAbsent, LeadsTo};
 
 use crate::file::{Entry, File};
-use crate::path::store_path;
-use crate::redirect::location;
 use crate::representation::contents_of;
 use crate::store::Store;
 use bytes::Bytes;
+use headers_files::{index_location, store_path};
 use headers_resource::{Redirect, State};
 use http::{Request, StatusCode};
 use std::alloc::{AllocError, Global};
@@ -39,7 +38,7 @@ fn absent(alloc: Global, status: StatusCode) -> Found
 fn folder_at(alloc: Global, path: &str, query: Option<&str>) -> Result<Found, AllocError>
     ensures { IfOk result (FindsFolder path.now (option_copied query.entry)) }
 {
-    match location(alloc, path, query)? {
+    match index_location(alloc, path, query)? {
         Some(value) => Ok(Found {
             state: State::Moved(Redirect::MovedPermanently, value),
             status: StatusCode::NOT_FOUND,

@@ -1,7 +1,6 @@
 //! What follows from the definitions alone. A proof cites a law by calling it.
-ghost use Rattle.std.specs.Prelude.{◌≡◌, ℕ, ◌<◌, All, Bool, true, false, List};
+ghost use Rattle.std.specs.Prelude.{◌≡◌, ℕ, true, false, List};
 ghost use Rattle.std.specs.Prelude.{Option, Some, codes};
-ghost use Rattle.std.specs.List.{list_all};
 ghost use Rattle.http.specs.Request.{head_of};
 ghost use Rattle.http.specs.declared.request.Request.{Request};
 ghost use Rattle.http_uri.specs.Uri.{uri_path};
@@ -19,19 +18,19 @@ ghost use Rattle.headers_resource.specs.declared.resource.Resource.{Resource};
 ghost use Rattle.headers_serve.specs.Answer.{AsksForAll, Decides, IsAnswerAt, file_sent, sends_several};
 ghost use Rattle.headers_serve.specs.Asked.{Asks};
 ghost use Rattle.headers_serve.specs.File.{gives_at, gives_of};
-ghost use Rattle.headers_serve.specs.Log.{is_quotable, logged};
 ghost use Rattle.headers_serve.specs.Parts.{Occurs, bytes_of, part_bytes};
-ghost use Rattle.headers_serve.specs.Path.{Names};
-ghost use Rattle.headers_serve.specs.Redirect.{HasNoIndex, IsOnHost, index_target};
+ghost use Rattle.headers_files.specs.Path.{Names};
 ghost use Rattle.headers_serve.specs.Response.{IsSameResponse};
 ghost use Rattle.headers_serve.specs.Sites.{IsSite};
 ghost use Rattle.headers_serve.specs.declared.file.Entry.TheVariants.{Readable};
 ghost use Rattle.headers_serve.specs.declared.file.Entry.{Entry};
 ghost use Rattle.headers_serve.specs.declared.file.File.{File};
-ghost use Rattle.headers_serve.specs.declared.kept.Kept.{Kept};
+ghost use Rattle.headers_files.specs.declared.kept.Kept.{Kept};
 ghost use Rattle.headers_serve.specs.declared.source.Source.{Source};
 ghost use Rattle.headers_serve.specs.declared.source.Source.TheVariants.{Kept as InMemory};
 ghost use Rattle.headers_serve.specs.declared.settings.Site.{Site};
+
+pub use headers_files::laws::redirects_stay_on_the_host;
 
 /// A request has one response at most at a moment, where the store has one entry at each path: two
 /// responses have the same status, the same fields in the same order, and the same pieces.
@@ -68,12 +67,6 @@ pub fn get_gets_the_content()
         → AreSent (gives_of source) response.pieces.items sent → sent ≡ kept.content) }
 {}
 
-/// A redirect of a path that names something leads to the host that was asked.
-pub fn redirects_stay_on_the_host()
-    ensures { (path named : List ℕ) (query : Option (List ℕ)) → Names path (Some named)
-        → ¬ (HasNoIndex path query) → IsOnHost (index_target path query) }
-{}
-
 /// If an answer sends several parts of bytes in memory, none holds the boundary between them (RFC 2046,
 /// section 5.1.1), whichever part it is.
 pub fn no_part_holds_the_boundary()
@@ -82,10 +75,4 @@ pub fn no_part_holds_the_boundary()
         → Decides present divider files resource asked answer → sends_several answer.sends ≡ true
         → file_sent files answer.sends ≡ Some file → file.source ≡ InMemory kept
         → (part : Part) → ¬ (Occurs divider (part_bytes kept.content part)) }
-{}
-
-/// What a client chose is logged in visible ASCII and spaces, without a quote. So it ends neither the
-/// quoted text that it stands in nor the line.
-pub fn logged_text_has_no_quote()
-    ensures { (text : List ℕ) → All (λ byte. byte < 256) text → list_all is_quotable (logged text) ≡ true }
 {}

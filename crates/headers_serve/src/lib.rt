@@ -5,37 +5,28 @@
 mod answer;
 mod asked;
 mod cache;
-mod coding;
 mod connection;
 mod fields;
 mod file;
 mod found;
-mod kept;
 pub mod laws;
-mod log;
-mod media_type;
 mod memory;
 mod multipart;
 mod page;
-mod path;
-mod redirect;
 mod representation;
 mod service;
 mod settings;
 mod site;
 mod source;
 mod store;
-mod tag;
 
-pub use crate::coding::Coding;
 pub use crate::connection::serve_store;
 pub use crate::file::{Entry, File};
-pub use crate::kept::Kept;
-pub use crate::log::log_line;
-pub use crate::media_type::media_type_of;
 pub use crate::memory::Memory;
-pub use crate::path::{is_plain, store_path};
 pub use crate::service::FileService;
 pub use crate::settings::{Divider, Settings, Site};
 pub use crate::source::{Opened, Source};
 pub use crate::store::Store;
+pub use headers_files::{
+    Coding, Kept, index_location, is_plain, media_type_of, status_page, store_path,
+};

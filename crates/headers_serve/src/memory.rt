@@ -1,13 +1,12 @@
 //! One file in memory.
 
-use crate::coding::Coding;
 use crate::file::{Entry, File};
-use crate::kept::Kept;
 use crate::source::Source;
 use crate::store::Store;
 use bytes::Bytes;
 use headers::{HeaderValue, LastModified};
 use headers_exchange::Plan as Response;
+use headers_files::{Coding, Kept};
 use http::Request;
 use std::alloc::{AllocError, Global};
 

@@ -1,16 +1,15 @@
 //! The contents of a file, and the representations that they are.
 ghost use Rattle.std.specs.Prelude.{◌≡◌, ◌++◌, ◌∷◌, IfOk, OnOk, map, string_bytes};
-ghost use Rattle.headers_serve.specs.Codings.{coding_suffix};
+ghost use Rattle.headers_files.specs.Codings.{coding_suffix};
 ghost use Rattle.headers_serve.specs.File.{coding_value, content_of, current_of, is_settled, limits_of};
 ghost use Rattle.headers_serve.specs.File.{representation_of, tag_of};
 ghost use Rattle.headers_serve.specs.Representations.{AreContents, AreOffers, StandsAt, offered, represented};
 
-use crate::coding::Coding;
 use crate::file::{Entry, File};
-use crate::path::is_plain;
 use crate::source::Source;
 use crate::store::Store;
 use headers::{ETag, HeaderValue, LastModified};
+use headers_files::{Coding, is_plain};
 use headers_preconditions::{Content, RangeLimits, Resource, Validators};
 use headers_resource::Representation;
 use std::alloc::{AllocError, Global};

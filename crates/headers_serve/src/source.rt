@@ -3,8 +3,8 @@ ghost use Rattle.std.specs.Prelude.{◌≡◌, IfOk, take};
 ghost use Rattle.std.specs.Io.{ReadsAtMost};
 ghost use Rattle.headers_serve.specs.File.{gives_at, len_of};
 
-use crate::kept::Kept;
 use headers::ETag;
+use headers_files::Kept;
 use std::os::unix::fs::FileExt;
 use std::{fs, io};
 

@@ -1,6 +1,6 @@
 //! Where files come from.
 ghost use Rattle.std.specs.Prelude.{◌≡◌, ℕ, true, List, IfOk};
-ghost use Rattle.headers_serve.specs.Path.{is_plain};
+ghost use Rattle.headers_files.specs.Path.{is_plain};
 ghost use Rattle.headers_serve.specs.declared.file.Entry.{Entry};
 
 use crate::file::Entry;

@@ -1,0 +1,3 @@
+pub mod DigestLemmas
+pub mod PathLemmas
+pub mod RedirectLemmas

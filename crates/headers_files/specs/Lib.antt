@@ -1,0 +1,6 @@
+pub mod Codings
+pub mod MediaTypes
+pub mod Pages
+pub mod Path
+pub mod Redirect
+pub mod Tags
