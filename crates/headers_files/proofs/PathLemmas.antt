@@ -1,30 +1,12 @@
--- Which path of a store the path of a URI names.
-use Rattle.std.proofs.Common.{◌≡◌, ◌≢◌, ℕ, true, false, List, drop, Some, None, ap, subst, sym, ◌∙◌}
-use Rattle.std.specs.Prelude.{slice_index, IsUtf8}
-use Rattle.percent_encoding.specs.Percent.{percent_decode}
-use Rattle.headers_files.specs.Path.{Names, is_plain, with_index}
+-- The names of a path, as they are yielded.
+use Rattle.std.proofs.Common.{◌≡◌, List, [], ◌∷◌, Option, Some, sym, ap}
+use Rattle.std.proofs.lemmas.Iterator.{YieldsList}
 
--- it doesn't begin with a slash
-pub names_none_unrooted : (path : List ℕ) → slice_index path 0 ≢ 47 → Names path None
-names_none_unrooted path unrooted named h = unrooted h.rooted
-
--- it isn't UTF-8
-pub names_none_garbled : (path : List ℕ) → ¬ (IsUtf8 (percent_decode (drop 1 path))) → Names path None
-names_none_garbled path garbled named h = garbled h.utf8
-
-module _ (path text file : List ℕ) (decoded : text ≡ percent_decode (drop 1 path)) (indexed : file ≡ with_index text)
-  where
-    -- it isn't plain
-    pub names_none_hidden : is_plain file ≡ false → Names path None
-    names_none_hidden hidden named h =
-        let same : named ≡ file = h.is_named ∙ ap with_index (sym decoded) ∙ sym indexed in
-        let plain : is_plain file ≡ true = ap is_plain (sym same) ∙ h.plain in cc
-
-    pub names_file : slice_index path 0 ≡ 47 → IsUtf8 text → is_plain file ≡ true → Names path (Some file)
-    names_file rooted utf8 plain =
-        record {
-          rooted = rooted;
-          utf8 = subst IsUtf8 decoded utf8;
-          is_named = indexed ∙ ap with_index decoded;
-          plain = plain;
-        }
+module _ {S A B : Type 0} (steps : S → Option A → S → Type 0) (v : A → B) (s t : S) where
+  -- an item that is yielded first is the first of the list, and the others follow
+  pub first_yielded : (all : List B) (x : A) → steps s (Some x) t → YieldsList steps v s all
+      → (rest : List B) × (all ≡ v x ∷ rest) × YieldsList steps v t rest
+  first_yielded [] x step yields = absurd (yields.runs x t step)
+  first_yielded (first ∷ rest) x step yields =
+      let next = yields.runs.1 x t step in
+      (rest, ap (λ (y : B). y ∷ rest) (sym next.0), record { runs = next.1 })

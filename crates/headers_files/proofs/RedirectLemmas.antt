@@ -4,10 +4,10 @@ use Rattle.std.proofs.Common.{arith}
 use Rattle.std.proofs.Common.{ap, inl, ◌∙◌}
 use Rattle.std.proofs.lemmas.Bool.{eq-eqb}
 use Rattle.std.proofs.lemmas.Bool.Decides.{nat_tests}
-use Rattle.std.specs.List.{list_all, onto_first, slice_split}
+use Rattle.std.specs.List.{onto_first, slice_split}
 use Rattle.std.specs.Prelude.{codes, if◌then◌else◌, ◌==◌}
 use Rattle.percent_encoding.specs.Percent.{percent_decode}
-use Rattle.headers_files.specs.Path.{IsStorePath, Names, ends_in_slash, is_name, is_plain, with_index}
+use Rattle.headers_files.specs.Path.{IsStorePath, Names, are_names, ends_in_slash, is_plain, with_index}
 use Rattle.headers_files.specs.Redirect.{HasNoIndex, IsOnHost, index_target}
 
 -- a byte that is no percent sign is its own
@@ -29,7 +29,7 @@ slash_with : (indexed : Bool) (rest index : List ℕ)
 slash_with true rest index = refl
 slash_with false rest index = refl
 
-backslash_first : (names : List (List ℕ)) → list_all is_name (onto_first 92 names) ≡ false
+backslash_first : (names : List (List ℕ)) → are_names (onto_first 92 names) ≡ false
 backslash_first [] = refl
 backslash_first (name ∷ names) = grind (arith, nat_tests)
 

@@ -1,7 +1,6 @@
 -- Paths of a store, and the path that a URI names.
-use Rattle.std.specs.Prelude.{◌≡◌, ℕ, ◌-◌, Bool, true, not, ◌&&◌, ◌||◌, ◌==◌, nat_lt, List, ◌++◌, length, drop}
-use Rattle.std.specs.Prelude.{slice_index}
-use Rattle.std.specs.Prelude.{Option, Some, None, codes, IsUtf8, if◌then◌else◌}
+use Rattle.std.specs.Prelude.{◌≡◌, ℕ, ◌-◌, Bool, true, false, not, ◌&&◌, ◌||◌, ◌==◌, nat_lt, List, [], ◌∷◌, ◌++◌}
+use Rattle.std.specs.Prelude.{Option, Some, None, bytes_eq, codes, drop, IsUtf8, if◌then◌else◌, length, slice_index}
 use Rattle.std.specs.List.{list_all, slice_split}
 use Rattle.percent_encoding.specs.Percent.{percent_decode}
 
@@ -13,9 +12,19 @@ is_name_byte byte = not (byte == 0) && not (byte == 92)
 abbrev pub is_name : List ℕ → Bool
 is_name name = nat_lt 0 (length name) && (not (slice_index name 0 == 46) && list_all is_name_byte name)
 
+-- The first name of a path may also be `.well-known`: below it clients look for what concerns the whole site (RFC 8615,
+-- section 3).
+abbrev pub is_first_name : List ℕ → Bool
+is_first_name name = is_name name || bytes_eq name (codes ".well-known")
+
+-- the names of a path, from the root down
+abbrev pub are_names : List (List ℕ) → Bool
+are_names [] = false
+are_names (name ∷ names) = is_first_name name && list_all is_name names
+
 -- A path of such names, with a slash (47) between each two of them: it isn't absolute, and doesn't end in a slash.
 abbrev pub is_plain : List ℕ → Bool
-is_plain path = list_all is_name (slice_split (λ byte. byte == 47) path)
+is_plain path = are_names (slice_split (λ byte. byte == 47) path)
 
 -- the last byte is a slash
 abbrev pub ends_in_slash : List ℕ → Bool

@@ -2,8 +2,8 @@
 ghost use Rattle.std.specs.Prelude.{◌≡◌, ◌==◌, IfOk, drop, option_map, slice_index, string_bytes};
 ghost use Rattle.std.specs.List.{list_all};
 ghost use Rattle.percent_encoding.specs.Percent.{percent_decode};
-ghost use Rattle.headers_files.specs.Path.{IsDecoded, Names, ends_in_slash, is_name, is_name_byte};
-ghost use Rattle.headers_files.specs.Path.{is_plain, names_folder, with_index};
+ghost use Rattle.headers_files.specs.Path.{IsDecoded, Names, ends_in_slash, is_first_name, is_name};
+ghost use Rattle.headers_files.specs.Path.{is_name_byte, is_plain, names_folder, with_index};
 
 use percent_encoding::percent_decode;
 use std::alloc::{AllocError, Global};
@@ -27,14 +27,23 @@ fn is_name(name: &[u8]) -> bool
     !name.is_empty() && name[0] != b'.' && are_name_bytes(name)
 }
 
+// Whether it may be the first name of a path: it is that of a store, or `.well-known`.
+fn is_first_name(name: &[u8]) -> bool
+    ensures { result ≡ is_first_name name.now }
+{
+    is_name(name) || name == b".well-known".as_slice()
+}
+
 /// Whether a path is plain: names with a slash between them, of which none is empty, begins with a
-/// dot, or holds a NUL or a backslash.
+/// dot, or holds a NUL or a backslash. The first may be `.well-known` (RFC 8615, section 3).
 pub fn is_plain(path: &str) -> bool
     ensures { result ≡ is_plain path.now }
 {
-    path.as_bytes()
-        .split(|byte| *byte == b'/')
-        .all(|name| is_name(name))
+    let mut names = path.as_bytes().split(|byte| *byte == b'/');
+    match names.next() {
+        Some(first) => is_first_name(first) && names.all(|name| is_name(name)),
+        None => false,
+    }
 }
 
 pub(crate) fn ends_in_slash(path: &[u8]) -> bool

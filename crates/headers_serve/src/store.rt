@@ -15,7 +15,8 @@ pub trait Store {
     ghost has: { Self → List ℕ → Entry → Type 0 };
 
     /// What stands at a path. The error is for memory alone. The path is plain: no name in it is empty or
-    /// begins with a dot, and none holds a NUL or a backslash. So it stays below the root of the store.
+    /// begins with a dot, but for `.well-known` as the first, and none holds a NUL or a backslash. So it
+    /// stays below the root of the store.
     fn find(&self, alloc: Global, path: &str) -> Result<Entry, AllocError>
         requires { is_plain path.now ≡ true }
         ensures { IfOk result (has self.now path.now) };
