@@ -104,6 +104,34 @@ def options(program, folder):
     expect(done.returncode == 2 and b"hello.txt" in done.stderr, "a file for a folder")
 
 
+def pages(program, folder):
+    """A site's own pages: status and fields are those of the built-in page, whose place it takes."""
+    with tempfile.TemporaryDirectory() as room:
+        for name, content in {"404": b"<p>not here: \xc3\xbc</p>\n", "405": b"", "301": b"<p>moved</p>\n", "500": b"x"}.items():
+            with open(f"{room}/{name}.html", "wb") as file:
+                file.write(content)
+        plain = Server(program, folder, "--no-dates")
+        own = Server(program, folder, "--no-dates", "--pages", room)
+        for words, name in ((("GET", "/missing"), "404"), (("GET", "/%"), "404"), (("DELETE", "/hello.txt"), "405"),
+                            (("GET", "/sub"), "301"), (("FOO", "/hello.txt"), None), (("OPTIONS", "/hello.txt"), None),
+                            (("GET", "/hello.txt"), None), (("GET", "/hello.txt", 'If-Match: "x"'), None),
+                            (("GET", "/hello.txt", "Range: bytes=13-"), None), (("HEAD", "/missing"), "404")):
+            status, fields, content = plain.answer(*words)
+            got, lines, page = own.answer(*words)
+            if name is None or words[0] == "HEAD":
+                wanted = content
+            else:
+                with open(f"{room}/{name}.html", "rb") as file:
+                    wanted = file.read()
+            is_same = got == status and without_length(lines) == without_length(fields)
+            expect(is_same and page == wanted, f"the page of {words}: {got} {lines} {page!r}")
+        os.mkdir(f"{room}/403.html")
+        for pages in (room, f"{room}/missing", f"{room}/404.html"):
+            done = subprocess.run([program, "--pages", pages, folder], input=request("GET", "/hello.txt"),
+                                  capture_output=True)
+            expect(done.returncode == 2 and not done.stdout and b"--pages" in done.stderr, f"pages at {pages}")
+
+
 def dates(program, folder):
     """Date is now, and Last-Modified the time of the file."""
     before = int(time.time())
@@ -145,7 +173,7 @@ def little_is_read(program, folder):
 
 def main():
     program, folder = sys.argv[1:]
-    for run in (faults, options, dates, heads, little_is_read):
+    for run in (faults, options, pages, dates, heads, little_is_read):
         run(program, folder)
     sys.exit(1 if wrong else 0)
 

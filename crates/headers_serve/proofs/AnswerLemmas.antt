@@ -141,9 +141,9 @@ Occurs-from_find content bytes None h = λ o. h o.0 (omega arith) (omega (arith,
 -- what a response carries depends on the policy of the site alone, and not on the last request
 pub Carries-at : (before : List Header) (site other : Site) (files : List File) (code : ℕ) (sent : Sends)
     (given : List Field) (response : Exchanged) → other.cache_control ≡ site.cache_control
-    → other.divider ≡ site.divider → other.resource.cors ≡ site.resource.cors
+    → other.divider ≡ site.divider → other.pages ≡ site.pages → other.resource.cors ≡ site.resource.cors
     → Carries before other files code sent given response → Carries before site files code sent given response
-Carries-at before site other files code sent given response cache divider cors h = record {
+Carries-at before site other files code sent given response cache divider pages cors h = record {
   status = h.status;
   headers =
       h.headers
@@ -155,7 +155,10 @@ Carries-at before site other files code sent given response cache divider cors h
       (λ (x : Option Policy).
       ((before ++ cache_sent sent site.cache_control) ++ headers_sent (is_some x) given)
       ++ explained_fields code sent) cors;
-  pieces = h.pieces ∙ ap (λ (x : _). pieces_for (string_bytes x) files code sent) divider;
+  pieces =
+      h.pieces
+      ∙ ap (λ (x : _). pieces_for (string_bytes x) other.pages.items files code sent) divider
+      ∙ ap (λ (x : _). pieces_for (string_bytes site.divider) x.items files code sent) pages;
 }
 
 pub bytes_copied : (lent : Option (Bor FieldValue)) (value : Option FieldValue) → option_copied lent ≡ value

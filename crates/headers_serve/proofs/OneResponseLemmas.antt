@@ -305,8 +305,9 @@ module _ (present : ℕ) (resource : Resource) (before : List Header) (site : Si
       x.status ∙ status_same ∙ sym y.status,
       x.headers ∙ fields_same ∙ sym y.headers,
       x.pieces
-          ∙ ap (λ (n : ℕ). pieces_for (string_bytes site.divider) files n a.sends) status_same
-          ∙ same_by (pieces_for (string_bytes site.divider) files (status_for absent b.reason b.status))
+          ∙ ap (λ (n : ℕ). pieces_for (string_bytes site.divider) site.pages.items files n a.sends) status_same
+          ∙ same_by
+          (pieces_for (string_bytes site.divider) site.pages.items files (status_for absent b.reason b.status))
           (λ place parts. several_in (string_bytes site.divider) (file_at files place) parts)
           (λ place parts. parts_alike (string_bytes site.divider) (file_at files place) parts)
           ∙ sym y.pieces,

@@ -431,7 +431,8 @@ module _ (now : Option ℕ) (left : ℕ) (site : Site) (divider : List ℕ) (loo
           pieces =
               carries.pieces
               ∙ ap
-              (pieces_for by x.found.files.items (status_for x.found.status x.answer.reason x.answer.status))
+              (pieces_for by site.pages.items x.found.files.items
+              (status_for x.found.status x.answer.reason x.answer.status))
               whole.sends
               ∙ ap (λ (l : List File). pieces_of by (slice_get l 0) whole.plan) contents.2
               ∙ whole.whole.pieces by;

@@ -32,6 +32,7 @@ use Rattle.headers_serve.specs.Response.{fields_of, headers_sent, page_fields, p
 use Rattle.headers_serve.specs.declared.file.Entry.{Entry}
 use Rattle.headers_serve.specs.declared.file.File.{File}
 use Rattle.headers_serve.specs.declared.found.Found.{Found}
+use Rattle.headers_serve.specs.declared.settings.Page.{Page}
 use Rattle.headers_serve.specs.declared.settings.Site.{Site}
 use Rattle.headers_serve.specs.declared.source.Source.{Source}
 
@@ -128,12 +129,12 @@ abbrev pub pieces_of : List ℕ → Option File → Plan → List Piece
 pieces_of divider None plan = []
 pieces_of divider (Some file) plan = pieces_sent divider file plan
 
--- what is sent: of a file by a plan, or a page that explains the status
-abbrev pub pieces_for : List ℕ → List File → ℕ → Sends → List Piece
-pieces_for divider files status Nothing = page_sent status
-pieces_for divider files status Alternatives = page_sent status
-pieces_for divider files status (Planned place plan) = pieces_of divider (file_at files place) plan
-pieces_for divider files status Perform = []
+-- what is sent: of a file by a plan, or the page of the status
+abbrev pub pieces_for : List ℕ → List Page → List File → ℕ → Sends → List Piece
+pieces_for divider pages files status Nothing = page_sent pages status
+pieces_for divider pages files status Alternatives = page_sent pages status
+pieces_for divider pages files status (Planned place plan) = pieces_of divider (file_at files place) plan
+pieces_for divider pages files status Perform = []
 
 -- the media type of a page
 abbrev pub explained_fields : ℕ → Sends → List Header
@@ -166,7 +167,7 @@ pub record Carries (before : List Header) (site : Site) (files : List File) (cod
   pub headers : fields_of response
       ≡ ((before ++ cache_sent sent site.cache_control) ++ headers_sent (is_some site.resource.cors) given)
       ++ explained_fields code sent
-  pub pieces : response.pieces.items ≡ pieces_for (string_bytes site.divider) files code sent
+  pub pieces : response.pieces.items ≡ pieces_for (string_bytes site.divider) site.pages.items files code sent
 
 -- the source from which the ranges of a response are read, if it has any
 abbrev pub source_of : Option File → Option Source
@@ -225,6 +226,7 @@ IsAnswer left site has request response source =
 pub record IsSameSite (before after : Site) : Type 0 where
   pub cache_control : after.cache_control ≡ before.cache_control
   pub divider : after.divider ≡ before.divider
+  pub pages : after.pages ≡ before.pages
   pub resource : after.resource
       ≡ record before.resource { state = after.resource.state; representations = after.resource.representations }
 

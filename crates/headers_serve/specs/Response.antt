@@ -1,6 +1,8 @@
 -- What stands in a response. It is the plan by which `headers_exchange` sends it.
-use Rattle.std.specs.Prelude.{◌≡◌, ℕ, ◌==◌, Bool, List, [], ◌∷◌, ◌++◌, bytes_eq, codes, flat_map, if◌then◌else◌, map}
+use Rattle.std.specs.Prelude.{◌≡◌, ℕ, ◌==◌, Bool, List, [], ◌∷◌, ◌++◌, bytes_eq, codes, find, flat_map}
+use Rattle.std.specs.Prelude.{if◌then◌else◌, map}
 use Rattle.std.specs.List.{list_any}
+use Rattle.std.specs.Option.{option_map_or}
 use Rattle.headers.specs.LineMap.{Field}
 use Rattle.http1.specs.Fields.{Header}
 use Rattle.http_server.specs.Response.{fields}
@@ -8,14 +10,18 @@ use Rattle.headers_exchange.specs.declared.piece.Piece.{Piece}
 use Rattle.headers_exchange.specs.declared.piece.Piece.TheVariants.{Literal}
 use Rattle.headers_exchange.specs.declared.plan.Plan.{Plan as Response}
 use Rattle.headers_files.specs.Pages.{page}
+use Rattle.headers_serve.specs.declared.settings.Page.{Page}
 
 -- the names and the values of its field lines, in order
 abbrev pub fields_of : Response → List Header
 fields_of response = fields response.headers.items
 
--- the page that explains a status
-abbrev pub page_of : ℕ → List Piece
-page_of code = Literal (page code) ∷ []
+-- the page of a status: the first of the site's own that is for it, or else the one that names the status
+abbrev pub page_for : List Page → ℕ → List ℕ
+page_for pages code = option_map_or (λ own. own.content) (find (λ own. own.status == code) pages) (page code)
+
+abbrev pub page_of : List Page → ℕ → List Piece
+page_of pages code = Literal (page_for pages code) ∷ []
 
 abbrev pub html_field : Header
 html_field = (codes "content-type", codes "text/html; charset=utf-8")
@@ -24,8 +30,8 @@ html_field = (codes "content-type", codes "text/html; charset=utf-8")
 abbrev pub page_fields : ℕ → List Header
 page_fields code = if code == 204 then [] else html_field ∷ []
 
-abbrev pub page_sent : ℕ → List Piece
-page_sent code = if code == 204 then [] else page_of code
+abbrev pub page_sent : List Page → ℕ → List Piece
+page_sent pages code = if code == 204 then [] else page_of pages code
 
 -- both have the same status, the same fields in the same order, and the same pieces
 abbrev pub IsSameResponse : Response → Response → Type 0

@@ -21,4 +21,5 @@ pub record IsSiteOf (settings : Settings) (site : Site) : Type 0 where
   pub coding : site.resource.negotiation.coding ≡ settings.negotiates
   pub cors : site.resource.cors ≡ settings.cors
   pub divider : site.divider ≡ settings.divider.text
+  pub pages : site.pages ≡ settings.pages
   pub is_site : IsSite (string_bytes site.divider) site.resource

@@ -24,7 +24,7 @@ pub use crate::connection::serve_store;
 pub use crate::file::{Entry, File};
 pub use crate::memory::Memory;
 pub use crate::service::FileService;
-pub use crate::settings::{Divider, Settings, Site};
+pub use crate::settings::{Divider, Page, Settings, Site};
 pub use crate::source::{Opened, Source};
 pub use crate::store::Store;
 pub use headers_files::{

@@ -17,7 +17,7 @@ use crate::found::{Found, look_up};
 use crate::multipart::{extent_of, push_parts};
 use crate::page::explain;
 use crate::representation::representations_of;
-use crate::settings::Site;
+use crate::settings::{Page, Site};
 use crate::source::Source;
 use crate::store::Store;
 use bytes::Bytes;
@@ -73,6 +73,7 @@ fn put_pieces(
 fn put_content(
     alloc: Global,
     divider: &str,
+    pages: &[Page],
     files: &[File],
     status: StatusCode,
     sends: &Sends,
@@ -80,12 +81,13 @@ fn put_content(
 ) -> Result<(), AllocError>
     requires blank { response.old.pieces.items ≡ [] }
     requires fits { FitsIn files.now sends.now }
-    ensures pieces { OnOk result (response.new.pieces.items ≡ pieces_for divider.now files.now status sends.now) }
+    ensures pieces { OnOk result
+        (response.new.pieces.items ≡ pieces_for divider.now pages.now files.now status sends.now) }
     ensures headers { OnOk result
         (fields_of response.new ≡ fields_of response.old ++ explained_fields status sends.now) }
 {
     match sends {
-        Sends::Nothing | Sends::Alternatives => explain(alloc, status, response),
+        Sends::Nothing | Sends::Alternatives => explain(alloc, pages, status, response),
         Sends::Planned(Some(place), plan) => match files.get(*place) {
             Some(file) => put_pieces(alloc, divider, plan, file, response),
             None => Ok(()),
@@ -122,7 +124,8 @@ fn carry(
 {
     put_cache_control(&site.cache_control, sends, response)?;
     add_fields(response, site.resource.cors.is_some(), fields)?;
-    put_content(alloc, site.divider.as_str(), files, status, sends, response)?;
+    let divider = site.divider.as_str();
+    put_content(alloc, divider, &site.pages, files, status, sends, response)?;
     response.status = status;
     Ok(())
 }

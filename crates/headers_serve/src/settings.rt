@@ -2,10 +2,12 @@
 ghost use Rattle.std.specs.Prelude.{◌≡◌, IfOk, string_bytes};
 ghost use Rattle.headers_preconditions.specs.Boundaries.{multipart_type};
 
+use bytes::Bytes;
 use headers::{HeaderValue, Refused};
 use headers_cors_policy::CorsPolicy;
 use headers_preconditions::{Boundary, InvalidBoundary};
 use headers_resource::Resource;
+use http::StatusCode;
 use std::alloc::Global;
 
 /// What stands between several parts of a file. Take digits that nobody can foresee, so that no file
@@ -27,6 +29,15 @@ impl Divider {
     }
 }
 
+/// A page of a site's own, in HTML.
+#[derive(Debug, Drop)]
+pub struct Page {
+    /// The status that it explains.
+    pub status: StatusCode,
+    /// Its bytes, in UTF-8.
+    pub content: Bytes,
+}
+
 /// How files are served.
 #[derive(Debug, Drop)]
 pub struct Settings {
@@ -41,6 +52,9 @@ pub struct Settings {
     pub cors: Option<CorsPolicy>,
     /// What stands between several parts.
     pub divider: Divider,
+    /// The site's own pages. Of several for one status the first is sent, and for a status without one a
+    /// page that names it.
+    pub pages: Vec<Page>,
 }
 
 /// What all resources of a store have in common: they are read by GET and HEAD.
@@ -50,6 +64,8 @@ pub struct Site {
     pub cache_control: Option<HeaderValue>,
     /// The text that stands between several parts.
     pub divider: String,
+    /// The site's own pages.
+    pub pages: Vec<Page>,
     /// The resource of the last request. Its state and its representations change with each.
     pub resource: Resource,
 }

@@ -26,6 +26,7 @@ impl Site {
             hosts,
             cors,
             divider,
+            pages,
         } = settings;
         let Divider { text, boundary } = divider;
         let get = MethodRule {
@@ -38,6 +39,7 @@ impl Site {
         Ok(Site {
             cache_control,
             divider: text,
+            pages,
             resource: Resource {
                 hosts: hosts_listed(hosts),
                 rules,

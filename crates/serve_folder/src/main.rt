@@ -5,16 +5,18 @@ mod cors;
 mod folder;
 mod kept;
 mod options;
+mod pages;
 mod place;
 
 use crate::cors::{NoOrigin, policy_for};
 use crate::folder::Folder;
 use crate::kept::KeptFiles;
 use crate::options::command;
+use crate::pages::pages_in;
 use clap::ArgMatches;
 use headers::{HeaderValue, Refused};
 use headers_cors_policy::CorsPolicy;
-use headers_serve::{Divider, FileService, Settings, Site, serve_store};
+use headers_serve::{Divider, FileService, Page, Settings, Site, serve_store};
 use http_header::HeaderValueError;
 use http_server::Config;
 use std::alloc::{AllocError, Global};
@@ -24,7 +26,7 @@ use std::io::ErrorKind;
 use std::path::PathBuf;
 use std::process::ExitCode;
 use std::random::RandomSource;
-use std::{env, fs};
+use std::{env, fs, io};
 
 // The status of a mistake in the words of the command line.
 const MISTAKE: u8 = 2;
@@ -101,6 +103,14 @@ fn logged_for(rt: &HostRuntime, matches: &ArgMatches<'_>) -> Result<Option<Strin
     }
 }
 
+// The site's own pages, if there are some.
+fn pages_of(rt: &HostRuntime, matches: &ArgMatches<'_>) -> io::Result<Vec<Page>> {
+    match matches.get_str("pages") {
+        Some(folder) => pages_in(rt, folder),
+        None => Ok(Vec::new(rt.alloc())),
+    }
+}
+
 // How the words of the command line have the files served. `None` if one of them is wrong; standard error
 // says which.
 fn settings_of(rt: &HostRuntime, matches: &ArgMatches<'_>) -> anyhow::Result<Option<Settings>> {
@@ -120,6 +130,14 @@ fn settings_of(rt: &HostRuntime, matches: &ArgMatches<'_>) -> anyhow::Result<Opt
         eprintln!(rt; "error: the value of '--host' can't stand in a header")?;
         return Ok(None);
     };
+    let pages = match pages_of(rt, matches) {
+        Ok(pages) => pages,
+        Err(error) if error.kind() == ErrorKind::OutOfMemory => return Err(error.into()),
+        Err(_) => {
+            eprintln!(rt; "error: the pages of '--pages' can't be read")?;
+            return Ok(None);
+        }
+    };
     let divider = divider_for(rt)?;
     Ok(Some(Settings {
         cache_control,
@@ -127,6 +145,7 @@ fn settings_of(rt: &HostRuntime, matches: &ArgMatches<'_>) -> anyhow::Result<Opt
         hosts,
         cors,
         divider,
+        pages,
     }))
 }
 

@@ -31,6 +31,10 @@ pub fn command<'a>(alloc: Global) -> Result<Command<'a>, AllocError> {
         .value_name("BYTES")
         .value_parser(value_parser!(u64))
         .help("A longer file is answered by 403");
+    let pages = Arg::new(alloc, "pages")
+        .long("pages")
+        .value_name("FOLDER")
+        .help("Send FOLDER/404.html and the like as the page of a status");
     let requests = Arg::new(alloc, "requests")
         .long("requests")
         .value_name("N")
@@ -51,6 +55,7 @@ pub fn command<'a>(alloc: Global) -> Result<Command<'a>, AllocError> {
         .arg(host)?
         .arg(log)?
         .arg(max_file)?
+        .arg(pages)?
         .arg(precompressed)?
         .arg(requests)?
         .arg(no_dates)

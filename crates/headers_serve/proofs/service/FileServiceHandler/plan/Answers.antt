@@ -27,7 +27,13 @@ returns g c =
     let resource = c.describe.new.resource in
     let answer = c.in_ok-reason.field-0 in
     let asked = request_of c.asked-head.result in
-    let after : Site = record { cache_control = site.cache_control; divider = site.divider; resource = resource } in
+    let after : Site =
+    record {
+      cache_control = site.cache_control;
+      divider = site.divider;
+      pages = site.pages;
+      resource = resource;
+    } in
     let before : List Header = fields_of c.put_closing.new.response in
     let date = c.in_ok-put_date.ensures.headers in
     let sniff = c.in_ok-put_sniff.ensures.headers ∙ ap (λ (l : List Header). l ++ sniff_field ∷ []) date in
@@ -49,7 +55,7 @@ returns g c =
     let carries =
     Carries-at (first_fields now left) site after found.files.items
     (status_for found.status answer.reason answer.status) answer.sends (encoded_fields answer.fields.items)
-    c.carry.new.response refl refl cors
+    c.carry.new.response refl refl refl cors
     (subst
     (λ (h : List Header).
     Carries h after found.files.items (status_for found.status answer.reason answer.status) answer.sends
@@ -86,6 +92,7 @@ returns g c =
       record {
         cache_control = refl;
         divider = refl;
+        pages = refl;
         resource =
             described.is
             ∙ ap
