@@ -29,6 +29,11 @@ def request(method, target, *fields):
     return "\r\n".join([f"{method} {target} HTTP/1.1", "Host: a", *fields, "", ""]).encode()
 
 
+def is_right():
+    """Whether nothing was wrong so far."""
+    return not wrong
+
+
 class Server:
     """The program with options, of which each connection is a run."""
 
@@ -175,7 +180,8 @@ def main():
     program, folder = sys.argv[1:]
     for run in (faults, options, pages, dates, heads, little_is_read):
         run(program, folder)
-    sys.exit(1 if wrong else 0)
+    sys.exit(0 if is_right() else 1)
 
 
-main()
+if __name__ == "__main__":
+    main()

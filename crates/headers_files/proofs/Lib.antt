@@ -1,3 +1,4 @@
 pub mod DigestLemmas
+pub mod ListingLemmas
 pub mod PathLemmas
 pub mod RedirectLemmas

@@ -1,4 +1,5 @@
 pub mod Codings
+pub mod Listings
 pub mod MediaTypes
 pub mod Pages
 pub mod Path

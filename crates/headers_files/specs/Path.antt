@@ -38,6 +38,15 @@ names_folder path = (length path == 0) || ends_in_slash path
 abbrev pub with_index : List ℕ → List ℕ
 with_index path = if names_folder path then path ++ codes "index.html" else path
 
+-- the path is that of the index of a folder, whose own path is empty or ends in a slash
+abbrev pub IsIndexOf : List ℕ → List ℕ → Type 0
+IsIndexOf folder path = (names_folder folder ≡ true) × (path ≡ folder ++ codes "index.html")
+
+-- the folder whose index the path is that of, if there is one
+abbrev pub IsFolderOf : List ℕ → Option (List ℕ) → Type 0
+IsFolderOf path None = (folder : List ℕ) → ¬ (IsIndexOf folder path)
+IsFolderOf path (Some folder) = IsIndexOf folder path
+
 -- the percent-decoded text, or none if that isn't UTF-8
 abbrev pub IsDecoded : List ℕ → Option (List ℕ) → Type 0
 IsDecoded encoded None = ¬ (IsUtf8 (percent_decode encoded))

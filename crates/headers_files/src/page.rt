@@ -21,29 +21,35 @@ fn title(alloc: Global, code: u16, reason: &str) -> Result<String, AllocError>
     Ok(text)
 }
 
-fn push_between(text: &mut String, before: &str, title: &str, after: &str) -> Result<(), AllocError>
-    ensures { OnOk result (string_bytes text.new ≡ string_bytes text.old ++ before.now ++ title.now ++ after.now) }
+fn push_between(
+    text: &mut Vec<u8>,
+    before: &[u8],
+    title: &[u8],
+    after: &[u8],
+) -> Result<(), AllocError>
+    ensures { OnOk result (text.new.items ≡ text.old.items ++ before.now ++ title.now ++ after.now) }
 {
-    text.push_str(before)?;
-    text.push_str(title)?;
-    text.push_str(after)?;
+    text.extend_from_slice(before)?;
+    text.extend_from_slice(title)?;
+    text.extend_from_slice(after)?;
     Ok(())
 }
 
-// A page with this title. Nothing of the request is in it, so there is nothing to escape.
-fn page_with(alloc: Global, title: &str) -> Result<String, AllocError>
-    ensures { IfOk result (λ text. string_bytes text ≡ page_with title.now) }
+/// A page with this title, which is in HTML.
+pub(crate) fn page_with(alloc: Global, title: &[u8]) -> Result<Vec<u8>, AllocError>
+    ensures { IfOk result (λ text. text.items ≡ page_with title.now) }
 {
-    let mut text = String::new(alloc);
-    push_between(&mut text, "<!DOCTYPE html>\n<title>", title, "</title>\n")?;
-    push_between(&mut text, "<h1>", title, "</h1>\n")?;
+    let mut text = Vec::new(alloc);
+    push_between(&mut text, b"<!DOCTYPE html>\n<title>", title, b"</title>\n")?;
+    push_between(&mut text, b"<h1>", title, b"</h1>\n")?;
     Ok(text)
 }
 
-/// The page that explains a status (RFC 9110, section 15.5), in HTML. Fails only if an allocation fails.
-pub fn status_page(alloc: Global, status: StatusCode) -> Result<String, AllocError>
-    ensures { IfOk result (λ text. string_bytes text ≡ page status) }
+/// The page that explains a status (RFC 9110, section 15.5), in HTML. Nothing of the request is in it, so
+/// there is nothing to escape. Fails only if an allocation fails.
+pub fn status_page(alloc: Global, status: StatusCode) -> Result<Vec<u8>, AllocError>
+    ensures { IfOk result (λ text. text.items ≡ page status) }
 {
     let title = title(alloc, status.as_u16(), reason(status))?;
-    page_with(alloc, title.as_str())
+    page_with(alloc, title.as_bytes())
 }

@@ -1,8 +1,9 @@
 //! Paths of a store.
-ghost use Rattle.std.specs.Prelude.{◌≡◌, ◌==◌, IfOk, drop, option_map, slice_index, string_bytes};
+ghost use Rattle.std.specs.Prelude.{◌≡◌, ◌==◌, true, false, IfOk, MatchOption, drop, option_map, slice_index};
+ghost use Rattle.std.specs.Prelude.{string_bytes};
 ghost use Rattle.std.specs.List.{list_all};
 ghost use Rattle.percent_encoding.specs.Percent.{percent_decode};
-ghost use Rattle.headers_files.specs.Path.{IsDecoded, Names, ends_in_slash, is_first_name, is_name};
+ghost use Rattle.headers_files.specs.Path.{IsDecoded, IsFolderOf, Names, ends_in_slash, is_first_name, is_name};
 ghost use Rattle.headers_files.specs.Path.{is_name_byte, is_plain, names_folder, with_index};
 
 use percent_encoding::percent_decode;
@@ -21,7 +22,7 @@ fn are_name_bytes(name: &[u8]) -> bool
 }
 
 // Whether a store may have the name: it isn't hidden, and is no way up.
-fn is_name(name: &[u8]) -> bool
+pub(crate) fn is_name(name: &[u8]) -> bool
     ensures { result ≡ is_name name.now }
 {
     !name.is_empty() && name[0] != b'.' && are_name_bytes(name)
@@ -46,7 +47,8 @@ pub fn is_plain(path: &str) -> bool
     }
 }
 
-pub(crate) fn ends_in_slash(path: &[u8]) -> bool
+/// Whether the last byte of a path is a slash.
+pub fn ends_in_slash(path: &[u8]) -> bool
     ensures { result ≡ ends_in_slash path.now }
 {
     !path.is_empty() && path[path.len() - 1] == b'/'
@@ -91,6 +93,28 @@ fn with_index(mut path: String) -> Result<String, AllocError>
         path.push_str("index.html")?;
     }
     Ok(path)
+}
+
+/// The folder whose index a path of a store names: it is empty or ends in a slash. `None` if the path is
+/// another one.
+pub fn folder_of(path: &str) -> Option<&str>
+    ensures { IsFolderOf path.now (option_map (λ folder. folder.now) result) }
+{
+    match path.strip_suffix("index.html") {
+        Some(folder) => folder_if_named(folder),
+        None => None,
+    }
+}
+
+fn folder_if_named(folder: &str) -> Option<&str>
+    ensures { MatchOption result (names_folder folder.now ≡ false)
+        (λ named. (names_folder folder.now ≡ true) × (named.now ≡ folder.now)) }
+{
+    if names_folder(folder.as_bytes()) {
+        Some(folder)
+    } else {
+        None
+    }
 }
 
 // What follows the first slash of a path, percent-decoded.

@@ -1,5 +1,5 @@
 -- What the answer of a resource sends.
-use Rattle.std.proofs.Common.{◌≡◌, ℕ, Bool, true, false, List, [], ◌∷◌, ◌++◌, Option, Some, None, ap, refl, sym, subst, arith}
+use Rattle.std.proofs.Common.{◌≡◌, ℕ, Bool, true, false, List, [], ◌++◌, Option, Some, None, ap, sym, subst, arith}
 use Rattle.std.proofs.Common.{◌∙◌, Bor}
 use Rattle.std.proofs.lemmas.List.Elements.{All-head}
 use Rattle.std.proofs.lemmas.Option.{slice_get-map}
@@ -15,7 +15,6 @@ use Rattle.headers_preconditions.specs.Parts.{IsPartOf}
 use Rattle.headers_preconditions.specs.Plans.{IsPlan}
 use Rattle.headers_preconditions.specs.Responses.{IsAnswered}
 use Rattle.headers_preconditions.specs.declared.limits.RangeLimits.{RangeLimits}
-use Rattle.headers_preconditions.specs.declared.part.Part.{Part}
 use Rattle.headers_preconditions.specs.declared.plan.Plan.{Plan}
 use Rattle.headers_preconditions.specs.declared.plan.Plan.TheVariants.{NotModified, Failed, Full, Single, Multiple}
 use Rattle.headers_preconditions.specs.declared.plan.Plan.TheVariants.{Unsatisfiable}
@@ -38,7 +37,7 @@ use Rattle.headers_resource.specs.declared.representation.Representation.{Repres
 use Rattle.headers_resource.specs.declared.resource.Resource.{Resource}
 use Rattle.headers_cors_policy.specs.Policy.{Policy}
 use Rattle.headers_exchange.specs.declared.plan.Plan.{Plan as Exchanged}
-use Rattle.headers_serve.specs.Answer.{Carries, FitsIn, FitsOf, cache_sent, explained_fields, file_at, pieces_for}
+use Rattle.headers_serve.specs.Answer.{Carries, FitsIn, FitsOf, cache_sent, explained_fields, pieces_for}
 use Rattle.headers_serve.specs.File.{len_of, representation_of}
 use Rattle.headers_serve.specs.Parts.{Fits, Occurs}
 use Rattle.headers_serve.specs.Response.{headers_sent}

@@ -4,9 +4,8 @@ use Rattle.std.proofs.Common.{get_or, refl}
 use Rattle.std.proofs.lemmas.List.{take_all}
 use Rattle.std.specs.List.{list_any}
 use Rattle.std.specs.Prelude.{bytes_eq}
-use Rattle.headers.specs.LineMap.{Field, field_of, fields_of as encoded_fields}
+use Rattle.headers.specs.LineMap.{field_of, fields_of as encoded_fields}
 use Rattle.headers.specs.declared.Encoded.{Encoded}
-use Rattle.http1.specs.Fields.{Header}
 use Rattle.headers_serve.specs.Response.{headers_set, is_named, lines_unless}
 
 -- the first field, and the others

@@ -1,7 +1,7 @@
 -- A request has one response at most.
-use Rattle.std.proofs.Common.{◌≡◌, ℕ, Bool, true, false, List, [], ◌∷◌, ◌++◌, Option, Some, None, refl, map}
+use Rattle.std.proofs.Common.{◌≡◌, ℕ, Bool, true, List, [], ◌++◌, Option, Some, None, refl, map}
 use Rattle.std.proofs.Common.{sym, ap, subst, ◌∙◌, inl, inr}
-use Rattle.std.specs.Prelude.{codes, is_some, string_bytes}
+use Rattle.std.specs.Prelude.{is_some, string_bytes}
 use Rattle.http.specs.declared.request.Request.{Request}
 use Rattle.http.specs.Request.{head_of}
 use Rattle.http_uri.specs.declared.uri.Uri.{Uri}
@@ -14,7 +14,6 @@ use Rattle.headers_exchange.specs.declared.plan.Plan.{Plan as Response}
 use Rattle.headers_gateway.specs.declared.protocol.Protocol.{Protocol}
 use Rattle.headers_preconditions.specs.Contents.{divisible_len, limits_of}
 use Rattle.headers_preconditions.specs.declared.part.Part.{Part}
-use Rattle.headers_preconditions.specs.declared.plan.Plan.{Plan}
 use Rattle.headers_preconditions.specs.declared.plan.Plan.TheVariants.{Full, Multiple}
 use Rattle.headers_resource.specs.Answers.{AreSame, AreSent, IsAnswer, at_place, content_of, target_of}
 use Rattle.headers_resource.specs.Requests.{Request as Asked, head_of as as_head}
@@ -22,23 +21,23 @@ use Rattle.headers_resource.specs.declared.answer.Answer.{Answer}
 use Rattle.headers_resource.specs.declared.answer.Sends.{Sends}
 use Rattle.headers_resource.specs.declared.answer.Sends.TheVariants.{Nothing, Alternatives, Planned, Perform}
 use Rattle.headers_resource.specs.declared.reason.Reason.{Reason}
-use Rattle.headers_resource.specs.declared.representation.Representation.{Representation}
 use Rattle.headers_resource.specs.declared.request.RequestContent.{RequestContent}
 use Rattle.headers_resource.specs.declared.resource.Resource.{Resource}
 use Rattle.headers_resource.specs.declared.resource.State.{State}
 use Rattle.headers_resource.proofs.AnswerLemmas.{one_answer}
 use Rattle.headers_resource.proofs.ItemLemmas.{same_answer}
+use Rattle.headers_files.specs.declared.listing.Listing.{Listing}
 use Rattle.headers_serve.specs.Answer.{Carries, Decides, IsAnswerAt, IsDescribed, IsHeldBy, IsSendable, cache_sent, clock}
 use Rattle.headers_serve.specs.Answer.{explained_fields, file_at, file_sent, first_fields, pieces_for, sends_several}
 use Rattle.headers_serve.specs.Answer.{pieces_of, status_for}
-use Rattle.headers_serve.specs.Asked.{Asks, HasAuthority, IsAsked, IsAuthority, IsProtocolOf}
+use Rattle.headers_serve.specs.Asked.{Asks, HasAuthority, IsProtocolOf}
 use Rattle.headers_serve.specs.File.{representation_of}
-use Rattle.headers_serve.specs.Found.{FindsEntry, FindsFolder, HasMoved, IsAbsent, LeadsTo}
+use Rattle.headers_serve.specs.Found.{FindsEntry, FindsFolder, FindsListing, IsAbsent, LeadsTo}
 use Rattle.headers_serve.specs.Multipart.{multipart}
-use Rattle.headers_serve.specs.Response.{IsSameResponse, headers_sent, page_fields}
+use Rattle.headers_serve.specs.Response.{IsSameResponse, headers_sent}
 use Rattle.headers_serve.specs.declared.file.Entry.{Entry}
 use Rattle.headers_serve.specs.declared.file.Entry.TheVariants.{Missing, Forbidden, Unavailable}
-use Rattle.headers_serve.specs.declared.file.Entry.TheVariants.{Folder, Readable}
+use Rattle.headers_serve.specs.declared.file.Entry.TheVariants.{Folder, Listed, Readable}
 use Rattle.headers_serve.specs.declared.file.File.{File}
 use Rattle.headers_serve.specs.declared.found.Found.{Found}
 use Rattle.headers_serve.specs.declared.settings.Site.{Site}
@@ -76,6 +75,27 @@ folder_alike path query f g x y =
           ]
     ]
 
+listing_alike : (path : List ℕ) (listing : Listing) (f g : Found) → FindsListing path listing f
+    → FindsListing path listing g → AreAlike f g
+listing_alike path listing f g x y =
+    elim x [
+      | inl h ↦
+          elim y [
+            | inl k ↦
+                record {
+                  state = h.1.state ∙ sym k.1.state;
+                  status = h.1.status ∙ sym k.1.status;
+                  files = h.1.files ∙ sym k.1.files;
+                }
+            | inr k ↦ let yes = h.0 in let no = k.0 in absurd (cc (yes, no))
+          ]
+      | inr h ↦
+          elim y [
+            | inl k ↦ let no = h.0 in let yes = k.0 in absurd (cc (yes, no))
+            | inr k ↦ absent_alike 404 f g h.1 k.1
+          ]
+    ]
+
 module _ (negotiates : Bool) (look : List ℕ → Entry) (uri : Uri) (f g : Found) where
   abbrev Has : List ℕ → Entry → Type 0
   Has path entry = entry ≡ look path
@@ -86,6 +106,7 @@ module _ (negotiates : Bool) (look : List ℕ → Entry) (uri : Uri) (f g : Foun
   entry_alike named Forbidden h k = absent_alike 403 f g h k
   entry_alike named Unavailable h k = absent_alike 503 f g h k
   entry_alike named Folder h k = folder_alike (uri_path uri) (uri_query uri) f g h k
+  entry_alike named (Listed listing) h k = listing_alike (uri_path uri) listing f g h.1 k.1
   entry_alike named (Readable file) h k =
       record {
         state = h.0 ∙ sym k.0;

@@ -1,5 +1,5 @@
 -- A GET that makes no condition and asks for no range gets the content.
-use Rattle.std.proofs.Common.{◌≡◌, ℕ, ◌<◌, Bool, true, false, not, ◌&&◌, ◌||◌, List, [], ◌∷◌, length, get_or, cond}
+use Rattle.std.proofs.Common.{◌≡◌, ℕ, ◌<◌, Bool, true, false, not, ◌&&◌, List, [], ◌∷◌, length, cond}
 use Rattle.std.proofs.Common.{Option, Some, None, refl, sym, subst, ◌∙◌, ap, inl, inr, arith, lit<, map}
 use Rattle.std.specs.Option.{option_map_or}
 use Rattle.std.specs.Prelude.{bytes_eq, codes, find, is_some, nat_lt, option_map, slice_get, string_bytes}
@@ -37,9 +37,8 @@ use Rattle.headers_preconditions.proofs.OnePlanLemmas.{one_plan}
 use Rattle.headers_preconditions.proofs.PreconditionLemmas.{unconditional}
 use Rattle.headers_resource.specs.Answers.{GivesIf, Goes, GoesOn, IsAnswer, IsSelected, at_place, is_admitted, is_sent}
 use Rattle.headers_resource.specs.Answers.{place_of, status_sent}
-use Rattle.headers_resource.specs.Applies.{applies, exceeds, is_current, is_misdirected, is_read, is_unacceptable}
-use Rattle.headers_resource.specs.Applies.{is_unguarded, is_unsized, rule_for, ruled}
-use Rattle.headers_resource.specs.Reasons.{IsFirst}
+use Rattle.headers_resource.specs.Applies.{applies, exceeds, is_misdirected, is_unacceptable}
+use Rattle.headers_resource.specs.Applies.{is_unguarded, is_unsized, rule_for}
 use Rattle.headers_resource.specs.Representations.{are_unacceptable, coding_of, joined, rank_by, score}
 use Rattle.headers_resource.specs.Requests.{Request as Asked}
 use Rattle.headers_resource.specs.declared.answer.Answer.{Answer}
@@ -61,21 +60,22 @@ use Rattle.headers_resource.specs.declared.resource.Resource.{Resource}
 use Rattle.headers_resource.specs.declared.resource.State.{State}
 use Rattle.headers_resource.specs.declared.resource.State.TheVariants.{Current}
 use Rattle.headers_resource.proofs.PickLemmas.{picks_alike}
-use Rattle.headers_serve.specs.Answer.{AsksForAll, Carries, Decides, IsAnswerAt, IsDescribed, IsSendable, clock, file_at}
-use Rattle.headers_serve.specs.Answer.{file_sent, is_several, pieces_for, pieces_of, pieces_sent, sends_several}
+use Rattle.headers_serve.specs.Answer.{AsksForAll, Decides, IsAnswerAt, clock}
+use Rattle.headers_serve.specs.Answer.{is_several, pieces_for, pieces_of, pieces_sent, sends_several}
 use Rattle.headers_serve.specs.Answer.{source_of, source_sent, status_for}
 use Rattle.headers_serve.specs.Asked.{Asks}
-use Rattle.headers_serve.specs.File.{current_of, gives_at, gives_of, len_of, limits_of, representation_of, validators_of}
-use Rattle.headers_serve.specs.Found.{FindsEntry, LeadsTo}
+use Rattle.headers_serve.specs.File.{current_of, gives_of, len_of, limits_of, representation_of, validators_of}
+use Rattle.headers_serve.specs.Found.{FindsEntry, FindsListing, HasListing, LeadsTo, listed_file}
 use Rattle.headers_serve.specs.Multipart.{multipart}
-use Rattle.headers_files.specs.Path.{Names}
-use Rattle.headers_serve.specs.Representations.{AreContents}
+use Rattle.headers_files.specs.Listings.{listing_page}
+use Rattle.headers_files.specs.Path.{Names, ends_in_slash}
 use Rattle.headers_serve.specs.Sites.{IsSite}
 use Rattle.headers_serve.specs.declared.file.Entry.{Entry}
-use Rattle.headers_serve.specs.declared.file.Entry.TheVariants.{Readable}
+use Rattle.headers_serve.specs.declared.file.Entry.TheVariants.{Listed, Readable}
 use Rattle.headers_serve.specs.declared.file.File.{File}
 use Rattle.headers_serve.specs.declared.found.Found.{Found}
 use Rattle.headers_files.specs.declared.kept.Kept.{Kept}
+use Rattle.headers_files.specs.declared.listing.Listing.{Listing}
 use Rattle.headers_serve.specs.declared.settings.Site.{Site}
 use Rattle.headers_serve.specs.declared.source.Source.{Source}
 use Rattle.headers_serve.specs.declared.source.Source.TheVariants.{Kept as InMemory}
@@ -346,42 +346,36 @@ all_sent own source response kept sent has memory h =
     (subst (λ (s : Option Source). AreSent (gives_of s) (all_of own) sent) has.opens
     (subst (λ (l : List Piece). AreSent (gives_of source) l sent) has.pieces h)))
 
-found_file : (negotiates : Bool) (look : List ℕ → Entry) (request : Request (List ℕ)) (named : List ℕ) (file : File)
-    (found : Found) → Names (uri_path (head_of request).uri) (Some named) → look named ≡ Readable file
+found_entry : (negotiates : Bool) (look : List ℕ → Entry) (request : Request (List ℕ)) (named : List ℕ) (entry : Entry)
+    (found : Found) → Names (uri_path (head_of request).uri) (Some named) → look named ≡ entry
     → LeadsTo negotiates (λ path entry. entry ≡ look path) (head_of request).uri found
-    → FindsEntry negotiates (λ path entry. entry ≡ look path) (head_of request).uri named (Readable file) found
-found_file negotiates look request named file found names stands x =
+    → FindsEntry negotiates (λ path entry. entry ≡ look path) (head_of request).uri named entry found
+found_entry negotiates look request named entry found names stands x =
     elim x [
       | inl h ↦
           let same : h.0 ≡ named = h.1.is_named ∙ sym names.is_named in
-          let entry : h.2.0 ≡ Readable file = h.2.1 ∙ ap look same ∙ stands in
+          let is : h.2.0 ≡ entry = h.2.1 ∙ ap look same ∙ stands in
           subst
-          (λ (p : List ℕ).
-          FindsEntry negotiates (λ path e. e ≡ look path) (head_of request).uri p (Readable file) found) same
+          (λ (p : List ℕ). FindsEntry negotiates (λ path e. e ≡ look path) (head_of request).uri p entry found) same
           (subst
-          (λ (e : Entry). FindsEntry negotiates (λ path o. o ≡ look path) (head_of request).uri h.0 e found) entry
+          (λ (e : Entry). FindsEntry negotiates (λ path o. o ≡ look path) (head_of request).uri h.0 e found) is
           h.2.2)
       | inr h ↦ absurd (h.0 named names)
     ]
 
 module _ (now : Option ℕ) (left : ℕ) (site : Site) (divider : List ℕ) (look : List ℕ → Entry)
-    (request : Request (List ℕ)) (named : List ℕ) (file : File) (response : Response) (source : Option Source)
-    (asked : Asked) where
+    (request : Request (List ℕ)) (response : Response) (source : Option Source) (asked : Asked) where
+  -- all of the first content is sent, of which there is one
   get_has_all : IsSite divider site.resource → Asks request asked
       → has_host asked.protocol (asked.fields (codes "host")) ≡ true → is_misdirected site.resource asked ≡ false
       → has_known_expectation (asked.fields (codes "expect")) ≡ true → (head_of request).method ≡ get
-      → Names (uri_path (head_of request).uri) (Some named) → look named ≡ Readable file
       → AsksForAll site.resource.negotiation.coding (lines_at (head_of request).headers)
-      → IsAnswerAt now left site (λ path entry. entry ≡ look path) request response source
-      → (own : Source) × (own ≡ file.source) × HasAll own response source
-  get_has_all is_site asks host own_host expects method names stands all x =
+      → (x : IsAnswerAt now left site (λ path entry. entry ≡ look path) request response source)
+      → (own : File) (others : List File) → x.found.state ≡ Current → x.found.files.items ≡ own ∷ others
+      → HasAll own.source response source
+  get_has_all is_site asks host own_host expects method all x own others current contents =
       let present : ℕ = clock now in
       let by : List ℕ = string_bytes site.divider in
-      let finds =
-      found_file site.resource.negotiation.coding look request named file x.found names stands x.leads in
-      let contents =
-      contents_own site.resource.negotiation.coding (λ path entry. entry ≡ look path) named file x.found.files.items
-      finds.2 in
       let reads : x.asked ≡ reading asked.protocol asked.authority asked.fields =
       sym (asked_once request asked x.asked asks x.asks)
       ∙ ap
@@ -410,12 +404,12 @@ module _ (now : Option ℕ) (left : ℕ) (site : Site) (divider : List ℕ) (loo
       described.is
       ∙ ap
       (λ (s : State). record site.resource { state = s; representations = described.representations })
-      finds.0 in
+      current in
       let items =
-      described.are ∙ ap (map (representation_of present)) contents.2 in
+      described.are ∙ ap (map (representation_of present)) contents in
       let whole =
       decided_whole site.resource divider is_site described.representations asked.protocol asked.authority
-      asked.fields host own_host expects present contents.0 contents.1
+      asked.fields host own_host expects present own others
       (subst (λ (f : LineMap). AsksForAll site.resource.negotiation.coding f) (sym asks.2.fields) all) items by
       x.found.files.items x.answer
       (subst (λ (r : Resource). Decides present by x.found.files.items r (reading asked.protocol asked.authority asked.fields) x.answer) resource
@@ -423,25 +417,22 @@ module _ (now : Option ℕ) (left : ℕ) (site : Site) (divider : List ℕ) (loo
       let carries = x.carries in
       let status =
       ap (λ (r : Reason). status_for x.found.status r x.answer.status) whole.admits
-      ∙ ap (λ (s : Option ℕ). status_for x.found.status Admitted s) whole.status in (
-        contents.0.source,
-        contents.3,
-        record {
-          status = carries.status ∙ status;
-          pieces =
-              carries.pieces
-              ∙ ap
-              (pieces_for by site.pages.items x.found.files.items
-              (status_for x.found.status x.answer.reason x.answer.status))
-              whole.sends
-              ∙ ap (λ (l : List File). pieces_of by (slice_get l 0) whole.plan) contents.2
-              ∙ whole.whole.pieces by;
-          opens =
-              x.opens
-              ∙ ap (source_sent x.found.files.items) whole.sends
-              ∙ ap (λ (l : List File). source_of (slice_get l 0)) contents.2;
-        },
-      )
+      ∙ ap (λ (s : Option ℕ). status_for x.found.status Admitted s) whole.status in
+      record {
+        status = carries.status ∙ status;
+        pieces =
+            carries.pieces
+            ∙ ap
+            (pieces_for by site.pages.items x.found.files.items
+            (status_for x.found.status x.answer.reason x.answer.status))
+            whole.sends
+            ∙ ap (λ (l : List File). pieces_of by (slice_get l 0) whole.plan) contents
+            ∙ whole.whole.pieces by;
+        opens =
+            x.opens
+            ∙ ap (source_sent x.found.files.items) whole.sends
+            ∙ ap (λ (l : List File). source_of (slice_get l 0)) contents;
+      }
 
 pub get_whole : (now : Option ℕ) (left : ℕ) (site : Site) (divider : List ℕ) (look : List ℕ → Entry)
     (request : Request (List ℕ)) (named : List ℕ) (file : File) (response : Response) (source : Option Source)
@@ -458,9 +449,44 @@ pub get_whole : (now : Option ℕ) (left : ℕ) (site : Site) (divider : List �
     → AreSent (gives_of source) response.pieces.items sent → sent ≡ kept.content)
 get_whole now left site divider look request named file response source asked is_site asks host own_host expects method
     names stands all x =
+    let finds =
+    found_entry site.resource.negotiation.coding look request named (Readable file) x.found names stands x.leads in
+    let contents =
+    contents_own site.resource.negotiation.coding (λ path entry. entry ≡ look path) named file x.found.files.items
+    finds.2 in
     let has =
-    get_has_all now left site divider look request named file response source asked is_site asks host own_host expects
-    method names stands all x in (
-      has.2.status,
-      λ kept sent memory. all_sent has.0 source response kept sent has.2 (has.1 ∙ memory),
+    get_has_all now left site divider look request response source asked is_site asks host own_host expects method all x
+    contents.0 contents.1 finds.0 contents.2 in (
+      has.status,
+      λ kept sent memory. all_sent contents.0.source source response kept sent has (contents.3 ∙ memory),
+    )
+
+has_listing : (path : List ℕ) (listing : Listing) (found : Found) → FindsListing path listing found
+    → ends_in_slash path ≡ true → HasListing listing found
+has_listing path listing found x slash = elim x [ inl h ↦ h.1 | inr h ↦ let no = h.0 in absurd (cc (no, slash)) ]
+
+pub get_listing : (now : Option ℕ) (left : ℕ) (site : Site) (divider : List ℕ) (look : List ℕ → Entry)
+    (request : Request (List ℕ)) (named : List ℕ) (listing : Listing) (response : Response)
+    (source : Option Source) (asked : Asked)
+    → IsSite divider site.resource → Asks request asked
+    → has_host asked.protocol (asked.fields (codes "host")) ≡ true → is_misdirected site.resource asked ≡ false
+    → has_known_expectation (asked.fields (codes "expect")) ≡ true
+    → (head_of request).method ≡ codes "GET"
+    → Names (uri_path (head_of request).uri) (Some named) → look named ≡ Listed listing
+    → ends_in_slash (uri_path (head_of request).uri) ≡ true
+    → AsksForAll site.resource.negotiation.coding (lines_at (head_of request).headers)
+    → IsAnswerAt now left site (λ path entry. entry ≡ look path) request response source
+    → (response.status ≡ 200)
+    × ((sent : List ℕ) → AreSent (gives_of source) response.pieces.items sent
+    → sent ≡ listing_page (string_bytes listing.folder) (map string_bytes listing.names.items))
+get_listing now left site divider look request named listing response source asked is_site asks host own_host expects
+    method names stands slash all x =
+    let finds =
+    found_entry site.resource.negotiation.coding look request named (Listed listing) x.found names stands x.leads in
+    let lists = has_listing (uri_path (head_of request).uri) listing x.found finds.1 slash in
+    let has =
+    get_has_all now left site divider look request response source asked is_site asks host own_host expects method all x
+    (listed_file listing) [] lists.state lists.files in (
+      has.status,
+      λ sent h. all_sent (InMemory listing.page) source response listing.page sent has refl h ∙ listing.is_page,
     )

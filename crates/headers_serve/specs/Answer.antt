@@ -1,5 +1,5 @@
 -- What a request is answered with.
-use Rattle.std.specs.Prelude.{◌≡◌, ◌⊎◌, ℕ, ◌==◌, Bool, true, false, nat_lt, List, [], ◌∷◌, ◌++◌, codes, map, slice_get}
+use Rattle.std.specs.Prelude.{◌≡◌, ◌⊎◌, ℕ, Bool, true, false, nat_lt, List, [], ◌∷◌, ◌++◌, codes, map, slice_get}
 use Rattle.std.specs.Prelude.{Option, Some, None, ⊤, if◌then◌else◌, is_some, string_bytes}
 use Rattle.std.specs.Global.{Vec}
 use Rattle.http.specs.declared.request.Request.{Request}
@@ -7,7 +7,7 @@ use Rattle.http.specs.Request.{head_of}
 use Rattle.http_header.specs.FieldValue.{FieldValue}
 use Rattle.http1.specs.Fields.{Header}
 use Rattle.headers.specs.Date.{fixdate}
-use Rattle.headers.specs.LineMap.{Field, LineMap, fields_of as encoded_fields, lines_at}
+use Rattle.headers.specs.LineMap.{Field, LineMap, fields_of as encoded_fields}
 use Rattle.headers_exchange.specs.declared.plan.Plan.{Plan as Response}
 use Rattle.headers_exchange.specs.declared.piece.Piece.{Piece}
 use Rattle.headers_exchange.specs.declared.piece.Piece.TheVariants.{Range}

@@ -9,3 +9,4 @@ pub mod Representations
 pub mod Response
 pub mod SiteSettings
 pub mod Sites
+pub mod Stores

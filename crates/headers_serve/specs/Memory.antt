@@ -3,7 +3,7 @@ use Rattle.std.specs.Prelude.{◌≡◌, ◌≢◌, ℕ, List, string_bytes}
 use Rattle.headers_files.specs.declared.coding.Coding.TheVariants.{Identity}
 use Rattle.headers_serve.specs.declared.file.Entry.{Entry}
 use Rattle.headers_serve.specs.declared.file.Entry.TheVariants.{Missing, Forbidden, Unavailable}
-use Rattle.headers_serve.specs.declared.file.Entry.TheVariants.{Folder, Readable}
+use Rattle.headers_serve.specs.declared.file.Entry.TheVariants.{Folder, Listed, Readable}
 use Rattle.headers_serve.specs.declared.source.Source.{Source}
 use Rattle.headers_serve.specs.declared.source.Source.TheVariants.{Kept, Opened}
 use Rattle.headers_serve.specs.declared.memory.Memory.{Memory}
@@ -19,6 +19,7 @@ HasOne store path Missing = path ≢ string_bytes store.path
 HasOne store path Forbidden = ⊥
 HasOne store path Unavailable = ⊥
 HasOne store path Folder = ⊥
+HasOne store path (Listed listing) = ⊥
 HasOne store path (Readable file) =
     (path ≡ string_bytes store.path) × IsKept store.content.content file.source
     × (file.media_type ≡ store.media_type) × (file.modified ≡ store.modified) × (file.coding ≡ Identity)

@@ -7,7 +7,7 @@ use Rattle.headers_files.specs.declared.coding.Coding.{Coding}
 use Rattle.headers_files.specs.declared.coding.Coding.TheVariants.{Identity, Brotli, Gzip}
 use Rattle.headers_serve.specs.declared.file.Entry.{Entry}
 use Rattle.headers_serve.specs.declared.file.Entry.TheVariants.{Missing, Forbidden, Unavailable}
-use Rattle.headers_serve.specs.declared.file.Entry.TheVariants.{Folder, Readable}
+use Rattle.headers_serve.specs.declared.file.Entry.TheVariants.{Folder, Listed, Readable}
 use Rattle.headers_serve.specs.declared.file.File.{File}
 
 -- a stored content as a representation of this media type, in a coding
@@ -20,6 +20,7 @@ offered media_type coding Missing = []
 offered media_type coding Forbidden = []
 offered media_type coding Unavailable = []
 offered media_type coding Folder = []
+offered media_type coding (Listed listing) = []
 offered media_type coding (Readable stored) = represented media_type coding stored ∷ []
 
 -- what a store has at a path; at one that isn't plain it has nothing

@@ -2,7 +2,7 @@
 
 use crate::source::Source;
 use headers::{HeaderValue, LastModified};
-use headers_files::Coding;
+use headers_files::{Coding, Listing};
 
 /// A file's current content.
 #[derive(Debug, Drop)]
@@ -28,6 +28,9 @@ pub enum Entry {
     Unavailable,
     /// A folder: the answer is 301, to the path with a slash after it.
     Folder,
+    /// A folder in which the index that the path names isn't there: the answer is the page that lists the
+    /// folder, if the path of the request ends in a slash, and else 404.
+    Listed(Listing),
     /// A file.
     Readable(File),
 }

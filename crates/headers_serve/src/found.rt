@@ -2,13 +2,17 @@
 ghost use Rattle.std.specs.Prelude.{◌≡◌, IfOk, option_copied};
 ghost use Rattle.http.specs.Request.{head_of};
 ghost use Rattle.http_uri.specs.Uri.{uri_path, uri_query};
-ghost use Rattle.headers_serve.specs.Found.{FindsEntry, FindsFolder, IsAbsent, LeadsTo};
+ghost use Rattle.headers_serve.specs.Found.{FindsEntry, FindsFolder, FindsListing, IsAbsent, LeadsTo};
+ghost use Rattle.headers_serve.specs.Found.{listed_file};
+ghost use Rattle.headers_serve.specs.Stores.{ListsOwn};
 
 use crate::file::{Entry, File};
 use crate::representation::contents_of;
+use crate::source::Source;
 use crate::store::Store;
 use bytes::Bytes;
-use headers_files::{index_location, store_path};
+use headers::HeaderValue;
+use headers_files::{Coding, Listing, ends_in_slash, index_location, store_path};
 use headers_resource::{Redirect, State};
 use http::{Request, StatusCode};
 use std::alloc::{AllocError, Global};
@@ -48,6 +52,32 @@ fn folder_at(alloc: Global, path: &str, query: Option<&str>) -> Result<Found, Al
     }
 }
 
+fn listed_file(listing: Listing) -> File
+    ensures { result ≡ listed_file listing }
+{
+    File {
+        source: Source::Kept(listing.into_page()),
+        media_type: HeaderValue::from_static("text/html; charset=utf-8"),
+        modified: None,
+        coding: Coding::Identity,
+    }
+}
+
+// A folder that is listed, if the path ends in a slash.
+fn listed_at(alloc: Global, path: &str, listing: Listing) -> Result<Found, AllocError>
+    ensures { IfOk result (FindsListing path.now listing) }
+{
+    if !ends_in_slash(path.as_bytes()) {
+        return Ok(absent(alloc, StatusCode::NOT_FOUND));
+    }
+    let files = vec![in alloc; listed_file(listing)]?;
+    Ok(Found {
+        state: State::Current,
+        status: StatusCode::NOT_FOUND,
+        files,
+    })
+}
+
 fn path_of(request: &Request<Bytes>) -> &str
     ensures { result.now ≡ uri_path (head_of request.now).uri }
 {
@@ -69,6 +99,7 @@ fn found_by<S: Store>(
     named: &str,
     entry: Entry,
 ) -> Result<Found, AllocError>
+    requires { ListsOwn named.now entry }
     ensures { IfOk result (FindsEntry negotiates (S.has store.now) (head_of request.now).uri named.now entry) }
 {
     match entry {
@@ -77,6 +108,10 @@ fn found_by<S: Store>(
         Entry::Unavailable => Ok(absent(alloc, StatusCode::SERVICE_UNAVAILABLE)),
         Entry::Folder => {
             let found = folder_at(alloc, path_of(request), query_of(request))?;
+            Ok(found)
+        }
+        Entry::Listed(listing) => {
+            let found = listed_at(alloc, path_of(request), listing)?;
             Ok(found)
         }
         Entry::Readable(file) => {

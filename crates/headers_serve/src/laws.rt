@@ -1,6 +1,6 @@
 //! What follows from the definitions alone. A proof cites a law by calling it.
 ghost use Rattle.std.specs.Prelude.{◌≡◌, ℕ, true, false, List};
-ghost use Rattle.std.specs.Prelude.{Option, Some, codes};
+ghost use Rattle.std.specs.Prelude.{Option, Some, codes, map, string_bytes};
 ghost use Rattle.http.specs.Request.{head_of};
 ghost use Rattle.http.specs.declared.request.Request.{Request};
 ghost use Rattle.http_uri.specs.Uri.{uri_path};
@@ -19,18 +19,22 @@ ghost use Rattle.headers_serve.specs.Answer.{AsksForAll, Decides, IsAnswerAt, fi
 ghost use Rattle.headers_serve.specs.Asked.{Asks};
 ghost use Rattle.headers_serve.specs.File.{gives_at, gives_of};
 ghost use Rattle.headers_serve.specs.Parts.{Occurs, bytes_of, part_bytes};
-ghost use Rattle.headers_files.specs.Path.{Names};
+ghost use Rattle.headers_files.specs.Listings.{listing_page};
+ghost use Rattle.headers_files.specs.Path.{Names, ends_in_slash};
 ghost use Rattle.headers_serve.specs.Response.{IsSameResponse};
 ghost use Rattle.headers_serve.specs.Sites.{IsSite};
-ghost use Rattle.headers_serve.specs.declared.file.Entry.TheVariants.{Readable};
+ghost use Rattle.headers_serve.specs.declared.file.Entry.TheVariants.{Listed, Readable};
 ghost use Rattle.headers_serve.specs.declared.file.Entry.{Entry};
 ghost use Rattle.headers_serve.specs.declared.file.File.{File};
 ghost use Rattle.headers_files.specs.declared.kept.Kept.{Kept};
+ghost use Rattle.headers_files.specs.declared.listing.Listing.{Listing};
 ghost use Rattle.headers_serve.specs.declared.source.Source.{Source};
 ghost use Rattle.headers_serve.specs.declared.source.Source.TheVariants.{Kept as InMemory};
 ghost use Rattle.headers_serve.specs.declared.settings.Site.{Site};
 
-pub use headers_files::laws::redirects_stay_on_the_host;
+pub use headers_files::laws::{
+    listing_links_to_each_name, redirects_stay_on_the_host, shown_text_is_escaped,
+};
 
 /// A request has one response at most at a moment, where the store has one entry at each path: two
 /// responses have the same status, the same fields in the same order, and the same pieces.
@@ -65,6 +69,25 @@ pub fn get_gets_the_content()
         → (response.status ≡ 200)
         × ((kept : Kept) (sent : List ℕ) → file.source ≡ InMemory kept
         → AreSent (gives_of source) response.pieces.items sent → sent ≡ kept.content) }
+{}
+
+/// A GET of a folder that is listed, by a path that ends in a slash, under the same conditions, is answered by
+/// 200. Exactly the page that lists its names is sent.
+pub fn get_gets_the_listing()
+    ensures { (now : Option ℕ) (left : ℕ) (site : Site) (divider : List ℕ) (look : List ℕ → Entry)
+        (request : Request (List ℕ)) (named : List ℕ) (listing : Listing) (response : Response)
+        (source : Option Source) (asked : Asked)
+        → IsSite divider site.resource → Asks request asked
+        → has_host asked.protocol (asked.fields (codes "host")) ≡ true → is_misdirected site.resource asked ≡ false
+        → has_known_expectation (asked.fields (codes "expect")) ≡ true
+        → (head_of request).method ≡ codes "GET"
+        → Names (uri_path (head_of request).uri) (Some named) → look named ≡ Listed listing
+        → ends_in_slash (uri_path (head_of request).uri) ≡ true
+        → AsksForAll site.resource.negotiation.coding (lines_at (head_of request).headers)
+        → IsAnswerAt now left site (λ path entry. entry ≡ look path) request response source
+        → (response.status ≡ 200)
+        × ((sent : List ℕ) → AreSent (gives_of source) response.pieces.items sent
+        → sent ≡ listing_page (string_bytes listing.folder) (map string_bytes listing.names.items)) }
 {}
 
 /// If an answer sends several parts of bytes in memory, none holds the boundary between them (RFC 2046,

@@ -28,5 +28,6 @@ pub use crate::settings::{Divider, Page, Settings, Site};
 pub use crate::source::{Opened, Source};
 pub use crate::store::Store;
 pub use headers_files::{
-    Coding, Kept, index_location, is_plain, media_type_of, status_page, store_path,
+    Coding, Kept, Listing, ends_in_slash, folder_of, index_location, is_plain, media_type_of,
+    status_page, store_path,
 };

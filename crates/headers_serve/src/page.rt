@@ -36,7 +36,7 @@ fn page_for(alloc: Global, pages: &[Page], status: StatusCode) -> Result<Bytes, 
         Some(own) => Ok(own.content.clone()?),
         None => {
             let text = status_page(alloc, status)?;
-            Ok(Bytes::from_string(text)?)
+            Ok(Bytes::from_vec(text)?)
         }
     }
 }

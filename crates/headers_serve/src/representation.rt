@@ -73,7 +73,8 @@ fn push_offer(
             offers.push(made)?;
             Ok(())
         }
-        Entry::Missing | Entry::Forbidden | Entry::Unavailable | Entry::Folder => Ok(()),
+        Entry::Missing | Entry::Forbidden | Entry::Unavailable | Entry::Folder | Entry::Listed(_) =>
+            Ok(()),
     }
 }
 

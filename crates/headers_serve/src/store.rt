@@ -1,6 +1,7 @@
 //! Where files come from.
 ghost use Rattle.std.specs.Prelude.{◌≡◌, ℕ, true, List, IfOk};
 ghost use Rattle.headers_files.specs.Path.{is_plain};
+ghost use Rattle.headers_serve.specs.Stores.{ListsOwn};
 ghost use Rattle.headers_serve.specs.declared.file.Entry.{Entry};
 
 use crate::file::Entry;
@@ -19,7 +20,8 @@ pub trait Store {
     /// stays below the root of the store.
     fn find(&self, alloc: Global, path: &str) -> Result<Entry, AllocError>
         requires { is_plain path.now ≡ true }
-        ensures { IfOk result (has self.now path.now) };
+        ensures entry { IfOk result (has self.now path.now) }
+        ensures listed { IfOk result (ListsOwn path.now) };
 
     /// The seconds since the start of 1970, if there is a clock.
     fn now(&self) -> Option<u64>;

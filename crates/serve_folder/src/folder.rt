@@ -1,12 +1,17 @@
 //! The files of a folder.
+ghost use Rattle.std.specs.Prelude.{ℕ, List, IfOk};
+ghost use Rattle.headers_serve.specs.Stores.{ListsOwn};
 
 use crate::kept::KeptFiles;
+use crate::names::names_in;
 use crate::place::Place;
 use bytes::Bytes;
 use headers::{Date, ETag, HeaderValue, LastModified, Refused};
 use headers_access_log::log_line;
 use headers_exchange::Plan as Response;
-use headers_serve::{Coding, Entry, File, Kept, Opened, Source, Store, media_type_of};
+use headers_serve::{
+    Coding, Entry, File, Kept, Listing, Opened, Source, Store, folder_of, media_type_of,
+};
 use http::Request;
 use std::alloc::{AllocError, Global};
 use std::io::{ErrorKind, Read, Write};
@@ -33,6 +38,8 @@ pub struct Folder<'a> {
     pub max_file: u64,
     /// Whether responses have dates: of the clock, and of the files.
     pub has_dates: bool,
+    /// Whether a folder without an index is listed.
+    pub lists: bool,
     /// The client's name in the log, if there is a log.
     pub logged: Option<String>,
     /// The files that were read before.
@@ -44,7 +51,9 @@ fn seconds_of(time: SystemTime) -> Option<u64> {
 }
 
 // What stands where the system gives this error, or the error of memory.
-fn entry_of(error: &io::Error) -> Result<Entry, AllocError> {
+fn entry_of(error: &io::Error) -> Result<Entry, AllocError>
+    ensures { (p : List ℕ) → IfOk result (ListsOwn p) }
+{
     match error.kind() {
         ErrorKind::NotFound | ErrorKind::NotADirectory | ErrorKind::InvalidFilename => {
             Ok(Entry::Missing)
@@ -144,7 +153,9 @@ impl Folder<'_> {
     }
 
     // Opens a file. The system says of it what it is now.
-    fn open(&self, place: &Place<'_>, media_type: HeaderValue) -> io::Result<Entry> {
+    fn open(&self, place: &Place<'_>, media_type: HeaderValue) -> io::Result<Entry>
+        ensures { (p : List ℕ) → IfOk result (ListsOwn p) }
+    {
         let now = SystemTime::now(self.rt)?;
         let file = place.open(self.rt)?;
         let metadata = file.metadata()?;
@@ -164,8 +175,39 @@ impl Folder<'_> {
         }))
     }
 
+    // What stands at a path below the root. It is no listing.
+    fn entry_at(&self, alloc: Global, path: &str) -> Result<Entry, AllocError>
+        ensures { (p : List ℕ) → IfOk result (ListsOwn p) }
+    {
+        let full = format!(in alloc; "{}/{path}", self.root)?;
+        match self.entry(full.as_str(), path) {
+            Ok(entry) => Ok(entry),
+            Err(error) => entry_of(&error),
+        }
+    }
+
+    // The listing of the folder whose index a path names.
+    fn listing(&self, alloc: Global, path: &str) -> Result<Entry, AllocError>
+        ensures { IfOk result (ListsOwn path.now) }
+    {
+        let Some(folder) = folder_of(path) else {
+            return Ok(Entry::Missing);
+        };
+        let full = format!(in alloc; "{}/{folder}", self.root)?;
+        match names_in(self.rt, self.root, full.as_str()) {
+            Ok(Some(names)) => {
+                let folder = String::from_str(alloc, folder)?;
+                Ok(Entry::Listed(Listing::new(alloc, folder, names)?))
+            }
+            Ok(None) => Ok(Entry::Missing),
+            Err(error) => entry_of(&error),
+        }
+    }
+
     // What stands at a path of the system, which has this name below the root.
-    fn entry(&self, path: &str, name: &str) -> io::Result<Entry> {
+    fn entry(&self, path: &str, name: &str) -> io::Result<Entry>
+        ensures { (p : List ℕ) → IfOk result (ListsOwn p) }
+    {
         let Some(place) = Place::resolve(self.rt, self.root, path)? else {
             return Ok(Entry::Missing);
         };
@@ -201,11 +243,11 @@ impl Store for Folder<'_> {
     ghost has = { λ _ _ _. ⊤ };
 
     fn find(&self, alloc: Global, path: &str) -> Result<Entry, AllocError> {
-        let full = format!(in alloc; "{}/{path}", self.root)?;
-        match self.entry(full.as_str(), path) {
-            Ok(entry) => Ok(entry),
-            Err(error) => entry_of(&error),
+        let entry = self.entry_at(alloc, path)?;
+        if self.lists && matches!(entry, Entry::Missing) {
+            return self.listing(alloc, path);
         }
+        Ok(entry)
     }
 
     fn now(&self) -> Option<u64> {

@@ -4,6 +4,7 @@
 mod cors;
 mod folder;
 mod kept;
+mod names;
 mod options;
 mod pages;
 mod place;
@@ -161,6 +162,7 @@ fn folder_of<'a>(
         root,
         max_file: matches.get_one::<u64>("max-file").unwrap_or(u64::MAX),
         has_dates: !matches.get_flag("no-dates"),
+        lists: matches.get_flag("listing"),
         logged: logged_for(rt, matches)?,
         kept,
     })

@@ -22,6 +22,10 @@ pub fn command<'a>(alloc: Global) -> Result<Command<'a>, AllocError> {
         .value_name("NAME")
         .action(ArgAction::Append)
         .help("Answer 421 to requests for other hosts; may be repeated");
+    let listing = Arg::new(alloc, "listing")
+        .long("listing")
+        .action(ArgAction::SetTrue)
+        .help("List the names in a folder that has no index.html");
     let log = Arg::new(alloc, "log")
         .long("log")
         .action(ArgAction::SetTrue)
@@ -53,6 +57,7 @@ pub fn command<'a>(alloc: Global) -> Result<Command<'a>, AllocError> {
         .arg(cache_control)?
         .arg(cors_origin)?
         .arg(host)?
+        .arg(listing)?
         .arg(log)?
         .arg(max_file)?
         .arg(pages)?

@@ -34,6 +34,11 @@ impl<'a> Place<'a> {
         fs::metadata(rt, self.path.as_str())
     }
 
+    /// What it has, if it is a folder.
+    pub fn read_dir(&self, rt: &HostRuntime) -> io::Result<fs::ReadDir> {
+        fs::read_dir(rt, self.path.as_str())
+    }
+
     /// The file that stands there, to be read.
     pub fn open(&self, rt: &HostRuntime) -> io::Result<fs::File> {
         fs::File::open(rt, self.path.as_str())

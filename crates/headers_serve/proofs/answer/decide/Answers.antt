@@ -1,4 +1,4 @@
-use Rattle.std.proofs.Common.{inl, inr, subst}
+use Rattle.std.proofs.Common.{inl, inr}
 use Rattle.headers_resource.specs.Requests.{head_of as as_head, request_of}
 use Rattle.headers_serve.proofs.AnswerLemmas.{FitsIn-from_answer}
 use Rattle.headers_serve.proofs.answer.decide.Goals as goal

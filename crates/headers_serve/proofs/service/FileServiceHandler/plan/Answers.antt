@@ -2,14 +2,11 @@ use Rattle.std.proofs.Common.{◌≡◌, ℕ, List, [], ◌∷◌, ◌++◌, Opt
 use Rattle.std.specs.Prelude.{option_map, string_bytes}
 use Rattle.http_header.specs.FieldValue.{FieldValue}
 use Rattle.http1.specs.Fields.{Header}
-use Rattle.headers.specs.LineMap.{Field, fields_of as encoded_fields}
+use Rattle.headers.specs.LineMap.{fields_of as encoded_fields}
 use Rattle.headers.specs.Lines.{Line}
 use Rattle.headers_resource.specs.Requests.{request_of}
-use Rattle.headers_resource.specs.declared.answer.Answer.{Answer}
-use Rattle.headers_resource.specs.declared.answer.Sends.{Sends}
-use Rattle.headers_resource.specs.declared.reason.Reason.{Reason}
 use Rattle.headers_resource.specs.declared.resource.Resource.{Resource}
-use Rattle.headers_serve.specs.Answer.{Carries, Decides, IsDescribed, clock, closing_fields, first_fields, sniff_field}
+use Rattle.headers_serve.specs.Answer.{Carries, Decides, IsDescribed, closing_fields, first_fields, sniff_field}
 use Rattle.headers_serve.specs.Answer.{source_sent, status_for}
 use Rattle.headers_serve.specs.Asked.{IsAsked}
 use Rattle.headers_serve.specs.Response.{fields_of}
