@@ -1,17 +1,21 @@
 -- Where a field is cut, and what that makes of a line.
-use Rattle.std.proofs.Common.{◌≡◌, ℕ, suc, ◌+◌, ◌<◌, true, false, IsTrue, List, ◌∷◌, ◌++◌, length, take, drop, get_or}
-use Rattle.std.proofs.Common.{nat_lt, nat_le, refl, sym, ◌∙◌, ap, subst, inl, inr, arith, All}
-use Rattle.std.specs.List.{list_all, slice_split}
+use Rattle.std.proofs.Common.{◌≡◌, ℕ, suc, ◌+◌, ◌<◌, ◌≤◌, true, false, IsTrue, List, ◌∷◌, ◌++◌, length, take, drop}
+use Rattle.std.proofs.Common.{get_or, nat_lt, nat_le, refl, sym, ◌∙◌, ap, subst, inl, inr, arith, All}
+use Rattle.std.specs.Prelude.{◌↔◌, Result, Ok, Err, OnOk, IsErrOf}
+use Rattle.std.specs.List.{list_all, slice_range, slice_split}
 use Rattle.std.proofs.lemmas.Bool.{cases_Bool}
 use Rattle.std.proofs.lemmas.Bool.Decides.{nat_tests}
-use Rattle.std.proofs.lemmas.List.{get_or_at, append_cancel_left, length-append}
+use Rattle.std.proofs.lemmas.List.{get_or_at, append_cancel_left, length-append, length-take-le, take-take}
 use Rattle.std.proofs.lemmas.List.Elements.{All-weaker}
 use Rattle.std.proofs.lemmas.List.Splits.{slice_split_at}
 use Rattle.std.proofs.lemmas.List.Sums.{list_all-from_AllPass}
+use Rattle.bytes.proofs.Ranges.{drop-take_less}
 use Rattle.memchr.specs.Find.{NoneBefore, Nowhere, Passes, is_byte}
+use Rattle.http_header.specs.declared.name.HeaderNameError.{HeaderNameError}
+use Rattle.http_header.specs.declared.name.HeaderNameError.TheVariants.{Invalid}
 use Rattle.http_header.specs.Token.{token_test, is_token_byte, lowercase}
 use Rattle.http_header.specs.FieldName.{IsFieldName, is_field_name}
-use Rattle.http_header.specs.FieldValue.{IsFieldValue, plain_value}
+use Rattle.http_header.specs.FieldValue.{FieldValue, IsFieldValue, plain_value}
 use Rattle.http_header.proofs.TokenLemmas.{IsFieldName-from_test}
 use Rattle.headers.specs.Lines.{Line}
 use Rattle.headers.specs.Text.{trim}
@@ -33,6 +37,13 @@ IsFieldName-from_kept bytes kept =
       | inl t ↦ IsFieldName-from_test bytes t
       | inr f ↦ absurd (kept (λ valid. let t = test-from_IsFieldName bytes valid in absurd (cc (t, f))))
     ]
+
+-- bytes that are kept as a name are one
+pub OnOk-field_name : {A : Type 0} (found : Result A HeaderNameError) (bytes : List ℕ)
+    → (IsErrOf found Invalid ↔ ¬ (IsFieldName bytes)) → OnOk found (IsFieldName bytes)
+OnOk-field_name (Ok name) bytes invalid =
+    IsFieldName-from_kept bytes (λ no. let same = invalid.1 no in absurd (cc same))
+OnOk-field_name (Err e) bytes invalid = tt
 
 -- a line without a colon is no field
 pub IsNoField-without_colon : (line : Line) → Nowhere (Passes (is_byte 58) line) 0 (length line) → IsNoField line
@@ -72,25 +83,58 @@ split_at_colon line colon within here =
     let byte : get_or line colon 0 ≡ 58 = grind (arith, here) in
     split_at_place line colon within ∙ ap (λ middle. take colon line ++ middle ∷ drop (colon + 1) line) byte
 
--- what a field says of the parts before and after the first colon
-pub parts_of_field : (line : Line) (colon : ℕ) → NoneBefore (Passes (is_byte 58) line) 0 (length line) colon
-    → Passes (is_byte 58) line colon → (field : Field) → IsField line field
-    → IsFieldName (take colon line) × IsFieldValue (trim (drop (colon + 1) line))
-parts_of_field line colon first here field is =
-    let parts =
-    parts_once line _ _ field is (none_before 58 line colon first) (split_at_colon line colon first.high here) in
-    (subst IsFieldName parts.0 is.valid_name, subst (λ rest. IsFieldValue (trim rest)) parts.1 is.valid_value)
+-- the first bytes have their first colon at the place
+abbrev pub HasFirstColon : List ℕ → ℕ → ℕ → Type 0
+HasFirstColon bytes end colon =
+    NoneBefore (Passes (is_byte 58) (take end bytes)) 0 (length (take end bytes)) colon
+    × Passes (is_byte 58) (take end bytes) colon
 
--- the parts before and after the first colon, where they are a name and a value
-pub IsField-from_parts : (line : Line) (colon : ℕ) (field : Field) → colon < length line
-    → Passes (is_byte 58) line colon → IsFieldName (take colon line) → IsFieldValue (trim (drop (colon + 1) line))
-    → field ≡ (lowercase (take colon line), plain_value (trim (drop (colon + 1) line))) → IsField line field
-IsField-from_parts line colon field within here valid_name valid_value is =
-    record {
-      name = take colon line;
-      rest = drop (colon + 1) line;
-      line_is = split_at_colon line colon within here;
-      valid_name = valid_name;
-      valid_value = valid_value;
-      field_is = is;
-    }
+-- a line with its first colon, and the bytes that begin with it
+module _ (bytes : List ℕ) (end colon : ℕ) (within : end ≤ length bytes) (found : HasFirstColon bytes end colon) where
+  before_end : colon < end
+  before_end =
+      let long : length (take end bytes) ≡ end = length-take-le end bytes within in omega (arith, found.0.high, long)
+
+  name_part : take colon (take end bytes) ≡ take colon bytes
+  name_part = take-take colon end bytes (omega (arith, before_end))
+
+  value_part : drop (colon + 1) (take end bytes) ≡ slice_range bytes (colon + 1) end
+  value_part = drop-take_less bytes (colon + 1) end (omega (arith, before_end))
+
+  parted : take end bytes ≡ take colon bytes ++ 58 ∷ slice_range bytes (colon + 1) end
+  parted =
+      split_at_colon (take end bytes) colon found.0.high found.1
+      ∙ ap (λ (name : List ℕ). name ++ 58 ∷ drop (colon + 1) (take end bytes)) name_part
+      ∙ ap (λ (rest : List ℕ). take colon bytes ++ 58 ∷ rest) value_part
+
+  parts_of_field : (field : Field) (is : IsField (take end bytes) field)
+      → (is.name ≡ take colon bytes) × (is.rest ≡ slice_range bytes (colon + 1) end)
+  parts_of_field field is =
+      parts_once (take end bytes) _ _ field is
+      (subst (All (λ byte. is_byte 58 byte ≡ false)) name_part (none_before 58 (take end bytes) colon found.0)) parted
+
+  -- what stands before the colon is no name
+  pub IsNoField-without_name : ¬ (IsFieldName (take colon bytes)) → IsNoField (take end bytes)
+  IsNoField-without_name none field is =
+      none (subst IsFieldName (parts_of_field field is).0 is.valid_name)
+
+  -- what stands after it is no value
+  pub IsNoField-without_value : ¬ (IsFieldValue (trim (slice_range bytes (colon + 1) end))) → IsNoField (take end bytes)
+  IsNoField-without_value none field is =
+      none (subst (λ (rest : List ℕ). IsFieldValue (trim rest)) (parts_of_field field is).1 is.valid_value)
+
+  -- they are a name and a value
+  pub IsField-from_parts : (name : List ℕ) (value : FieldValue) → IsFieldName (take colon bytes)
+      → IsFieldValue (trim (slice_range bytes (colon + 1) end)) → name ≡ lowercase (take colon bytes)
+      → value ≡ plain_value (trim (slice_range bytes (colon + 1) end)) → IsField (take end bytes) (name, value)
+  IsField-from_parts name value valid_name valid_value name_is value_is =
+      record {
+        name = take colon bytes;
+        rest = slice_range bytes (colon + 1) end;
+        line_is = parted;
+        valid_name = valid_name;
+        valid_value = valid_value;
+        field_is =
+            ap (λ (n : List ℕ). (n, value)) name_is
+            ∙ ap (λ (v : FieldValue). (lowercase (take colon bytes), v)) value_is;
+      }

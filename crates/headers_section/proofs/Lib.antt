@@ -6,4 +6,5 @@ pub mod ReadLemmas
 pub mod RoomLemmas
 pub mod RunLemmas
 pub mod SectionLemmas
+pub mod StandardLemmas
 pub mod TextLemmas

@@ -1,5 +1,6 @@
 -- Fields that are read from the front of a section, put into a map, and listed by name.
 use Rattle.std.proofs.Common.{◌≡◌, ℕ, List, [], ◌∷◌, ◌++◌, refl, sym, ◌∙◌, ap, subst, append_assoc, arith}
+use Rattle.std.specs.Prelude.{Option, Some, None, is_some, true, false, IfSome, IfNone}
 use Rattle.std.proofs.lemmas.List.{append-nil}
 use Rattle.std.proofs.lemmas.List.Elements.{Contains-append_right}
 use Rattle.http_header.specs.FieldValue.{FieldValue}
@@ -10,6 +11,15 @@ use Rattle.headers_section.specs.Section.{Holds, FillsMap, HasTooManyFields}
 use Rattle.headers_section.specs.CanonicalText.{names, first_appearances, ListsNames}
 use Rattle.headers_section.proofs.NameLemmas.{append_all-push, in_order_more, FillsMap-from_refusal}
 use Rattle.headers_section.proofs.RoomLemmas.{AreFields-once, fits_none, fits_more}
+
+-- what is said of an option that is none, and of one that is some
+pub IfNone-at_none : {X P : Type 0} (o : Option X) → is_some o ≡ false → IfNone o P → P
+IfNone-at_none None none holds = holds
+IfNone-at_none (Some x) none holds = absurd (cc none)
+
+pub IfSome-at_some : {X : Type 0} {P : X → Type 0} (o : Option X) → is_some o ≡ true → IfSome o P → (x : X) × P x
+IfSome-at_some None some holds = absurd (cc some)
+IfSome-at_some (Some x) some holds = (x, holds)
 
 -- the fields are those of the input's lines before the rest
 pub record IsRead (input rest : List ℕ) (fields : List Field) : Type 0 where

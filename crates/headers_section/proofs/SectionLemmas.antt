@@ -1,14 +1,16 @@
 -- The lines of an input, one after the other.
-use Rattle.std.proofs.Common.{◌≡◌, ℕ, ◌+◌, ◌<◌, false, List, [], ◌∷◌, ◌++◌, length, take, drop, map, get_or, sym, ◌∙◌}
-use Rattle.std.proofs.Common.{ap, subst, arith, All}
-use Rattle.std.specs.List.{slice_split}
-use Rattle.std.proofs.lemmas.Bool.{false_from_ne_true}
-use Rattle.std.proofs.lemmas.List.{take-append-drop, drop_more, get_or-take, length-take-le}
+use Rattle.std.proofs.Common.{◌≡◌, ℕ, ◌+◌, ◌-◌, ◌<◌, ◌≤◌, ◌==◌, false, List, [], ◌∷◌, ◌++◌, length, take, drop}
+use Rattle.std.proofs.Common.{map, get_or, refl, sym, ◌∙◌, ap, subst, inl, inr, arith, All}
+use Rattle.std.specs.List.{slice_split, take_while}
+use Rattle.std.specs.Prelude.{slice_index}
+use Rattle.std.proofs.lemmas.Bool.{cases_Bool, false_from_ne_true}
+use Rattle.std.proofs.lemmas.List.{take-append-drop, take-take, drop_more, get_or-take, length-take-le}
+use Rattle.std.proofs.lemmas.List.Sums.{take_while-cons}
 use Rattle.std.proofs.lemmas.List.Splits.{slice_split_at, slice_split_none}
 use Rattle.std.proofs.lemmas.List.Elements.{All-from_get_or}
 use Rattle.memchr.specs.Find.{NoneBefore, Nowhere, Passes, is_byte}
 use Rattle.headers.specs.Lines.{Line}
-use Rattle.headers_section.specs.Section.{without_return, is_newline, input_lines}
+use Rattle.headers_section.specs.Section.{without_return, is_newline, is_filled, input_lines, section}
 
 -- a list at one of its places
 pub split_at_place : (s : List ℕ) (k : ℕ) → k < length s → s ≡ take k s ++ get_or s k 0 ∷ drop (k + 1) s
@@ -50,3 +52,40 @@ input_lines-some input end line rest first here line_is rest_is =
     ∙ ap (λ (first_line : Line). first_line ∷ map without_return (slice_split is_newline (drop (end + 1) input)))
     (sym line_is)
     ∙ ap (λ (later : List ℕ). line ∷ input_lines later) (sym rest_is)
+
+-- the line without its byte 13 is a beginning of the bytes
+pub without_return-front : (stop : ℕ) (bytes : List ℕ) → stop ≤ length bytes
+    → without_return (take stop bytes) ≡ take (length (without_return (take stop bytes))) bytes
+without_return-front stop bytes within =
+    let line = take stop bytes in
+    let long : length line ≡ stop = length-take-le stop bytes within in
+    elim (cases_Bool (slice_index line (length line - 1) == 13)) [
+      | inl t ↦
+          let short : length (take (length line - 1) line) ≡ length line - 1 =
+          length-take-le (length line - 1) line (omega arith) in
+          rw t (take-take (length line - 1) stop bytes (omega (arith, long))
+          ∙ ap (λ (n : ℕ). take n bytes) (sym short))
+      | inr f ↦ rw f (ap (λ (n : ℕ). take n bytes) (sym long))
+    ]
+
+-- the last line
+pub section-last : (input line : List ℕ) → input_lines input ≡ line ∷ []
+    → section input ≡ take_while is_filled (line ∷ input_lines [])
+section-last input line only = ap (take_while is_filled) only ∙ by line
+  where
+    by : (bytes : List ℕ) → take_while is_filled (bytes ∷ []) ≡ take_while is_filled (bytes ∷ input_lines [])
+    by [] = refl
+    by (b ∷ bytes) = refl
+
+-- a line with a byte is the first of its section, and an empty one ends it
+module _ (input rest line : List ℕ) (first : section input ≡ take_while is_filled (line ∷ input_lines rest)) where
+  pub section-some : 0 < length line → section input ≡ line ∷ section rest
+  section-some filled = first ∙ by line filled
+    where
+      by : (bytes : List ℕ) → 0 < length bytes
+          → take_while is_filled (bytes ∷ input_lines rest) ≡ bytes ∷ section rest
+      by [] filled = absurd (omega (arith, filled))
+      by (b ∷ bytes) filled = take_while-cons is_filled (b ∷ bytes) (input_lines rest)
+
+  pub section-none : line ≡ [] → section input ≡ []
+  section-none empty = first ∙ ap (λ (bytes : List ℕ). take_while is_filled (bytes ∷ input_lines rest)) empty

@@ -2,6 +2,7 @@
 ghost use Rattle.std.specs.Prelude.{◌≡◌, ◌<◌, ◌++◌, length, option_map, IfOk};
 ghost use Rattle.http_header.specs.HeaderMap.{get_all};
 ghost use Rattle.headers.specs.Lines.{lines_of};
+ghost use Rattle.headers_section.specs.Printed.{block_printed};
 ghost use Rattle.headers_section.specs.KnownHeaders.{content_headers, context_headers, security_headers};
 ghost use Rattle.headers_section.specs.CanonicalText.{IsTypedBlock, IsBlock, IsBlockAmong};
 
@@ -18,25 +19,32 @@ use headers::{
 };
 use std::alloc::{AllocError, Global};
 
-// The lines to print for a known header of which the map has a line: those that `canonical` returns,
-// or `None` if the header rejects its lines.
-fn typed_block<H: Header>(
-    alloc: Global,
-    map: &HeaderMap,
-) -> Result<Option<Vec<HeaderValue>>, AllocError>
+/// What is printed for a name that the map has.
+#[derive(Drop)]
+pub enum Printed {
+    /// The encoding of the value that its field lines decode to.
+    Encoded(Vec<HeaderValue>),
+    /// The header of the name rejects its field lines.
+    Rejected,
+    /// Its field lines as they came: no known header has the name.
+    Kept,
+}
+
+// The block of a known header of which the map has a line, by `canonical`.
+fn typed_block<H: Header>(alloc: Global, map: &HeaderMap) -> Result<Printed, AllocError>
     ensures { 0 < length (get_all map.now H.field_name) → IfOk result (λ block. IsTypedBlock H.reads H.writes
-        (lines_of (get_all map.now H.field_name)) (option_map (λ lines. lines_of lines.items) block)) }
+        (lines_of (get_all map.now H.field_name)) (block_printed (lines_of (get_all map.now H.field_name)) block)) }
 {
     match canonical::<H>(alloc, map) {
-        Ok(Some(encoded)) => Ok(Some(encoded.lines)),
-        Ok(None) => Ok(Some(Vec::new(alloc))),
-        Err(Refused::Invalid(_)) => Ok(None),
+        Ok(Some(encoded)) => Ok(Printed::Encoded(encoded.lines)),
+        Ok(None) => Ok(Printed::Encoded(Vec::new(alloc))),
+        Err(Refused::Invalid(_)) => Ok(Printed::Rejected),
         Err(Refused::Memory(error)) => Err(error),
     }
 }
 
 // The values under the name, as they came.
-fn kept_block(
+fn kept_lines(
     alloc: Global,
     map: &HeaderMap,
     name: &HeaderName,
@@ -50,16 +58,11 @@ fn kept_block(
     Ok(lines)
 }
 
-// The lines to print for a name by the headers of other origins, security and websockets, else the
-// values as they came.
-fn security_block(
-    alloc: Global,
-    map: &HeaderMap,
-    name: &HeaderName,
-) -> Result<Option<Vec<HeaderValue>>, AllocError>
+// The block of a name by the headers of other origins, of security and of websockets, else `Kept`.
+fn security_block(alloc: Global, map: &HeaderMap, name: &HeaderName) -> Result<Printed, AllocError>
     ensures { 0 < length (get_all map.now name.now) → IfOk result (λ block.
         IsBlockAmong security_headers name.now
-        (lines_of (get_all map.now name.now)) (option_map (λ lines. lines_of lines.items) block)) }
+        (lines_of (get_all map.now name.now)) (block_printed (lines_of (get_all map.now name.now)) block)) }
 {
     match name.as_str() {
         "access-control-allow-credentials" => typed_block::<AccessControlAllowCredentials>(
@@ -77,19 +80,15 @@ fn security_block(
         "sec-websocket-accept" => typed_block::<SecWebsocketAccept>(alloc, map),
         "sec-websocket-key" => typed_block::<SecWebsocketKey>(alloc, map),
         "sec-websocket-version" => typed_block::<SecWebsocketVersion>(alloc, map),
-        _ => Ok(Some(kept_block(alloc, map, name)?)),
+        _ => Ok(Printed::Kept),
     }
 }
 
 // The same by the headers of the context, of cookies and hosts, else by those above.
-fn context_block(
-    alloc: Global,
-    map: &HeaderMap,
-    name: &HeaderName,
-) -> Result<Option<Vec<HeaderValue>>, AllocError>
+fn context_block(alloc: Global, map: &HeaderMap, name: &HeaderName) -> Result<Printed, AllocError>
     ensures { 0 < length (get_all map.now name.now) → IfOk result (λ block.
         IsBlockAmong (context_headers ++ security_headers) name.now
-        (lines_of (get_all map.now name.now)) (option_map (λ lines. lines_of lines.items) block)) }
+        (lines_of (get_all map.now name.now)) (block_printed (lines_of (get_all map.now name.now)) block)) }
 {
     match name.as_str() {
         "allow" => typed_block::<Allow>(alloc, map),
@@ -108,14 +107,10 @@ fn context_block(
 }
 
 // The same by the headers of the connection, of content and its ranges, else by those above.
-fn content_block(
-    alloc: Global,
-    map: &HeaderMap,
-    name: &HeaderName,
-) -> Result<Option<Vec<HeaderValue>>, AllocError>
+fn content_block(alloc: Global, map: &HeaderMap, name: &HeaderName) -> Result<Printed, AllocError>
     ensures { 0 < length (get_all map.now name.now) → IfOk result (λ block.
         IsBlockAmong (content_headers ++ context_headers ++ security_headers) name.now
-        (lines_of (get_all map.now name.now)) (option_map (λ lines. lines_of lines.items) block)) }
+        (lines_of (get_all map.now name.now)) (block_printed (lines_of (get_all map.now name.now)) block)) }
 {
     match name.as_str() {
         "connection" => typed_block::<Connection>(alloc, map),
@@ -135,20 +130,21 @@ fn content_block(
     }
 }
 
-/// Returns the field lines to print for a name that the map has. They are the lines that
-/// `canonical` returns for its header; `None` if the header rejects its lines. The values of a name
-/// that is no known header are unchanged. Fails only if an allocation fails.
+// The block of a name of which the map has a line. Fails only if an allocation fails.
 //
 // A match over all the names takes twice as long to prove as these four.
-pub fn read_block(
+pub fn canonical_block(
     alloc: Global,
     map: &HeaderMap,
     name: &HeaderName,
-) -> Result<Option<Vec<HeaderValue>>, AllocError>
-    ensures { 0 < length (get_all map.now name.now) → IfOk result (λ block.
-        IsBlock name.now
-        (lines_of (get_all map.now name.now)) (option_map (λ lines. lines_of lines.items) block)) }
+) -> Result<Printed, AllocError>
+    ensures { 0 < length (get_all map.now name.now) → IfOk result (λ block. IsBlock name.now
+        (lines_of (get_all map.now name.now)) (block_printed (lines_of (get_all map.now name.now)) block)) }
 {
+    // Each known header has a standard name.
+    if HeaderName::standard(name.as_bytes()).is_none() {
+        return Ok(Printed::Kept);
+    }
     match name.as_str() {
         "age" => typed_block::<Age>(alloc, map),
         "cache-control" => typed_block::<CacheControl>(alloc, map),
@@ -163,5 +159,23 @@ pub fn read_block(
         "if-unmodified-since" => typed_block::<IfUnmodifiedSince>(alloc, map),
         "last-modified" => typed_block::<LastModified>(alloc, map),
         _ => content_block(alloc, map, name),
+    }
+}
+
+/// Returns the field lines to print for a name that the map has. They are the lines that
+/// `canonical` returns for its header; `None` if the header rejects its lines. The values of a name
+/// that is no known header are unchanged. Fails only if an allocation fails.
+pub fn read_block(
+    alloc: Global,
+    map: &HeaderMap,
+    name: &HeaderName,
+) -> Result<Option<Vec<HeaderValue>>, AllocError>
+    ensures { 0 < length (get_all map.now name.now) → IfOk result (λ block. IsBlock name.now
+        (lines_of (get_all map.now name.now)) (option_map (λ lines. lines_of lines.items) block)) }
+{
+    match canonical_block(alloc, map, name)? {
+        Printed::Encoded(lines) => Ok(Some(lines)),
+        Printed::Rejected => Ok(None),
+        Printed::Kept => Ok(Some(kept_lines(alloc, map, name)?)),
     }
 }

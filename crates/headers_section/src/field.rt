@@ -1,8 +1,10 @@
 //! The fields of an input.
-ghost use Rattle.std.specs.Prelude.{◌≡◌, ◌<◌, ◌∷◌, ◌++◌, [], length, Err, OnOk, IfOk, IfSome, IfNone, MatchBool};
+ghost use Rattle.std.specs.Prelude.{◌≡◌, ◌<◌, ◌≤◌, ◌∷◌, ◌++◌, [], length, take, drop, Err, OnOk, IfOk};
+ghost use Rattle.std.specs.Prelude.{IfSome, IfNone, MatchBool, take_while};
+ghost use Rattle.http_header.specs.FieldName.{IsFieldName};
 ghost use Rattle.http_header.specs.HeaderMap.{append, ContainsKey, RefusesAppend};
-ghost use Rattle.headers.specs.Text.{trim};
-ghost use Rattle.headers_section.specs.Section.{without_return, input_lines, section, IsField, IsNoField};
+ghost use Rattle.http_header.specs.Token.{lowercase};
+ghost use Rattle.headers_section.specs.Section.{without_return, is_filled, input_lines, section, IsField, IsNoField};
 ghost use Rattle.headers_section.specs.Section.{HasOnlyFields, HasNoField, HasTooManyFields, Holds};
 ghost use Rattle.headers_section.specs.CanonicalText.{ListsNames};
 
@@ -16,76 +18,102 @@ use std::hash::RandomState;
 // A name and a value.
 type Field = (HeaderName, HeaderValue);
 
+// Where a line ends, without its byte 13 and its byte 10, and where the next one begins.
+#[derive(Clone, Copy)]
+struct Cut {
+    end: usize,
+    next: usize,
+}
+
 // The line without the byte 13 at its end, if one is there.
-fn without_return(mut line: Bytes) -> Bytes
-    ensures { result ≡ without_return line }
+fn without_return(line: &[u8]) -> &[u8]
+    ensures { result.now ≡ without_return line.now }
 {
-    if let [before @ .., b'\r'] = line.as_slice() {
-        let kept = before.len();
-        line.truncate(kept);
-    }
-    line
-}
-
-// The first line, and what follows the byte 10 that ends it, if there is one.
-fn cut_line(mut input: Bytes) -> Result<(Bytes, Option<Bytes>), AllocError>
-    ensures last { IfOk result (λ cut. IfNone cut.1 (input_lines input ≡ cut.0 ∷ [])) }
-    ensures more { IfOk result (λ cut. IfSome cut.1 (λ rest. input_lines input ≡ cut.0 ∷ input_lines rest)) }
-    ensures shorter { IfOk result (λ cut. IfSome cut.1 (λ rest. length rest < length input)) }
-{
-    match memchr(b'\n', input.as_slice()) {
-        Some(end) => {
-            let line = input.split_to(end)?;
-            input.advance(1);
-            Ok((without_return(line), Some(input)))
-        }
-        None => Ok((without_return(input), None)),
+    match line {
+        [before @ .., b'\r'] => before,
+        _ => line,
     }
 }
 
-// The first line of a section, and what follows it. `None` if the section has no line.
-fn first_line(input: Bytes) -> Result<Option<(Bytes, Bytes)>, AllocError>
-    ensures none { IfOk result (λ found. IfNone found (section input ≡ [])) }
-    ensures some { IfOk result (λ found. IfSome found (λ cut. section input ≡ cut.0 ∷ section cut.1)) }
-    ensures shorter { IfOk result (λ found. IfSome found (λ cut. length cut.1 < length input)) }
+// The place of the first byte 10, and the one after it. Both are the length if there is none.
+fn line_end(rest: &[u8]) -> (usize, usize)
+    ensures order { (result.0 ≤ result.1) × (result.1 ≤ length rest.now) }
+    ensures first { section rest.now
+        ≡ take_while is_filled (without_return (take result.0 rest.now) ∷ input_lines (drop result.1 rest.now)) }
 {
-    let (line, after) = cut_line(input)?;
+    match memchr(b'\n', rest) {
+        Some(place) => (place, place + 1),
+        None => (rest.len(), rest.len()),
+    }
+}
+
+// Cuts the first line from a section. `None` if the section has no line.
+fn first_line(rest: &[u8]) -> Option<Cut>
+    ensures none { IfNone result (section rest.now ≡ []) }
+    ensures some { IfSome result (λ cut.
+        section rest.now ≡ take cut.end rest.now ∷ section (drop cut.next rest.now)) }
+    ensures order { IfSome result (λ cut.
+        (cut.end ≤ length rest.now) × (0 < cut.next) × (cut.next ≤ length rest.now)) }
+{
+    let (stop, next) = line_end(rest);
+    let line = without_return(&rest[..stop]);
     if line.is_empty() {
-        return Ok(None);
+        return None;
     }
-    match after {
-        Some(rest) => Ok(Some((line, rest))),
-        None => Ok(Some((line, Bytes::new()))),
+    Some(Cut {
+        end: line.len(),
+        next,
+    })
+}
+
+// Reads a field name, which is the first bytes of a section. It may be the name before it, and
+// then nothing is looked up. A standard name shares no bytes.
+fn read_name(
+    alloc: Global,
+    before: Option<&HeaderName>,
+    rest: &Bytes,
+    end: usize,
+) -> Result<HeaderName, HeaderNameError>
+    requires { end ≤ length rest.now }
+    ensures ok { IfOk result (λ name. name ≡ lowercase (take end rest.now)) }
+    ensures valid { OnOk result (IsFieldName (take end rest.now)) }
+    ensures invalid { result ≡ Err HeaderNameError.Invalid → ¬ (IsFieldName (take end rest.now)) }
+{
+    let bytes = &rest.as_slice()[..end];
+    if let Some(name) = before
+        && name.as_bytes() == bytes
+    {
+        return Ok(name.clone()?);
+    }
+    match HeaderName::standard(bytes) {
+        Some(name) => Ok(name),
+        None => HeaderName::from_shared(alloc, rest.slice(0..end)?),
     }
 }
 
-// The bytes without leading and trailing spaces and tabs.
-fn trim(mut bytes: Bytes) -> Bytes
-    ensures { result ≡ trim bytes }
+// Reads a field from the first bytes of a section, which are a line. `None` if the line is no
+// field. The field shares the bytes of the section.
+fn read_field(
+    alloc: Global,
+    before: Option<&HeaderName>,
+    rest: &Bytes,
+    end: usize,
+) -> Result<Option<Field>, AllocError>
+    requires { end ≤ length rest.now }
+    ensures some { IfOk result (λ found. IfSome found (IsField (take end rest.now))) }
+    ensures none { IfOk result (λ found. IfNone found (IsNoField (take end rest.now))) }
 {
-    let (start, end) = trimmed(bytes.as_slice(), 0, bytes.len());
-    bytes.truncate(end);
-    bytes.advance(start);
-    bytes
-}
-
-// Reads a field from a line. `None` if the line is no field. The field shares the bytes of the
-// line.
-fn read_field(alloc: Global, mut line: Bytes) -> Result<Option<Field>, AllocError>
-    ensures some { IfOk result (λ found. IfSome found (IsField line)) }
-    ensures none { IfOk result (λ found. IfNone found (IsNoField line)) }
-{
-    let Some(colon) = memchr(b':', line.as_slice()) else {
+    let bytes = rest.as_slice();
+    let Some(colon) = memchr(b':', &bytes[..end]) else {
         return Ok(None);
     };
-    let before = line.split_to(colon)?;
-    line.advance(1);
-    let name = match HeaderName::from_shared(alloc, before) {
+    let name = match read_name(alloc, before, rest, colon) {
         Ok(name) => name,
         Err(HeaderNameError::Invalid) => return Ok(None),
         Err(HeaderNameError::OutOfMemory) => return Err(AllocError),
     };
-    match HeaderValue::from_shared(trim(line)) {
+    let (start, stop) = trimmed(bytes, colon + 1, end);
+    match HeaderValue::from_shared(rest.slice(start..stop)?) {
         Ok(value) => Ok(Some((name, value))),
         Err(_) => Ok(None),
     }
@@ -96,11 +124,11 @@ fn has_only_fields(alloc: Global, input: Bytes) -> Result<bool, AllocError>
     ensures { IfOk result (λ all. MatchBool all (HasOnlyFields (section input)) (HasNoField (section input))) }
 {
     let mut rest = input;
-    while let Some((line, after)) = first_line(rest)? {
-        match read_field(alloc, line)? {
-            Some(_) => rest = after,
-            None => return Ok(false),
+    while let Some(cut) = first_line(rest.as_slice()) {
+        if read_field(alloc, None, &rest, cut.end)?.is_none() {
+            return Ok(false);
         }
+        rest.advance(cut.next);
     }
     Ok(true)
 }
@@ -165,16 +193,17 @@ pub fn read_fields(
         names: Vec::new(alloc),
     };
     let mut rest = input;
-    while let Some((line, after)) = first_line(rest)? {
-        let Some((name, value)) = read_field(alloc, line)? else {
+    while let Some(cut) = first_line(rest.as_slice()) {
+        let Some((name, value)) = read_field(alloc, fields.names.last(), &rest, cut.end)? else {
             return Ok(None);
         };
+        rest.advance(cut.next);
         match fields.append(name, value) {
-            Ok(()) => rest = after,
+            Ok(()) => {}
             Err(HeaderMapError::OutOfMemory) => return Err(HeaderMapError::OutOfMemory),
             Err(HeaderMapError::MaxSizeReached) => {
                 // A line that is no field comes before a full map, wherever it stands.
-                if has_only_fields(alloc, after)? {
+                if has_only_fields(alloc, rest)? {
                     return Err(HeaderMapError::MaxSizeReached);
                 }
                 return Ok(None);

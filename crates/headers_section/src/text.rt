@@ -1,11 +1,11 @@
 //! The canonical text of a header section.
-ghost use Rattle.std.specs.Prelude.{◌≡◌, ◌≢◌, ◌<◌, ◌++◌, length, option_map, IfOk, IfSome, IfNone, OnOk, All, flat_map};
+ghost use Rattle.std.specs.Prelude.{◌≡◌, ◌≢◌, ◌<◌, ◌++◌, length, IfOk, IfSome, IfNone, OnOk, All, flat_map};
 ghost use Rattle.http_header.specs.HeaderMap.{get_all};
 ghost use Rattle.headers.specs.Lines.{lines_of};
 ghost use Rattle.headers_section.specs.Section.{section, HasNoField, HasTooManyFields};
 ghost use Rattle.headers_section.specs.CanonicalText.{block_text, line_text, HasBlocks, IsCanonicalText};
 
-use crate::block::read_block;
+use crate::block::{Printed, canonical_block};
 use crate::field::read_fields;
 use crate::status::RunError;
 use bytes::Bytes;
@@ -62,19 +62,15 @@ fn print_refusal(text: &mut Vec<u8>, name: &HeaderName) -> Result<(), AllocError
     Ok(())
 }
 
-// Prints a block.
-fn print_block(
-    text: &mut Vec<u8>,
-    name: &HeaderName,
-    block: &Option<Vec<HeaderValue>>,
-) -> Result<(), AllocError>
+// Prints the values under the name as they came.
+fn print_values(text: &mut Vec<u8>, map: &HeaderMap, name: &HeaderName) -> Result<(), AllocError>
     ensures { OnOk result (text.new.items ≡ text.old.items
-        ++ block_text name.now (option_map (λ lines. lines_of lines.items) block.now)) }
+        ++ flat_map (line_text name.now) (lines_of (get_all map.now name.now))) }
 {
-    match block {
-        Some(lines) => print_lines(text, name, lines.as_slice()),
-        None => print_refusal(text, name),
+    for value in map.get_all(name) {
+        print_line(text, name, value)?;
     }
+    Ok(())
 }
 
 // The block of each name, in the order of the list. Each has a line in the map.
@@ -90,11 +86,14 @@ fn print_blocks(
     let mut bytes = Vec::new(alloc);
     let mut some_refused = false;
     for name in names {
-        let block = read_block(alloc, map, name)?;
-        if block.is_none() {
-            some_refused = true;
+        match canonical_block(alloc, map, name)? {
+            Printed::Encoded(lines) => print_lines(&mut bytes, name, lines.as_slice())?,
+            Printed::Rejected => {
+                print_refusal(&mut bytes, name)?;
+                some_refused = true;
+            }
+            Printed::Kept => print_values(&mut bytes, map, name)?,
         }
-        print_block(&mut bytes, name, &block)?;
     }
     Ok(CanonicalText {
         bytes,

@@ -1,16 +1,14 @@
-use Rattle.std.proofs.Common.{Vec, Global, Option, option_map, subst}
-use Rattle.http_header.specs.FieldValue.{FieldValue}
+use Rattle.std.proofs.Common.{subst}
 use Rattle.http_header.specs.HeaderMap.{get_all}
 use Rattle.headers.specs.Lines.{lines_of}
-use Rattle.headers_section.specs.CanonicalText.{Block}
+use Rattle.headers_section.specs.Printed.{block_printed}
 use Rattle.headers_section.specs.KnownHeaders.{context_headers, security_headers}
 use Rattle.headers_section.proofs.KnownLemmas.{IsNoneOf, IfOk-behind}
 use Rattle.headers_section.proofs.block.context_block.Goals as goal
 
 pub returns-in_default : goal.returns-in_default
 returns-in_default c has =
-    let block_of : Option (Vec FieldValue Global) → Block = option_map (λ values. lines_of values.items) in
+    let own = lines_of (get_all c.args.map.now c.args.name.now) in
     let none : IsNoneOf context_headers c.as_str.result.now = assumption c.in_default in
-    IfOk-behind block_of c.security_block.result context_headers security_headers c.args.name.now
-    (lines_of (get_all c.args.map.now c.args.name.now)) (subst (IsNoneOf context_headers) c.as_str.ensures.value none)
-    (c.security_block.ensures has)
+    IfOk-behind (block_printed own) c.security_block.result context_headers security_headers c.args.name.now own
+    (subst (IsNoneOf context_headers) c.as_str.ensures.value none) (c.security_block.ensures has)

@@ -1,13 +1,18 @@
-use Rattle.std.proofs.Common.{◌≡◌, ◌∙◌, ◌<◌, ◌||◌, not, List, ℕ, Vec, Global, option_map, is_none, length, ap, subst}
+use Rattle.std.proofs.Common.{◌≡◌, ◌∙◌, ◌<◌, ◌++◌, ◌||◌, List, ℕ, Vec, Global, is_none, flat_map, length, ap, subst}
 use Rattle.std.proofs.Common.{sym}
-use Rattle.std.proofs.Math.Bool.{not-not, or-true, or-false}
+use Rattle.std.proofs.Math.Bool.{or-true, or-false}
 use Rattle.http_header.specs.FieldValue.{FieldValue}
 use Rattle.http_header.specs.HeaderMap.{get_all}
 use Rattle.headers.specs.Lines.{lines_of}
-use Rattle.headers_section.specs.CanonicalText.{Block}
-use Rattle.headers_section.proofs.BlockLemmas.{HasBlocks-start, HasBlocks-more, HasBlocks-all, is_none-map}
+use Rattle.headers_section.specs.CanonicalText.{Block, block_text, line_text}
+use Rattle.headers_section.specs.declared.block.Printed.{Printed}
+use Rattle.headers_section.specs.declared.block.Printed.TheVariants.{Encoded, Rejected, Kept}
+use Rattle.headers_section.specs.Printed.{block_printed}
+use Rattle.headers_section.proofs.BlockLemmas.{HasBlocks-start, HasBlocks-more, HasBlocks-all}
 use Rattle.headers_section.proofs.text.print_blocks.Goals as goal
-use Rattle.headers_section.proofs.text.print_blocks.Goals.{then-is_none, else-is_none}
+use Rattle.headers_section.proofs.text.print_blocks.Goals.{in-Encoded+in_ok-print_lines-in-Encoded}
+use Rattle.headers_section.proofs.text.print_blocks.Goals.{in-Rejected+in_ok-print_refusal-in-Rejected}
+use Rattle.headers_section.proofs.text.print_blocks.Goals.{in-Kept+in_ok-print_values-in-Kept}
 
 pub loop-name-init : goal.loop-name-init
 loop-name-init c = HasBlocks-start _ c.args.names.now c.new-bytes.result.items c.new-bytes.ensures.items
@@ -15,22 +20,51 @@ loop-name-init c = HasBlocks-start _ c.args.names.now c.new-bytes.result.items c
 pub loop-name-preserved : goal.loop-name-preserved
 loop-name-preserved c =
     let name = c.name-item.result in
-    let shown : Vec FieldValue Global → List (List ℕ) = λ values. lines_of values.items in
-    let block : Block = option_map shown c.in_ok-block.block in
-    let none : is_none block ≡ c.is_none.result =
-    is_none-map shown c.in_ok-block.block ∙ ap not c.is_none.ensures ∙ not-not c.is_none.result in
+    let own = lines_of (get_all c.args.map.now name) in
     let before = c.loop-name.some_refused in
-    let marked : c.if-is_none.some_refused ≡ (before || is_none block) =
-    elim c.if-is_none.branch [
-      | then-is_none way ↦ way.some_refused-is ∙ rw (none, way.if-is_none.true) (sym (or-true before))
-      | else-is_none way ↦ way.some_refused-is ∙ rw (none, way.if-is_none.false) (sym (or-false before))
-    ] in
+    let text = c.loop-name.bytes.items in
+    let block : Block = block_printed own c.in_ok-lines.field-0 in
     let has : 0 < length (get_all c.args.map.now name) =
-    subst (λ (own : List ℕ). 0 < length (get_all c.args.map.now own)) (sym c.name-item.is)
+    subst (λ (listed : List ℕ). 0 < length (get_all c.args.map.now listed)) (sym c.name-item.is)
     (c.requires c.loop-name.name-index name c.loop-name-test.true) in
-    HasBlocks-more (λ own. lines_of (get_all c.args.map.now own)) c.args.names.now c.loop-name.name-index name
-    c.loop-name.bytes.items _ before c.if-is_none.some_refused block c.loop-name-test.true c.name-item.is
-    c.loop-name.invariant (c.in_ok-block.ensures has) c.in_ok-print_block.ensures marked
+    let same : (choice : Printed) → c.in_ok-lines.field-0 ≡ choice
+    → block_text name (block_printed own choice) ≡ block_text name block =
+    λ choice is. ap (λ (p : Printed). block_text name (block_printed own p)) (sym is) in
+    let printed : c.match-branch-2.bytes.items ≡ text ++ block_text name block =
+    elim c.match-branch-2.branch [
+      | in-Encoded+in_ok-print_lines-in-Encoded way ↦
+          ap (λ (v : Vec ℕ Global). v.items) way.bytes-is
+          ∙ way.in_ok-print_lines-in-Encoded.ensures
+          ∙ ap (λ (values : List FieldValue). text ++ flat_map (line_text name) (lines_of values))
+          way.as_slice.ensures.value
+          ∙ ap (λ (more : List ℕ). text ++ more) (same (Encoded way.in-Encoded.lines) way.in-Encoded.is)
+      | in-Rejected+in_ok-print_refusal-in-Rejected way ↦
+          ap (λ (v : Vec ℕ Global). v.items) way.bytes-is
+          ∙ way.in_ok-print_refusal-in-Rejected.ensures
+          ∙ ap (λ (more : List ℕ). text ++ more) (same Rejected way.in-Rejected.is)
+      | in-Kept+in_ok-print_values-in-Kept way ↦
+          ap (λ (v : Vec ℕ Global). v.items) way.bytes-is
+          ∙ way.in_ok-print_values-in-Kept.ensures
+          ∙ ap (λ (more : List ℕ). text ++ more) (same Kept way.in-Kept.is)
+    ] in
+    let marked : c.match-branch-2.some_refused ≡ (before || is_none block) =
+    elim c.match-branch-2.branch [
+      | in-Encoded+in_ok-print_lines-in-Encoded way ↦
+          way.some_refused-is
+          ∙ sym (or-false before)
+          ∙ ap (λ (p : Printed). before || is_none (block_printed own p)) (sym way.in-Encoded.is)
+      | in-Rejected+in_ok-print_refusal-in-Rejected way ↦
+          way.some_refused-is
+          ∙ sym (or-true before)
+          ∙ ap (λ (p : Printed). before || is_none (block_printed own p)) (sym way.in-Rejected.is)
+      | in-Kept+in_ok-print_values-in-Kept way ↦
+          way.some_refused-is
+          ∙ sym (or-false before)
+          ∙ ap (λ (p : Printed). before || is_none (block_printed own p)) (sym way.in-Kept.is)
+    ] in
+    HasBlocks-more (λ listed. lines_of (get_all c.args.map.now listed)) c.args.names.now c.loop-name.name-index name
+    text _ before c.match-branch-2.some_refused block c.loop-name-test.true c.name-item.is c.loop-name.invariant
+    (c.in_ok-lines.ensures has) printed marked
 
 pub returns : goal.returns
 returns c =

@@ -1,7 +1,7 @@
 use Rattle.std.proofs.Common.{◌≡◌, ◌++◌}
 use Rattle.http_header.specs.HeaderMap.{get_all}
 use Rattle.headers.specs.Lines.{lines_of}
-use Rattle.headers_section.proofs.block.kept_block.Given as goal
+use Rattle.headers_section.proofs.block.kept_lines.Given as goal
 
 abbrev pub invariant-loop-value : goal.invariant-loop-value
 invariant-loop-value l = lines_of l.lines.items ++ lines_of l.value-iterator ≡ lines_of (get_all l.map l.name)
