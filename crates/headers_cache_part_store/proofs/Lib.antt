@@ -1,0 +1,4 @@
+pub mod ByteLemmas
+pub mod CallLemmas
+pub mod FieldLemmas
+pub mod HistoryLemmas

@@ -1,0 +1,6 @@
+use Rattle.std.proofs.Common.{Ok, ap}
+use Rattle.headers_cache_part_store.proofs.store.PartStore.keep.Goals as goal
+
+pub returns-then-branch-clause-kept : goal.returns-then-branch-clause-kept
+returns-then-branch-clause-kept c =
+    (λ none. none c.if-not-has_field.ensures, c.in_ok-store.ensures.stored (ap Ok c.if-branch.true))

@@ -1,0 +1,16 @@
+use Rattle.std.proofs.Common.{inr, subst}
+use Rattle.headers_cache.proofs.LookupLemmas.{if_ok}
+use Rattle.headers_cache_parts.specs.Combining.{IsCombinedAs}
+use Rattle.headers_cache_policy.specs.Policies.{Policy}
+use Rattle.headers_cache_part_store.proofs.store.PartStore.merged.Goals as goal
+
+pub returns-in-Some : goal.returns-in-Some
+returns-in-Some c =
+    if_ok c.combine.result
+    (λ result is. inr (
+      c.in-Some.stored.now,
+      c.in-Some.ensures,
+      subst (λ (p : Policy). IsCombinedAs p c.in-Some.stored.now c.args.came.now c.args.reception result)
+          c.policy.ensures is,
+    ))
+    c.combine.ensures.combined

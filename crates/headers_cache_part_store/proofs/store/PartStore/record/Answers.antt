@@ -1,0 +1,79 @@
+use Rattle.std.proofs.Common.{inl, inr, subst}
+use Rattle.headers_cache.proofs.LookupLemmas.{if_ok}
+use Rattle.headers_cache.specs.Contents.{responses_at}
+use Rattle.headers_cache_parts.specs.Received.{IsPart}
+use Rattle.headers_cache_parts.specs.declared.combining.Combined.{Combined}
+use Rattle.headers_cache_parts.specs.declared.extent.Extent.{Extent}
+use Rattle.headers_cache_policy.specs.Policies.{Policy}
+use Rattle.headers_cache_part_store.specs.Kept.{limits_of_parts, parts_of, policy_of_parts}
+use Rattle.headers_cache_part_store.specs.Recording.{IsMerged}
+use Rattle.headers_cache_part_store.proofs.CallLemmas.{alone_recorded, kept_recorded, on_err_always, recorded_step}
+use Rattle.headers_cache_part_store.proofs.store.PartStore.record.Goals as goal
+
+pub returns-in_default-clause-recorded : goal.returns-in_default-clause-recorded
+returns-in_default-clause-recorded c =
+    inl (
+      inl (subst (λ (p : Policy). (extent : Extent) → ¬ (IsPart p c.args.came c.args.reception extent))
+          c.policy.ensures c.in_default.ensures.value),
+      c.forget_changed.ensures.left,
+    )
+
+pub returns-in-Apart-clause-recorded : goal.returns-in-Apart-clause-recorded
+returns-in-Apart-clause-recorded c =
+    if_ok c.take.result
+    (alone_recorded (policy_of_parts c.args.self.now) (limits_of_parts c.args.self.now) c.args.key.now
+    (parts_of c.args.self.now) c.args.came c.args.reception (parts_of c.take.new.self) c.in-Some.extent
+    (subst (λ (p : Policy). IsPart p c.args.came c.args.reception c.in-Some.extent) c.policy.ensures
+    c.in-Some.ensures.value)
+    (subst
+    (λ (r : Combined). IsMerged (policy_of_parts c.args.self.now)
+    (responses_at c.args.key.now (parts_of c.args.self.now)) c.args.came c.args.reception r)
+    c.in-Apart.is c.in_ok-merged.ensures))
+    c.take.ensures.taken
+
+pub returns-in-Apart-clause-step : goal.returns-in-Apart-clause-step
+returns-in-Apart-clause-step c =
+    recorded_step (policy_of_parts c.args.self.now) (limits_of_parts c.args.self.now) c.args.key.now
+    (parts_of c.args.self.now) c.args.came c.args.reception (parts_of c.take.new.self) c.take.result
+    (returns-in-Apart-clause-recorded c) c.take.ensures.err
+
+pub returns-in-Stored-clause-recorded : goal.returns-in-Stored-clause-recorded
+returns-in-Stored-clause-recorded c =
+    if_ok c.keep.result
+    (kept_recorded (policy_of_parts c.args.self.now) (limits_of_parts c.args.self.now) c.args.key.now
+    (parts_of c.args.self.now) c.args.came c.args.reception (parts_of c.keep.new.self) c.in-Stored.part (
+      c.in-Some.extent,
+      subst (λ (p : Policy). IsPart p c.args.came c.args.reception c.in-Some.extent) c.policy.ensures
+          c.in-Some.ensures.value,
+      inr (subst
+          (λ (r : Combined). IsMerged (policy_of_parts c.args.self.now)
+          (responses_at c.args.key.now (parts_of c.args.self.now)) c.args.came c.args.reception r)
+          c.in-Stored.is c.in_ok-merged.ensures),
+    ))
+    c.keep.ensures.kept
+
+pub returns-in-Stored-clause-memory : goal.returns-in-Stored-clause-memory
+returns-in-Stored-clause-memory c =
+    on_err_always c.keep.result (
+      c.in-Some.extent,
+      subst (λ (p : Policy). IsPart p c.args.came c.args.reception c.in-Some.extent) c.policy.ensures
+          c.in-Some.ensures.value,
+    )
+
+pub returns-in-Stored-clause-step : goal.returns-in-Stored-clause-step
+returns-in-Stored-clause-step c =
+    recorded_step (policy_of_parts c.args.self.now) (limits_of_parts c.args.self.now) c.args.key.now
+    (parts_of c.args.self.now) c.args.came c.args.reception (parts_of c.keep.new.self) c.keep.result
+    (returns-in-Stored-clause-recorded c) c.keep.ensures.err
+
+pub returns-in-Once-clause-recorded : goal.returns-in-Once-clause-recorded
+returns-in-Once-clause-recorded c = (
+  c.in-Some.extent,
+  subst (λ (p : Policy). IsPart p c.args.came c.args.reception c.in-Some.extent) c.policy.ensures
+      c.in-Some.ensures.value,
+  subst
+      (λ (r : Combined). IsMerged (policy_of_parts c.args.self.now)
+      (responses_at c.args.key.now (parts_of c.args.self.now)) c.args.came c.args.reception r)
+      c.in-Once.is c.in_ok-merged.ensures,
+  c.remove.ensures.contents,
+)

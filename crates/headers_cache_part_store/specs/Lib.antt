@@ -1,0 +1,4 @@
+pub mod Answering
+pub mod History
+pub mod Kept
+pub mod Recording
