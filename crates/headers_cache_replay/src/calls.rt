@@ -1,6 +1,8 @@
 //! The calls of a store.
+use crate::parts::{make_part_call, new_parts};
 use headers::{Encoded, HeaderMap};
 use headers_cache::{Limits, Lookup, Options, Refreshed, Store};
+use headers_cache_part_store::PartStore;
 use headers_cache_policy::{Kind, RequestHead};
 use headers_cache_rules::{Exchange, Reception, StoredAnswer, StoredResponse};
 use headers_rows::{Answer, Arguments, Failure};
@@ -8,20 +10,27 @@ use http::{Method, StatusCode};
 use std::alloc::{AllocError, Global};
 use std::hash::RandomState;
 
+/// The stores of a cache: of complete responses, and of parts.
+#[derive(Drop)]
+pub struct Caches {
+    /// The complete responses.
+    pub responses: Store,
+    /// The parts.
+    pub parts: PartStore,
+}
+
 /// KIND VARIANTS RESPONSES BYTES, and maybe `immutable` or `plain` with the names of targeted fields: a
-/// store without a response.
-pub fn new_store(alloc: Global, keys: RandomState, limits: &str) -> Result<Store, Failure> {
+/// cache without a response, whose stores have these limits each.
+pub fn new_caches(alloc: Global, keys: RandomState, limits: &str) -> Result<Caches, Failure> {
+    Ok(Caches {
+        responses: new_store(alloc, keys, limits)?,
+        parts: new_parts(alloc, keys, limits)?,
+    })
+}
+
+fn new_store(alloc: Global, keys: RandomState, limits: &str) -> Result<Store, Failure> {
     let mut arguments = Arguments::new(alloc, limits);
-    let kind = match arguments.word()? {
-        "shared" => Kind::Shared,
-        "private" => Kind::Private,
-        _ => return Err(Failure::NoCall),
-    };
-    let limits = Limits {
-        variants: size(&mut arguments)?,
-        responses: size(&mut arguments)?,
-        bytes: size(&mut arguments)?,
-    };
+    let (kind, limits) = read_limits(&mut arguments)?;
     if arguments.is_empty() {
         return Ok(Store::new(alloc, kind, limits, keys)?);
     }
@@ -29,8 +38,23 @@ pub fn new_store(alloc: Global, keys: RandomState, limits: &str) -> Result<Store
     Ok(Store::with_options(alloc, kind, options, limits, keys)?)
 }
 
-// The next words, as options.
-fn read_options(alloc: Global, arguments: &mut Arguments<'_>) -> Result<Options, Failure> {
+/// The next four words, as whom a cache serves, and its limits.
+pub fn read_limits(arguments: &mut Arguments<'_>) -> Result<(Kind, Limits), Failure> {
+    let kind = match arguments.word()? {
+        "shared" => Kind::Shared,
+        "private" => Kind::Private,
+        _ => return Err(Failure::NoCall),
+    };
+    let limits = Limits {
+        variants: size(arguments)?,
+        responses: size(arguments)?,
+        bytes: size(arguments)?,
+    };
+    Ok((kind, limits))
+}
+
+/// The next words, as options.
+pub fn read_options(alloc: Global, arguments: &mut Arguments<'_>) -> Result<Options, Failure> {
     let immutable = match arguments.word()? {
         "immutable" => true,
         "plain" => false,
@@ -40,19 +64,19 @@ fn read_options(alloc: Global, arguments: &mut Arguments<'_>) -> Result<Options,
     Ok(Options { immutable, targets })
 }
 
-// The next word, as a number of bytes or of responses.
-fn size(arguments: &mut Arguments<'_>) -> Result<usize, Failure> {
+/// The next word, as a number of bytes or of responses.
+pub fn size(arguments: &mut Arguments<'_>) -> Result<usize, Failure> {
     usize::try_from(arguments.number()?).map_err(|_| Failure::NoCall)
 }
 
-// The next word, as a status.
-fn status(arguments: &mut Arguments<'_>) -> Result<StatusCode, Failure> {
+/// The next word, as a status.
+pub fn status(arguments: &mut Arguments<'_>) -> Result<StatusCode, Failure> {
     let code = u16::try_from(arguments.number()?).map_err(|_| Failure::NoCall)?;
     StatusCode::from_u16(code).map_err(|_| Failure::NoCall)
 }
 
-// The next word, as a method.
-fn method(arguments: &mut Arguments<'_>) -> Result<Method, Failure> {
+/// The next word, as a method.
+pub fn method(arguments: &mut Arguments<'_>) -> Result<Method, Failure> {
     Ok(Method::from_bytes(arguments.alloc(), &arguments.bytes()?)?)
 }
 
@@ -64,21 +88,23 @@ fn exchange(arguments: &mut Arguments<'_>) -> Result<Exchange, Failure> {
     })
 }
 
-// METHOD REQUEST: a request.
+/// METHOD REQUEST: a request.
 #[derive(Drop)]
-struct Asked {
+pub struct Asked {
     method: Method,
     fields: HeaderMap,
 }
 
 impl Asked {
-    fn read(arguments: &mut Arguments<'_>) -> Result<Asked, Failure> {
+    /// The next words, as a request.
+    pub fn read(arguments: &mut Arguments<'_>) -> Result<Asked, Failure> {
         let method = method(arguments)?;
         let fields = arguments.map()?;
         Ok(Asked { method, fields })
     }
 
-    fn head(&self) -> RequestHead<'_> {
+    /// The request as a cache sees it.
+    pub fn head(&self) -> RequestHead<'_> {
         RequestHead {
             method: &self.method,
             fields: &self.fields,
@@ -120,8 +146,8 @@ fn add_content(
     }
 }
 
-// Fields, also those without a field line.
-fn add_fields(fields: &[Encoded], answer: &mut Answer) -> Result<(), Failure> {
+/// Fields, also those without a field line.
+pub fn add_fields(fields: &[Encoded], answer: &mut Answer) -> Result<(), Failure> {
     for field in fields {
         answer.word(format_args!("({})", field.name.as_str()))?;
         for line in field.lines.iter() {
@@ -187,8 +213,8 @@ fn call_lookup(
     look_up(store, target, &asked, now, guess, answer)
 }
 
-// REQUESTED RECEIVED METHOD REQUEST STATUS CONTENT RESPONSE: a response, and its request.
-fn read_came(arguments: &mut Arguments<'_>) -> Result<StoredResponse, Failure> {
+/// REQUESTED RECEIVED METHOD REQUEST STATUS CONTENT RESPONSE: a response, and its request.
+pub fn read_came(arguments: &mut Arguments<'_>) -> Result<StoredResponse, Failure> {
     let Exchange {
         requested,
         received,
@@ -314,8 +340,8 @@ fn call_invalidate(
     Ok(answer.word(store.responses(target).len())?)
 }
 
-// A stored response: method, status, content, times and fields.
-fn add_stored(response: &StoredResponse, answer: &mut Answer) -> Result<(), Failure> {
+/// A stored response: method, status, content, times and fields.
+pub fn add_stored(response: &StoredResponse, answer: &mut Answer) -> Result<(), Failure> {
     answer.word(response.method.as_str())?;
     answer.word(response.status.as_u16())?;
     answer.bytes(response.content.as_slice())?;
@@ -335,15 +361,16 @@ fn call_responses(store: &Store, target: &str, answer: &mut Answer) -> Result<()
     Ok(())
 }
 
-/// Makes a call of a store, and adds its answer. The first word is the target.
+/// Makes a call of a cache, and adds its answer. The first word is the target.
 pub fn make(
-    store: &mut Store,
+    caches: &mut Caches,
     name: &str,
     arguments: &mut Arguments<'_>,
     answer: &mut Answer,
 ) -> Result<(), Failure> {
     let target = arguments.text()?;
     let target = target.as_str();
+    let store = &mut caches.responses;
     match name {
         "lookup" => call_lookup(store, target, false, arguments, answer),
         "lookup_guessing" => call_lookup(store, target, true, arguments, answer),
@@ -356,6 +383,6 @@ pub fn make(
         "answer" => call_answer(store, target, arguments, answer),
         "invalidate" => call_invalidate(store, target, arguments, answer),
         "responses" => call_responses(store, target, answer),
-        _ => Err(Failure::NoCall),
+        _ => make_part_call(&mut caches.parts, store, name, target, arguments, answer),
     }
 }

@@ -1,7 +1,6 @@
-//! Histories: calls of one store, in order, with the answers that are wanted.
-use crate::calls::{make, new_store};
+//! Histories: calls of one cache, in order, with the answers that are wanted.
+use crate::calls::{Caches, make, new_caches};
 use anyhow::{Context, Result, anyhow};
-use headers_cache::Store;
 use headers_rows::{Answer, Arguments, Failure, Tally};
 use std::alloc::{AllocError, Global};
 use std::fs::File;
@@ -19,7 +18,7 @@ struct Row<'a> {
     wanted: &'a str,
 }
 
-// What makes the store, the number of that line, and the calls.
+// What makes the cache, the number of that line, and the calls.
 #[derive(Drop)]
 struct History<'a> {
     number: usize,
@@ -64,11 +63,11 @@ fn read_rows<'a>(
 }
 
 // What a call is answered.
-fn answer_of(alloc: Global, store: &mut Store, call: &str) -> Result<Answer, Failure> {
+fn answer_of(alloc: Global, caches: &mut Caches, call: &str) -> Result<Answer, Failure> {
     let (name, arguments) = call.split_once(' ').unwrap_or((call, ""));
     let mut arguments = Arguments::new(alloc, arguments);
     let mut answer = Answer::new(alloc);
-    make(store, name, &mut arguments, &mut answer)?;
+    make(caches, name, &mut arguments, &mut answer)?;
     if arguments.is_empty() {
         Ok(answer)
     } else {
@@ -78,10 +77,10 @@ fn answer_of(alloc: Global, store: &mut Store, call: &str) -> Result<Answer, Fai
 
 // What the calls of a history are answered.
 fn play(alloc: Global, keys: RandomState, history: &History<'_>) -> Result<Vec<Answer>, Failure> {
-    let mut store = new_store(alloc, keys, history.limits)?;
+    let mut caches = new_caches(alloc, keys, history.limits)?;
     let mut answers = Vec::new(alloc);
     for row in history.rows.iter() {
-        match answer_of(alloc, &mut store, row.call) {
+        match answer_of(alloc, &mut caches, row.call) {
             Err(Failure::NoCall | Failure::Refused) => {
                 let mut answer = Answer::new(alloc);
                 answer.word(Failure::NoCall.as_str())?;
