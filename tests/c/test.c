@@ -2155,15 +2155,15 @@ static const char *getters(const struct row *row) {
 
 /* The canonical line of `retry-after` is a number or an IMF-fixdate. */
 static void check_retry_after(const struct row *row) {
-    char text[64] = "";
-    struct word line = answer_word(row, 1);
+    char line[64], text[80];
+    struct word word = answer_word(row, 1);
     struct tm time = {0};
-    line.bytes[line.length] = 0;
-    const char *end = strptime(line.bytes, "%a, %d %b %Y %H:%M:%S GMT", &time);
+    snprintf(line, sizeof line, "%.*s", (int)word.length, word.bytes);
+    const char *end = strptime(line, "%a, %d %b %Y %H:%M:%S GMT", &time);
     if (end && !*end) {
         snprintf(text, sizeof text, "date %lld", (long long)timegm(&time));
     } else {
-        snprintf(text, sizeof text, "delay %s", line.bytes);
+        snprintf(text, sizeof text, "delay %s", line);
     }
     check_shown(row, call_retry_after, text);
 }

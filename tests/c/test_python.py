@@ -553,7 +553,7 @@ def allow(words, wanted):
 
 def option(words, wanted):
     if not words[1:]:
-        return wanted == ["false"]
+        return wanted == [str(words[0] == "()").lower()]
     given = answer(headers.has_member, *map(decode, words))
     return given == (wanted == ["true"] and words[0] != "()")
 
