@@ -1,0 +1,3 @@
+mod HeadLemmas
+mod JoinLemmas
+mod StoreLemmas

@@ -1,0 +1,60 @@
+//! Theorems about the definitions alone. To cite one in a proof, call it.
+ghost use Rattle.std.specs.Prelude.{◌≡◌, ◌++◌, ℕ, List, length, Option, Some};
+ghost use Rattle.http.specs.Request.{head_of};
+ghost use Rattle.http.specs.declared.request.Request.{Request};
+ghost use Rattle.http_uri.specs.Uri.{uri_path};
+ghost use Rattle.headers_exchange.specs.Pieces.{AreSent};
+ghost use Rattle.headers_exchange.specs.declared.plan.Plan.{Plan as Response};
+ghost use Rattle.headers_preconditions.specs.declared.part.Part.{Part};
+ghost use Rattle.headers_preconditions.specs.declared.plan.Plan.TheVariants.{Single};
+ghost use Rattle.headers_resource.specs.declared.answer.Sends.TheVariants.{Planned};
+ghost use Rattle.headers_serve.specs.Answer.{IsAnswerAt};
+ghost use Rattle.headers_serve.specs.File.{gives_of};
+ghost use Rattle.headers_serve.specs.declared.file.Entry.{Entry};
+ghost use Rattle.headers_files.specs.declared.kept.Kept.{Kept};
+ghost use Rattle.headers_serve.specs.declared.settings.Site.{Site};
+ghost use Rattle.headers_serve.specs.declared.source.Source.{Source};
+ghost use Rattle.headers_serve.specs.declared.source.Source.TheVariants.{Kept as InMemory};
+ghost use Rattle.headers_serve_answers.specs.Joined.{JoinTo};
+ghost use Rattle.headers_serve_answers.specs.Requests.{IsHeadOf};
+ghost use Rattle.headers_serve_answers.specs.Stores.{HaveAlike, has_at};
+
+use headers_resource::laws::head_is_answered_as_get;
+use headers_serve::laws::sent_bytes_are_those_of_the_ranges;
+
+/// Theorem: the response depends on what the store has at the path that the request names, and at the
+/// paths beside it in a coding if codings are negotiated, and at no other path.
+pub fn response_depends_on_the_path()
+    ensures { (now : Option ℕ) (left : ℕ) (site : Site) (look other : List ℕ → Entry)
+        (request : Request (List ℕ)) (response : Response) (source : Option Source)
+        → HaveAlike site.resource.negotiation.coding (uri_path (head_of request).uri) look other
+        → IsAnswerAt now left site (has_at look) request response source
+        → IsAnswerAt now left site (has_at other) request response source }
+{}
+
+/// Theorem: a HEAD gets the response of the GET with the same target and fields, if that has no Range
+/// (RFC 9110, section 9.3.2). The connection sends its content to the GET alone.
+pub fn head_has_the_response_of_get()
+    ensures { (now : Option ℕ) (left : ℕ) (site : Site) (look : List ℕ → Entry)
+        (get head : Request (List ℕ)) (response : Response) (source : Option Source) → IsHeadOf get head
+        → IsAnswerAt now left site (has_at look) get response source
+        → IsAnswerAt now left site (has_at look) head response source }
+{
+    head_is_answered_as_get();
+}
+
+/// Theorem: if two responses send one part each of the same bytes in memory, from the start to where the
+/// other one begins, and from there to the end, what they send is all of it: a download that is resumed
+/// gives the content.
+pub fn parts_join_to_the_content()
+    ensures { (now later : Option ℕ) (left more : ℕ) (site : Site) (look : List ℕ → Entry)
+        (request next : Request (List ℕ)) (r s : Response) (kept : Kept) (first second : Part) (p q : Option ℕ)
+        (a b : List ℕ) (x : IsAnswerAt now left site (has_at look) request r (Some (InMemory kept)))
+        (y : IsAnswerAt later more site (has_at look) next s (Some (InMemory kept)))
+        → x.answer.sends ≡ Planned p (Single first) → y.answer.sends ≡ Planned q (Single second)
+        → JoinTo (length kept.content) first second
+        → AreSent (gives_of (Some (InMemory kept))) r.pieces.items a
+        → AreSent (gives_of (Some (InMemory kept))) s.pieces.items b → a ++ b ≡ kept.content }
+{
+    sent_bytes_are_those_of_the_ranges();
+}
