@@ -1,0 +1,6 @@
+mod ExchangeLemmas
+mod FramingLemmas
+mod RequestLemmas
+mod RootLemmas
+mod ServedLemmas
+mod TextLemmas

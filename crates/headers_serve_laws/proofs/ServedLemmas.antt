@@ -1,0 +1,199 @@
+-- What the file server sends in answer to a literal request.
+use Rattle.std.proofs.Common.{◌≡◌, ◌⊎◌, ℕ, ◌-◌, ◌^◌, ◌<◌, ◌≤◌, Bool, true, false, List, [], ◌∷◌, ◌++◌, length, codes, map}
+use Rattle.std.proofs.Common.{Option, Some, None, refl, sym, ap, subst, ◌∙◌, arith, append-nil, cond, inl, inr}
+use Rattle.std.specs.Prelude.{All, decimal, nat_lt, string_bytes}
+use Rattle.std.proofs.lemmas.Bool.{cond-true, lt-ltb}
+use Rattle.http.specs.declared.request.Request.{Request}
+use Rattle.httparse.specs.Spans.{name_and_value}
+use Rattle.http_header.specs.FieldValue.{FieldValue, plain_value}
+use Rattle.http1.specs.Fields.{Header, known_fields}
+use Rattle.http1.specs.Text.{eq_ignore_case}
+use Rattle.http_server.specs.declared.state.Config.{Config}
+use Rattle.http_server.specs.Exchange.{IsAdded, IsAnswer}
+use Rattle.headers_exchange.specs.Connection.{Exchanged}
+use Rattle.headers_exchange.specs.Encoding.{plan_fields}
+use Rattle.headers_exchange.specs.Pieces.{AreSent}
+use Rattle.headers_exchange.specs.declared.plan.Plan.{Plan}
+use Rattle.headers_serve.specs.Answer.{IsAnswerAt, cache_fields, closing_fields, date_fields, first_fields, sniff_field}
+use Rattle.headers_serve.specs.File.{coding_value, len_of, tag_of}
+use Rattle.headers_serve.specs.Response.{lines_under}
+use Rattle.headers_preconditions.specs.Fields.{lines_sent}
+use Rattle.headers_resource.specs.Fields.{lines_of_value}
+use Rattle.headers.specs.Date.{fixdate}
+use Rattle.headers_serve.specs.Memory.{HasOne, IsKept}
+use Rattle.headers_serve.specs.SiteSettings.{IsSiteOf}
+use Rattle.headers_files.specs.Tags.{content_digest, strong_tag}
+use Rattle.headers_files.specs.declared.coding.Coding.{Coding}
+use Rattle.headers_files.specs.declared.coding.Coding.TheVariants.{Identity}
+use Rattle.headers_serve.specs.declared.file.Entry.TheVariants.{Readable}
+use Rattle.headers_serve.specs.declared.file.File.{File}
+use Rattle.headers_files.specs.declared.kept.Kept.{Kept}
+use Rattle.headers_serve.specs.declared.memory.Memory.{Memory}
+use Rattle.headers_serve.specs.declared.service.FileService.{FileService}
+use Rattle.headers_serve.specs.declared.settings.Settings.{Settings}
+use Rattle.headers_serve.specs.declared.settings.Site.{Site}
+use Rattle.headers_serve.specs.declared.source.Source.{Source}
+use Rattle.headers_serve.specs.declared.source.Source.TheVariants.{Kept as InMemory, Opened}
+use Rattle.headers_serve_laws.specs.Answered.{HasNoOptions, IsWhole, SendsContent, whole_fields}
+use Rattle.headers_serve_laws.specs.Literal.{AsksForRoot, ok_fields, request_text, root_head}
+use Rattle.headers_serve_laws.specs.Served.{GoesOn, IsOneAnswer, IsRefused, IsServedFile, gives, plans}
+use Rattle.headers_serve_laws.proofs.ExchangeLemmas.{one_answer}
+use Rattle.headers_serve_laws.proofs.RootLemmas.{get_root}
+
+-- ---- the fields
+
+goes_on : (now : Option ℕ) (tag : List ℕ) (len : ℕ) (media_type : List ℕ)
+    → (known_fields (ok_fields now tag len media_type)).close ≡ false
+unfolding known_fields eq_ignore_case
+goes_on None tag len media_type = refl
+goes_on (Some seconds) tag len media_type = refl
+
+-- a file in memory, in no coding and of no date, at a path
+record IsPlainFile (content media_type : List ℕ) (file : File) : Type 0 where
+  kept : Kept
+  source : file.source ≡ InMemory kept
+  bytes : kept.content ≡ content
+  type : file.media_type.bytes ≡ media_type
+  coding : file.coding ≡ Identity
+  modified : file.modified ≡ None
+
+kept_in : (content : List ℕ) (source : Source) → IsKept content source
+    → (kept : Kept) × (source ≡ InMemory kept) × (kept.content ≡ content)
+kept_in content (InMemory kept) is = (kept, refl, is)
+kept_in content (Opened opened) is = absurd is
+
+module _ (store : Memory) (undated : store.modified ≡ None) where
+  abbrev content : List ℕ
+  content = store.content.content
+
+  abbrev media_type : List ℕ
+  media_type = store.media_type.bytes
+
+  abbrev tag : List ℕ
+  tag = strong_tag (content_digest content)
+
+  plain_file : (path : List ℕ) (file : File) → HasOne store path (Readable file) → IsPlainFile content media_type file
+  plain_file path file has =
+      let kept = kept_in content file.source has.1 in
+      record {
+        kept = kept.0;
+        source = kept.1;
+        bytes = kept.2;
+        type = ap (λ (v : FieldValue). v.bytes) has.2;
+        coding = has.4;
+        modified = has.3 ∙ undated;
+      }
+
+  -- the field lines of a representation, by what they say
+  abbrev parts : Coding → Option FieldValue → Option ℕ → ℕ → List ℕ → List Header
+  parts coding etag modified len type =
+      lines_under (codes "content-encoding", lines_of_value (coding_value coding))
+      ++ (lines_under (codes "etag", lines_sent (λ (value : FieldValue). value.bytes) etag)
+      ++ (lines_under (codes "last-modified", lines_sent fixdate modified)
+      ++ ((codes "accept-ranges", codes "bytes") ∷ (codes "content-length", decimal len)
+      ∷ (codes "content-type", type) ∷ [])))
+
+  fields_of_file : (file : File) → IsPlainFile content media_type file
+      → whole_fields file ≡ parts Identity (Some (plain_value tag)) None (length content) media_type
+  fields_of_file file p =
+      (λ i. parts (p.coding i) (tag_of (p.source i)) (p.modified i) (len_of (p.source i)) (p.type i))
+      ∙ ap
+      (λ (bytes : List ℕ).
+      parts Identity (Some (plain_value (strong_tag (content_digest bytes)))) None (length bytes) media_type) p.bytes
+
+  in_order : (now : Option ℕ)
+      → (((date_fields now ++ sniff_field ∷ []) ++ []) ++ [])
+      ++ parts Identity (Some (plain_value tag)) None (length content) media_type
+      ≡ ok_fields now tag (length content) media_type
+  in_order None = refl
+  in_order (Some seconds) = refl
+
+  -- all fields of the response
+  all_fields : (now : Option ℕ) (left : ℕ) (site : Site) (file : File) → 1 < left → site.cache_control ≡ None
+      → IsPlainFile content media_type file
+      → (first_fields now left ++ cache_fields site.cache_control) ++ whole_fields file
+      ≡ ok_fields now tag (length content) media_type
+  all_fields now left site file more bare p =
+      let going : closing_fields left ≡ [] = cond-true _ _ _ (lt-ltb 1 left more) in
+      (λ i. (((date_fields now ++ sniff_field ∷ []) ++ going i) ++ cache_fields (bare i)) ++ fields_of_file file p i)
+      ∙ in_order now
+
+-- ---- the answer
+
+module _ (config : Config) (settings : Settings) (first : FileService Memory) (room : 35 ≤ config.limits.max_head_len)
+    (of : IsSiteOf settings first.site) (bare : HasNoOptions settings)
+    (index : string_bytes first.store.path ≡ codes "index.html") (undated : first.store.modified ≡ None)
+    (more : 1 < first.left) where
+  abbrev store : Memory
+  store = first.store
+
+  record IsPlanned (request : Request (List ℕ)) (plan : Plan) (after : FileService Memory) : Type 0 where
+    time : Option ℕ
+    file : File
+    plain : IsPlainFile store.content.content store.media_type.bytes file
+    whole : IsWhole time first.left first.site file plan after.source
+    sends : SendsContent file plan after.source
+
+  planned_by : (request : Request (List ℕ)) (plan : Plan) (after : FileService Memory)
+      → AsksForRoot (codes "GET") request → plans first request plan after → IsPlanned request plan after
+  planned_by request plan after asks x =
+      let root =
+      get_root x.0.0 first.left settings first.site store request plan after.source of bare index asks x.0.1 in
+      record {
+        time = x.0.0;
+        file = root.0;
+        plain = plain_file store undated (codes "index.html") root.0 root.1;
+        whole = root.2;
+        sends = root.3;
+      }
+
+  fields_are : (request : Request (List ℕ)) (plan : Plan) (after : FileService Memory)
+      → (p : IsPlanned request plan after)
+      → plan_fields plan ≡ ok_fields p.time (strong_tag (content_digest store.content.content))
+      (length store.content.content) store.media_type.bytes
+  fields_are request plan after p =
+      p.whole.fields
+      ∙ all_fields store undated p.time first.left first.site p.file more (of.cache_control ∙ bare.cache_control)
+      p.plain
+
+  stays : (request : Request (List ℕ)) (plan : Plan) (after : FileService Memory)
+      → AsksForRoot (codes "GET") request → plans first request plan after → GoesOn plan
+  stays request plan after asks x =
+      let p = planned_by request plan after asks x in
+      record {
+        stays =
+            ap (λ (hs : List Header). (known_fields hs).close) (fields_are request plan after p)
+            ∙ goes_on p.time (strong_tag (content_digest store.content.content)) (length store.content.content)
+            store.media_type.bytes;
+        late = λ is. let wrong : 200 ≡ 101 = sym p.whole.status ∙ is in omega (arith, wrong);
+      }
+
+  module _ (now : FileService Memory) (sent : List ℕ) where
+    served_by : IsOneAnswer plans gives (root_head (codes "GET")) first now sent → IsServedFile store sent
+    served_by a =
+        let p = planned_by a.request a.plan now a.asks a.planned in
+        let content : a.response.body.items ≡ store.content.content =
+        p.sends p.plain.kept a.response.body.items p.plain.source a.content ∙ p.plain.bytes in
+        let answer = a.answer in
+        record {
+          now = p.time;
+          message = answer.message;
+          reads = answer.reads;
+          minor = answer.version;
+          status = answer.status ∙ a.has_head.status ∙ p.whole.status;
+          added = answer.added;
+          fields =
+              answer.headers.0
+              ∙ ap (λ (l : List Header). l ++ answer.added)
+              (a.has_head.headers ∙ fields_are a.request a.plan now p);
+          own = subst (λ (n : ℕ). All (IsAdded n) answer.added) (ap length content) answer.headers.1;
+          body = answer.body ∙ content;
+        }
+
+    pub served : Exchanged plans gives config first now (request_text (codes "GET")) sent true
+        → IsServedFile store sent ⊎ IsRefused plans config.limits (root_head (codes "GET")) first now
+    served e =
+        elim (one_answer plans gives config room first stays now sent e) [
+          | inl a ↦ inl (served_by a)
+          | inr r ↦ inr r
+        ]

@@ -1,0 +1,58 @@
+-- Answers that are written out.
+use Rattle.std.specs.Prelude.{◌≡◌, ℕ, false, List, [], ◌∷◌, ◌++◌, Option, Some, None, codes, decimal}
+use Rattle.http1.specs.Fields.{Header}
+use Rattle.http_header.specs.FieldValue.{FieldValue}
+use Rattle.headers.specs.Date.{fixdate}
+use Rattle.headers_exchange.specs.Pieces.{AreSent}
+use Rattle.headers_exchange.specs.declared.piece.Piece.{Piece}
+use Rattle.headers_exchange.specs.declared.piece.Piece.TheVariants.{Range}
+use Rattle.headers_exchange.specs.declared.plan.Plan.{Plan as Response}
+use Rattle.headers_preconditions.specs.Fields.{lines_sent}
+use Rattle.headers_resource.specs.Fields.{lines_of_value}
+use Rattle.headers_serve.specs.Answer.{cache_fields, first_fields}
+use Rattle.headers_serve.specs.File.{coding_value, gives_of, len_of, tag_of}
+use Rattle.headers_serve.specs.Response.{fields_of, lines_under}
+use Rattle.headers_serve.specs.declared.file.File.{File}
+use Rattle.headers_files.specs.declared.kept.Kept.{Kept}
+use Rattle.headers_serve.specs.declared.settings.Settings.{Settings}
+use Rattle.headers_serve.specs.declared.settings.Site.{Site}
+use Rattle.headers_serve.specs.declared.source.Source.{Source}
+use Rattle.headers_serve.specs.declared.source.Source.TheVariants.{Kept as InMemory}
+
+-- Cache-Control isn't asked for, all hosts are served, no codings are negotiated, and there is no policy for requests
+-- from other origins.
+pub record HasNoOptions (settings : Settings) : Type 0 where
+  pub cache_control : settings.cache_control ≡ None
+  pub hosts : settings.hosts.items ≡ []
+  pub negotiates : settings.negotiates ≡ false
+  pub cors : settings.cors ≡ None
+
+-- one piece, which is all of the source
+abbrev pub all_of : Source → List Piece
+all_of source = Range (record { start = 0; len = len_of source }) ∷ []
+
+-- the field lines of the representation that a file is, and of its whole content (RFC 9110, sections 8 and 14.3)
+abbrev pub whole_fields : File → List Header
+whole_fields file =
+    lines_under (codes "content-encoding", lines_of_value (coding_value file.coding))
+    ++ (lines_under (codes "etag", lines_sent (λ (tag : FieldValue). tag.bytes) (tag_of file.source))
+    ++ (lines_under (codes "last-modified", lines_sent fixdate file.modified)
+    ++ ((codes "accept-ranges", codes "bytes") ∷ (codes "content-length", decimal (len_of file.source))
+    ∷ (codes "content-type", file.media_type.bytes) ∷ [])))
+
+-- The response is a 200 with all of the file, which its ranges are read from. Its fields are, in this order, Date if
+-- there is a clock, X-Content-Type-Options, `Connection: close` if it is the last, Cache-Control if it is asked for, and
+-- those of the file.
+pub record IsWhole (now : Option ℕ) (left : ℕ) (site : Site) (file : File) (response : Response)
+    (source : Option Source) : Type 0 where
+  pub status : response.status ≡ 200
+  pub fields : fields_of response
+      ≡ (first_fields now left ++ cache_fields site.cache_control) ++ whole_fields file
+  pub pieces : response.pieces.items ≡ all_of file.source
+  pub opens : source ≡ Some file.source
+
+-- of a file in memory, exactly the content is sent
+abbrev pub SendsContent : File → Response → Option Source → Type 0
+SendsContent file response source =
+    (kept : Kept) (sent : List ℕ) → file.source ≡ InMemory kept
+    → AreSent (gives_of source) response.pieces.items sent → sent ≡ kept.content

@@ -1,0 +1,4 @@
+pub mod Answered
+pub mod Literal
+pub mod Sendable
+pub mod Served
