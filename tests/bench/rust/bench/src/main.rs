@@ -2,11 +2,13 @@
 //!
 //!     side_by_side times ROUNDS MILLISECONDS [PART_OF_A_NAME..]
 //!     side_by_side counts [PART_OF_A_NAME..]                      under callgrind
+//!     side_by_side fields ROUNDS FILE                             the toolchain alone
 //!     side_by_side growth                                         under callgrind, the port alone
 //!
 //! `times` prints `name peer_ns port_ns toolchain_ns` of each call, each the least of ROUNDS rounds that alternate. The
-//! last is the time of what the port leaves to the toolchain, or 0 where no operation does that alone. The others dump
-//! callgrind's counts, under names that tools/bench reads.
+//! last is the time of what the port leaves to the toolchain, or 0 where no operation does that alone. `fields` prints the
+//! least milliseconds in which the toolchain makes a map of the fields of a section and looks for the values of each name.
+//! The others dump callgrind's counts, under names that tools/bench reads.
 
 mod growth;
 mod inputs;
@@ -83,6 +85,9 @@ fn of_toolchain(name: &str) -> Option<u32> {
         "map_typed_insert_length" => Some(3),
         "vary_encode" | "allow_methods_encode" | "allow_headers_encode" | "etag_encode" | "if_match_encode"
         | "if_range_encode_tag" | "range_encode" | "server_encode" | "set_cookie_encode_20" => Some(4),
+        "basic_decode" => Some(6),
+        "basic_encode" => Some(7),
+        "websocket_accept_from_key" => Some(8),
         _ => None,
     }
 }
@@ -128,9 +133,28 @@ fn count_both(op: &Op) {
     }
 }
 
+/// The least time in which the toolchain makes a map of the fields of a section.
+fn time_fields(section: &[u8], rounds: usize) -> f64 {
+    let run = |n| seconds(|| port(4, 5, black_box(section), &[], n));
+    let mut least = [f64::MAX; 2];
+    for _ in 0..rounds {
+        for (least, passes) in least.iter_mut().zip([1, 4]) {
+            let (time, sum) = run(passes);
+            assert_ne!(sum, 0, "no work");
+            *least = least.min(time);
+        }
+    }
+    (least[1] - least[0]) / 3.0
+}
+
 fn main() {
     let args: Vec<String> = std::env::args().skip(1).collect();
     let mode = args.first().map_or("times", String::as_str);
+    if mode == "fields" {
+        let section = std::fs::read(&args[2]).unwrap();
+        println!("{:.3}", time_fields(&section, args[1].parse().unwrap()) * 1e3);
+        return;
+    }
     if mode == "growth" {
         return growth::all(|name, bytes, kind, op, text, words| {
             // (the first run finds the allocator without memory, and isn't counted)
