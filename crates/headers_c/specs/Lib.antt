@@ -2,7 +2,6 @@ pub mod Cache
 pub mod CacheStore
 pub mod CacheDirectives
 pub mod Canonical
-pub mod Cors
 pub mod Fields
 pub mod Gateways
 pub mod Handshake

@@ -1,5 +1,6 @@
 pub mod Choices
 pub mod Contents
+pub mod Cors
 pub mod Evaluations
 pub mod FieldLines
 pub mod Flags

@@ -11,8 +11,8 @@ use headers_negotiation::{Dimension, look_up, negotiate};
 use http_header::ACCEPT_LANGUAGE;
 use std::alloc::Global;
 
-// A place that a call gives.
-fn given(place: Option<usize>) -> Result<usize, Failure>
+/// The place that a call gives. `Absent` if there is none.
+pub fn given(place: Option<usize>) -> Result<usize, Failure>
     ensures { result ≡ given place }
 {
     match place {

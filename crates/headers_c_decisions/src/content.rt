@@ -35,7 +35,7 @@ pub fn limits_of(sends_ranges: bool) -> Option<RangeLimits>
 }
 
 /// What the parts say. Rejected if the media type can't be a field line.
-pub(crate) fn content_of(alloc: Global, parts: &ContentParts<'_>) -> Result<Content, Failure>
+pub fn content_of(alloc: Global, parts: &ContentParts<'_>) -> Result<Content, Failure>
     ensures { IsContentOf parts.entry.now result }
 {
     let media_type = optional_value(alloc, parts.media_type)?;

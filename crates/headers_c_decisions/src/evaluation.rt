@@ -27,7 +27,8 @@ pub fn evaluate_request(
     Ok(code_of(answer))
 }
 
-fn code_of(answer: Precondition) -> u16
+/// The status of an answer: 0 if the method is performed, 304 or 412.
+pub fn code_of(answer: Precondition) -> u16
     ensures { result ≡ code_of answer }
 {
     match answer {

@@ -4,6 +4,7 @@
 
 mod choice;
 mod content;
+mod cors;
 mod evaluation;
 mod field_lines;
 mod flag;
@@ -19,9 +20,10 @@ mod status_code;
 mod target;
 mod texts;
 
-pub use crate::choice::{choose, look_up_language};
-pub use crate::content::{ContentParts, boundary_of, limits_of};
-pub use crate::evaluation::evaluate_request;
+pub use crate::choice::{choose, given, look_up_language};
+pub use crate::content::{ContentParts, boundary_of, content_of, limits_of};
+pub use crate::cors::{CorsFacts, Shared, answer_by_rules, show_shared};
+pub use crate::evaluation::{code_of, evaluate_request};
 pub use crate::field_lines::fields_text;
 pub use crate::flag::flag_of;
 pub use crate::handshake::{
@@ -30,9 +32,9 @@ pub use crate::handshake::{
 pub use crate::method::read_method;
 pub use crate::numbers::known;
 pub use crate::quality::{OfferQuality, rate};
-pub use crate::response::{Responded, ResponseFacts, parts_sent, respond_to};
+pub use crate::response::{Responded, ResponseFacts, parts_sent, respond_to, show_response};
 pub use crate::rules::{Listed, Rules, read_line, read_policy};
-pub use crate::selection::{BytesRange, Selected, select_ranges};
+pub use crate::selection::{BytesRange, Selected, select_ranges, show_selection};
 pub use crate::star::is_any;
 pub use crate::status_code::read_status;
 pub use crate::target::{Target, read_date, read_resource};

@@ -63,12 +63,12 @@ pub fn respond_to(
         &content,
         &boundary,
     )?;
-    let responded = show_answer(alloc, answer, is_known_by(&request))?;
+    let responded = show_response(alloc, answer, is_known_by(&request))?;
     Ok(responded)
 }
 
-// What an answer is, if there is one.
-fn show_answer(
+/// What an answer is, if there is one.
+pub fn show_response(
     alloc: Global,
     answer: Option<Response>,
     is_known: bool,

@@ -51,11 +51,12 @@ pub fn select_ranges(
         length,
         &limits,
     )?;
-    let selected = show(alloc, &selection)?;
+    let selected = show_selection(alloc, &selection)?;
     Ok(selected)
 }
 
-fn show(alloc: Global, selection: &Selection) -> Result<Selected, AllocError>
+/// The status of a selection, and its ranges. Out of memory only if there are parts.
+pub fn show_selection(alloc: Global, selection: &Selection) -> Result<Selected, AllocError>
     ensures shown { IfOk result (λ selected. IsShown selection.now selected.code selected.ranges.items) }
     ensures memory { IsErr result → ArePartsOf selection.now }
 {

@@ -7,4 +7,4 @@ mod written;
 
 pub use crate::flags::has_flag;
 pub use crate::formats::{ContentRangeParts, format_content_range, format_date, format_tag};
-pub use crate::written::{lines_text, map_of, written_lines};
+pub use crate::written::{credentials_lines, has_credentials, lines_text, map_of, written_lines};

@@ -51,7 +51,8 @@ pub fn map_of(
     Ok(map)
 }
 
-fn has_credentials(name: &HeaderName) -> bool
+/// Whether the field of this name has credentials.
+pub fn has_credentials(name: &HeaderName) -> bool
     ensures { result ≡ has_credentials name.now }
 {
     name.as_bytes() == b"authorization".as_slice()
@@ -73,7 +74,8 @@ fn typed_lines<H: Header>(
     }
 }
 
-fn credentials_lines(
+/// The encoding of the credentials that the values decode to, Basic or Bearer. `None` if they are neither.
+pub fn credentials_lines(
     alloc: Global,
     values: &[HeaderValue],
 ) -> Result<Option<Vec<HeaderValue>>, AllocError>

@@ -65,11 +65,12 @@ fn answer_by(
         fields: &fields,
     };
     let answer = answer_request(alloc, resource, &request, parts.present)?;
-    let answered = show(alloc, &answer)?;
+    let answered = show_answer(alloc, &answer)?;
     Ok(answered)
 }
 
-fn show(alloc: Global, answer: &Answer) -> Result<Answered, AllocError>
+/// What an answer is, the ranges that it sends, and its field lines.
+pub fn show_answer(alloc: Global, answer: &Answer) -> Result<Answered, AllocError>
     ensures { IfOk result (IsShownAnswer answer.now) }
 {
     Ok(Answered {

@@ -12,8 +12,8 @@ mod settled;
 mod shown;
 mod values;
 
-pub use crate::answer::{Answered, answer_for};
+pub use crate::answer::{Answered, answer_for, show_answer};
 pub use crate::representation::RepresentationParts;
-pub use crate::request::RequestParts;
-pub use crate::resource::ResourceParts;
+pub use crate::request::{RequestParts, content_of, read_authority, read_protocol};
+pub use crate::resource::{ResourceParts, read_resource};
 pub use crate::shown::AnswerFacts;

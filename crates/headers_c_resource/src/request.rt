@@ -27,8 +27,8 @@ pub struct RequestParts {
     pub has_length: bool,
 }
 
-// The protocol of a version. A later one than HTTP/1.1 counts as that.
-pub(crate) fn read_protocol(version: u8) -> Result<Protocol, Failure>
+/// The protocol of a version. A later one than HTTP/1.1 counts as that.
+pub fn read_protocol(version: u8) -> Result<Protocol, Failure>
     ensures { IsProtocolAnswer version result }
 {
     match version {
@@ -39,7 +39,7 @@ pub(crate) fn read_protocol(version: u8) -> Result<Protocol, Failure>
 }
 
 /// What is known of the content.
-pub(crate) fn content_of(parts: &RequestParts) -> RequestContent
+pub fn content_of(parts: &RequestParts) -> RequestContent
     ensures { result ≡ content_of parts.now }
 {
     if !parts.has_content {
@@ -100,7 +100,7 @@ fn authority_of(target: &[u8]) -> Option<&[u8]>
 
 /// The authority of a target, if that is in absolute-form (RFC 9112, section 3.2.2). Rejected if it is
 /// empty or can't be a field line.
-pub(crate) fn read_authority(alloc: Global, target: &[u8]) -> Result<Option<HeaderValue>, Failure>
+pub fn read_authority(alloc: Global, target: &[u8]) -> Result<Option<HeaderValue>, Failure>
     ensures { IsAuthorityAnswer (authority_of target.now) result }
 {
     match authority_of(target) {

@@ -143,7 +143,7 @@ fn read_cors(
 }
 
 /// The resource that is said.
-pub(crate) fn read_resource(
+pub fn read_resource(
     alloc: Global,
     parts: &ResourceParts<'_>,
     numbers: &[RepresentationParts],

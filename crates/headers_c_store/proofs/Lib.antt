@@ -1,3 +1,2 @@
-pub mod HandleValues
 pub mod LookupLemmas
 pub mod NameLemmas

@@ -4,7 +4,7 @@ ghost use Rattle.headers_c_store.specs.Ownership.{cache_owns};
 ghost use Rattle.headers_c_store.specs.declared.held.Held.{Held};
 
 use crate::held::Held;
-use crate::raw_box::RawBox;
+use headers_c_boxes::RawBox;
 use std::alloc::Global;
 use std::marker::{Model, Send};
 use std::mem::replace;

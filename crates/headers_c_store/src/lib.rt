@@ -8,7 +8,6 @@ mod held;
 mod lookup;
 mod names;
 mod opening;
-mod raw_box;
 mod reading;
 mod removing;
 mod shown;

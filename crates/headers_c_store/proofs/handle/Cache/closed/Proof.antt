@@ -18,7 +18,7 @@ use denote.Steps.{nothing}
 use denote.Triple.Entry.{alive}
 use denote.Triple.Walked.{Stays, walk_of}
 use Rattle.std.proofs.raw_atomic.Walks.{proved_at, leaves}
-use Rattle.headers_c_store.proofs.HandleValues.{flagged_val, flagged_own, flagged_made, flagged_typed}
+use Rattle.headers_c_boxes.proofs.HandleValues.{flagged_val, flagged_own, flagged_made, flagged_typed}
 use Rattle.headers_c_store.specs.contracts.handle.Cache as handle
 use Rattle.headers_c_store.specs.contracts.handle.Cache.closed.{ended, clauses}
 use Rattle.headers_c_store.specs.contracts.handle.Cache.closed.Key.{name as #self}

@@ -22,8 +22,8 @@ use Rattle.std.proofs.raw_atomic.Walks.{proved_at, leaves}
 use Rattle.std.specs.Prelude.{is_some}
 use Rattle.std_alloc.proofs.Pairs.{pair_of, pair_val, pair_Typed}
 use denote.Struct.Tuple.{Tuple}
-use Rattle.headers_c_store.proofs.HandleValues.{flagged_val, flagged_told, flagged_typed, lone_val, lone_own}
-use Rattle.headers_c_store.proofs.HandleValues.{lone_made, lone_typed, ptr_typed}
+use Rattle.headers_c_boxes.proofs.HandleValues.{flagged_val, flagged_told, flagged_typed, lone_val, lone_own}
+use Rattle.headers_c_boxes.proofs.HandleValues.{lone_made, lone_typed, ptr_typed}
 use Rattle.headers_c_store.specs.contracts.handle.Cache as handle
 use Rattle.headers_c_store.specs.contracts.handle.Loose as loose
 use Rattle.headers_c_store.specs.contracts.handle.Cache.into_loose.{ended, clauses}

@@ -24,10 +24,10 @@ use Rattle.std_heap.specs.contracts.Global as Heap
 use Rattle.std_heap.specs.contracts.GlobalAllocator.TheImpl.{ghosts}
 use Rattle.std_heap.proofs.Global.TheLaws as heap
 use Rattle.headers_c_store.specs.contracts.held.Held as Stored
-use Rattle.headers_c_store.specs.contracts.raw_box.RawBox as raw_box
+use Rattle.headers_c_boxes.specs.contracts.raw_box.RawBox as raw_box
 use Rattle.headers_c_store.specs.contracts.handle.Cache as handle
-use Rattle.headers_c_store.proofs.HandleValues.{both, loose_good, loose_out, flagged_val, flagged_own, flagged_made}
-use Rattle.headers_c_store.proofs.HandleValues.{flagged_typed}
+use Rattle.headers_c_boxes.proofs.HandleValues.{both, loose_good, loose_out, flagged_val, flagged_own, flagged_made}
+use Rattle.headers_c_boxes.proofs.HandleValues.{flagged_typed}
 use Rattle.headers_c_store.specs.contracts.handle.Cache.of_raw_box.{ended, clauses}
 use Rattle.headers_c_store.specs.contracts.handle.Cache.of_raw_box.Key.{name as #self}
 use Rattle.headers_c_store.proofs.handle.Cache.of_raw_box.Statement.{statement}

@@ -24,7 +24,7 @@ use Rattle.std_heap.specs.contracts.Global as Heap
 use Rattle.std_heap.specs.contracts.GlobalAllocator.TheImpl.{ghosts}
 use Rattle.std_heap.proofs.Global.TheLaws as heap
 use Rattle.headers_c_store.specs.contracts.held.Held as Stored
-use Rattle.headers_c_store.specs.contracts.raw_box.RawBox as raw_box
+use Rattle.headers_c_boxes.specs.contracts.raw_box.RawBox as raw_box
 use Rattle.headers_c_store.specs.contracts.handle.Loose as loose
 use mir.Raw.{raw as bare}
 use denote.Memory.{lone}
@@ -32,8 +32,8 @@ use Rattle.std.specs.Prelude.{◌≢◌}
 use Rattle.std_alloc.specs.Box.Ownership.{box_owns}
 use Rattle.core.proofs.alloc.Calls.{handle_tells}
 use Rattle.headers_c_store.specs.Ownership.{cache_owns, global}
-use Rattle.headers_c_store.proofs.HandleValues.{al, some_of, both, loose_good, loose_in, lone_val, lone_told}
-use Rattle.headers_c_store.proofs.HandleValues.{lone_typed}
+use Rattle.headers_c_boxes.proofs.HandleValues.{al, some_of, both, loose_good, loose_in, lone_val, lone_told}
+use Rattle.headers_c_boxes.proofs.HandleValues.{lone_typed}
 use Rattle.headers_c_store.specs.contracts.handle.Loose.into_raw_box.{ended, clauses}
 use Rattle.headers_c_store.specs.contracts.handle.Loose.into_raw_box.Key.{name as #self}
 use Rattle.headers_c_store.proofs.handle.Loose.into_raw_box.Statement.{statement}

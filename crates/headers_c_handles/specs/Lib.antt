@@ -1,0 +1,5 @@
+pub mod Handles
+pub mod Ownership
+pub mod Policies
+pub mod Resources
+pub mod Sections
