@@ -384,23 +384,29 @@ def peak_of(names: str) -> int:
 
 
 def large(part: Part, through: int, folder: Path) -> None:
-    """1 GiB in each direction, and the memory of the gateway meanwhile."""
-    name = Path(os.environ["GATE_PROGRAM"]).name
+    """1 GiB in each direction, by its length and in chunks, and the memory of the gateway meanwhile."""
+    name, url, length = Path(os.environ["GATE_PROGRAM"]).name, f"http://127.0.0.1:{through}", 1 << 30
     (folder / "huge").touch()
-    os.truncate(folder / "huge", 1 << 30)
-    for what, words in (("length", ["-T", "huge"]), ("chunks", ["-H", "Transfer-Encoding: chunked", "-T", "huge"])):
-        process = subprocess.Popen(["curl", "-s", *words, f"http://127.0.0.1:{through}/echo"], cwd=folder,
-                                   stdout=subprocess.PIPE, stderr=subprocess.DEVNULL)
+    os.truncate(folder / "huge", length)
+    received = ["-o", "/dev/null", "-w", "%{size_download}"]
+    for what, words in (
+        ("to the origin by length", ["-T", "huge", f"{url}/echo"]),
+        ("to the origin by chunks", ["-H", "Transfer-Encoding: chunked", "-T", "huge", f"{url}/echo"]),
+        ("from the origin by length", [*received, f"{url}/zeros/length/{length}"]),
+        ("from the origin by chunks", [*received, f"{url}/zeros/chunks/{length}"]),
+    ):
+        process = subprocess.Popen(["curl", "-s", *words], cwd=folder, stdout=subprocess.PIPE,
+                                   stderr=subprocess.DEVNULL)
         most = 0
         while process.poll() is None:
             most = max(most, peak_of(name))
             time.sleep(0.05)
         text = process.stdout.read()
-        length = json.loads(text)["length"] if text.startswith(b"{") else 0
-        part.want(f"bytes that arrive of 1 GiB by {what}", length, 1 << 30)
+        arrived = json.loads(text)["length"] if text.startswith(b"{") else int(text or 0)
+        part.want(f"bytes that arrive of 1 GiB {what}", arrived, length)
         part.counts.append(f"peak memory {most} KiB")
         if not 0 < most < 4096:
-            part.faults.append(f"1 GiB by {what} takes {most} KiB of memory")
+            part.faults.append(f"1 GiB {what} takes {most} KiB of memory")
     (folder / "huge").unlink()
 
 

@@ -2,7 +2,7 @@
 
     origin.py PORT FOLDER
 
-`/f/N` is N bytes, in FOLDER too. `/echo` says what was received.
+`/f/N` is N bytes, in FOLDER too. `/zeros/length/N` and `/zeros/chunks/N` are N zeros. `/echo` says what was received.
 """
 import asyncio
 import hashlib
@@ -12,6 +12,7 @@ from pathlib import Path
 
 FOLDER = Path(sys.argv[2])
 CRLF = b"\r\n"
+ZEROS = bytes(65536)
 
 
 def content_of(length: int) -> bytes:
@@ -58,6 +59,19 @@ def head(status: int, *lines: str, version: str = "1.1") -> bytes:
 
 def sized(status: int, content: bytes, *lines: str) -> bytes:
     return head(status, f"Content-Length: {len(content)}", *lines) + content
+
+
+async def send_zeros(form: str, length: int, writer: asyncio.StreamWriter) -> None:
+    """A response of zeros, piece by piece, by its length or in chunks."""
+    is_chunked = form == "chunks"
+    writer.write(head(200, "Transfer-Encoding: chunked" if is_chunked else f"Content-Length: {length}"))
+    while length:
+        piece = ZEROS[:length]
+        writer.write(b"%x\r\n" % len(piece) + piece + CRLF if is_chunked else piece)
+        await writer.drain()
+        length -= len(piece)
+    if is_chunked:
+        writer.write(b"0\r\n\r\n")
 
 
 # Responses to any request, and whether the connection ends after them.
@@ -113,6 +127,10 @@ async def answer(method: str, target: str, fields: list[tuple[str, str]], reader
     if path == "/told":
         (FOLDER / "told").write_bytes(front)
         writer.write(sized(200, b""))
+        return False
+    if path.startswith("/zeros/"):
+        form, length = path.split("/")[2:]
+        await send_zeros(form, int(length), writer)
         return False
     if path == "/slow":
         writer.write(head(200, "Content-Length: 50"))
