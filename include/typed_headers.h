@@ -16,9 +16,11 @@
  *   its name. No space is taken off its ends.
  * - A call that writes bytes takes room for them. `*written` says how many bytes there are, also if they don't fit: the
  *   status is TYPED_HEADERS_NO_ROOM then, and the room is as it was. Nothing is written after them.
- * - Calls keep no state, but for a `struct typed_headers_cache`. They may run in several threads at once; none may run
- *   in a signal handler, nor in the child of a fork of a process with threads.
- * - Memory comes from malloc, realloc and free, and is given back before the call returns, but for that of a cache.
+ * - Calls keep no state, but for a `struct typed_headers_cache` and the handles of sections, policies and resources.
+ *   They may run in several threads at once; none may run in a signal handler, nor in the child of a fork of a process
+ *   with threads.
+ * - Memory comes from malloc, realloc and free, and is given back before the call returns, but for that of a cache and
+ *   of the handles.
  *   The status is TYPED_HEADERS_NO_MEMORY only if something is allocated: for lines of a field, for a section that has
  *   a line before its first empty one, for a method of more than 15 bytes, and where a call says `Memory`.
  */
@@ -941,7 +943,7 @@ uint8_t typed_headers_cache_new_with(struct typed_headers_cache *cache,
                                      const struct typed_headers_cache_extensions *extensions,
                                      const struct typed_headers_keys *keys);
 
-/* Closes a cache, and gives its memory back. It may be closed before. The status is TYPED_HEADERS_DONE. */
+/* Closes a cache, and gives its memory back. It may be closed before, or null. The status is TYPED_HEADERS_DONE. */
 uint8_t typed_headers_cache_free(struct typed_headers_cache *cache);
 
 /*
@@ -1359,6 +1361,138 @@ uint8_t typed_headers_members(const uint8_t *lines, size_t lines_length, uint8_t
  */
 uint8_t typed_headers_has_member(const uint8_t *lines, size_t lines_length, const uint8_t *member,
                                  size_t member_length, bool any_case, uint8_t *has);
+
+/* ---- sections and policies: what several calls are asked of is parsed once, behind a handle. Since 1.1. ---- */
+
+/*
+ * A handle: closed, or open with what it was opened with. Zero bytes are a closed one, as TYPED_HEADERS_CLOSED. An open
+ * one has memory until it is closed again, and what it has never changes. Its members are the library's: a program
+ * changes none, and copies none but of a closed one. Two calls on one handle may not run at once, also if both only
+ * read it. Another thread may make the next one, if the two are ordered, as by a lock. Threads that read at the same
+ * time have a handle each.
+ *
+ * Absent, of each call that reads a handle: it is closed, or is that of another struct.
+ */
+struct typed_headers_section {
+    void *place;
+    bool is_open;
+};
+
+/* A policy for requests from other origins: the same, with a server's rules. */
+struct typed_headers_cors_policy {
+    void *place;
+    bool is_open;
+};
+
+/* A resource: the same, with what a server knows of the target of a request. */
+struct typed_headers_resource_handle {
+    void *place;
+    bool is_open;
+};
+
+#define TYPED_HEADERS_CLOSED {0}
+
+/* Closes a handle, and gives its memory back. It may be closed before, or null. The status is TYPED_HEADERS_DONE. */
+uint8_t typed_headers_section_free(struct typed_headers_section *fields);
+uint8_t typed_headers_cors_policy_free(struct typed_headers_cors_policy *policy);
+uint8_t typed_headers_resource_handle_free(struct typed_headers_resource_handle *handle);
+
+/*
+ * Opens the handle of a section with its fields (RFC 9112, section 5). Refused: the handle is open, or a line of
+ * the section before its first empty one is no field. Too large: the section has more than 8,388,608 bytes, or more
+ * names than a map has room for (24,576). Memory: the handle is closed.
+ */
+uint8_t typed_headers_section_new(struct typed_headers_section *fields, const uint8_t *section, size_t section_length,
+                                  const struct typed_headers_keys *keys);
+
+/*
+ * What `typed_headers_field` gives for the lines of a name. Absent also: the section has none. Refused: the name is no
+ * field name, or the header rejects the lines. Memory: there are lines, or the name is no standard one.
+ */
+uint8_t typed_headers_section_field(struct typed_headers_section *fields, const uint8_t *name, size_t name_length,
+                                    uint8_t *room, size_t room_length, size_t *written);
+
+/*
+ * What `typed_headers_evaluate` gives for these fields. Refused: the method is no token, `etag` is no entity tag, or
+ * the date lies past the year 9999.
+ */
+uint8_t typed_headers_section_evaluate(struct typed_headers_section *fields, const uint8_t *method,
+                                       size_t method_length, const uint8_t *etag, size_t etag_length,
+                                       const struct typed_headers_target *target, uint16_t *answer);
+
+/*
+ * What `typed_headers_select` gives for these fields. Absent also: the target has no representation. Refused: as for
+ * `typed_headers_section_evaluate`. Memory: Range applies.
+ */
+uint8_t typed_headers_section_select(struct typed_headers_section *fields, const uint8_t *method, size_t method_length,
+                                     const uint8_t *etag, size_t etag_length,
+                                     const struct typed_headers_target *target, uint64_t length, uint16_t *answer,
+                                     struct typed_headers_bytes_range *room, size_t room_length, size_t *written);
+
+/*
+ * What `typed_headers_respond` gives for these fields. Refused: as for `typed_headers_section_evaluate`, or the media
+ * type is no line, or the boundary is none. Memory: the media type isn't empty, or the boundary is one.
+ */
+uint8_t typed_headers_section_respond(struct typed_headers_section *fields, const uint8_t *method,
+                                      size_t method_length, const uint8_t *etag, size_t etag_length,
+                                      const struct typed_headers_target *target,
+                                      const struct typed_headers_content *content, const uint8_t *boundary,
+                                      size_t boundary_length, struct typed_headers_response *response,
+                                      struct typed_headers_bytes_range *parts, size_t parts_length,
+                                      size_t *parts_written, uint8_t *room, size_t room_length, size_t *written);
+
+/*
+ * What `typed_headers_choose_type`, `_coding` and `_language` give for the lines of Accept, Accept-Encoding and
+ * Accept-Language. Absent also: none is acceptable. Refused: a line of the offers can't be one.
+ */
+uint8_t typed_headers_section_choose_type(struct typed_headers_section *fields, const uint8_t *offers,
+                                          size_t offers_length, size_t *place);
+uint8_t typed_headers_section_choose_coding(struct typed_headers_section *fields, const uint8_t *offers,
+                                            size_t offers_length, size_t *place);
+uint8_t typed_headers_section_choose_language(struct typed_headers_section *fields, const uint8_t *offers,
+                                              size_t offers_length, size_t *place);
+
+/*
+ * Opens the handle of a policy with a server's rules. Refused: the handle is open, or
+ * `typed_headers_cors_answer` refuses the rules. Memory: the handle is closed.
+ */
+uint8_t typed_headers_cors_policy_new(struct typed_headers_cors_policy *policy,
+                                      const struct typed_headers_cors_rules *rules);
+
+/*
+ * What `typed_headers_cors_answer` gives for these rules and fields. Refused: the method is no token, or a line of the
+ * response before the first empty one is no field. Too large: the response has more names than a map has room for
+ * (24,576). Memory: nothing is rejected.
+ */
+uint8_t typed_headers_cors_policy_answer(struct typed_headers_cors_policy *policy,
+                                         struct typed_headers_section *fields, const uint8_t *method,
+                                         size_t method_length, const uint8_t *response, size_t response_length,
+                                         const struct typed_headers_keys *keys,
+                                         struct typed_headers_cors_facts *facts, uint8_t *room, size_t room_length,
+                                         size_t *written);
+
+/*
+ * Opens the handle of a resource. Refused: the handle is open, or
+ * `typed_headers_resource_answer` refuses the resource, its representations or the rules. Memory: the handle is closed.
+ */
+uint8_t typed_headers_resource_handle_new(struct typed_headers_resource_handle *handle,
+                                          const struct typed_headers_resource *resource,
+                                          const struct typed_headers_representation *representations,
+                                          size_t representations_length,
+                                          const struct typed_headers_cors_rules *rules);
+
+/*
+ * What `typed_headers_resource_answer` gives for this resource and these fields. Refused: the method is no token, the
+ * version is another number, or the target is in absolute-form without a host. Memory: nothing is rejected.
+ */
+uint8_t typed_headers_resource_handle_answer(struct typed_headers_resource_handle *handle,
+                                             struct typed_headers_section *fields,
+                                             const struct typed_headers_resource_request *request,
+                                             const uint8_t *method, size_t method_length, const uint8_t *target,
+                                             size_t target_length, struct typed_headers_resource_facts *facts,
+                                             struct typed_headers_bytes_range *parts, size_t parts_length,
+                                             size_t *parts_written, uint8_t *room, size_t room_length,
+                                             size_t *written);
 
 #ifdef __cplusplus
 }

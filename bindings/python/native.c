@@ -806,43 +806,6 @@ static PyObject *select_part(PyObject *module, PyObject *arguments) {
     return found ? Py_BuildValue("BHN", status, answer, found) : NULL;
 }
 
-/* Requests from other origins. */
-
-struct exchange {
-    struct typed_headers_cors_rules rules;
-    struct text method, request, response;
-    struct typed_headers_cors_facts *facts;
-};
-
-static uint8_t write_cors_answer(const void *given, uint8_t *room, size_t room_length, size_t *written) {
-    const struct exchange *it = given;
-    return typed_headers_cors_answer(&it->rules, BYTES(it->method), BYTES(it->request), BYTES(it->response), &keys,
-                                     it->facts, room, room_length, written);
-}
-
-static PyObject *cors_answer(PyObject *module, PyObject *arguments) {
-    struct typed_headers_cors_facts facts = {0, 0};
-    struct exchange it = {.facts = &facts};
-    struct text lists[4];
-    PyObject *max_age;
-    int credentials;
-    uint8_t status;
-    (void)module;
-    if (!PyArg_ParseTuple(arguments, TEXT TEXT TEXT TEXT "Op" TEXT TEXT TEXT, INTO(lists[0]), INTO(lists[1]),
-                          INTO(lists[2]), INTO(lists[3]), &max_age, &credentials, INTO(it.method), INTO(it.request),
-                          INTO(it.response)) ||
-        !read_optional(max_age, &it.rules.max_age, &it.rules.has_max_age)) {
-        return NULL;
-    }
-    struct typed_headers_text *texts[] = {&it.rules.origins, &it.rules.methods, &it.rules.headers, &it.rules.exposed};
-    for (int place = 0; place < 4; place++) {
-        *texts[place] = (struct typed_headers_text){BYTES(lists[place])};
-    }
-    it.rules.credentials = credentials;
-    PyObject *found = written_text(write_cors_answer, &it, &status);
-    return found ? Py_BuildValue("BBBN", status, facts.kind, facts.is_allowed, found) : NULL;
-}
-
 /* Caches. */
 
 static PyObject *may_store(PyObject *module, PyObject *arguments) {
@@ -1207,56 +1170,97 @@ static PyObject *range_list(const struct typed_headers_bytes_range *parts, size_
     return ranges;
 }
 
-static PyObject *respond(PyObject *module, PyObject *arguments) {
-    struct request it;
-    struct typed_headers_content content;
-    struct typed_headers_response response = {0, 0};
-    struct text media_type, boundary;
-    struct typed_headers_bytes_range few[FEW_RANGES], *parts = few;
-    uint8_t short_text[SHORT_TEXT], *room = short_text, status;
-    size_t parts_length = FEW_RANGES, room_length = SHORT_TEXT, count = 0, written = 0;
-    PyObject *last_modified, *present, *length, *ranges, *found = NULL;
-    int exists, is_date_strong, sends_ranges;
-    (void)module;
-    if (!PyArg_ParseTuple(arguments, TEXT TEXT TEXT "OOpp" TEXT "Op" TEXT, INTO(it.method), INTO(it.section),
-                          INTO(it.etag), &last_modified, &present, &exists, &is_date_strong, INTO(media_type), &length,
-                          &sends_ranges, INTO(boundary)) ||
-        !read_optional(last_modified, &it.target.last_modified, &it.target.has_last_modified) ||
-        !read_number(present, &it.target.present) ||
-        !read_optional(length, &content.length, &content.has_length)) {
-        return NULL;
+/* Two rooms, of ranges and of bytes, into which a call writes. */
+struct rooms {
+    struct typed_headers_bytes_range few[FEW_RANGES], *parts;
+    uint8_t short_text[SHORT_TEXT], *room;
+    size_t parts_length, room_length, count, written;
+};
+
+typedef uint8_t (*write_both)(const void *given, struct rooms *rooms);
+
+static void free_rooms(struct rooms *it) {
+    if (it->parts != it->few) {
+        PyMem_Free(it->parts);
     }
-    it.target.exists = exists;
-    it.target.is_date_strong = is_date_strong;
-    content.media_type = (struct typed_headers_text){BYTES(media_type)};
-    content.sends_ranges = sends_ranges;
-    while ((status = typed_headers_respond(BYTES(it.method), BYTES(it.section), &keys, BYTES(it.etag), &it.target,
-                                           &content, BYTES(boundary), &response, parts, parts_length, &count, room,
-                                           room_length, &written)) == TYPED_HEADERS_NO_ROOM) {
-        /* (both rooms grow at most once: neither the ranges nor the text change) */
-        parts_length = count;
-        room_length = written;
-        parts = PyMem_Malloc((count + 1) * sizeof *parts);
-        room = PyMem_Malloc(written + 1);
-        if (!parts || !room) {
+    if (it->room != it->short_text) {
+        PyMem_Free(it->room);
+    }
+}
+
+/* Makes a call with rooms that suffice. They grow at most once: neither the ranges nor the text change. */
+static bool into_rooms(write_both write, const void *given, struct rooms *it, uint8_t *status) {
+    it->parts = it->few;
+    it->room = it->short_text;
+    it->parts_length = FEW_RANGES;
+    it->room_length = SHORT_TEXT;
+    it->count = it->written = 0;
+    while ((*status = write(given, it)) == TYPED_HEADERS_NO_ROOM) {
+        it->parts_length = it->count;
+        it->room_length = it->written;
+        it->parts = PyMem_Malloc((it->count + 1) * sizeof *it->parts);
+        it->room = PyMem_Malloc(it->written + 1);
+        if (!it->parts || !it->room) {
             PyErr_NoMemory();
-            goto out;
+            return false;
         }
     }
-    const bool is_done = status == TYPED_HEADERS_DONE;
-    ranges = range_list(parts, is_done ? count : 0);
-    if (ranges) {
-        found = Py_BuildValue("BHBNy#", status, response.status, response.keeps_encoding, ranges, (const char *)room,
-                              is_done ? (Py_ssize_t)written : 0);
+    if (*status != TYPED_HEADERS_DONE) {
+        it->count = it->written = 0;
     }
-out:
-    if (parts != few) {
-        PyMem_Free(parts);
+    return true;
+}
+
+struct response_of {
+    struct request request;
+    struct typed_headers_content content;
+    struct text boundary;
+    struct typed_headers_response *response;
+};
+
+static uint8_t write_whole_response(const void *given, struct rooms *rooms) {
+    const struct response_of *it = given;
+    return typed_headers_respond(BYTES(it->request.method), BYTES(it->request.section), &keys, BYTES(it->request.etag),
+                                 &it->request.target, &it->content, BYTES(it->boundary), it->response, rooms->parts,
+                                 rooms->parts_length, &rooms->count, rooms->room, rooms->room_length, &rooms->written);
+}
+
+/* What a call that gives a response gives. */
+static PyObject *responded(write_both write, const void *given, const struct typed_headers_response *response) {
+    PyObject *found = NULL;
+    struct rooms rooms;
+    uint8_t status;
+    if (into_rooms(write, given, &rooms, &status)) {
+        PyObject *ranges = range_list(rooms.parts, rooms.count);
+        if (ranges) {
+            found = Py_BuildValue("BHBNy#", status, response->status, response->keeps_encoding, ranges,
+                                  (const char *)rooms.room, (Py_ssize_t)rooms.written);
+        }
     }
-    if (room != short_text) {
-        PyMem_Free(room);
-    }
+    free_rooms(&rooms);
     return found;
+}
+
+static PyObject *respond(PyObject *module, PyObject *arguments) {
+    struct typed_headers_response response = {0, 0};
+    struct response_of it = {.response = &response};
+    struct text media_type;
+    PyObject *last_modified, *present, *length;
+    int exists, is_date_strong, sends_ranges;
+    (void)module;
+    if (!PyArg_ParseTuple(arguments, TEXT TEXT TEXT "OOpp" TEXT "Op" TEXT, INTO(it.request.method),
+                          INTO(it.request.section), INTO(it.request.etag), &last_modified, &present, &exists,
+                          &is_date_strong, INTO(media_type), &length, &sends_ranges, INTO(it.boundary)) ||
+        !read_optional(last_modified, &it.request.target.last_modified, &it.request.target.has_last_modified) ||
+        !read_number(present, &it.request.target.present) ||
+        !read_optional(length, &it.content.length, &it.content.has_length)) {
+        return NULL;
+    }
+    it.request.target.exists = exists;
+    it.request.target.is_date_strong = is_date_strong;
+    it.content.media_type = as_text(media_type);
+    it.content.sends_ranges = sends_ranges;
+    return responded(write_whole_response, &it, &response);
 }
 
 /* The whole answer of a resource. */
@@ -1268,8 +1272,6 @@ struct resource_of {
     struct typed_headers_representation *representations;
     size_t count;
     struct typed_headers_cors_rules rules;
-    struct typed_headers_resource_request request;
-    struct text method, target, section;
 };
 
 /* Reads a tuple of texts into the places of as many. */
@@ -1353,60 +1355,6 @@ static PyObject *resource_facts(uint8_t status, const struct typed_headers_resou
     PyObject *place = optional(facts->place, facts->has_place);
     return Py_BuildValue("BHBBNNy#", status, facts->status, facts->reason, facts->sends, place, ranges,
                          (const char *)room, (Py_ssize_t)written);
-}
-
-static PyObject *answer_resource(const struct resource_of *it) {
-    struct typed_headers_resource_facts facts = {0, 0, 0, 0, 0};
-    struct typed_headers_bytes_range few[FEW_RANGES], *parts = few;
-    uint8_t short_text[SHORT_TEXT], *room = short_text, status;
-    size_t parts_length = FEW_RANGES, room_length = SHORT_TEXT, count = 0, written = 0;
-    PyObject *found = NULL;
-    while ((status = typed_headers_resource_answer(&it->resource, it->representations, it->count, &it->rules,
-                                                   &it->request, BYTES(it->method), BYTES(it->target),
-                                                   BYTES(it->section), &keys, &facts, parts, parts_length, &count, room,
-                                                   room_length, &written)) == TYPED_HEADERS_NO_ROOM) {
-        /* (both rooms grow at most once, as in `respond`) */
-        parts_length = count;
-        room_length = written;
-        parts = PyMem_Malloc((count + 1) * sizeof *parts);
-        room = PyMem_Malloc(written + 1);
-        if (!parts || !room) {
-            PyErr_NoMemory();
-            goto out;
-        }
-    }
-    const bool is_done = status == TYPED_HEADERS_DONE;
-    PyObject *ranges = range_list(parts, is_done ? count : 0);
-    if (ranges) {
-        found = resource_facts(status, &facts, ranges, room, is_done ? written : 0);
-    }
-out:
-    if (parts != few) {
-        PyMem_Free(parts);
-    }
-    if (room != short_text) {
-        PyMem_Free(room);
-    }
-    return found;
-}
-
-static PyObject *resource_answer(PyObject *module, PyObject *arguments) {
-    struct resource_of it;
-    PyObject *texts, *flags, *limit, *representations, *rules, *present, *length, *found = NULL;
-    (void)module;
-    memset(&it, 0, sizeof it);
-    if (PyArg_ParseTuple(arguments, "OOOHOOOBO" TEXT TEXT TEXT, &texts, &flags, &limit, &it.resource.state,
-                         &representations, &rules, &present, &it.request.version, &length, INTO(it.method),
-                         INTO(it.target), INTO(it.section)) &&
-        read_resource(texts, flags, limit, &it.resource) && read_rules(rules, &it) &&
-        read_number(present, &it.request.present) &&
-        read_optional(length, &it.request.length, &it.request.has_length) &&
-        read_representations(representations, &it)) {
-        it.request.has_content = !it.request.has_length || it.request.length;
-        found = answer_resource(&it);
-    }
-    PyMem_Free(it.representations);
-    return found;
 }
 
 /* Content negotiation, by media types, codings, languages, or lookup. */
@@ -1756,16 +1704,320 @@ static PyObject *has_member(PyObject *module, PyObject *arguments) {
     return is_read ? with_number(status, has) : NULL;
 }
 
+/* ---- sections and policies: handles, each a capsule, which is closed once nothing refers to it. The interpreter's
+   lock is held during a call, so a handle is in one call at a time. ---- */
+
+#define HANDLE(kind, name)                                                                                             \
+    static const char name[] = "typed_headers." #kind;                                                                 \
+    static void free_##kind(PyObject *capsule) {                                                                       \
+        struct typed_headers_##kind *handle = PyCapsule_GetPointer(capsule, name);                                     \
+        typed_headers_##kind##_free(handle);                                                                           \
+        PyMem_Free(handle);                                                                                            \
+    }                                                                                                                  \
+    static struct typed_headers_##kind *new_##kind(void) {                                                             \
+        struct typed_headers_##kind *handle = PyMem_Malloc(sizeof *handle);                                            \
+        if (handle) {                                                                                                  \
+            *handle = (struct typed_headers_##kind)TYPED_HEADERS_CLOSED;                                               \
+        } else {                                                                                                       \
+            PyErr_NoMemory();                                                                                          \
+        }                                                                                                              \
+        return handle;                                                                                                 \
+    }                                                                                                                  \
+    /* The status of the call that was to open the handle, and the handle. */                                          \
+    static PyObject *with_##kind(uint8_t status, struct typed_headers_##kind *handle) {                                \
+        PyObject *capsule = PyCapsule_New(handle, name, free_##kind);                                                  \
+        if (!capsule) {                                                                                                \
+            typed_headers_##kind##_free(handle);                                                                       \
+            PyMem_Free(handle);                                                                                        \
+            return NULL;                                                                                               \
+        }                                                                                                              \
+        return Py_BuildValue("BN", status, capsule);                                                                   \
+    }                                                                                                                  \
+    static int into_##kind(PyObject *capsule, void *handle) {                                                          \
+        *(struct typed_headers_##kind **)handle = PyCapsule_GetPointer(capsule, name);                                 \
+        return *(struct typed_headers_##kind **)handle != NULL;                                                        \
+    }
+
+HANDLE(section, SECTION_NAME)
+HANDLE(cors_policy, POLICY_NAME)
+HANDLE(resource_handle, RESOURCE_NAME)
+
+static PyObject *section_new(PyObject *module, PyObject *arguments) {
+    struct text text;
+    (void)module;
+    if (!PyArg_ParseTuple(arguments, TEXT, INTO(text))) {
+        return NULL;
+    }
+    struct typed_headers_section *fields = new_section();
+    return fields ? with_section(typed_headers_section_new(fields, BYTES(text), &keys), fields) : NULL;
+}
+
+struct field_of_section {
+    struct typed_headers_section *fields;
+    struct text name;
+};
+
+static uint8_t write_section_field(const void *given, uint8_t *room, size_t room_length, size_t *written) {
+    const struct field_of_section *it = given;
+    return typed_headers_section_field(it->fields, BYTES(it->name), room, room_length, written);
+}
+
+static PyObject *section_field(PyObject *module, PyObject *arguments) {
+    struct field_of_section it;
+    (void)module;
+    if (!PyArg_ParseTuple(arguments, "O&" TEXT, into_section, &it.fields, INTO(it.name))) {
+        return NULL;
+    }
+    return with_text(write_section_field, &it);
+}
+
+/* What is asked of a section about a target. */
+struct asked {
+    struct typed_headers_section *fields;
+    struct text method, etag;
+    struct typed_headers_target target;
+    uint64_t length;
+    uint16_t *answer;
+};
+
+/* Reads what is known of the target. */
+static bool read_target(PyObject *last_modified, PyObject *present, int exists, int is_date_strong, struct asked *it) {
+    it->target.exists = exists;
+    it->target.is_date_strong = is_date_strong;
+    return read_optional(last_modified, &it->target.last_modified, &it->target.has_last_modified) &&
+           read_number(present, &it->target.present);
+}
+
+static PyObject *section_evaluate(PyObject *module, PyObject *arguments) {
+    struct asked it;
+    PyObject *last_modified, *present;
+    int exists, is_date_strong;
+    uint16_t answer = 0;
+    (void)module;
+    if (!PyArg_ParseTuple(arguments, "O&" TEXT TEXT "OOpp", into_section, &it.fields, INTO(it.method), INTO(it.etag),
+                          &last_modified, &present, &exists, &is_date_strong) ||
+        !read_target(last_modified, present, exists, is_date_strong, &it)) {
+        return NULL;
+    }
+    uint8_t status =
+        typed_headers_section_evaluate(it.fields, BYTES(it.method), BYTES(it.etag), &it.target, &answer);
+    return with_number(status, answer);
+}
+
+static uint8_t write_section_selection(const void *given, struct typed_headers_bytes_range *room, size_t room_length,
+                                       size_t *written) {
+    const struct asked *it = given;
+    return typed_headers_section_select(it->fields, BYTES(it->method), BYTES(it->etag), &it->target, it->length,
+                                        it->answer, room, room_length, written);
+}
+
+static PyObject *section_select(PyObject *module, PyObject *arguments) {
+    uint16_t answer = 0;
+    struct asked it = {.answer = &answer};
+    PyObject *last_modified, *present, *length;
+    int exists, is_date_strong;
+    uint8_t status;
+    (void)module;
+    if (!PyArg_ParseTuple(arguments, "O&" TEXT TEXT "OOppO", into_section, &it.fields, INTO(it.method), INTO(it.etag),
+                          &last_modified, &present, &exists, &is_date_strong, &length) ||
+        !read_target(last_modified, present, exists, is_date_strong, &it) || !read_number(length, &it.length)) {
+        return NULL;
+    }
+    PyObject *found = written_ranges(write_section_selection, &it, NULL, &status);
+    return found ? Py_BuildValue("BHN", status, answer, found) : NULL;
+}
+
+struct response_of_section {
+    struct asked asked;
+    struct typed_headers_content content;
+    struct text boundary;
+    struct typed_headers_response *response;
+};
+
+static uint8_t write_section_response(const void *given, struct rooms *rooms) {
+    const struct response_of_section *it = given;
+    return typed_headers_section_respond(it->asked.fields, BYTES(it->asked.method), BYTES(it->asked.etag),
+                                         &it->asked.target, &it->content, BYTES(it->boundary), it->response,
+                                         rooms->parts, rooms->parts_length, &rooms->count, rooms->room,
+                                         rooms->room_length, &rooms->written);
+}
+
+static PyObject *section_respond(PyObject *module, PyObject *arguments) {
+    struct typed_headers_response response = {0, 0};
+    struct response_of_section it = {.response = &response};
+    struct text media_type;
+    PyObject *last_modified, *present, *length;
+    int exists, is_date_strong, sends_ranges;
+    (void)module;
+    if (!PyArg_ParseTuple(arguments, "O&" TEXT TEXT "OOpp" TEXT "Op" TEXT, into_section, &it.asked.fields,
+                          INTO(it.asked.method), INTO(it.asked.etag), &last_modified, &present, &exists,
+                          &is_date_strong, INTO(media_type), &length, &sends_ranges, INTO(it.boundary)) ||
+        !read_target(last_modified, present, exists, is_date_strong, &it.asked) ||
+        !read_optional(length, &it.content.length, &it.content.has_length)) {
+        return NULL;
+    }
+    it.content.media_type = as_text(media_type);
+    it.content.sends_ranges = sends_ranges;
+    return responded(write_section_response, &it, &response);
+}
+
+static PyObject *section_choose(PyObject *module, PyObject *arguments) {
+    static uint8_t (*const calls[])(struct typed_headers_section *, const uint8_t *, size_t, size_t *) = {
+        typed_headers_section_choose_type, typed_headers_section_choose_coding, typed_headers_section_choose_language};
+    struct typed_headers_section *fields;
+    struct text offers;
+    size_t place = 0;
+    int dimension;
+    (void)module;
+    if (!PyArg_ParseTuple(arguments, "O&i" TEXT, into_section, &fields, &dimension, INTO(offers))) {
+        return NULL;
+    }
+    uint8_t status = calls[(unsigned)dimension % 3](fields, BYTES(offers), &place);
+    return with_number(status, place);
+}
+
+/* The fields of a request: those of a section that was parsed, or of a text, which is parsed for one call. */
+struct request_fields {
+    struct typed_headers_section own, *fields;
+};
+
+/* Reads these from an argument. False if it is neither; else `*status` says whether a text was parsed. */
+static bool open_fields(PyObject *given, struct request_fields *it, uint8_t *status) {
+    char *bytes;
+    Py_ssize_t length;
+    it->own = (struct typed_headers_section)TYPED_HEADERS_CLOSED;
+    *status = TYPED_HEADERS_DONE;
+    if (PyCapsule_IsValid(given, SECTION_NAME)) {
+        it->fields = PyCapsule_GetPointer(given, SECTION_NAME);
+        return true;
+    }
+    if (PyBytes_AsStringAndSize(given, &bytes, &length)) {
+        return false;
+    }
+    it->fields = &it->own;
+    *status = typed_headers_section_new(&it->own, (const uint8_t *)bytes, (size_t)length, &keys);
+    return true;
+}
+
+static PyObject *cors_policy_new(PyObject *module, PyObject *arguments) {
+    struct typed_headers_cors_rules rules;
+    struct text lists[4];
+    PyObject *max_age;
+    int credentials;
+    (void)module;
+    if (!PyArg_ParseTuple(arguments, TEXT TEXT TEXT TEXT "Op", INTO(lists[0]), INTO(lists[1]), INTO(lists[2]),
+                          INTO(lists[3]), &max_age, &credentials) ||
+        !read_optional(max_age, &rules.max_age, &rules.has_max_age)) {
+        return NULL;
+    }
+    rules.origins = as_text(lists[0]);
+    rules.methods = as_text(lists[1]);
+    rules.headers = as_text(lists[2]);
+    rules.exposed = as_text(lists[3]);
+    rules.credentials = credentials;
+    struct typed_headers_cors_policy *policy = new_cors_policy();
+    return policy ? with_cors_policy(typed_headers_cors_policy_new(policy, &rules), policy) : NULL;
+}
+
+struct cors_request {
+    struct typed_headers_cors_policy *policy;
+    struct request_fields asked;
+    struct text method, response;
+    struct typed_headers_cors_facts *facts;
+};
+
+static uint8_t write_policy_answer(const void *given, uint8_t *room, size_t room_length, size_t *written) {
+    const struct cors_request *it = given;
+    return typed_headers_cors_policy_answer(it->policy, it->asked.fields, BYTES(it->method), BYTES(it->response), &keys,
+                                            it->facts, room, room_length, written);
+}
+
+static PyObject *cors_policy_answer(PyObject *module, PyObject *arguments) {
+    struct typed_headers_cors_facts facts = {0, 0};
+    struct cors_request it = {.facts = &facts};
+    PyObject *request, *found;
+    uint8_t status;
+    (void)module;
+    if (!PyArg_ParseTuple(arguments, "O&O" TEXT TEXT, into_cors_policy, &it.policy, &request, INTO(it.method),
+                          INTO(it.response)) ||
+        !open_fields(request, &it.asked, &status)) {
+        return NULL;
+    }
+    found = status == TYPED_HEADERS_DONE ? written_text(write_policy_answer, &it, &status) : PyBytes_FromString("");
+    typed_headers_section_free(&it.asked.own);
+    return found ? Py_BuildValue("BBBN", status, facts.kind, facts.is_allowed, found) : NULL;
+}
+
+static PyObject *resource_handle_new(PyObject *module, PyObject *arguments) {
+    struct resource_of it;
+    PyObject *texts, *flags, *limit, *representations, *rules, *found = NULL;
+    (void)module;
+    memset(&it, 0, sizeof it);
+    if (PyArg_ParseTuple(arguments, "OOOHOO", &texts, &flags, &limit, &it.resource.state, &representations, &rules) &&
+        read_resource(texts, flags, limit, &it.resource) && read_rules(rules, &it) &&
+        read_representations(representations, &it)) {
+        struct typed_headers_resource_handle *handle = new_resource_handle();
+        if (handle) {
+            uint8_t status = typed_headers_resource_handle_new(handle, &it.resource, it.representations, it.count,
+                                                               &it.rules);
+            found = with_resource_handle(status, handle);
+        }
+    }
+    PyMem_Free(it.representations);
+    return found;
+}
+
+struct resource_request {
+    struct typed_headers_resource_handle *handle;
+    struct request_fields asked;
+    struct typed_headers_resource_request request;
+    struct text method, target;
+    struct typed_headers_resource_facts *facts;
+};
+
+static uint8_t write_resource_answer(const void *given, struct rooms *rooms) {
+    const struct resource_request *it = given;
+    return typed_headers_resource_handle_answer(it->handle, it->asked.fields, &it->request, BYTES(it->method),
+                                                BYTES(it->target), it->facts, rooms->parts, rooms->parts_length,
+                                                &rooms->count, rooms->room, rooms->room_length, &rooms->written);
+}
+
+static PyObject *resource_handle_answer(PyObject *module, PyObject *arguments) {
+    struct typed_headers_resource_facts facts = {0, 0, 0, 0, 0};
+    struct resource_request it = {.facts = &facts};
+    struct rooms rooms = {.parts = rooms.few, .room = rooms.short_text};
+    PyObject *request, *present, *length, *found = NULL;
+    uint8_t status;
+    (void)module;
+    if (!PyArg_ParseTuple(arguments, "O&OOBO" TEXT TEXT, into_resource_handle, &it.handle, &request, &present,
+                          &it.request.version, &length, INTO(it.method), INTO(it.target)) ||
+        !read_number(present, &it.request.present) ||
+        !read_optional(length, &it.request.length, &it.request.has_length) ||
+        !open_fields(request, &it.asked, &status)) {
+        return NULL;
+    }
+    it.request.has_content = !it.request.has_length || it.request.length;
+    if (status != TYPED_HEADERS_DONE || into_rooms(write_resource_answer, &it, &rooms, &status)) {
+        PyObject *ranges = range_list(rooms.parts, rooms.count);
+        if (ranges) {
+            found = resource_facts(status, &facts, ranges, rooms.room, rooms.written);
+        }
+    }
+    typed_headers_section_free(&it.asked.own);
+    free_rooms(&rooms);
+    return found;
+}
+
 #define METHOD(name) {#name, name, METH_VARARGS, NULL}
 static PyMethodDef methods[] = {
     METHOD(age),         METHOD(cache_control), METHOD(canonical),  METHOD(content_length), METHOD(content_range),
     METHOD(etag),        METHOD(media_type_as), METHOD(ranges_as),  METHOD(section),
-    METHOD(cors_answer), METHOD(current_age),   METHOD(date),       METHOD(decide),
+    METHOD(current_age), METHOD(date),          METHOD(decide),
     METHOD(essence),     METHOD(evaluate),      METHOD(expires),    METHOD(field),
     METHOD(format_content_range), METHOD(format_date), METHOD(format_etag), METHOD(last_modified),
     METHOD(heuristic_lifetime), METHOD(lifetime), METHOD(may_store),     METHOD(media_type), METHOD(ranges),
     METHOD(strong_eq),   METHOD(use_keys),      METHOD(validators), METHOD(version),
-    METHOD(choose),      METHOD(rate),          METHOD(respond),    METHOD(resource_answer),
+    METHOD(choose),      METHOD(rate),          METHOD(respond),
     METHOD(websocket_check), METHOD(websocket_request), METHOD(websocket_respond),
     METHOD(cache_answer), METHOD(cache_content), METHOD(cache_free), METHOD(cache_freshen),
     METHOD(cache_freshen_by_head), METHOD(cache_invalidate), METHOD(cache_lookup), METHOD(cache_new),
@@ -1773,6 +2025,9 @@ static PyMethodDef methods[] = {
     METHOD(forward_request), METHOD(forward_response), METHOD(framing),
     METHOD(basic), METHOD(bearer), METHOD(content_disposition), METHOD(cookie), METHOD(cookies), METHOD(has_member),
     METHOD(host), METHOD(members), METHOD(origin), METHOD(retry_after), METHOD(strict_transport_security),
+    METHOD(section_choose), METHOD(section_evaluate), METHOD(section_field), METHOD(section_new),
+    METHOD(section_respond), METHOD(section_select), METHOD(cors_policy_answer), METHOD(cors_policy_new),
+    METHOD(resource_handle_answer), METHOD(resource_handle_new),
     METHOD(weak_eq),     METHOD(websocket_accept), {"select", select_part, METH_VARARGS, NULL}, {NULL, NULL, 0, NULL},
 };
 

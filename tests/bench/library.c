@@ -224,6 +224,60 @@ static uint64_t responded(const char *section) {
     return response.status;
 }
 
+/* Five questions of preconditions and five of ranges, to the section of a browser's request. */
+static const char REQUEST[] =
+    "Host: www.example.com\nUser-Agent: Mozilla/5.0 (X11; Linux x86_64; rv:128.0) Gecko/20100101 Firefox/128.0\n"
+    "Accept: text/html,application/xhtml+xml,application/xml;q=0.9,*/*;q=0.8\nAccept-Language: de-CH,en;q=0.7\n"
+    "Accept-Encoding: gzip, deflate, br, zstd\nReferer: https://www.example.com/\nConnection: keep-alive\n"
+    "Cookie: session=0123456789abcdef; theme=dark\nOrigin: https://a.example\nIf-None-Match: \"x\"\n"
+    "Range: bytes=0-499\nCache-Control: max-age=0\n";
+
+static uint64_t asked(bool by_handle) {
+    struct typed_headers_section fields = TYPED_HEADERS_CLOSED;
+    uint16_t status = 0;
+    uint64_t total = 1;
+    if (by_handle) typed_headers_section_new(&fields, BYTES(REQUEST), &KEYS);
+    for (int round = 0; round < 5; round++) {
+        if (by_handle) {
+            typed_headers_section_evaluate(&fields, BYTES("GET"), BYTES("\"xyzzy\""), &TARGET, &status);
+            typed_headers_section_select(&fields, BYTES("GET"), BYTES("\"xyzzy\""), &TARGET, 10000, &status, ranges, 10,
+                                         &written);
+        } else {
+            typed_headers_evaluate(BYTES("GET"), BYTES(REQUEST), &KEYS, BYTES("\"xyzzy\""), &TARGET, &status);
+            typed_headers_select(BYTES("GET"), BYTES(REQUEST), &KEYS, BYTES("\"xyzzy\""), &TARGET, 10000, &status, ranges,
+                                 10, &written);
+        }
+        total += status;
+    }
+    typed_headers_section_free(&fields);
+    return total;
+}
+
+/* What a resource with rules for other origins answers that request, read for it or before. */
+static const struct typed_headers_cors_rules RULES = {.origins = {(const uint8_t *)"https://a.example", 17}};
+static const struct typed_headers_representation SHOWN = {.length = 10000, .has_length = true, .sends_ranges = true};
+static const struct typed_headers_resource RESOURCE = {.methods = {(const uint8_t *)"GET\nPUT", 7},
+                                                       .media_types = {(const uint8_t *)"text/html", 9},
+                                                       .etags = {(const uint8_t *)"\"xyzzy\"", 7},
+                                                       .has_cors = true};
+
+static uint64_t resource_answered(struct typed_headers_resource_handle *handle) {
+    static const struct typed_headers_resource_request ASKED = {.present = 784200000, .version = 11, .has_length = true};
+    struct typed_headers_resource_facts facts = {0, 0, 0, 0, 0};
+    struct typed_headers_section fields = TYPED_HEADERS_CLOSED;
+    size_t parts;
+    if (!handle->is_open) {
+        typed_headers_resource_answer(&RESOURCE, &SHOWN, 1, &RULES, &ASKED, BYTES("GET"), BYTES("/"), BYTES(REQUEST), &KEYS,
+                                      &facts, ranges, 10, &parts, room, 1000, &written);
+        return facts.status;
+    }
+    typed_headers_section_new(&fields, BYTES(REQUEST), &KEYS);
+    typed_headers_resource_handle_answer(handle, &fields, &ASKED, BYTES("GET"), BYTES("/"), &facts, ranges, 10, &parts,
+                                         room, 1000, &written);
+    typed_headers_section_free(&fields);
+    return facts.status;
+}
+
 static void time_all(void) {
     static const char *const ONE_TAG[] = {"If-None-Match: \"xyzzy\"\n", "If-None-Match: \"xyzz\"\n"};
     static const char *const DATES[] = {"If-Modified-Since: Sun, 06 Nov 1994 08:49:37 GMT\n",
@@ -259,6 +313,13 @@ static void time_all(void) {
     TIME("a media type", sum += typed_headers_media_type(BYTES(TYPES[at & 1]), room, 100, &written) + written);
     TIME("a response to HEAD", sum += responded(""));
     TIME("a response to HEAD with one tag", sum += responded(ONE_TAG[at & 1]));
+    struct typed_headers_resource_handle handle = TYPED_HEADERS_CLOSED;
+    TIME("ten questions to a section", sum += asked(false));
+    TIME("ten questions to a handle", sum += asked(true));
+    TIME("a resource", sum += resource_answered(&handle));
+    typed_headers_resource_handle_new(&handle, &RESOURCE, &SHOWN, 1, &RULES);
+    TIME("the handle of a resource", sum += resource_answered(&handle));
+    typed_headers_resource_handle_free(&handle);
 }
 
 int main(int count, char **words) {

@@ -1,13 +1,14 @@
 /*
  * Makes the calls of rows, and compares the answers with those that are wanted.
  *
- *     test [--null] FILE..
+ *     test [--null | --handles] FILE..
  *
  * A row is `CALL WORD.. = ANSWER`, as crates/headers_replay/README.md tells; rows of other calls are passed over. Each
  * call is made over bytes that end where memory that nothing may touch begins. One that writes bytes is made with each
  * room from none to one byte more than is wanted. Each request for memory of a call is refused in turn. After a call
- * no block may be left.
+ * no block may be left. With --handles, the calls that have one are made by handles.
  */
+#include "handled.h"
 #include "typed_headers.h"
 #include <stdbool.h>
 #include <stdio.h>
@@ -50,6 +51,9 @@ void __wrap_free(void *block) {
 
 /* Whether empty texts and rooms are handed in as null pointers. */
 static bool is_null;
+
+/* Whether calls are made by handles. */
+static bool is_handled;
 
 /* An area of memory before a page that nothing may touch. */
 struct area {
@@ -423,6 +427,17 @@ static uint8_t call_field(const void *arguments, uint64_t *number, uint8_t *room
                           size_t *written) {
     const struct field_call *call = arguments;
     (void)number;
+    if (is_handled && !has_blank_ends(call->lines.bytes, call->lines.length)) {
+        struct typed_headers_section fields = TYPED_HEADERS_CLOSED;
+        uint8_t status =
+            open_lines(&fields, call->name.bytes, call->name.length, call->lines.bytes, call->lines.length);
+        if (status == TYPED_HEADERS_DONE) {
+            status = typed_headers_section_field(&fields, call->name.bytes, call->name.length, room, room_length,
+                                                 written);
+        }
+        typed_headers_section_free(&fields);
+        return status;
+    }
     return typed_headers_field(call->name.bytes, call->name.length, call->lines.bytes, call->lines.length, room,
                                room_length, written);
 }
@@ -650,9 +665,9 @@ static uint8_t call_evaluate(const void *arguments, uint64_t *number, uint8_t *r
     const struct request_call *call = arguments;
     uint16_t answer = FILL;
     (void)room, (void)room_length, (void)written;
-    uint8_t status = typed_headers_evaluate(call->method.bytes, call->method.length, call->section.bytes,
-                                            call->section.length, &KEYS, call->etag.bytes, call->etag.length,
-                                            &call->target, &answer);
+    uint8_t status = (is_handled ? handled_evaluate : typed_headers_evaluate)(
+        call->method.bytes, call->method.length, call->section.bytes, call->section.length, &KEYS, call->etag.bytes,
+        call->etag.length, &call->target, &answer);
     if (answer != FILL) {
         *number = answer;
     }
@@ -664,9 +679,9 @@ static uint8_t call_select(const void *arguments, uint64_t *number, uint8_t *roo
     const struct request_call *call = arguments;
     struct range_room ranges = range_room(room, room_length);
     uint16_t answer = FILL;
-    uint8_t status = typed_headers_select(call->method.bytes, call->method.length, call->section.bytes,
-                                          call->section.length, &KEYS, call->etag.bytes, call->etag.length,
-                                          &call->target, call->length, &answer, ranges.start, ranges.count, written);
+    uint8_t status = (is_handled ? handled_select : typed_headers_select)(
+        call->method.bytes, call->method.length, call->section.bytes, call->section.length, &KEYS, call->etag.bytes,
+        call->etag.length, &call->target, call->length, &answer, ranges.start, ranges.count, written);
     if (answer != FILL) {
         *number = answer;
     }
@@ -787,9 +802,9 @@ static uint8_t call_cors(const void *arguments, uint64_t *number, uint8_t *room,
                          size_t *written) {
     const struct cors_call *call = arguments;
     struct typed_headers_cors_facts facts = {FILL, FILL};
-    uint8_t status = typed_headers_cors_answer(&call->rules, call->method.bytes, call->method.length,
-                                               call->request.bytes, call->request.length, call->response.bytes,
-                                               call->response.length, &KEYS, &facts, room, room_length, written);
+    uint8_t status = (is_handled ? handled_cors_answer : typed_headers_cors_answer)(
+        &call->rules, call->method.bytes, call->method.length, call->request.bytes, call->request.length,
+        call->response.bytes, call->response.length, &KEYS, &facts, room, room_length, written);
     if (facts.kind != FILL || facts.is_allowed != FILL) {
         *number = facts.kind * 256 + facts.is_allowed;
     }
@@ -1074,15 +1089,29 @@ struct offers_call {
     uint8_t (*rate)(const uint8_t *lines, size_t lines_length, const uint8_t *offer, size_t offer_length,
                     struct typed_headers_quality *quality);
     struct text lines, offers;
+    /* The name of the field, and the call by a handle, if there is one. */
+    const char *name;
+    uint8_t (*choose_of)(struct typed_headers_section *fields, const uint8_t *offers, size_t offers_length,
+                         size_t *place);
 };
 
 static uint8_t call_choose(const void *arguments, uint64_t *number, uint8_t *room, size_t room_length,
                            size_t *written) {
     const struct offers_call *call = arguments;
     size_t place = FILL;
+    uint8_t status;
     (void)room, (void)room_length, (void)written;
-    uint8_t status = call->choose(call->lines.bytes, call->lines.length, call->offers.bytes, call->offers.length,
-                                  &place);
+    if (is_handled && call->choose_of && !has_blank_ends(call->lines.bytes, call->lines.length)) {
+        struct typed_headers_section fields = TYPED_HEADERS_CLOSED;
+        status = open_lines(&fields, (const uint8_t *)call->name, strlen(call->name), call->lines.bytes,
+                            call->lines.length);
+        if (status == TYPED_HEADERS_DONE) {
+            status = call->choose_of(&fields, call->offers.bytes, call->offers.length, &place);
+        }
+        typed_headers_section_free(&fields);
+    } else {
+        status = call->choose(call->lines.bytes, call->lines.length, call->offers.bytes, call->offers.length, &place);
+    }
     if (place != FILL) {
         *number = place;
     }
@@ -1106,9 +1135,12 @@ static uint8_t call_rate(const void *arguments, uint64_t *number, uint8_t *room,
 static void check_offers(const struct row *row, const char *dimension, const char *call_name) {
     static const char *names[] = {"accept", "accept-encoding", "accept-language"};
     static const struct offers_call calls[] = {
-        {typed_headers_choose_type, typed_headers_type_quality, {NULL, 0}, {NULL, 0}},
-        {typed_headers_choose_coding, typed_headers_coding_quality, {NULL, 0}, {NULL, 0}},
-        {typed_headers_choose_language, typed_headers_language_quality, {NULL, 0}, {NULL, 0}}};
+        {typed_headers_choose_type, typed_headers_type_quality, {NULL, 0}, {NULL, 0}, "Accept",
+         typed_headers_section_choose_type},
+        {typed_headers_choose_coding, typed_headers_coding_quality, {NULL, 0}, {NULL, 0}, "Accept-Encoding",
+         typed_headers_section_choose_coding},
+        {typed_headers_choose_language, typed_headers_language_quality, {NULL, 0}, {NULL, 0}, "Accept-Language",
+         typed_headers_section_choose_language}};
     const int which = *dimension == 'a' ? 0 : *dimension == 'e' ? 1 : 2;
     struct offers_call call = calls[which];
     call.lines = read_lines(row, names[which], first_area);
@@ -1125,6 +1157,7 @@ static void check_offers(const struct row *row, const char *dimension, const cha
     }
     if (strcmp(call_name, "look_up") == 0) {
         call.choose = typed_headers_look_up_language;
+        call.choose_of = NULL;
     } else if (strcmp(call_name, "choose") != 0) {
         return;
     }
@@ -1168,7 +1201,7 @@ static uint8_t call_respond(const void *arguments, uint64_t *number, uint8_t *ro
     const struct request_call *request = &call->request;
     struct typed_headers_response response = {FILL, FILL};
     sent_count = NOT_WRITTEN;
-    uint8_t status = typed_headers_respond(
+    uint8_t status = (is_handled ? handled_respond : typed_headers_respond)(
         request->method.bytes, request->method.length, request->section.bytes, request->section.length, &KEYS,
         request->etag.bytes, request->etag.length, &request->target, &call->content, call->boundary.bytes,
         call->boundary.length, &response, call->most_parts ? sent_parts : NULL, call->most_parts, &sent_count, room,
@@ -1410,7 +1443,7 @@ static uint8_t call_resource(const void *arguments, uint64_t *number, uint8_t *r
     memset(&facts, FILL, sizeof facts);
     before = facts;
     sent_count = NOT_WRITTEN;
-    uint8_t status = typed_headers_resource_answer(
+    uint8_t status = (is_handled ? handled_resource_answer : typed_headers_resource_answer)(
         &call->resource, call->count ? call->representations : NULL, call->count, &call->rules, &call->request,
         call->method.bytes, call->method.length, call->target.bytes, call->target.length, call->section.bytes,
         call->section.length, &KEYS, &facts, call->most_parts ? sent_parts : NULL, call->most_parts, &sent_count, room,
@@ -2429,7 +2462,8 @@ int main(int count, char **names) {
     }
     room_area = new_area();
     is_null = count > 1 && strcmp(names[1], "--null") == 0;
-    for (int i = 1 + is_null; i < count; i++) {
+    is_handled = count > 1 && strcmp(names[1], "--handles") == 0;
+    for (int i = 1 + (is_null || is_handled); i < count; i++) {
         read_file(names[i]);
     }
     printf("%zu rows, %zu refusals of memory, %zu answered otherwise\n", rows, refusals, wrong);

@@ -50,7 +50,7 @@ from .gateway import (
     ResponseOutcome,
     framing,
 )
-from .headers import Headers, HeadersLike, canonical_field, canonical_section
+from .headers import Headers, HeadersLike, Section, canonical_field, canonical_section
 from .negotiation import (
     Quality,
     choose_coding,
@@ -141,6 +141,7 @@ __all__ = [
     "Response",
     "ResponseOutcome",
     "RetryAfter",
+    "Section",
     "Selection",
     "Sends",
     "State",

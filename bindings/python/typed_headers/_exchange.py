@@ -11,7 +11,7 @@ from typing import Iterable, List, Optional, Sequence, Tuple
 
 from .conditions import Precondition, Selection, Target, evaluate, select
 from .errors import HeaderError, InvalidField
-from .headers import Headers
+from .headers import Headers, Section
 from .values import ByteRange, ContentRange, ETag
 
 Fields = List[Tuple[str, str]]
@@ -88,9 +88,10 @@ def respond(
     try:
         validators = [(name, value) for name, value in given.fields if name.lower() in ("etag", "last-modified")]
         target = _target(Headers(validators), is_date_strong)
-        precondition = evaluate(method, request, target)
+        asked = Section(request)
+        precondition = evaluate(method, asked, target)
         if precondition is Precondition.PERFORM and has_ranges and length is not None:
-            selection = select(method, request, target, length)
+            selection = select(method, asked, target, length)
     except HeaderError:
         return given
     if precondition is Precondition.NOT_MODIFIED:

@@ -8,6 +8,7 @@ The extension `_native` has the same calls, and takes a fifth of the time.
 import ctypes
 import os
 import re
+import threading
 from pathlib import Path
 from typing import Any, Callable, List, Optional, Tuple, Type, TypeVar, Union
 
@@ -277,7 +278,6 @@ _cache_control = _call("cache_control", *_TEXT, ctypes.POINTER(_Directives))
 _evaluate = _call("evaluate", *_REQUEST, ctypes.POINTER(ctypes.c_uint16))
 _select = _call("select", *_REQUEST, ctypes.c_uint64, ctypes.POINTER(ctypes.c_uint16), *_ROOM)
 _canonical = _call("canonical", *_SECTION, *_ROOM)
-_cors_answer = _call("cors_answer", ctypes.POINTER(_Rules), *_TEXT, *_TEXT, *_SECTION, ctypes.POINTER(_Facts), *_ROOM)
 _may_store = _call("may_store", *_TEXT, *_TEXT, ctypes.c_uint16, *_SECTION, ctypes.c_bool, _FLAG)
 _lifetime = _call("lifetime", *_SECTION, ctypes.c_uint64, ctypes.c_bool, _NUMBER)
 _heuristic_lifetime = _call("heuristic_lifetime", ctypes.c_uint16, *_SECTION, ctypes.c_uint64, ctypes.c_bool, _NUMBER)
@@ -627,36 +627,6 @@ def select(
     return status, answer.value, found
 
 
-def cors_answer(
-    origins: bytes,
-    methods: bytes,
-    headers: bytes,
-    exposed: bytes,
-    max_age: Optional[int],
-    credentials: bool,
-    method: bytes,
-    request: bytes,
-    response: bytes,
-) -> Tuple[int, int, int, bytes]:
-    """The status, the kind of the request, whether its origin is allowed, and the fields."""
-    texts = (_Text(text, len(text)) for text in (origins, methods, headers, exposed))
-    rules = _Rules(*texts, max_age or 0, max_age is not None, credentials)
-    facts = _Facts()
-    status, found = _text(
-        _cors_answer,
-        ctypes.byref(rules),
-        method,
-        len(method),
-        request,
-        len(request),
-        response,
-        len(response),
-        ctypes.byref(_keys),
-        ctypes.byref(facts),
-    )
-    return status, facts.kind, facts.is_allowed, found
-
-
 def may_store(method: bytes, request: bytes, status: int, response: bytes, is_shared: bool) -> Tuple[int, int]:
     answer = ctypes.c_uint8()
     section = (response, len(response), ctypes.byref(_keys))
@@ -816,6 +786,19 @@ def cache_remove(handle: CacheHandle, target: bytes) -> int:
     return _cache_remove(ctypes.byref(handle.cache), target, len(target))
 
 
+def _parts_and_text(call: _Call, *arguments: Any) -> Tuple[int, List[Tuple[int, int]], bytes]:
+    """What a call writes into two rooms. It is called again with more room if one of them doesn't suffice."""
+    parts, room = 16, 1024
+    while True:
+        ranges_room, count = (_Range * parts)(), ctypes.c_size_t()
+        buffer, written = ctypes.create_string_buffer(room), ctypes.c_size_t()
+        rooms = (ranges_room, parts, ctypes.byref(count), buffer, room, ctypes.byref(written))
+        status = call(*arguments, *rooms)
+        if status != _NO_ROOM:
+            return status, [(it.first, it.last) for it in ranges_room[: count.value]], buffer.raw[: written.value]
+        parts, room = max(parts, count.value), max(room, written.value)
+
+
 def respond(
     method: bytes,
     section: bytes,
@@ -832,27 +815,11 @@ def respond(
     """The status, that of the response, whether Content-Encoding stays, the ranges that are sent, and the fields."""
     request = _request(method, section, etag, last_modified, present, exists, is_date_strong)
     content = _Content(_Text(media_type, len(media_type)), length or 0, length is not None, sends_ranges)
-    response, parts, room = _Response(), 16, 1024
-    while True:
-        ranges_room, count = (_Range * parts)(), ctypes.c_size_t()
-        buffer, written = ctypes.create_string_buffer(room), ctypes.c_size_t()
-        status = _respond(
-            *request,
-            ctypes.byref(content),
-            boundary,
-            len(boundary),
-            ctypes.byref(response),
-            ranges_room,
-            parts,
-            ctypes.byref(count),
-            buffer,
-            room,
-            ctypes.byref(written),
-        )
-        if status != _NO_ROOM:
-            found = [(it.first, it.last) for it in ranges_room[: count.value]]
-            return status, response.status, response.keeps_encoding, found, buffer.raw[: written.value]
-        parts, room = max(parts, count.value), max(room, written.value)
+    response = _Response()
+    status, found, text = _parts_and_text(
+        _respond, *request, ctypes.byref(content), boundary, len(boundary), ctypes.byref(response)
+    )
+    return status, response.status, response.keeps_encoding, found, text
 
 
 def choose(dimension: int, lines: Lines, offers: bytes) -> Tuple[int, int]:
@@ -950,46 +917,20 @@ class _ResourceFacts(ctypes.Structure):
     ]
 
 
-_resource_answer = _call(
-    "resource_answer",
-    ctypes.POINTER(_Resource),
-    ctypes.c_void_p,
-    ctypes.c_size_t,
-    ctypes.POINTER(_Rules),
-    ctypes.POINTER(_ResourceRequest),
-    *_TEXT,
-    *_TEXT,
-    *_TEXT,
-    ctypes.POINTER(_Keys),
-    ctypes.POINTER(_ResourceFacts),
-    *_ROOM,
-    *_ROOM,
-)
-
 #: The length, the time of the last modification, whether ranges are sent, and whether that time is strong.
 RepresentationOf = Tuple[Optional[int], Optional[int], bool, bool]
-#: The arguments of `cors_answer` up to the method.
+#: The arguments of `cors_policy_new`.
 RulesOf = Tuple[bytes, bytes, bytes, bytes, Optional[int], bool]
 
 
-def resource_answer(
+def _resource_parts(
     texts: Tuple[bytes, ...],
     flags: Tuple[bool, ...],
     limit: Optional[int],
     state: int,
     representations: Tuple[RepresentationOf, ...],
     rules: Optional[RulesOf],
-    present: int,
-    version: int,
-    length: Optional[int],
-    method: bytes,
-    target: bytes,
-    section: bytes,
-) -> Tuple[int, int, int, int, Optional[int], List[Tuple[int, int]], bytes]:
-    """The status, that of the answer, its reason, what it sends, the place, the ranges and the fields.
-
-    The texts and the flags are in the order of the struct. The length is that of the request's content, 0 without any.
-    """
+) -> Tuple[_Resource, "ctypes.Array[_Representation]", _Rules]:
     lists = (_Text(text, len(text)) for text in texts)
     resource = _Resource(*lists, limit or 0, state, *flags, limit is not None, rules is not None)
     sent = (_Representation * len(representations))(
@@ -998,37 +939,7 @@ def resource_answer(
     )
     *names, max_age, credentials = rules or (b"", b"", b"", b"", None, False)
     shared = _Rules(*(_Text(text, len(text)) for text in names), max_age or 0, max_age is not None, credentials)
-    request = _ResourceRequest(present, length or 0, version, length != 0, length is not None)
-    facts, parts, room = _ResourceFacts(), 16, 1024
-    while True:
-        ranges_room, count = (_Range * parts)(), ctypes.c_size_t()
-        buffer, written = ctypes.create_string_buffer(room), ctypes.c_size_t()
-        status = _resource_answer(
-            ctypes.byref(resource),
-            sent,
-            len(representations),
-            ctypes.byref(shared),
-            ctypes.byref(request),
-            method,
-            len(method),
-            target,
-            len(target),
-            section,
-            len(section),
-            ctypes.byref(_keys),
-            ctypes.byref(facts),
-            ranges_room,
-            parts,
-            ctypes.byref(count),
-            buffer,
-            room,
-            ctypes.byref(written),
-        )
-        if status != _NO_ROOM:
-            found = [(it.first, it.last) for it in ranges_room[: count.value]]
-            place = facts.place if facts.has_place else None
-            return status, facts.status, facts.reason, facts.sends, place, found, buffer.raw[: written.value]
-        parts, room = max(parts, count.value), max(room, written.value)
+    return resource, sent, shared
 
 
 #: The name of a gateway, the names that it protects, one a line, and whether it consumes credentials.
@@ -1168,3 +1079,235 @@ def has_member(lines: Lines, member: bytes, any_case: bool) -> Tuple[int, int]:
     if text is None:
         return _REFUSED, 0
     return _has_member(text, len(text), member, len(member), any_case, ctypes.byref(has)), has.value
+
+
+# ---- sections and policies, behind handles
+
+
+class _Handle(ctypes.Structure):
+    _fields_ = [("place", ctypes.c_void_p), ("is_open", ctypes.c_bool)]
+
+
+_HANDLE = ctypes.POINTER(_Handle)
+_FACTS_OF_TARGET = [*_TEXT, ctypes.POINTER(_Target)]
+_section_new = _call("section_new", _HANDLE, *_SECTION)
+_section_free = _call("section_free", _HANDLE)
+_section_field = _call("section_field", _HANDLE, *_TEXT, *_ROOM)
+_section_evaluate = _call(
+    "section_evaluate", _HANDLE, *_TEXT, *_FACTS_OF_TARGET, ctypes.POINTER(ctypes.c_uint16)
+)
+_section_select = _call(
+    "section_select",
+    _HANDLE,
+    *_TEXT,
+    *_FACTS_OF_TARGET,
+    ctypes.c_uint64,
+    ctypes.POINTER(ctypes.c_uint16),
+    *_ROOM,
+)
+_section_respond = _call(
+    "section_respond",
+    _HANDLE,
+    *_TEXT,
+    *_FACTS_OF_TARGET,
+    ctypes.POINTER(_Content),
+    *_TEXT,
+    ctypes.POINTER(_Response),
+    *_ROOM,
+    *_ROOM,
+)
+_SECTION_CHOICES = [
+    _call(f"section_{name}", _HANDLE, *_TEXT, _SIZE) for name in ("choose_type", "choose_coding", "choose_language")
+]
+_cors_policy_new = _call("cors_policy_new", _HANDLE, ctypes.POINTER(_Rules))
+_cors_policy_free = _call("cors_policy_free", _HANDLE)
+_cors_policy_answer = _call(
+    "cors_policy_answer", _HANDLE, _HANDLE, *_TEXT, *_SECTION, ctypes.POINTER(_Facts), *_ROOM
+)
+_resource_handle_new = _call(
+    "resource_handle_new",
+    _HANDLE,
+    ctypes.POINTER(_Resource),
+    ctypes.c_void_p,
+    ctypes.c_size_t,
+    ctypes.POINTER(_Rules),
+)
+_resource_handle_free = _call("resource_handle_free", _HANDLE)
+_resource_handle_answer = _call(
+    "resource_handle_answer",
+    _HANDLE,
+    _HANDLE,
+    ctypes.POINTER(_ResourceRequest),
+    *_TEXT,
+    *_TEXT,
+    ctypes.POINTER(_ResourceFacts),
+    *_ROOM,
+    *_ROOM,
+)
+
+
+class Handle:
+    """A handle, which is closed once nothing refers to it. It is in one call at a time, for which its lock is held."""
+
+    def __init__(self, free: _Call) -> None:
+        self.it, self.lock = _Handle(), threading.Lock()
+        # The call is bound here, since the module may be gone when the last handle is.
+        self.free = free
+
+    def __del__(self) -> None:
+        self.free(ctypes.byref(self.it))
+
+
+def section_new(section: bytes) -> Tuple[int, Handle]:
+    handle = Handle(_section_free)
+    return _section_new(ctypes.byref(handle.it), section, len(section), ctypes.byref(_keys)), handle
+
+
+def section_field(fields: Handle, name: bytes) -> Tuple[int, bytes]:
+    """The canonical field lines, each with a line end."""
+    with fields.lock:
+        return _text(_section_field, ctypes.byref(fields.it), name, len(name))
+
+
+def _asked(
+    fields: Handle,
+    method: bytes,
+    etag: bytes,
+    last_modified: Optional[int],
+    present: int,
+    exists: bool,
+    is_date_strong: bool,
+) -> Tuple[Any, ...]:
+    target = _Target(last_modified or 0, present, exists, last_modified is not None, is_date_strong)
+    return (ctypes.byref(fields.it), method, len(method), etag, len(etag), ctypes.byref(target))
+
+
+def section_evaluate(
+    fields: Handle,
+    method: bytes,
+    etag: bytes,
+    last_modified: Optional[int],
+    present: int,
+    exists: bool,
+    is_date_strong: bool,
+) -> Tuple[int, int]:
+    answer = ctypes.c_uint16()
+    with fields.lock:
+        asked = _asked(fields, method, etag, last_modified, present, exists, is_date_strong)
+        return _section_evaluate(*asked, ctypes.byref(answer)), answer.value
+
+
+def section_select(
+    fields: Handle,
+    method: bytes,
+    etag: bytes,
+    last_modified: Optional[int],
+    present: int,
+    exists: bool,
+    is_date_strong: bool,
+    length: int,
+) -> Tuple[int, int, List[Tuple[int, int]]]:
+    answer = ctypes.c_uint16()
+    with fields.lock:
+        asked = _asked(fields, method, etag, last_modified, present, exists, is_date_strong)
+        status, found = _positions(_section_select, *asked, length, ctypes.byref(answer))
+        return status, answer.value, found
+
+
+def section_respond(
+    fields: Handle,
+    method: bytes,
+    etag: bytes,
+    last_modified: Optional[int],
+    present: int,
+    exists: bool,
+    is_date_strong: bool,
+    media_type: bytes,
+    length: Optional[int],
+    sends_ranges: bool,
+    boundary: bytes,
+) -> Tuple[int, int, int, List[Tuple[int, int]], bytes]:
+    """As `respond` gives it."""
+    content = _Content(_Text(media_type, len(media_type)), length or 0, length is not None, sends_ranges)
+    response = _Response()
+    with fields.lock:
+        asked = _asked(fields, method, etag, last_modified, present, exists, is_date_strong)
+        status, found, text = _parts_and_text(
+            _section_respond, *asked, ctypes.byref(content), boundary, len(boundary), ctypes.byref(response)
+        )
+    return status, response.status, response.keeps_encoding, found, text
+
+
+def section_choose(fields: Handle, dimension: int, offers: bytes) -> Tuple[int, int]:
+    """The place of the offer that is chosen, by media types, codings or languages (0 to 2)."""
+    place = ctypes.c_size_t()
+    with fields.lock:
+        asked = (ctypes.byref(fields.it), offers, len(offers))
+        return _SECTION_CHOICES[dimension](*asked, ctypes.byref(place)), place.value
+
+
+def _section_of(request: Union[bytes, Handle]) -> Tuple[int, Handle]:
+    """The handle of a request's section: one of its own for a text."""
+    return section_new(request) if isinstance(request, bytes) else (0, request)
+
+
+def cors_policy_new(
+    origins: bytes, methods: bytes, headers: bytes, exposed: bytes, max_age: Optional[int], credentials: bool
+) -> Tuple[int, Handle]:
+    texts = (_Text(text, len(text)) for text in (origins, methods, headers, exposed))
+    rules, handle = _Rules(*texts, max_age or 0, max_age is not None, credentials), Handle(_cors_policy_free)
+    return _cors_policy_new(ctypes.byref(handle.it), ctypes.byref(rules)), handle
+
+
+def cors_policy_answer(
+    policy: Handle, request: Union[bytes, Handle], method: bytes, response: bytes
+) -> Tuple[int, int, int, bytes]:
+    """The status, the kind of the request, whether its origin is allowed, and the fields."""
+    facts = _Facts()
+    status, fields = _section_of(request)
+    if status:
+        return status, 0, 0, b""
+    with policy.lock, fields.lock:
+        asked = (ctypes.byref(policy.it), ctypes.byref(fields.it), method, len(method), response, len(response))
+        status, found = _text(_cors_policy_answer, *asked, ctypes.byref(_keys), ctypes.byref(facts))
+    return status, facts.kind, facts.is_allowed, found
+
+
+def resource_handle_new(
+    texts: Tuple[bytes, ...],
+    flags: Tuple[bool, ...],
+    limit: Optional[int],
+    state: int,
+    representations: Tuple[RepresentationOf, ...],
+    rules: Optional[RulesOf],
+) -> Tuple[int, Handle]:
+    """The texts and the flags are in the order of the struct."""
+    resource, sent, shared = _resource_parts(texts, flags, limit, state, representations, rules)
+    handle = Handle(_resource_handle_free)
+    asked = (ctypes.byref(resource), sent, len(representations), ctypes.byref(shared))
+    return _resource_handle_new(ctypes.byref(handle.it), *asked), handle
+
+
+def resource_handle_answer(
+    handle: Handle,
+    request: Union[bytes, Handle],
+    present: int,
+    version: int,
+    length: Optional[int],
+    method: bytes,
+    target: bytes,
+) -> Tuple[int, int, int, int, Optional[int], List[Tuple[int, int]], bytes]:
+    """The status, that of the answer, its reason, what it sends, the place, the ranges and the fields.
+
+    The length is that of the request's content, 0 without any.
+    """
+    parts, facts = _ResourceRequest(present, length or 0, version, length != 0, length is not None), _ResourceFacts()
+    status, fields = _section_of(request)
+    if status:
+        return status, 0, 0, 0, None, [], b""
+    with handle.lock, fields.lock:
+        asked = (ctypes.byref(handle.it), ctypes.byref(fields.it), ctypes.byref(parts))
+        texts = (method, len(method), target, len(target))
+        status, found, text = _parts_and_text(_resource_handle_answer, *asked, *texts, ctypes.byref(facts))
+    place = facts.place if facts.has_place else None
+    return status, facts.status, facts.reason, facts.sends, place, found, text

@@ -16,6 +16,7 @@ from .errors import HeaderError, InvalidField, InvalidSection, TooLarge
 
 if TYPE_CHECKING:
     from . import _foreign
+    from ._foreign import Handle as Handle
 
     calls = _foreign
 elif os.environ.get("TYPED_HEADERS_LIBRARY"):

@@ -9,7 +9,7 @@ from typing import Iterable, List, Optional, Tuple, Union
 from . import _library
 from ._library import Text, Time
 from .errors import HeaderError
-from .headers import Headers, HeadersLike, section_of
+from .headers import Headers, HeadersLike, Section, section_of
 from .values import ByteRange, ETag, MediaType
 
 __all__ = ["Content", "Precondition", "Response", "Selection", "Target", "evaluate", "respond", "select"]
@@ -91,17 +91,17 @@ class Response:
 #: The fields of a response that are `respond`'s alone.
 RESPONSE_FIELDS = ("etag", "last-modified", "accept-ranges", "content-range", "content-length", "content-type")
 
-_Request = Tuple[bytes, bytes, bytes, Optional[int], int, bool, bool]
+_Facts = Tuple[bytes, Optional[int], int, bool, bool]
 
 _evaluate, _to_bytes = _library.calls.evaluate, _library.to_bytes
 
 
-def _request(method: Text, request: HeadersLike, target: Target, now: Optional[Time]) -> _Request:
-    verb, section, etag = _to_bytes(method, "method"), section_of(request), target.etag
+def _facts(target: Target, now: Optional[Time]) -> _Facts:
+    etag = target.etag
     tag = b"" if etag is None else _to_bytes(str(etag), "etag")
     modified = None if target.last_modified is None else _library.to_seconds(target.last_modified, "last_modified")
     present = int(time.time()) if now is None else _library.to_seconds(now, "now")
-    return verb, section, tag, modified, present, target.exists, target.is_date_strong
+    return tag, modified, present, target.exists, target.is_date_strong
 
 
 def _refused(method: Text, request: HeadersLike, target: Target) -> HeaderError:
@@ -133,7 +133,11 @@ def evaluate(
     >>> evaluate("PUT", {"If-Match": "*"}, Target(exists=False))
     <Precondition.FAILED: 412>
     """
-    status, answer = _evaluate(*_request(method, request, target, now))
+    verb, facts = _to_bytes(method, "method"), _facts(target, now)
+    if isinstance(request, Section):
+        status, answer = _library.calls.section_evaluate(request._handle, verb, *facts)
+    else:
+        status, answer = _evaluate(verb, section_of(request), *facts)
     if status:
         _library.check(status, lambda: _refused(method, request, target))
     return _PRECONDITIONS[answer]
@@ -151,8 +155,11 @@ def select(
     >>> select("GET", {"Range": "bytes=10-"}, Target(), 10).status
     416
     """
-    size = _library.to_number(length, "length")
-    status, answer, found = _library.calls.select(*_request(method, request, target, now), size)
+    verb, facts, size = _to_bytes(method, "method"), _facts(target, now), _library.to_number(length, "length")
+    if isinstance(request, Section):
+        status, answer, found = _library.calls.section_select(request._handle, verb, *facts, size)
+    else:
+        status, answer, found = _library.calls.select(verb, section_of(request), *facts, size)
     _library.check(status, lambda: _refused(method, request, target))
     if status == _library.ABSENT:
         raise HeaderError("target: it doesn't exist, so nothing of it can be selected")
@@ -184,9 +191,12 @@ def respond(
     length = None if content.length is None else _library.to_number(content.length, "length")
     kind = b"" if content.media_type is None else _library.to_bytes(str(content.media_type), "media_type")
     separator = _library.to_bytes(boundary, "boundary")
-    status, code, keeps, found, text = _library.calls.respond(
-        *_request(method, request, target, now), kind, length, content.sends_ranges, separator
-    )
+    verb, facts, sent = _to_bytes(method, "method"), _facts(target, now), (kind, length, content.sends_ranges)
+    if isinstance(request, Section):
+        given = _library.calls.section_respond(request._handle, verb, *facts, *sent, separator)
+    else:
+        given = _library.calls.respond(verb, section_of(request), *facts, *sent, separator)
+    status, code, keeps, found, text = given
     if status:
         _library.check(status, lambda: _no_response(method, request, target, kind, separator))
     if not code:

@@ -7,7 +7,7 @@ from typing import ClassVar, Iterable, List, Optional, Tuple, Union
 from . import _library
 from ._library import Text
 from .errors import HeaderError
-from .headers import Headers, HeadersLike
+from .headers import Headers, HeadersLike, asked_of
 
 __all__ = ["CORS_FIELDS", "CorsAnswer", "CorsKind", "CorsPolicy"]
 
@@ -93,8 +93,9 @@ class CorsPolicy:
     max_age: Optional[int] = None
     #: Whether requests may include credentials.
     credentials: bool = False
-    # The four lists as the library takes them.
+    # The four lists as the library takes them, and the handle of the policy that it made of them.
     _texts: ClassVar[List[bytes]]
+    _handle: "ClassVar[_library.Handle]"
 
     def __post_init__(self) -> None:
         for name in _LISTS:
@@ -104,7 +105,15 @@ class CorsPolicy:
         object.__setattr__(self, "_texts", texts)
         if self.max_age is not None:
             object.__setattr__(self, "max_age", _library.to_number(self.max_age, "max_age"))
-        self.answer("GET", ())
+        origins, methods, headers, exposed = texts
+        status, handle = _library.calls.cors_policy_new(
+            origins, methods, headers, exposed, self.max_age, self.credentials
+        )
+        _library.check(status, self._unreadable)
+        object.__setattr__(self, "_handle", handle)
+
+    def __reduce__(self) -> Tuple[object, ...]:
+        return CorsPolicy, (*(getattr(self, name) for name in _LISTS), self.max_age, self.credentials)
 
     def answer(self, method: Text, request: HeadersLike, response: HeadersLike = ()) -> CorsAnswer:
         """What a server with this policy answers a request.
@@ -112,22 +121,21 @@ class CorsPolicy:
         `response` has the fields of the response as its handler left it, of which Vary counts. A preflight is answered
         with a status from 200 to 299.
         """
-        verb, asked, given = _library.to_bytes(method, "method"), Headers(request).section, Headers(response).section
-        origins, methods, headers, exposed = self._texts
-        status, kind, is_allowed, text = _library.calls.cors_answer(
-            origins, methods, headers, exposed, self.max_age, self.credentials, verb, asked, given
-        )
-        _library.check(status, lambda: self._refused(verb, asked, given))
+        verb, asked, given = _library.to_bytes(method, "method"), asked_of(request), Headers(response).section
+        status, kind, is_allowed, text = _library.calls.cors_policy_answer(self._handle, asked, verb, given)
+        _library.check(status, lambda: _refused(verb, asked if isinstance(asked, bytes) else b"", given))
         return CorsAnswer(CorsKind(kind), is_allowed == 1, tuple(Headers(text)))
 
-    def _refused(self, method: bytes, request: bytes, response: bytes) -> HeaderError:
-        for section in (request, response):
-            try:
-                _library.canonical_text(section)
-            except HeaderError as error:
-                return error
-        if method != b"GET":
-            return HeaderError(f"method: {_library.to_str(method)!r} is no token (RFC 9110, section 9.1)")
+    def _unreadable(self) -> HeaderError:
         shown = ", ".join(f"{name}={list(getattr(self, name))}" for name in _LISTS if getattr(self, name))
         shown += ", credentials=True" if self.credentials else ""
         return HeaderError(f"no browser reads this policy as it is meant: {shown}")
+
+
+def _refused(method: bytes, request: bytes, response: bytes) -> HeaderError:
+    for section in (request, response):
+        try:
+            _library.canonical_text(section)
+        except HeaderError as error:
+            return error
+    return HeaderError(f"method: {_library.to_str(method)!r} is no token (RFC 9110, section 9.1)")

@@ -30,7 +30,7 @@ from .values import (
     members,
 )
 
-__all__ = ["Headers", "HeadersLike", "canonical_field", "canonical_section"]
+__all__ = ["Headers", "HeadersLike", "Section", "canonical_field", "canonical_section"]
 
 #: Names and values of fields.
 Fields = List[Tuple[str, str]]
@@ -280,9 +280,56 @@ class Headers:
         return members(*lines) if lines else None
 
 
+class Section(Headers):
+    """The header fields of a message, parsed once for all that is asked of them.
+
+    It is taken wherever `Headers` is. `evaluate`, `select`, `respond`, `choose_type`, `choose_coding`,
+    `choose_language`, `CorsPolicy.answer` and `Resource.answer` don't parse it again, nor does `canonical`.
+    `InvalidSection` if a line is no field. Threads may share it.
+
+    >>> request = Section({"Accept-Encoding": "gzip", "Cache-Control": "MAX-AGE=060"})
+    >>> request.canonical("Cache-Control")
+    ['max-age=60']
+    """
+
+    _handle: "_library.Handle"
+
+    def __init__(self, fields: "HeadersLike" = ()) -> None:
+        super().__init__(fields)
+        if isinstance(fields, Section):
+            self._handle = fields._handle
+            return
+        status, self._handle = _library.calls.section_new(self.section)
+        if status:
+            _library.check(status, lambda: _library.wrong_section("the header section", self.section))
+
+    def __repr__(self) -> str:
+        return f"Section({list(self)!r})"
+
+    def __reduce__(self) -> Tuple[object, ...]:
+        return Section, (self.section,)
+
+    def canonical(self, name: str) -> Optional[List[str]]:
+        """The canonical field lines of a name, or `None` if it has none: see `canonical_field`."""
+        field = name.lower()
+        if field not in FIELDS:
+            return super().canonical(name)
+        status, found = _library.calls.section_field(self._handle, field.encode("ascii"))
+        if status == _library.ABSENT:
+            return None
+        if status:
+            raise _library.failed(status, field, self.lines(name))
+        return [_library.to_str(line) for line in found.split(b"\n")[:-1]]
+
+
 def section_of(fields: "HeadersLike") -> bytes:
     """The header section as bytes, as `Headers` has it."""
     return _section(fields) or Headers(fields).section
+
+
+def asked_of(fields: "HeadersLike") -> Union[bytes, "_library.Handle"]:
+    """What the calls are handed of a request: the handle of a section that was parsed, else its bytes."""
+    return fields._handle if isinstance(fields, Section) else section_of(fields)
 
 
 def _values(given: Union[Text, Iterable[Text]]) -> Iterable[Text]:

@@ -6,7 +6,7 @@ from typing import List, NoReturn, Optional, Sequence, Tuple
 from . import _library
 from ._library import Text
 from .errors import HeaderError
-from .headers import Headers, HeadersLike
+from .headers import Headers, HeadersLike, Section
 
 __all__ = [
     "Quality",
@@ -45,9 +45,14 @@ def _reject(dimension: int, lines: Sequence[Text], offers: List[bytes]) -> NoRet
 
 
 def _choose(dimension: int, request: HeadersLike, offers: Sequence[str]) -> Optional[str]:
-    lines, texts = _lines(dimension, request), _library.to_lines("offers", offers)
-    status, place = _library.calls.choose(dimension, lines, _library.joined(texts))
-    _library.check(status, lambda: _reject(dimension, lines, texts))
+    texts = _library.to_lines("offers", offers)
+    if isinstance(request, Section) and dimension != _LOOK_UP:
+        status, place = _library.calls.section_choose(request._handle, dimension, _library.joined(texts))
+        _library.check(status, lambda: _reject(dimension, (), texts))
+    else:
+        lines = _lines(dimension, request)
+        status, place = _library.calls.choose(dimension, lines, _library.joined(texts))
+        _library.check(status, lambda: _reject(dimension, lines, texts))
     return None if status == _library.ABSENT else offers[place]
 
 

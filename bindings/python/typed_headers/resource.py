@@ -2,7 +2,7 @@
 
 import re
 import time
-from dataclasses import dataclass
+from dataclasses import dataclass, fields
 from enum import IntEnum
 from typing import ClassVar, Dict, FrozenSet, Iterable, List, Optional, Sequence, SupportsIndex, Tuple, Union
 
@@ -11,7 +11,7 @@ from ._library import Text, Time
 from .conditions import RESPONSE_FIELDS
 from .cors import CORS_FIELDS, CorsPolicy
 from .errors import HeaderError
-from .headers import Headers, HeadersLike, section_of
+from .headers import Headers, HeadersLike, asked_of
 from .values import ByteRange, ETag, MediaType
 
 __all__ = ["Answer", "Method", "Reason", "Representation", "Resource", "Sends", "State"]
@@ -218,8 +218,9 @@ class Resource:
     limit: Optional[int] = None
     #: What responses say to requests from other origins, if they say anything.
     cors: Optional[CorsPolicy] = None
-    # What the library is handed of it.
+    # What the library is handed of it, and the handle of the resource that it made of that.
     _given: ClassVar[_Given]
+    _handle: "ClassVar[_library.Handle]"
 
     def __post_init__(self) -> None:
         methods = tuple(it if isinstance(it, Method) else Method(it) for it in self.methods)
@@ -230,8 +231,12 @@ class Resource:
         if self.limit is not None:
             object.__setattr__(self, "limit", _library.to_number(self.limit, "limit"))
         object.__setattr__(self, "_given", self._made(methods))
-        status = self._call(b"GET", b"", b"", 0, 0, 11)[0]
+        status, handle = _library.calls.resource_handle_new(*self._given)
         _library.check(status, lambda: self._refused(methods))
+        object.__setattr__(self, "_handle", handle)
+
+    def __reduce__(self) -> Tuple[object, ...]:
+        return Resource, tuple(getattr(self, it.name) for it in fields(self))
 
     def _made(self, methods: Tuple[Method, ...]) -> _Given:
         shown = self.representations
@@ -285,25 +290,23 @@ class Resource:
         the target has no host, or a line can't be a field line.
         """
         verb, asked = _library.to_bytes(method, "method"), _library.to_bytes(target, "target")
-        section = section_of(request)
+        section = asked_of(request)
         size = None if length is None else _library.to_number(length, "length")
         present = int(time.time()) if now is None else _library.to_seconds(now, "now")
-        status, code, reason, sends, place, ranges, text = self._call(verb, asked, section, size, present, version)
+        status, code, reason, sends, place, ranges, text = _library.calls.resource_handle_answer(
+            self._handle, section, present, version, size, verb, asked
+        )
         if status:
-            _library.check(status, lambda: _wrong_request(verb, asked, section, version))
-        fields = tuple(Headers(text))
-        named = {name for name, _ in fields}
+            text_of = section if isinstance(section, bytes) else b""
+            _library.check(status, lambda: _wrong_request(verb, asked, text_of, version))
+        lines = tuple(Headers(text))
+        named = {name for name, _ in lines}
         if reason == Reason.ADMITTED and code and not (sends == Sends.WHOLE and place is None):
             named.update(RESPONSE_FIELDS, _OF_REPRESENTATION)
         if self.cors is not None:
             named.update(CORS_FIELDS)
         parts = tuple(ByteRange(*it) for it in ranges)
-        return Answer(Reason(reason), code or None, Sends(sends), place, parts, fields, frozenset(named))
-
-    def _call(
-        self, method: bytes, target: bytes, section: bytes, length: Optional[int], present: int, version: int
-    ) -> Tuple[int, int, int, int, Optional[int], List[Tuple[int, int]], bytes]:
-        return _library.calls.resource_answer(*self._given, present, version, length, method, target, section)
+        return Answer(Reason(reason), code or None, Sends(sends), place, parts, lines, frozenset(named))
 
     def _refused(self, methods: Tuple[Method, ...]) -> HeaderError:
         for method in methods:

@@ -21,7 +21,7 @@ use headers_cache_rules::Exchange;
 use std::alloc::Global;
 
 // The status of a call that gives nothing else.
-fn ended(answer: Result<(), Failure>) -> u8
+pub(crate) fn ended(answer: Result<(), Failure>) -> u8
     ensures { result ≡ ended answer }
 {
     match answer {

@@ -252,6 +252,30 @@ pub struct Cache {
     pub is_open: bool,
 }
 
+/// The handle of a section. Zero bytes are a closed one.
+#[repr(C)]
+#[derive(Debug)]
+pub struct Section {
+    pub place: *mut core::ffi::c_void,
+    pub is_open: bool,
+}
+
+/// The handle of a policy for requests from other origins. Zero bytes are a closed one.
+#[repr(C)]
+#[derive(Debug)]
+pub struct CorsPolicy {
+    pub place: *mut core::ffi::c_void,
+    pub is_open: bool,
+}
+
+/// The handle of a resource. Zero bytes are a closed one.
+#[repr(C)]
+#[derive(Debug)]
+pub struct ResourceHandle {
+    pub place: *mut core::ffi::c_void,
+    pub is_open: bool,
+}
+
 /// How much a cache stores, and for whom.
 #[repr(C)]
 #[derive(Clone, Copy, Debug)]
@@ -777,6 +801,119 @@ extern "C" {
         status: u16,
     ) -> u8;
     pub fn typed_headers_cache_remove(cache: *mut Cache, target: *const u8, target_length: usize) -> u8;
+    // ---- sections and policies, behind handles
+    pub fn typed_headers_section_new(
+        fields: *mut Section,
+        section: *const u8,
+        section_length: usize,
+        keys: *const Keys,
+    ) -> u8;
+    pub fn typed_headers_section_free(fields: *mut Section) -> u8;
+    pub fn typed_headers_section_field(
+        fields: *mut Section,
+        name: *const u8,
+        name_length: usize,
+        room: *mut u8,
+        room_length: usize,
+        written: *mut usize,
+    ) -> u8;
+    pub fn typed_headers_section_evaluate(
+        fields: *mut Section,
+        method: *const u8,
+        method_length: usize,
+        etag: *const u8,
+        etag_length: usize,
+        target: *const Target,
+        answer: *mut u16,
+    ) -> u8;
+    pub fn typed_headers_section_select(
+        fields: *mut Section,
+        method: *const u8,
+        method_length: usize,
+        etag: *const u8,
+        etag_length: usize,
+        target: *const Target,
+        length: u64,
+        answer: *mut u16,
+        room: *mut BytesRange,
+        room_length: usize,
+        written: *mut usize,
+    ) -> u8;
+    pub fn typed_headers_section_respond(
+        fields: *mut Section,
+        method: *const u8,
+        method_length: usize,
+        etag: *const u8,
+        etag_length: usize,
+        target: *const Target,
+        content: *const Content,
+        boundary: *const u8,
+        boundary_length: usize,
+        response: *mut Response,
+        parts: *mut BytesRange,
+        parts_length: usize,
+        parts_written: *mut usize,
+        room: *mut u8,
+        room_length: usize,
+        written: *mut usize,
+    ) -> u8;
+    pub fn typed_headers_section_choose_type(
+        fields: *mut Section,
+        offers: *const u8,
+        offers_length: usize,
+        place: *mut usize,
+    ) -> u8;
+    pub fn typed_headers_section_choose_coding(
+        fields: *mut Section,
+        offers: *const u8,
+        offers_length: usize,
+        place: *mut usize,
+    ) -> u8;
+    pub fn typed_headers_section_choose_language(
+        fields: *mut Section,
+        offers: *const u8,
+        offers_length: usize,
+        place: *mut usize,
+    ) -> u8;
+    pub fn typed_headers_cors_policy_new(policy: *mut CorsPolicy, rules: *const CorsRules) -> u8;
+    pub fn typed_headers_cors_policy_free(policy: *mut CorsPolicy) -> u8;
+    pub fn typed_headers_cors_policy_answer(
+        policy: *mut CorsPolicy,
+        fields: *mut Section,
+        method: *const u8,
+        method_length: usize,
+        response: *const u8,
+        response_length: usize,
+        keys: *const Keys,
+        facts: *mut CorsFacts,
+        room: *mut u8,
+        room_length: usize,
+        written: *mut usize,
+    ) -> u8;
+    pub fn typed_headers_resource_handle_new(
+        handle: *mut ResourceHandle,
+        resource: *const Resource,
+        representations: *const Representation,
+        representations_length: usize,
+        rules: *const CorsRules,
+    ) -> u8;
+    pub fn typed_headers_resource_handle_free(handle: *mut ResourceHandle) -> u8;
+    pub fn typed_headers_resource_handle_answer(
+        handle: *mut ResourceHandle,
+        fields: *mut Section,
+        request: *const ResourceRequest,
+        method: *const u8,
+        method_length: usize,
+        target: *const u8,
+        target_length: usize,
+        facts: *mut ResourceFacts,
+        parts: *mut BytesRange,
+        parts_length: usize,
+        parts_written: *mut usize,
+        room: *mut u8,
+        room_length: usize,
+        written: *mut usize,
+    ) -> u8;
 }
 
 // Typed calls.

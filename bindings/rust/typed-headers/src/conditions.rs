@@ -81,6 +81,16 @@ pub enum Precondition {
     Failed,
 }
 
+impl Precondition {
+    pub(crate) fn of(answer: u16) -> Precondition {
+        match answer {
+            0 => Precondition::Perform,
+            304 => Precondition::NotModified,
+            _ => Precondition::Failed,
+        }
+    }
+}
+
 /// What the preconditions of a request come to (RFC 9110, section 13.2.2). A server asks this once it would otherwise
 /// answer with success, and before it performs the method. It answers the request at the second `now`.
 ///
@@ -116,11 +126,7 @@ pub fn evaluate(
         )
     };
     check(status)?;
-    match answer {
-        0 => Ok(Precondition::Perform),
-        304 => Ok(Precondition::NotModified),
-        _ => Ok(Precondition::Failed),
-    }
+    Ok(Precondition::of(answer))
 }
 
 /// Which part of a representation a request selects.
@@ -133,6 +139,16 @@ pub enum Selection {
     Parts(Vec<ByteRange>),
     /// None of it: the status is 416.
     Unsatisfiable,
+}
+
+impl Selection {
+    pub(crate) fn of(answer: u16, parts: Vec<ByteRange>) -> Selection {
+        match answer {
+            200 => Selection::Full,
+            206 => Selection::Parts(parts),
+            _ => Selection::Unsatisfiable,
+        }
+    }
 }
 
 /// Which part of the target's representation, of so many bytes, a request selects (RFC 9110, section 14.2). A server
@@ -174,9 +190,5 @@ pub fn select(
             count,
         )
     })?;
-    Ok(found.map(|(parts, _)| match answer.get() {
-        200 => Selection::Full,
-        206 => Selection::Parts(parts),
-        _ => Selection::Unsatisfiable,
-    }))
+    Ok(found.map(|(parts, _)| Selection::of(answer.get(), parts)))
 }

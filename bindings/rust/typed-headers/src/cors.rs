@@ -59,6 +59,20 @@ pub struct CorsAnswer {
     pub fields: Section,
 }
 
+impl CorsAnswer {
+    pub(crate) fn of(facts: sys::CorsFacts, lines: Vec<u8>) -> CorsAnswer {
+        CorsAnswer {
+            kind: match facts.kind {
+                0 => CorsKind::NoOrigin,
+                1 => CorsKind::Plain,
+                _ => CorsKind::Preflight,
+            },
+            is_allowed: facts.is_allowed == 1,
+            fields: Section::from_bytes(lines),
+        }
+    }
+}
+
 impl CorsRules<'_> {
     // Makes a call with the rules as the library takes them.
     pub(crate) fn given<T>(&self, call: impl FnOnce(&sys::CorsRules) -> Result<T, Error>) -> Result<T, Error> {
@@ -117,14 +131,6 @@ impl CorsRules<'_> {
                 )
             })
         })?;
-        Ok(CorsAnswer {
-            kind: match facts.get().kind {
-                0 => CorsKind::NoOrigin,
-                1 => CorsKind::Plain,
-                _ => CorsKind::Preflight,
-            },
-            is_allowed: facts.get().is_allowed == 1,
-            fields: Section::from_bytes(found.map_or(Vec::new(), |(text, _)| text)),
-        })
+        Ok(CorsAnswer::of(facts.get(), found.map_or(Vec::new(), |(text, _)| text)))
     }
 }

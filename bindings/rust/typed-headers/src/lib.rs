@@ -27,6 +27,7 @@ mod cors;
 mod error;
 mod fields;
 mod gateway;
+mod handles;
 mod handshake;
 mod negotiation;
 mod resource;
@@ -44,6 +45,7 @@ pub use fields::{
     format_etag, last_modified, media_type, ranges, strong_eq, weak_eq, websocket_accept, CacheControl, Canonical,
 };
 pub use gateway::{framing, Framing, Gateway, Hop, Rejection, RequestOutcome, ResponseOutcome};
+pub use handles::{CorsPolicy, ParsedSection, PreparedResource};
 pub use handshake::{websocket_check, websocket_request, websocket_respond, Fault, Flaw, HandshakeAnswer, Version};
 pub use negotiation::{
     choose_coding, choose_language, choose_type, coding_quality, language_quality, look_up_language, type_quality,
@@ -213,6 +215,46 @@ mod tests {
         assert_eq!(cache.remove("/"), Ok(()));
         let cache = std::thread::spawn(move || cache).join();
         assert!(cache.is_ok());
+    }
+
+    #[test]
+    fn handles() {
+        let text = Section::from_bytes("Host: a.example\nOrigin: https://b.example\nRange: bytes=5-\nETag: \"a\"\n");
+        let mut fields = ParsedSection::new(&text, KEYS).unwrap();
+        let rules = CorsRules { origins: &["https://b.example"], ..CorsRules::default() };
+        let mut policy = CorsPolicy::new(&rules).unwrap();
+        let methods = [Method { name: "GET", ..Method::default() }];
+        let shown = [Representation { media_type: "text/plain", length: Some(10), ..Representation::default() }];
+        let given = Resource { methods: &methods, representations: &shown, cors: Some(rules), ..Resource::default() };
+        let mut resource = PreparedResource::new(&given).unwrap();
+        let target = Target::new().etag("\"a\"");
+        let content = Content { media_type: "text/plain", length: Some(10), sends_ranges: true };
+        for _ in 0..2 {
+            assert_eq!(fields.evaluate("GET", &target, NOW), evaluate("GET", &text, &target, NOW, KEYS));
+            assert_eq!(fields.select("GET", &target, 10, NOW), select("GET", &text, &target, 10, NOW, KEYS));
+            let response = fields.respond("GET", &target, &content, "cut", NOW);
+            assert_eq!(response, respond("GET", &text, &target, &content, "cut", NOW, KEYS));
+            assert_eq!(fields.field("ETag"), Ok(Some(b"\"a\"\n".to_vec())));
+            assert_eq!((fields.field("age"), fields.field("a b")), (Ok(None), Err(Error::Rejected)));
+            assert_eq!((fields.choose_type(["a/b"]), fields.choose_language(NONE)), (Ok(Some(0)), Ok(None)));
+            let shared = policy.answer("GET", &mut fields, &Section::new(), KEYS);
+            assert_eq!(shared, rules.answer("GET", &text, &Section::new(), KEYS));
+            let request = ResourceRequest {
+                method: "GET",
+                target: "/",
+                version: Version::Http11,
+                fields: &text,
+                content: RequestContent::Absent,
+            };
+            assert_eq!(resource.answer(&request, &mut fields, NOW), given.answer(&request, NOW, KEYS));
+        }
+        assert_eq!(ParsedSection::new(&Section::from_bytes("x\n"), KEYS).err(), Some(Error::Rejected));
+        let any = CorsRules { origins: &["*"], credentials: true, ..CorsRules::default() };
+        assert_eq!(CorsPolicy::new(&any).err(), Some(Error::Rejected));
+        let moved = Resource { state: State::Permanent(""), ..Resource::default() };
+        assert_eq!(PreparedResource::new(&moved).err(), Some(Error::Rejected));
+        let moved = std::thread::spawn(move || (fields.field("age"), policy, resource)).join();
+        assert_eq!(moved.map(|(found, ..)| found).ok(), Some(Ok(None)));
     }
 
     #[test]

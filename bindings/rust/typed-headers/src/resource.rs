@@ -257,6 +257,44 @@ impl Resource<'_> {
     /// # Ok::<(), typed_headers::Error>(())
     /// ```
     pub fn answer(&self, request: &ResourceRequest<'_>, now: u64, keys: Keys) -> Result<ResourceAnswer, Error> {
+        let asked = request.given(now);
+        let section = request.fields.as_bytes();
+        let facts = Cell::new(sys::ResourceFacts::default());
+        let found = self.given(|given, numbers, rules| {
+            // SAFETY: these are pointers and counts of slices and of values, which don't overlap.
+            written_both(|parts, room| unsafe {
+                sys::typed_headers_resource_answer(
+                    given,
+                    numbers.as_ptr(),
+                    numbers.len(),
+                    rules,
+                    &asked,
+                    request.method.as_ptr(),
+                    request.method.len(),
+                    request.target.as_ptr(),
+                    request.target.len(),
+                    section.as_ptr(),
+                    section.len(),
+                    &keys.0,
+                    facts.as_ptr(),
+                    parts.items.as_mut_ptr(),
+                    parts.items.len(),
+                    &mut parts.count,
+                    room.items.as_mut_ptr(),
+                    room.items.len(),
+                    &mut room.count,
+                )
+            })
+        })?;
+        let (parts, lines) = found.unwrap_or_default();
+        Ok(ResourceAnswer::of(facts.get(), parts, lines))
+    }
+
+    // Makes a call with the resource as the library takes it.
+    pub(crate) fn given<T>(
+        &self,
+        call: impl FnOnce(&sys::Resource, &[sys::Representation], &sys::CorsRules) -> Result<T, Error>,
+    ) -> Result<T, Error> {
         let (shown, (state, location)) = (self.representations, self.state.number());
         let texts = [
             joined(self.hosts)?,
@@ -306,44 +344,25 @@ impl Resource<'_> {
                 is_date_strong: it.is_date_strong,
             })
             .collect();
-        let asked = sys::ResourceRequest {
+        self.cors.unwrap_or_default().given(|rules| call(&given, &numbers, rules))
+    }
+}
+
+impl ResourceRequest<'_> {
+    pub(crate) fn given(&self, now: u64) -> sys::ResourceRequest {
+        sys::ResourceRequest {
             present: now,
-            length: if let RequestContent::Sized(length) = request.content { length } else { 0 },
-            version: request.version as u8,
-            has_content: request.content != RequestContent::Absent,
-            has_length: matches!(request.content, RequestContent::Sized(_)),
-        };
-        let section = request.fields.as_bytes();
-        let facts = Cell::new(sys::ResourceFacts::default());
-        let found = self.cors.unwrap_or_default().given(|rules| {
-            // SAFETY: these are pointers and counts of slices and of values, which don't overlap.
-            written_both(|parts, room| unsafe {
-                sys::typed_headers_resource_answer(
-                    &given,
-                    numbers.as_ptr(),
-                    numbers.len(),
-                    rules,
-                    &asked,
-                    request.method.as_ptr(),
-                    request.method.len(),
-                    request.target.as_ptr(),
-                    request.target.len(),
-                    section.as_ptr(),
-                    section.len(),
-                    &keys.0,
-                    facts.as_ptr(),
-                    parts.items.as_mut_ptr(),
-                    parts.items.len(),
-                    &mut parts.count,
-                    room.items.as_mut_ptr(),
-                    room.items.len(),
-                    &mut room.count,
-                )
-            })
-        })?;
-        let (parts, lines) = found.unwrap_or_default();
-        let facts = facts.get();
-        Ok(ResourceAnswer {
+            length: if let RequestContent::Sized(length) = self.content { length } else { 0 },
+            version: self.version as u8,
+            has_content: self.content != RequestContent::Absent,
+            has_length: matches!(self.content, RequestContent::Sized(_)),
+        }
+    }
+}
+
+impl ResourceAnswer {
+    pub(crate) fn of(facts: sys::ResourceFacts, parts: Vec<ByteRange>, lines: Vec<u8>) -> ResourceAnswer {
+        ResourceAnswer {
             status: (facts.status != 0).then_some(facts.status),
             reason: REASONS.get(usize::from(facts.reason)).copied().unwrap_or(Reason::Unknown),
             sends: match facts.sends {
@@ -355,6 +374,6 @@ impl Resource<'_> {
             },
             place: (facts.has_place == 1).then_some(facts.place),
             fields: Section::from_bytes(lines),
-        })
+        }
     }
 }

@@ -38,6 +38,28 @@ pub struct Response {
     pub keeps_encoding: bool,
 }
 
+impl Content<'_> {
+    pub(crate) fn given(&self) -> sys::Content {
+        sys::Content {
+            media_type: text(self.media_type.as_bytes()),
+            length: self.length.unwrap_or(0),
+            has_length: self.length.is_some(),
+            sends_ranges: self.sends_ranges,
+        }
+    }
+}
+
+impl Response {
+    pub(crate) fn of(facts: sys::Response, parts: Vec<ByteRange>, lines: Vec<u8>) -> Option<Response> {
+        (facts.status != 0).then(|| Response {
+            status: facts.status,
+            parts,
+            fields: Section::from_bytes(lines),
+            keeps_encoding: facts.keeps_encoding == 1,
+        })
+    }
+}
+
 /// The response to a GET or HEAD of the target's representation, by its preconditions and its ranges, and to any request
 /// whose preconditions are false (RFC 9110, sections 13.2.2 and 14.2). `None` if the server performs the method.
 ///
@@ -64,12 +86,7 @@ pub fn respond(
 ) -> Result<Option<Response>, Error> {
     let (method, section, etag) = (method.as_ref(), request.as_bytes(), target.etag_text());
     let given = target.given(now);
-    let carried = sys::Content {
-        media_type: text(content.media_type.as_bytes()),
-        length: content.length.unwrap_or(0),
-        has_length: content.length.is_some(),
-        sends_ranges: content.sends_ranges,
-    };
+    let carried = content.given();
     let facts = Cell::new(sys::Response::default());
     // SAFETY: these are pointers and counts of slices and of values, which don't overlap.
     let found = written_both(|parts, room| unsafe {
@@ -94,11 +111,5 @@ pub fn respond(
             &mut room.count,
         )
     })?;
-    let facts = facts.get();
-    Ok(found.filter(|_| facts.status != 0).map(|(parts, lines)| Response {
-        status: facts.status,
-        parts,
-        fields: Section::from_bytes(lines),
-        keeps_encoding: facts.keeps_encoding == 1,
-    }))
+    Ok(found.and_then(|(parts, lines)| Response::of(facts.get(), parts, lines)))
 }

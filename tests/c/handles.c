@@ -1,0 +1,147 @@
+/*
+ * Tests what the rows don't show of handles: closed ones, those of another struct, ones that are open already, ones
+ * that are closed twice, and threads.
+ */
+#include "typed_headers.h"
+#include <pthread.h>
+#include <stdio.h>
+#include <string.h>
+
+#define BYTES(text) (const uint8_t *)(text), sizeof(text) - 1
+#define TEXT(text) {(const uint8_t *)(text), sizeof(text) - 1}
+
+enum { ROUNDS = 2000, ROOM = 512 };
+
+static const struct typed_headers_keys KEYS = {1, 2};
+static const struct typed_headers_target TARGET = {0, 1767225600, true, false, false};
+static const struct typed_headers_resource RESOURCE = {.methods = TEXT("GET"), .has_cors = true};
+static const struct typed_headers_resource_request REQUEST = {1767225600, 0, 11, false, true};
+static const struct typed_headers_cors_rules RULES = {.origins = TEXT("https://a.example")};
+static const char SECTION[] = "Host: b.example\nOrigin: https://a.example\nIf-None-Match: \"a\"\nAccept: text/html\n";
+
+static int wrong;
+
+static void want(bool is_right, const char *what) {
+    if (!is_right) {
+        wrong++;
+        printf("handles: %s\n", what);
+    }
+}
+
+static uint8_t share(struct typed_headers_cors_policy *policy, struct typed_headers_section *fields, uint8_t *allowed) {
+    struct typed_headers_cors_facts facts = {9, 9};
+    uint8_t room[ROOM];
+    size_t written;
+    uint8_t status = typed_headers_cors_policy_answer(policy, fields, BYTES("GET"), NULL, 0, &KEYS, &facts, room, ROOM,
+                                                      &written);
+    *allowed = facts.is_allowed;
+    return status;
+}
+
+static uint8_t answer(struct typed_headers_resource_handle *handle, struct typed_headers_section *fields,
+                      uint16_t *code) {
+    struct typed_headers_resource_facts facts = {0, 0, 0, 0, 0};
+    uint8_t room[ROOM];
+    size_t count, written;
+    uint8_t status = typed_headers_resource_handle_answer(handle, fields, &REQUEST, BYTES("POST"), NULL, 0, &facts,
+                                                          NULL, 0, &count, room, ROOM, &written);
+    *code = facts.status;
+    return status;
+}
+
+static uint8_t evaluate(struct typed_headers_section *fields, uint16_t *code) {
+    return typed_headers_section_evaluate(fields, BYTES("GET"), BYTES("\"a\""), &TARGET, code);
+}
+
+/* A closed handle answers ABSENT, and so does one of another struct. Either is as it was. */
+static void check_absent(struct typed_headers_section *fields, struct typed_headers_cors_policy *policy,
+                         struct typed_headers_resource_handle *handle, const char *what) {
+    uint8_t room[ROOM], allowed;
+    size_t written = 7, place = 7;
+    uint16_t code = 7;
+    memset(room, 7, ROOM);
+    want(evaluate(fields, &code) == TYPED_HEADERS_ABSENT && code == 7, what);
+    want(typed_headers_section_field(fields, BYTES("accept"), room, ROOM, &written) == TYPED_HEADERS_ABSENT, what);
+    want(written == 7 && room[0] == 7, what);
+    want(typed_headers_section_choose_type(fields, BYTES("text/html"), &place) == TYPED_HEADERS_ABSENT, what);
+    want(place == 7, what);
+    want(share(policy, fields, &allowed) == TYPED_HEADERS_ABSENT && allowed == 9, what);
+    want(answer(handle, fields, &code) == TYPED_HEADERS_ABSENT, what);
+}
+
+/* Threads with a handle each, and one handle that a lock orders. */
+static pthread_mutex_t lock = PTHREAD_MUTEX_INITIALIZER;
+static struct typed_headers_cors_policy common = TYPED_HEADERS_CLOSED;
+
+static void *ask(void *wrong_answers) {
+    struct typed_headers_section fields = TYPED_HEADERS_CLOSED;
+    struct typed_headers_cors_policy policy = TYPED_HEADERS_CLOSED;
+    size_t *count = wrong_answers;
+    *count += typed_headers_section_new(&fields, BYTES(SECTION), &KEYS) != TYPED_HEADERS_DONE;
+    *count += typed_headers_cors_policy_new(&policy, &RULES) != TYPED_HEADERS_DONE;
+    for (int round = 0; round < ROUNDS; round++) {
+        uint8_t allowed;
+        uint16_t code;
+        *count += evaluate(&fields, &code) != TYPED_HEADERS_DONE || code != 304;
+        *count += share(&policy, &fields, &allowed) != TYPED_HEADERS_DONE || allowed != 1;
+        pthread_mutex_lock(&lock);
+        *count += share(&common, &fields, &allowed) != TYPED_HEADERS_DONE || allowed != 1;
+        pthread_mutex_unlock(&lock);
+    }
+    typed_headers_section_free(&fields);
+    typed_headers_cors_policy_free(&policy);
+    return NULL;
+}
+
+static void check_threads(void) {
+    pthread_t threads[2];
+    size_t counts[2] = {0, 0};
+    want(typed_headers_cors_policy_new(&common, &RULES) == TYPED_HEADERS_DONE, "a policy isn't made");
+    for (int i = 0; i < 2; i++) {
+        want(!pthread_create(&threads[i], NULL, ask, &counts[i]), "no thread");
+    }
+    for (int i = 0; i < 2; i++) {
+        pthread_join(threads[i], NULL);
+        want(!counts[i], "another answer in a thread");
+    }
+    typed_headers_cors_policy_free(&common);
+}
+
+int main(void) {
+    struct typed_headers_section fields = TYPED_HEADERS_CLOSED;
+    struct typed_headers_cors_policy policy = TYPED_HEADERS_CLOSED;
+    struct typed_headers_resource_handle handle = TYPED_HEADERS_CLOSED;
+    uint8_t allowed;
+    uint16_t code;
+    want(!typed_headers_section_free(NULL) && !typed_headers_cors_policy_free(NULL), "null isn't closed");
+    want(!typed_headers_resource_handle_free(NULL) && !typed_headers_section_free(&fields), "null isn't closed");
+    check_absent(&fields, &policy, &handle, "a closed handle");
+
+    want(typed_headers_section_new(&fields, BYTES("no field\n"), &KEYS) == TYPED_HEADERS_REFUSED, "no field is one");
+    want(!fields.is_open && !fields.place, "a refused section is open");
+    want(typed_headers_section_new(&fields, BYTES(SECTION), &KEYS) == TYPED_HEADERS_DONE, "a section isn't opened");
+    want(typed_headers_section_new(&fields, NULL, 0, &KEYS) == TYPED_HEADERS_REFUSED, "an open section is opened");
+    want(typed_headers_cors_policy_new(&policy, &RULES) == TYPED_HEADERS_DONE, "a policy isn't made");
+    want(typed_headers_cors_policy_new(&policy, &RULES) == TYPED_HEADERS_REFUSED, "an open policy is made");
+    want(typed_headers_resource_handle_new(&handle, &RESOURCE, NULL, 0, &RULES) == TYPED_HEADERS_DONE,
+         "a resource isn't made");
+    want(typed_headers_resource_handle_new(&handle, &RESOURCE, NULL, 0, &RULES) == TYPED_HEADERS_REFUSED,
+         "an open resource is made");
+    want(!evaluate(&fields, &code) && code == 304, "another precondition");
+    want(!share(&policy, &fields, &allowed) && allowed == 1, "another origin");
+    want(!answer(&handle, &fields, &code) && code == 405, "another answer");
+    check_absent((void *)&policy, (void *)&handle, (void *)&fields, "a handle of another struct");
+    want(!evaluate(&fields, &code) && code == 304, "another precondition after that");
+
+    for (int i = 0; i < 2; i++) {
+        want(!typed_headers_section_free(&fields) && !typed_headers_cors_policy_free(&policy) &&
+                 !typed_headers_resource_handle_free(&handle), "it isn't closed");
+        check_absent(&fields, &policy, &handle, "a handle that was closed");
+    }
+    want(typed_headers_section_new(&fields, NULL, 0, &KEYS) == TYPED_HEADERS_DONE, "an empty section isn't opened");
+    want(!evaluate(&fields, &code) && code == 0, "a precondition of no field");
+    typed_headers_section_free(&fields);
+    check_threads();
+    printf("handles: %d answered otherwise\n", wrong);
+    return wrong != 0;
+}
