@@ -61,7 +61,7 @@ def version() -> str:
     return calls.version()
 
 
-# What is handed in
+# What is passed
 
 
 def to_bytes(text: Text, what: str) -> bytes:
