@@ -6,8 +6,8 @@
  *
  * - A text is a pointer and a count of bytes; no NUL ends it. It is read, and never kept after the call.
  * - A text or a room whose count is 0 may have any pointer: (NULL, 0) is the empty text. No other pointer may be null
- *   or stale. What a pointer that isn't `const` points to may overlap nothing else that is handed in. It need not be
- *   set before the call. A `bool` that is handed in is true or false.
+ *   or stale. What a pointer that isn't `const` points to may overlap nothing else that is passed. It need not be
+ *   set before the call. A `bool` that is passed is true or false.
  * - The result is a status. Unless a call says otherwise, what it would have written is as it was if the status
  *   isn't TYPED_HEADERS_DONE.
  * - Several lines of a field are one text: each line ends in LF, which the last one needn't have. A CR before a LF, or
@@ -55,7 +55,7 @@ const char *typed_headers_status_text(uint8_t status);
 enum typed_headers_status {
     /* It gave what it was asked for. */
     TYPED_HEADERS_DONE = 0,
-    /* What was handed in isn't what the call reads. */
+    /* An argument isn't what the call reads. */
     TYPED_HEADERS_REFUSED = 1,
     /* There was no memory. The same call may succeed later. */
     TYPED_HEADERS_NO_MEMORY = 2,
@@ -63,7 +63,7 @@ enum typed_headers_status {
     TYPED_HEADERS_NO_ROOM = 3,
     /* What is asked for isn't there: the field has no line, or the target no representation. */
     TYPED_HEADERS_ABSENT = 4,
-    /* What was handed in is longer, or has more names, than the call takes. */
+    /* An argument is longer, or has more names, than the call takes. */
     TYPED_HEADERS_TOO_LARGE = 5,
     /* The text was written, and marks names whose lines were refused. */
     TYPED_HEADERS_MARKED = 6
@@ -929,7 +929,7 @@ uint8_t typed_headers_validators(const uint8_t *response, size_t response_length
 /*
  * Opens a closed cache, with an empty store in bounded memory (RFC 9111). It copies the keys. Refused: it is open.
  * Such a cache has memory until it is closed again. Absent, of each other call on a cache: it is closed. On a failure
- * of parsing what is handed in, a cache is as it was. Memory: the cache is closed.
+ * of parsing what is passed, a cache is as it was. Memory: the cache is closed.
  */
 uint8_t typed_headers_cache_new(struct typed_headers_cache *cache, const struct typed_headers_cache_options *options,
                                 const struct typed_headers_keys *keys);
