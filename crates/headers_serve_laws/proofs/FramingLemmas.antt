@@ -129,7 +129,8 @@ states_by n stated hs short x =
     middle true = states_length n short
     middle false = states_none n
 
-states_option : (n : ℕ) (option : List ℕ) → is_trimmed_value option ≡ true → States n false (connection_header option ∷ [])
+states_option : (n : ℕ) (option : List ℕ) → is_trimmed_value option ≡ true
+    → States n false (connection_header option ∷ [])
 unfolding eq_ignore_case is_token_byte
 states_option n option trimmed =
     states_ordinary n (connection_header option) (record { header = trimmed; unsized = refl; uncoded = refl })
@@ -278,7 +279,8 @@ module _ (r : Request) (status n : ℕ) (hs : List Header) (short : n < 2 ^ 64) 
         let framing = cond (is_bodiless_status status) NoBody (cond stated (Sized n) UntilClose) in (
           last framing fit,
           cond-false _ _ _ (ap (λ (b : Bool). eqb status 204 && b) states ∙ late)
-              ∙ cond-false _ _ _ (ap (λ (b : Bool). b && (is_sized r size && not (states_no_content k))) (ne_eqb status 205 other))
+              ∙ cond-false _ _ _
+              (ap (λ (b : Bool). b && (is_sized r size && not (states_no_content k))) (ne_eqb status 205 other))
               ∙ cond-false _ _ _ (ap (λ c. eqb status 304 && (eqb r.minor 0 && is_coded c)) told.coding
               ∙ ap (λ (b : Bool). eqb status 304 && b) (and-false _) ∙ and-false _)
               ∙ ap (plan_stated r status size hs first) (framing_is (is_bodiless_status status) r.minor n stated k told)
@@ -295,7 +297,8 @@ module _ (r : Request) (status n : ℕ) (hs : List Header) (short : n < 2 ^ 64) 
     bare = subst (States n stated) (sym (append-nil hs)) x
 
     states_bare : states_framing (known_fields hs) ≡ stated
-    states_bare = ap (λ (l : List Header). states_framing (known_fields l)) (sym (append-nil hs)) ∙ states [] stated bare
+    states_bare =
+        ap (λ (l : List Header). states_framing (known_fields l)) (sym (append-nil hs)) ∙ states [] stated bare
 
     is_bodiless : is_bodiless_status status ≡ (eqb status 204 || eqb status 304)
     is_bodiless = let low = s.least in grind (arith, nat_tests)

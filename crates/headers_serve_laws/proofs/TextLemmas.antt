@@ -1,5 +1,6 @@
 -- The head of a response that is written out.
-use Rattle.std.proofs.Common.{◌≡◌, ℕ, ◌+◌, ◌^◌, ◌<◌, Bool, true, false, not, ◌&&◌, ◌||◌, List, [], ◌∷◌, ◌++◌, map, codes, Option}
+use Rattle.std.proofs.Common.{◌≡◌, ℕ, ◌+◌, ◌^◌, ◌<◌, Bool, true, false, not, ◌&&◌, ◌||◌, List, [], ◌∷◌, ◌++◌, map}
+use Rattle.std.proofs.Common.{codes, Option}
 use Rattle.std.proofs.Common.{Some, None, Result, Ok, Err, refl, sym, ap, subst, ◌∙◌, arith, append-nil, cond, eqb, inl}
 use Rattle.std.proofs.Common.{inr}
 use Rattle.std.proofs.Common.{nat_lt}
@@ -23,7 +24,8 @@ use Rattle.http1.specs.Fields.{Header, elements, is_plain_number, known_fields}
 use Rattle.http1.specs.Framing.{is_bodiless_status, method_kind}
 use Rattle.http1.specs.Head.{are_headers, is_header, is_status_line, response_text}
 use Rattle.http1.specs.Message.{known_of}
-use Rattle.http1.specs.Server.{connection_headers, is_head, planned_response, response_plan, response_refusal, stays_open}
+use Rattle.http1.specs.Server.{connection_headers, is_head, planned_response, response_plan, response_refusal}
+use Rattle.http1.specs.Server.{stays_open}
 use Rattle.http1.specs.Text.{eq_ignore_case, numeral}
 use Rattle.http1.proofs.HeadRoundTrip.{not_refused}
 use Rattle.http1.proofs.NumeralLemmas.{decimal_is_plain}

@@ -41,8 +41,8 @@ whole_fields file =
     ∷ (codes "content-type", file.media_type.bytes) ∷ [])))
 
 -- The response is a 200 with all of the file, which its ranges are read from. Its fields are, in this order, Date if
--- there is a clock, X-Content-Type-Options, `Connection: close` if it is the last, Cache-Control if it is asked for, and
--- those of the file.
+-- there is a clock, X-Content-Type-Options, `Connection: close` if it is the last, Cache-Control if it is asked for,
+-- and those of the file.
 pub record IsWhole (now : Option ℕ) (left : ℕ) (site : Site) (file : File) (response : Response)
     (source : Option Source) : Type 0 where
   pub status : response.status ≡ 200

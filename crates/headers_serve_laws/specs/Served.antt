@@ -46,7 +46,8 @@ pub record IsOneAnswer {H : Type 0} (plans : Plans H) (gives : H → Gives) (hea
   pub answer : IsAnswerOf head response sent
 
 -- the handler made a plan for the request that is no response of `http1`
-pub record IsRefused {H : Type 0} (plans : Plans H) (limits : Limits) (head : RequestHead) (first now : H) : Type 0 where
+pub record IsRefused {H : Type 0} (plans : Plans H) (limits : Limits) (head : RequestHead) (first now : H)
+    : Type 0 where
   pub request : Request (List ℕ)
   pub asks : AsksForRoot (codes "GET") request
   pub plan : Plan
