@@ -112,7 +112,8 @@ def options(program, folder):
 def pages(program, folder):
     """A site's own pages: status and fields are those of the built-in page, whose place it takes."""
     with tempfile.TemporaryDirectory() as room:
-        for name, content in {"404": b"<p>not here: \xc3\xbc</p>\n", "405": b"", "301": b"<p>moved</p>\n", "500": b"x"}.items():
+        own = {"404": b"<p>not here: \xc3\xbc</p>\n", "405": b"", "301": b"<p>moved</p>\n", "500": b"x"}
+        for name, content in own.items():
             with open(f"{room}/{name}.html", "wb") as file:
                 file.write(content)
         plain = Server(program, folder, "--no-dates")

@@ -94,7 +94,8 @@ def lists_all(server, top, port):
     expect(set(decoded) <= theirs, f"what nginx doesn't list: {set(decoded) - theirs}")
     for name in more:
         status = server.status("/" + quote(name.rstrip(b"/")))
-        expect(name.rstrip(b"/") in HIDDEN and status in (403, 404), f"nginx lists {name}, which is answered by {status}")
+        is_hidden = name.rstrip(b"/") in HIDDEN and status in (403, 404)
+        expect(is_hidden, f"nginx lists {name}, which is answered by {status}")
 
 
 def is_a_representation(server, top):
@@ -118,8 +119,9 @@ def is_a_representation(server, top):
 
 def is_for_folders(server, program, top):
     """Only a folder without an index is listed, if its path ends in a slash and the option is there."""
-    for target, status in (("/indexed/", 200), ("/odd/", 404), ("/index.html", 404), ("/sub/index.html", 404), ("/sub", 301),
-                           ("/sub%2F", 404), ("/missing/", 404), ("/a.txt/", 404), ("/out/", 404), ("/.well-known/", 200)):
+    for target, status in (("/indexed/", 200), ("/odd/", 404), ("/index.html", 404), ("/sub/index.html", 404),
+                           ("/sub", 301), ("/sub%2F", 404), ("/missing/", 404), ("/a.txt/", 404), ("/out/", 404),
+                           ("/.well-known/", 200)):
         expect(server.status(target) == status, f"{target} where folders are listed: {server.status(target)}")
     expect(server.answer("GET", "/indexed/")[2] == b"indexed/index.html", "an index where folders are listed")
     expect(Server(program, top).status("/sub/") == 404, "a folder where none is listed")
