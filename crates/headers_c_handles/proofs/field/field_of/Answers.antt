@@ -7,8 +7,7 @@ pub returns-in-Some : goal.returns-in-Some
 returns-in-Some c =
     let values = get_all c.args.fields.now c.in_ok-name.name in
     let some : 0 < length values = search rules in
-    let block = rw c.in-Some.is at (c.in_ok-lines.ensures some) in
-    (
+    let block = rw c.in-Some.is at (c.in_ok-lines.ensures some) in (
       c.in_ok-name.ensures.0,
       rw (sym c.in_ok-name.ensures.1) (has_values values some),
       rw (sym c.in_ok-name.ensures.1) block,
