@@ -204,6 +204,17 @@ impl Folder<'_> {
         }
     }
 
+    // The entry at a path, or the listing that stands in for an index that isn't there.
+    fn or_listing(&self, alloc: Global, path: &str, entry: Entry) -> Result<Entry, AllocError>
+        requires { ListsOwn path.now entry }
+        ensures { IfOk result (ListsOwn path.now) }
+    {
+        if self.lists && matches!(entry, Entry::Missing) {
+            return self.listing(alloc, path);
+        }
+        Ok(entry)
+    }
+
     // What stands at a path of the system, which has this name below the root.
     fn entry(&self, path: &str, name: &str) -> io::Result<Entry>
         ensures { (p : List ℕ) → IfOk result (ListsOwn p) }
@@ -244,10 +255,7 @@ impl Store for Folder<'_> {
 
     fn find(&self, alloc: Global, path: &str) -> Result<Entry, AllocError> {
         let entry = self.entry_at(alloc, path)?;
-        if self.lists && matches!(entry, Entry::Missing) {
-            return self.listing(alloc, path);
-        }
-        Ok(entry)
+        self.or_listing(alloc, path, entry)
     }
 
     fn now(&self) -> Option<u64> {

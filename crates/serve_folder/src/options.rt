@@ -9,6 +9,13 @@ pub fn command<'a>(alloc: Global) -> Result<Command<'a>, AllocError> {
         .required(true)
         .action(ArgAction::Set)
         .help("The folder whose files are served");
+    let command = Command::new(alloc, "serve_folder").arg(folder)?;
+    let command = with_first_options(alloc, command)?;
+    with_last_options(alloc, command)
+}
+
+// The options from A to L, as the help lists them.
+fn with_first_options<'a>(alloc: Global, command: Command<'a>) -> Result<Command<'a>, AllocError> {
     let cache_control = Arg::new(alloc, "cache-control")
         .long("cache-control")
         .value_name("VALUE")
@@ -30,6 +37,16 @@ pub fn command<'a>(alloc: Global) -> Result<Command<'a>, AllocError> {
         .long("log")
         .action(ArgAction::SetTrue)
         .help("Log each request on standard error");
+    command
+        .arg(cache_control)?
+        .arg(cors_origin)?
+        .arg(host)?
+        .arg(listing)?
+        .arg(log)
+}
+
+// The options from M on.
+fn with_last_options<'a>(alloc: Global, command: Command<'a>) -> Result<Command<'a>, AllocError> {
     let max_file = Arg::new(alloc, "max-file")
         .long("max-file")
         .value_name("BYTES")
@@ -52,13 +69,7 @@ pub fn command<'a>(alloc: Global) -> Result<Command<'a>, AllocError> {
         .long("no-dates")
         .action(ArgAction::SetTrue)
         .help("Leave out Date and Last-Modified");
-    Command::new(alloc, "serve_folder")
-        .arg(folder)?
-        .arg(cache_control)?
-        .arg(cors_origin)?
-        .arg(host)?
-        .arg(listing)?
-        .arg(log)?
+    command
         .arg(max_file)?
         .arg(pages)?
         .arg(precompressed)?
