@@ -1,3 +1,9 @@
+mod AgainLemmas
 mod HeadLemmas
 mod JoinLemmas
+mod LineLemmas
+mod RevalidateLemmas
+mod SimilarLemmas
 mod StoreLemmas
+mod TagLineLemmas
+mod TaggedLemmas

@@ -1,24 +1,34 @@
 //! Theorems about the definitions alone. To cite one in a proof, call it.
-ghost use Rattle.std.specs.Prelude.{◌≡◌, ◌++◌, ℕ, List, length, Option, Some};
+ghost use Rattle.std.specs.Prelude.{◌≡◌, ◌≢◌, ◌++◌, ℕ, false, true, List, [], ◌∷◌, length, Option, Some, codes};
 ghost use Rattle.http.specs.Request.{head_of};
 ghost use Rattle.http.specs.declared.request.Request.{Request};
 ghost use Rattle.http_uri.specs.Uri.{uri_path};
+ghost use Rattle.headers.specs.EntityTag.{IsSomeTag, IsTag, TagParts};
+ghost use Rattle.headers.specs.LineMap.{lines_at};
+ghost use Rattle.headers.specs.Lines.{Line};
 ghost use Rattle.headers_exchange.specs.Pieces.{AreSent};
 ghost use Rattle.headers_exchange.specs.declared.plan.Plan.{Plan as Response};
+ghost use Rattle.headers_preconditions.specs.Preconditions.{IsGetOrHead};
 ghost use Rattle.headers_preconditions.specs.declared.part.Part.{Part};
 ghost use Rattle.headers_preconditions.specs.declared.plan.Plan.TheVariants.{Single};
 ghost use Rattle.headers_resource.specs.declared.answer.Sends.TheVariants.{Planned};
 ghost use Rattle.headers_serve.specs.Answer.{IsAnswerAt};
 ghost use Rattle.headers_serve.specs.File.{gives_of};
+ghost use Rattle.headers_serve.specs.Response.{fields_of};
 ghost use Rattle.headers_serve.specs.declared.file.Entry.{Entry};
+ghost use Rattle.headers_files.specs.Tags.{content_digest, strong_tag};
 ghost use Rattle.headers_files.specs.declared.kept.Kept.{Kept};
 ghost use Rattle.headers_serve.specs.declared.settings.Site.{Site};
 ghost use Rattle.headers_serve.specs.declared.source.Source.{Source};
 ghost use Rattle.headers_serve.specs.declared.source.Source.TheVariants.{Kept as InMemory};
+ghost use Rattle.headers_serve_answers.specs.Again.{IsAgain};
 ghost use Rattle.headers_serve_answers.specs.Joined.{JoinTo};
 ghost use Rattle.headers_serve_answers.specs.Requests.{IsHeadOf};
+ghost use Rattle.headers_serve_answers.specs.ResponseLines.{lines_in};
+ghost use Rattle.headers_serve_answers.specs.Similar.{HaveSimilar};
 ghost use Rattle.headers_serve_answers.specs.Stores.{HaveAlike, has_at};
 
+use headers_fields::laws::lists_parse_one_way;
 use headers_resource::laws::head_is_answered_as_get;
 use headers_serve::laws::sent_bytes_are_those_of_the_ranges;
 
@@ -58,3 +68,46 @@ pub fn parts_join_to_the_content()
 {
     sent_bytes_are_those_of_the_ranges();
 }
+
+/// Theorem: the ETag of a response revalidates it (RFC 9110, section 13.1.2). If the request is sent again, as
+/// GET or HEAD and at any time, with that tag alone in If-None-Match, and the store has a file with the same tag
+/// and date there, the response is 304, with that ETag and without content. If-Unmodified-Since is absent, since
+/// a date with a year of two digits changes with the time.
+pub fn tag_gets_not_modified()
+    ensures { (now later : Option ℕ) (left more : ℕ) (site : Site) (look other : List ℕ → Entry)
+        (first second : Request (List ℕ)) (r s : Response) (a b : Option Source) (tag : Line)
+        → IsAgain (codes "if-none-match") tag first second
+        → lines_at (head_of first).headers (codes "if-unmodified-since") ≡ []
+        → HaveSimilar site.resource.negotiation.coding (uri_path (head_of first).uri) look other
+        → IsAnswerAt now left site (has_at look) first r a
+        → lines_in (fields_of r) (codes "etag") ≡ tag ∷ [] → IsSomeTag tag
+        → IsAnswerAt later more site (has_at other) second s b
+        → (s.status ≡ 304) × (lines_in (fields_of s) (codes "etag") ≡ tag ∷ []) × (s.pieces.items ≡ []) }
+{
+    lists_parse_one_way();
+}
+
+/// Theorem: a strong ETag of a response is never lost (RFC 9110, section 13.1.1). If the request is sent again, as
+/// GET or HEAD and at any time, with that tag alone in If-Match, and the store has a file with the same tag and
+/// date there, the response isn't 412.
+pub fn strong_tag_is_not_lost()
+    ensures { (now later : Option ℕ) (left more : ℕ) (site : Site) (look other : List ℕ → Entry)
+        (first second : Request (List ℕ)) (r s : Response) (a b : Option Source) (tag : Line) (parts : TagParts)
+        → IsAgain (codes "if-match") tag first second
+        → HaveSimilar site.resource.negotiation.coding (uri_path (head_of first).uri) look other
+        → IsAnswerAt now left site (has_at look) first r a
+        → lines_in (fields_of r) (codes "etag") ≡ tag ∷ [] → IsTag tag parts → parts.is_weak ≡ false
+        → IsAnswerAt later more site (has_at other) second s b → s.status ≢ 412 }
+{
+    lists_parse_one_way();
+}
+
+/// Theorem: the ETag of a response with bytes in memory is the digest of all of them, as a strong tag.
+pub fn tag_of_memory_is_its_digest()
+    ensures { (now : Option ℕ) (left : ℕ) (site : Site) (look : List ℕ → Entry) (request : Request (List ℕ))
+        (response : Response) (kept : Kept) (tag : Line) → IsGetOrHead (head_of request).method
+        → IsAnswerAt now left site (has_at look) request response (Some (InMemory kept))
+        → lines_in (fields_of response) (codes "etag") ≡ tag ∷ []
+        → (tag ≡ strong_tag (content_digest kept.content))
+        × IsTag tag (record { is_weak = false; opaque = content_digest kept.content }) }
+{}
