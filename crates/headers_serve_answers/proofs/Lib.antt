@@ -2,6 +2,7 @@ mod AgainLemmas
 mod HeadLemmas
 mod JoinLemmas
 mod LineLemmas
+mod PreflightLemmas
 mod RevalidateLemmas
 mod SimilarLemmas
 mod StoreLemmas

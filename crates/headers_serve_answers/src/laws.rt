@@ -1,18 +1,28 @@
 //! Theorems about the definitions alone. To cite one in a proof, call it.
-ghost use Rattle.std.specs.Prelude.{◌≡◌, ◌≢◌, ◌++◌, ℕ, false, true, List, [], ◌∷◌, length, Option, Some, codes};
+ghost use Rattle.std.specs.Prelude.{◌≡◌, ◌≢◌, ◌↔◌, ◌++◌, ℕ, false, true, List, [], ◌∷◌, length, Option, Some, codes};
 ghost use Rattle.http.specs.Request.{head_of};
 ghost use Rattle.http.specs.declared.request.Request.{Request};
 ghost use Rattle.http_uri.specs.Uri.{uri_path};
 ghost use Rattle.headers.specs.EntityTag.{IsSomeTag, IsTag, TagParts};
 ghost use Rattle.headers.specs.LineMap.{lines_at};
 ghost use Rattle.headers.specs.Lines.{Line};
+ghost use Rattle.headers_cors_policy.specs.Browser.{CorsCheck, IsPreflightFor, PreflightPasses};
+ghost use Rattle.headers_cors_policy.specs.Browser.{Request as Sent};
+ghost use Rattle.headers_cors_policy.specs.Policy.{Policy};
+ghost use Rattle.headers_cors_policy.specs.Rules.{AllowsCredentials, AllowsOrigin, AllowsRequest, IsLawful};
+ghost use Rattle.headers_cors_policy.specs.Rules.{IsPolicyOf};
+ghost use Rattle.headers_cors_policy.specs.declared.rules.CorsRules.{CorsRules};
 ghost use Rattle.headers_exchange.specs.Pieces.{AreSent};
 ghost use Rattle.headers_exchange.specs.declared.plan.Plan.{Plan as Response};
+ghost use Rattle.headers_gateway.specs.Requests.{has_host};
 ghost use Rattle.headers_preconditions.specs.Preconditions.{IsGetOrHead};
 ghost use Rattle.headers_preconditions.specs.declared.part.Part.{Part};
 ghost use Rattle.headers_preconditions.specs.declared.plan.Plan.TheVariants.{Single};
+ghost use Rattle.headers_resource.specs.Applies.{is_misdirected};
+ghost use Rattle.headers_resource.specs.Requests.{Request as Asked};
 ghost use Rattle.headers_resource.specs.declared.answer.Sends.TheVariants.{Planned};
 ghost use Rattle.headers_serve.specs.Answer.{IsAnswerAt};
+ghost use Rattle.headers_serve.specs.Asked.{Asks};
 ghost use Rattle.headers_serve.specs.File.{gives_of};
 ghost use Rattle.headers_serve.specs.Response.{fields_of};
 ghost use Rattle.headers_serve.specs.declared.file.Entry.{Entry};
@@ -29,7 +39,9 @@ ghost use Rattle.headers_serve_answers.specs.Similar.{HaveSimilar};
 ghost use Rattle.headers_serve_answers.specs.Stores.{HaveAlike, has_at};
 
 use headers_fields::laws::lists_parse_one_way;
-use headers_resource::laws::head_is_answered_as_get;
+use headers_resource::laws::{
+    answer_is_shared_by_rules, head_is_answered_as_get, preflight_is_answered,
+};
 use headers_serve::laws::sent_bytes_are_those_of_the_ranges;
 
 /// Theorem: the response depends on what the store has at the path that the request names, and at the
@@ -111,3 +123,35 @@ pub fn tag_of_memory_is_its_digest()
         → (tag ≡ strong_tag (content_digest kept.content))
         × IsTag tag (record { is_weak = false; opaque = content_digest kept.content }) }
 {}
+
+/// Theorem: after the response to its preflight, which is 204 without content, a browser sends the request exactly
+/// if the rules of the site's policy allow it (Fetch standard). A preflight is an OPTIONS for a host that is served,
+/// whatever its path leads to.
+pub fn preflight_passes_by_the_policy()
+    ensures { (now : Option ℕ) (left : ℕ) (site : Site) (look : List ℕ → Entry)
+        (request : Request (List ℕ)) (response : Response) (source : Option Source) (asked : Asked)
+        (policy : Policy) (rules : CorsRules) (sent : Sent)
+        → IsAnswerAt now left site (has_at look) request response source → site.resource.cors ≡ Some policy
+        → IsLawful rules → IsPolicyOf rules policy → Asks request asked
+        → has_host asked.protocol (asked.fields (codes "host")) ≡ true → is_misdirected site.resource asked ≡ false
+        → IsPreflightFor sent (head_of request).method (lines_at (head_of request).headers)
+        → (response.status ≡ 204) × (response.pieces.items ≡ [])
+        × (PreflightPasses response.status (lines_in (fields_of response)) sent ↔ AllowsRequest rules sent) }
+{
+    preflight_is_answered();
+}
+
+/// Theorem: a browser's CORS check of any response, errors included, passes exactly if the rules of the site's policy
+/// allow the origin and the credentials (Fetch standard).
+pub fn response_is_shared_by_the_policy()
+    ensures { (now : Option ℕ) (left : ℕ) (site : Site) (look : List ℕ → Entry)
+        (request : Request (List ℕ)) (response : Response) (source : Option Source) (policy : Policy)
+        (rules : CorsRules) (sent : Sent)
+        → IsAnswerAt now left site (has_at look) request response source → site.resource.cors ≡ Some policy
+        → IsLawful rules → IsPolicyOf rules policy
+        → lines_at (head_of request).headers (codes "origin") ≡ sent.origin ∷ []
+        → CorsCheck (lines_in (fields_of response)) sent
+        ↔ (AllowsOrigin rules sent.origin × AllowsCredentials rules sent.credentials) }
+{
+    answer_is_shared_by_rules();
+}
