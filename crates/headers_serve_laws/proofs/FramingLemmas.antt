@@ -355,6 +355,7 @@ module _ (r : Request) (status n : ℕ) (hs : List Header) (short : n < 2 ^ 64) 
     pub planned_stated : stated ≡ true
         → (p : Plan) × (plan_fields r status size hs ≡ Ok p)
         × (p.extra ≡ connection_headers r (known_fields (hs ++ [])) (stays_open r (known_fields (hs ++ [])) framing))
+        × (p.framing ≡ cond (has_no_body r.method status) NoBody (cond stated (Sized n) UntilClose))
     unfolding plan_fields planned_with
     planned_stated says =
         let whole = planned_with [] stated bare s.other late (kept (is_bodiless_status status) refl) in
@@ -363,7 +364,7 @@ module _ (r : Request) (status n : ℕ) (hs : List Header) (short : n < 2 ^ 64) 
         (states_bare ∙ says)
         ∙ ap (λ (b : Bool). is_sized r size && (not (eqb status 204) && b)) (and-false _)
         ∙ ap (λ (b : Bool). is_sized r size && b) (and-false _) ∙ and-false _ in
-        (whole.0, ap plan_with (cond-false test (size_headers r.minor size) [] silent) ∙ whole.1, refl)
+        (whole.0, ap plan_with (cond-false test (size_headers r.minor size) [] silent) ∙ whole.1, refl, refl)
 
     pub planned : IsPlanned hs (plan_fields r status size hs)
     planned = planned_by test refl

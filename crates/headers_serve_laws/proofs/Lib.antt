@@ -1,4 +1,5 @@
 mod ExchangeLemmas
+mod FramedLemmas
 mod FramingLemmas
 mod RequestLemmas
 mod RootLemmas

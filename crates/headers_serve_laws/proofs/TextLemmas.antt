@@ -21,7 +21,7 @@ use Rattle.http1.specs.declared.framing.Framing.TheVariants.{NoBody, Length as S
 use Rattle.http1.specs.declared.server.Request.{Request}
 use Rattle.http1.specs.Conn.{Plan, connection_header, is_connect, keeps_alive, plan_refusal, planned_headers}
 use Rattle.http1.specs.Fields.{Header, elements, is_plain_number, known_fields}
-use Rattle.http1.specs.Framing.{is_bodiless_status, method_kind}
+use Rattle.http1.specs.Framing.{has_no_body, is_bodiless_status, method_kind}
 use Rattle.http1.specs.Head.{are_headers, is_header, is_status_line, response_text}
 use Rattle.http1.specs.Message.{known_of}
 use Rattle.http1.specs.Server.{connection_headers, is_head, planned_response, response_plan, response_refusal}
@@ -136,6 +136,19 @@ module _ (tag : List ℕ) (len : ℕ) (media_type : List ℕ) (short : len < 2 ^
       connect = ap (λ (b : Bool). b && nat_lt 200 300) other;
     }
 
+    -- the plan of the response, if it is sent at all
+    pub ok_planned : (now : Option ℕ)
+        → response_refusal (answering limits h framing) 200 (reason_of 200) (size_for len) (fields now) ≡ None
+        → (p : Plan) × (response_plan (answering limits h framing) 200 (size_for len) (fields now) ≡ Ok p)
+        × (p.extra ≡ []) × (p.framing ≡ cond (has_no_body (method_kind h.method) 200) NoBody (Sized len))
+    ok_planned now none =
+        let hs = fields now in
+        let planned = response_plan (answering limits h framing) 200 (size_for len) hs in
+        let valid = valid_by planned (is_status_line h.minor 200 (reason_of 200)) hs none in
+        let p = planned_stated request 200 len hs short true (states now valid) final refl in
+        let late : (false || (is_connect (method_kind h.method) && nat_lt 200 300)) ≡ false = final.connect in
+        (p.0, cond-false _ _ _ late ∙ p.1, p.2 ∙ quiet request now minor keeps refl, p.3)
+
     -- the head of the response, if it is sent at all
     pub ok_written : (now : Option ℕ)
         → response_refusal (answering limits h framing) 200 (reason_of 200) (size_for len) (fields now) ≡ None
@@ -143,14 +156,9 @@ module _ (tag : List ℕ) (len : ℕ) (media_type : List ℕ) (short : len < 2 ^
         ≡ ok_text now tag len media_type
     ok_written now none =
         let hs = fields now in
-        let planned = response_plan (answering limits h framing) 200 (size_for len) hs in
-        let valid = valid_by planned (is_status_line h.minor 200 (reason_of 200)) hs none in
-        let p = planned_stated request 200 len hs short true (states now valid) final refl in
-        let late : (false || (is_connect (method_kind h.method) && nat_lt 200 300)) ≡ false = final.connect in
-        let is : planned ≡ Ok p.0 = cond-false _ _ _ late ∙ p.1 in
-        let alone : p.0.extra ≡ [] = p.2 ∙ quiet request now minor keeps refl in
-        ap (λ q. response_text h.minor 200 (reason_of 200) (planned_headers q hs)) is
-        ∙ (λ i. response_text (minor i) 200 (reason_of 200) (hs ++ alone i)) ∙ printed now
+        let p = ok_planned now none in
+        ap (λ q. response_text h.minor 200 (reason_of 200) (planned_headers q hs)) p.1
+        ∙ (λ i. response_text (minor i) 200 (reason_of 200) (hs ++ p.2 i)) ∙ printed now
 
 -- the same, of a plan
 pub head_written : (limits : Limits) (h : RequestHead) (framing : Framing) (plan : ResponsePlan) (now : Option ℕ)

@@ -1,4 +1,5 @@
 pub mod Answered
+pub mod Framed
 pub mod Literal
 pub mod Sendable
 pub mod Served

@@ -1,9 +1,10 @@
 //! Theorems about the definitions alone. To cite one in a proof, call it.
-ghost use Rattle.std.specs.Prelude.{◌≡◌, ◌⊎◌, ℕ, ◌^◌, ◌<◌, ◌≤◌, Bool, true, false, List, [], Option, None};
+ghost use Rattle.std.specs.Prelude.{◌≡◌, ◌⊎◌, ℕ, ◌^◌, ◌<◌, ◌≤◌, ◌++◌, Bool, true, false, List, [], Option, None};
 ghost use Rattle.std.specs.Prelude.{codes, string_bytes};
 ghost use Rattle.http.specs.declared.request.Request.{Request};
 ghost use Rattle.http1.specs.declared.conn.Limits.{Limits};
 ghost use Rattle.http1.specs.declared.framing.Framing.{Framing};
+ghost use Rattle.http1.specs.declared.server.Server.{Server};
 ghost use Rattle.http1.specs.Conn.{is_connect, keeps_alive};
 ghost use Rattle.http1.specs.Framing.{method_kind};
 ghost use Rattle.http1.specs.Head.{is_field_value};
@@ -16,7 +17,7 @@ ghost use Rattle.http_server.specs.Encoding.{answering};
 ghost use Rattle.http_server.specs.Exchange.{ReadsCall};
 ghost use Rattle.httparse.specs.Grammar.{RequestHead};
 ghost use Rattle.headers_exchange.specs.Connection.{Exchanged};
-ghost use Rattle.headers_exchange.specs.Encoding.{content_len, head_text, plan_fields, plan_size};
+ghost use Rattle.headers_exchange.specs.Encoding.{Frames, content_len, head_text, plan_fields, plan_size};
 ghost use Rattle.headers_exchange.specs.declared.plan.Plan.{Plan};
 ghost use Rattle.headers_serve.specs.Answer.{IsAnswerAt};
 ghost use Rattle.headers_serve.specs.Memory.{HasOne};
@@ -29,6 +30,7 @@ ghost use Rattle.headers_serve.specs.declared.settings.Settings.{Settings};
 ghost use Rattle.headers_serve.specs.declared.settings.Site.{Site};
 ghost use Rattle.headers_serve.specs.declared.source.Source.{Source};
 ghost use Rattle.headers_serve_laws.specs.Answered.{HasNoOptions, IsWhole, SendsContent};
+ghost use Rattle.headers_serve_laws.specs.Framed.{IsOk, StaysOpen};
 ghost use Rattle.headers_serve_laws.specs.Literal.{AsksForRoot, ok_fields, ok_text, request_text, root_head};
 ghost use Rattle.headers_serve_laws.specs.Sendable.{IsFinal, StatesLength};
 ghost use Rattle.headers_serve_laws.specs.Served.{IsRefused, IsServedFile, gives, plans};
@@ -69,6 +71,16 @@ pub fn ok_is_written_out()
         → response_refusal (answering limits head framing) plan.status (reason_of plan.status) (plan_size plan)
         (plan_fields plan) ≡ None
         → head_text (answering limits head framing) plan ≡ ok_text now tag (content_len plan) media_type }
+{}
+
+/// Theorem: what the connection puts around the content of a 200 with these fields, literally: before it
+/// that head, to which it adds no field, and after it nothing. The fields state the content's length, and
+/// the request is one of HTTP/1.1 that lets the connection stay open.
+pub fn ok_is_framed_literally()
+    ensures { (limits : Limits) (head : RequestHead) (framing : Framing) (plan : Plan) (server : Server)
+        (now : Option ℕ) (tag media_type before tail after rest : List ℕ) → IsOk now tag media_type plan
+        → StaysOpen head → Frames false plan (answering limits head framing) before tail server after rest
+        → (after ≡ before ++ ok_text now tag (content_len plan) media_type) × (rest ≡ tail) }
 {}
 
 /// Theorem: `http1` sends each response with a final status whose field lines are valid, have no
