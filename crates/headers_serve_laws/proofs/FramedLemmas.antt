@@ -1,5 +1,5 @@
 -- What a connection puts around the content of a response that states its length.
-use Rattle.std.proofs.Common.{◌≡◌, ℕ, false, cond, List, [], ◌++◌, Option, None, Result, sym, ap, ◌∙◌}
+use Rattle.std.proofs.Common.{◌≡◌, ℕ, Bool, false, cond, List, [], ◌++◌, Option, None, Result, sym, ap, subst, ◌∙◌}
 use Rattle.std.proofs.Common.{append-nil}
 use Rattle.httparse.specs.Grammar.{RequestHead}
 use Rattle.http1.specs.declared.conn.Limits.{Limits}
@@ -14,12 +14,17 @@ use Rattle.http1.specs.declared.server.Server.{Server}
 use Rattle.http1.specs.Conn.{Plan, after_data, data_prefix, data_suffix, finish_text, is_connect}
 use Rattle.http1.specs.Encoder.{encoder_for}
 use Rattle.http1.specs.Framing.{has_no_body, method_kind}
-use Rattle.http1.specs.Server.{after_response, response_refusal, responding, writing}
+use Rattle.http1.specs.Server.{after_response, is_head, response_refusal, responding, writing}
 use Rattle.http1_typed.specs.Parts.{reason_of}
 use Rattle.http_server.specs.Encoding.{answering}
+use Rattle.http_server.specs.History.{History, output}
+use Rattle.http_server.specs.declared.state.Config.{Config}
 use Rattle.headers_exchange.specs.declared.plan.Plan.{Plan as ResponsePlan}
 use Rattle.headers_exchange.specs.Encoding.{Frames, after_content, after_head, content_len, head_text, prefix_of}
 use Rattle.headers_exchange.specs.Encoding.{size_for, suffix_of}
+use Rattle.headers_exchange.specs.Machine.{Sends}
+use Rattle.headers_exchange.specs.Pieces.{Gives}
+use Rattle.headers_exchange.specs.Plan.{Plans}
 use Rattle.headers_serve_laws.specs.Framed.{IsOk, StaysOpen}
 use Rattle.headers_serve_laws.specs.Literal.{ok_fields, ok_text}
 use Rattle.headers_serve_laws.proofs.TextLemmas.{head_written, ok_planned}
@@ -74,3 +79,20 @@ module _ (limits : Limits) (h : RequestHead) (framing : Framing) (plan : Respons
         ∙ ap (λ (l : List ℕ). (tail ++ []) ++ l) no_finish
         ∙ append-nil (tail ++ []) ∙ append-nil tail,
   )
+
+-- while such a response is sent, its head and a front of its content are out, and nothing is to follow the content
+pub put_out : {H : Type 0} (plans : Plans H) (gives : H → Gives) (first now : H) (config : Config) (h : History)
+    (x : Sends plans gives first now config h) (time : Option ℕ) (tag media_type : List ℕ)
+    → IsOk time tag media_type x.plan → StaysOpen x.message.head
+    → (output h ++ x.lost
+    ≡ (x.text ++ x.interim) ++ (ok_text time tag (content_len x.plan) media_type ++ x.front)) × (x.tail ≡ [])
+put_out plans gives first now config h x time tag media_type ok stays =
+    let server = answering config.limits x.message.head x.reads.reads.framing in
+    let bodied : x.bodiless ≡ false = x.kind ∙ ap is_head stays.method in
+    let framed =
+    framed_literally config.limits x.message.head x.reads.reads.framing x.plan time tag media_type ok stays x.server []
+    [] x.head x.tail
+    (subst (λ (b : Bool). Frames b x.plan server [] [] x.server x.head x.tail) bodied x.frames) in (
+      x.out ∙ ap (λ (l : List ℕ). (x.text ++ x.interim) ++ (l ++ x.front)) framed.0,
+      framed.1,
+    )

@@ -15,8 +15,10 @@ ghost use Rattle.http1_typed.specs.Parts.{reason_of};
 ghost use Rattle.http_server.specs.declared.state.Config.{Config};
 ghost use Rattle.http_server.specs.Encoding.{answering};
 ghost use Rattle.http_server.specs.Exchange.{ReadsCall};
+ghost use Rattle.http_server.specs.History.{History, output};
 ghost use Rattle.httparse.specs.Grammar.{RequestHead};
 ghost use Rattle.headers_exchange.specs.Connection.{Exchanged};
+ghost use Rattle.headers_exchange.specs.Machine.{Sends};
 ghost use Rattle.headers_exchange.specs.Encoding.{Frames, content_len, head_text, plan_fields, plan_size};
 ghost use Rattle.headers_exchange.specs.declared.plan.Plan.{Plan};
 ghost use Rattle.headers_serve.specs.Answer.{IsAnswerAt};
@@ -81,6 +83,18 @@ pub fn ok_is_framed_literally()
         (now : Option ℕ) (tag media_type before tail after rest : List ℕ) → IsOk now tag media_type plan
         → StaysOpen head → Frames false plan (answering limits head framing) before tail server after rest
         → (after ≡ before ++ ok_text now tag (content_len plan) media_type) × (rest ≡ tail) }
+{}
+
+/// Theorem: while the server of one file sends such a 200, or once it was cut off while it did, what the
+/// connection has put out after the responses before it is literally that head and a front of the
+/// content. Bytes that it hadn't written may be lost then. Nothing is to follow the content.
+pub fn ok_is_put_out_literally()
+    ensures { (config : Config) (first now : FileService Memory) (history : History)
+        (x : Sends plans gives first now config history) (time : Option ℕ) (tag media_type : List ℕ)
+        → IsOk time tag media_type x.plan → StaysOpen x.message.head
+        → (output history ++ x.lost
+        ≡ (x.text ++ x.interim) ++ (ok_text time tag (content_len x.plan) media_type ++ x.front))
+        × (x.tail ≡ []) }
 {}
 
 /// Theorem: `http1` sends each response with a final status whose field lines are valid, have no
