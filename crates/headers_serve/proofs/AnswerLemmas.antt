@@ -40,7 +40,7 @@ use Rattle.headers_exchange.specs.declared.plan.Plan.{Plan as Exchanged}
 use Rattle.headers_serve.specs.Answer.{Carries, FitsIn, FitsOf, cache_sent, explained_fields, pieces_for}
 use Rattle.headers_serve.specs.File.{len_of, representation_of}
 use Rattle.headers_serve.specs.Parts.{Fits, Occurs}
-use Rattle.headers_serve.specs.Response.{headers_sent}
+use Rattle.headers_serve.specs.Response.{headers_sent, trimmed_lines}
 use Rattle.headers_serve.specs.declared.settings.Site.{Site}
 use Rattle.headers_serve.specs.declared.file.File.{File}
 
@@ -148,16 +148,19 @@ Carries-at before site other files code sent given response cache divider pages 
       h.headers
       ∙ ap
       (λ (x : Option FieldValue).
-      ((before ++ cache_sent sent x) ++ headers_sent (is_some other.resource.cors) given)
-      ++ explained_fields code sent) cache
+      trimmed_lines (((before ++ cache_sent sent x) ++ headers_sent (is_some other.resource.cors) given)
+      ++ explained_fields code sent)) cache
       ∙ ap
       (λ (x : Option Policy).
-      ((before ++ cache_sent sent site.cache_control) ++ headers_sent (is_some x) given)
-      ++ explained_fields code sent) cors;
+      trimmed_lines (((before ++ cache_sent sent site.cache_control) ++ headers_sent (is_some x) given)
+      ++ explained_fields code sent)) cors;
   pieces =
       h.pieces
       ∙ ap (λ (x : _). pieces_for (string_bytes x) other.pages.items files code sent) divider
       ∙ ap (λ (x : _). pieces_for (string_bytes site.divider) x.items files code sent) pages;
+  valid = h.valid;
+  tagged = h.tagged;
+  short = h.short;
 }
 
 pub bytes_copied : (lent : Option (Bor FieldValue)) (value : Option FieldValue) → option_copied lent ≡ value

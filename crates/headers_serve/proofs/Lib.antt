@@ -5,4 +5,5 @@ pub mod OneResponseLemmas
 pub mod PartLemmas
 pub mod PlanLemmas
 pub mod RepresentationLemmas
+pub mod TrimLemmas
 pub mod WholeLemmas

@@ -34,7 +34,7 @@ use Rattle.headers_serve.specs.Asked.{Asks, HasAuthority, IsProtocolOf}
 use Rattle.headers_serve.specs.File.{representation_of}
 use Rattle.headers_serve.specs.Found.{FindsEntry, FindsFolder, FindsListing, IsAbsent, LeadsTo}
 use Rattle.headers_serve.specs.Multipart.{multipart}
-use Rattle.headers_serve.specs.Response.{IsSameResponse, headers_sent}
+use Rattle.headers_serve.specs.Response.{IsSameResponse, headers_sent, trimmed_lines}
 use Rattle.headers_serve.specs.declared.file.Entry.{Entry}
 use Rattle.headers_serve.specs.declared.file.Entry.TheVariants.{Missing, Forbidden, Unavailable}
 use Rattle.headers_serve.specs.declared.file.Entry.TheVariants.{Folder, Listed, Readable}
@@ -324,7 +324,7 @@ module _ (present : ℕ) (resource : Resource) (before : List Header) (site : Si
     response_same : IsSameResponse r s
     response_same = (
       x.status ∙ status_same ∙ sym y.status,
-      x.headers ∙ fields_same ∙ sym y.headers,
+      x.headers ∙ ap trimmed_lines fields_same ∙ sym y.headers,
       x.pieces
           ∙ ap (λ (n : ℕ). pieces_for (string_bytes site.divider) site.pages.items files n a.sends) status_same
           ∙ same_by

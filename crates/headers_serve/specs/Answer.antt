@@ -1,6 +1,7 @@
 -- What a request is answered with.
-use Rattle.std.specs.Prelude.{◌≡◌, ◌⊎◌, ℕ, Bool, true, false, nat_lt, List, [], ◌∷◌, ◌++◌, codes, map, slice_get}
-use Rattle.std.specs.Prelude.{Option, Some, None, ⊤, if◌then◌else◌, is_some, string_bytes}
+use Rattle.std.specs.Prelude.{◌≡◌, ◌⊎◌, ℕ, ◌^◌, ◌<◌, Bool, true, false, nat_lt, List, [], ◌∷◌, ◌++◌, codes, map}
+use Rattle.std.specs.Prelude.{slice_get, Option, Some, None, ⊤, if◌then◌else◌, is_some, string_bytes}
+use Rattle.std.specs.List.{list_all}
 use Rattle.std.specs.Global.{Vec}
 use Rattle.http.specs.declared.request.Request.{Request}
 use Rattle.http.specs.Request.{head_of}
@@ -8,6 +9,7 @@ use Rattle.http_header.specs.FieldValue.{FieldValue}
 use Rattle.http1.specs.Fields.{Header}
 use Rattle.headers.specs.Date.{fixdate}
 use Rattle.headers.specs.LineMap.{Field, LineMap, fields_of as encoded_fields}
+use Rattle.headers_exchange.specs.Encoding.{content_len}
 use Rattle.headers_exchange.specs.declared.plan.Plan.{Plan as Response}
 use Rattle.headers_exchange.specs.declared.piece.Piece.{Piece}
 use Rattle.headers_exchange.specs.declared.piece.Piece.TheVariants.{Range}
@@ -24,11 +26,12 @@ use Rattle.headers_resource.specs.declared.reason.Reason.TheVariants.{NotFound}
 use Rattle.headers_resource.specs.declared.representation.Representation.{Representation}
 use Rattle.headers_resource.specs.declared.resource.Resource.{Resource}
 use Rattle.headers_serve.specs.Asked.{Asks}
-use Rattle.headers_serve.specs.File.{len_of, representation_of}
+use Rattle.headers_serve.specs.File.{len_of, representation_of, tag_of}
 use Rattle.headers_serve.specs.Found.{LeadsTo}
 use Rattle.headers_serve.specs.Multipart.{multipart}
 use Rattle.headers_serve.specs.Parts.{Fits, IsKnownToHold, part_extent}
-use Rattle.headers_serve.specs.Response.{fields_of, headers_sent, page_fields, page_sent}
+use Rattle.headers_serve.specs.Response.{fields_of, headers_sent, is_bare_tag, is_line, page_fields, page_sent}
+use Rattle.headers_serve.specs.Response.{trimmed_lines}
 use Rattle.headers_serve.specs.declared.file.Entry.{Entry}
 use Rattle.headers_serve.specs.declared.file.File.{File}
 use Rattle.headers_serve.specs.declared.found.Found.{Found}
@@ -72,6 +75,14 @@ file_sent files Nothing = None
 file_sent files Alternatives = None
 file_sent files (Planned place plan) = file_at files place
 file_sent files Perform = None
+
+-- the tag of that file, if it has one
+abbrev pub tag_in : Option File → Option FieldValue
+tag_in None = None
+tag_in (Some file) = tag_of file.source
+
+abbrev pub tag_sent : List File → Sends → Option FieldValue
+tag_sent files sends = tag_in (file_sent files sends)
 
 -- the bytes are known to stand in the file, if there is one
 abbrev pub IsHeldBy : List ℕ → Option File → Type 0
@@ -160,14 +171,19 @@ FitsIn files Alternatives = ⊤
 FitsIn files (Planned place plan) = FitsOf (file_at files place) plan
 FitsIn files Perform = ⊤
 
--- the response has this status, these fields after those from before, and the pieces that are sent
+-- The response has this status, these fields after those from before, and the pieces that are sent. White space at the
+-- ends of a value isn't sent.
 pub record Carries (before : List Header) (site : Site) (files : List File) (code : ℕ) (sent : Sends)
     (given : List Field) (response : Response) : Type 0 where
   pub status : response.status ≡ code
   pub headers : fields_of response
-      ≡ ((before ++ cache_sent sent site.cache_control) ++ headers_sent (is_some site.resource.cors) given)
-      ++ explained_fields code sent
+      ≡ trimmed_lines (((before ++ cache_sent sent site.cache_control)
+      ++ headers_sent (is_some site.resource.cors) given)
+      ++ explained_fields code sent)
   pub pieces : response.pieces.items ≡ pieces_for (string_bytes site.divider) site.pages.items files code sent
+  pub valid : list_all is_line (fields_of response) ≡ true
+  pub tagged : is_bare_tag (tag_sent files sent) ≡ true
+  pub short : content_len response < 2 ^ 64
 
 -- the source from which the ranges of a response are read, if it has any
 abbrev pub source_of : Option File → Option Source

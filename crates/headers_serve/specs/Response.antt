@@ -1,10 +1,14 @@
 -- What stands in a response. It is the plan by which `headers_exchange` sends it.
-use Rattle.std.specs.Prelude.{◌≡◌, ℕ, ◌==◌, Bool, List, [], ◌∷◌, ◌++◌, bytes_eq, codes, find, flat_map}
-use Rattle.std.specs.Prelude.{if◌then◌else◌, map}
-use Rattle.std.specs.List.{list_any}
+use Rattle.std.specs.Prelude.{◌≡◌, ℕ, ◌==◌, Bool, true, ◌&&◌, ◌||◌, List, [], ◌∷◌, ◌++◌, bytes_eq, codes, find}
+use Rattle.std.specs.Prelude.{flat_map, if◌then◌else◌, map, reverse, Option, Some, None}
+use Rattle.std.specs.List.{list_any, starts_with}
 use Rattle.std.specs.Option.{option_map_or}
 use Rattle.headers.specs.LineMap.{Field}
+use Rattle.headers.specs.Text.{trim}
+use Rattle.http_header.specs.FieldValue.{FieldValue}
+use Rattle.httparse.specs.Grammar.{is_token}
 use Rattle.http1.specs.Fields.{Header}
+use Rattle.http1.specs.Head.{is_field_value, starts_visible}
 use Rattle.http_server.specs.Response.{fields}
 use Rattle.headers_exchange.specs.declared.piece.Piece.{Piece}
 use Rattle.headers_exchange.specs.declared.piece.Piece.TheVariants.{Literal}
@@ -62,3 +66,28 @@ headers_of fields = flat_map lines_under fields
 -- one before it.
 abbrev pub headers_sent : Bool → List Field → List Header
 headers_sent has_policy fields = if has_policy then headers_set fields else headers_of fields
+
+-- A tag has no white space at its ends, nor has what a policy for requests from other origins says. So ETag and the
+-- fields of the policy stay as they are.
+abbrev pub is_kept : List ℕ → Bool
+is_kept name = bytes_eq name (codes "etag") || starts_with (◌==◌) name (codes "access-control-")
+
+-- the field line without the white space at the ends of its value, which is no part of it (section 5.5)
+abbrev pub trimmed_line : Header → Header
+trimmed_line line = if is_kept line.0 then line else (line.0, trim line.1)
+
+abbrev pub trimmed_lines : List Header → List Header
+trimmed_lines lines = map trimmed_line lines
+
+-- the name is a token, and the value has no control byte but the tab
+abbrev pub is_line : Header → Bool
+is_line line = is_token line.0 && is_field_value line.1
+
+-- there is no white space at the ends
+abbrev pub is_bare : List ℕ → Bool
+is_bare value = starts_visible value && starts_visible (reverse value)
+
+-- there is none at the ends of a tag, if there is one
+abbrev pub is_bare_tag : Option FieldValue → Bool
+is_bare_tag None = true
+is_bare_tag (Some tag) = is_bare tag.bytes

@@ -1,15 +1,19 @@
 //! The fields of a response.
-ghost use Rattle.std.specs.Prelude.{◌≡◌, [], ◌∷◌, ◌++◌, OnOk, bytes_eq};
-ghost use Rattle.std.specs.List.{list_any};
+ghost use Rattle.std.specs.Prelude.{◌≡◌, false, true, [], ◌∷◌, ◌++◌, IfOk, OnOk, bytes_eq};
+ghost use Rattle.std.specs.List.{list_all, list_any};
 ghost use Rattle.headers.specs.LineMap.{field_of, fields_of as encoded_fields};
+ghost use Rattle.headers.specs.Text.{trim};
 ghost use Rattle.headers_serve.specs.Answer.{closing_fields, date_fields, sniff_field};
 ghost use Rattle.headers_serve.specs.Response.{fields_of, headers_of, headers_sent, headers_set};
-ghost use Rattle.headers_serve.specs.Response.{is_named, lines_under, lines_unless};
+ghost use Rattle.headers_serve.specs.Response.{is_kept, is_line, is_named, lines_under, lines_unless};
+ghost use Rattle.headers_serve.specs.Response.{trimmed_line, trimmed_lines};
 
 use headers::{Date, Encoded, HeaderName, HeaderValue, encoding};
 use headers_exchange::Plan as Response;
+use headers_syntax::trim;
 use http_header::{CONNECTION, X_CONTENT_TYPE_OPTIONS};
 use std::alloc::{AllocError, Global};
+use std::mem::replace;
 
 /// The date of a moment, if there is a clock and its year has four digits.
 pub(crate) fn date_of(now: Option<u64>) -> Option<Date> {
@@ -152,4 +156,94 @@ pub(crate) fn add_fields(
     } else {
         append_fields(response, fields)
     }
+}
+
+// Whether a field has a tag, or what a policy says, which have no white space at their ends.
+fn is_kept(name: &HeaderName) -> bool
+    ensures { result ≡ is_kept name.now }
+{
+    let name = name.as_bytes();
+    name == b"etag".as_slice() || name.starts_with(b"access-control-")
+}
+
+// Whether a value has white space at an end.
+fn is_padded(value: &HeaderValue) -> bool
+    ensures { result ≡ false → trim value.now.bytes ≡ value.now.bytes }
+{
+    let bytes = value.as_bytes();
+    trim(bytes).len() < bytes.len()
+}
+
+// A value without the white space at its ends. What is left of a value is one, so only memory can fail.
+fn unpadded(alloc: Global, value: &HeaderValue) -> Result<HeaderValue, AllocError>
+    ensures { IfOk result (λ made. made.bytes ≡ trim value.now.bytes) }
+{
+    match HeaderValue::from_bytes(alloc, trim(value.as_bytes())) {
+        Ok(made) => Ok(made),
+        Err(_) => Err(AllocError),
+    }
+}
+
+// The same, without a copy where there is none.
+fn trimmed(alloc: Global, value: HeaderValue) -> Result<HeaderValue, AllocError>
+    ensures { IfOk result (λ made. made.bytes ≡ trim value.bytes) }
+{
+    if is_padded(&value) {
+        return unpadded(alloc, &value);
+    }
+    Ok(value)
+}
+
+// The value of a field line as it is sent.
+fn value_sent(
+    alloc: Global,
+    name: &HeaderName,
+    value: HeaderValue,
+) -> Result<HeaderValue, AllocError>
+    ensures { IfOk result (λ made. trimmed_line (name.now, value.bytes) ≡ (name.now, made.bytes)) }
+{
+    if is_kept(name) {
+        return Ok(value);
+    }
+    let made = trimmed(alloc, value)?;
+    Ok(made)
+}
+
+// What the types of a name and a value say of their bytes.
+fn show_line(name: &HeaderName, value: &HeaderValue)
+    ensures { is_line (name.now, value.now.bytes) ≡ true }
+{
+    let _name = name.as_bytes();
+    let _value = value.as_bytes();
+}
+
+// Adds a field line as it is sent.
+fn add_line(
+    alloc: Global,
+    response: &mut Response,
+    name: HeaderName,
+    value: HeaderValue,
+) -> Result<(), AllocError>
+    ensures headers { OnOk result
+        (fields_of response.new ≡ fields_of response.old ++ trimmed_line (name, value.bytes) ∷ []) }
+    ensures valid { OnOk result (is_line (trimmed_line (name, value.bytes)) ≡ true) }
+    ensures pieces { response.new.pieces.items ≡ response.old.pieces.items }
+{
+    let made = value_sent(alloc, &name, value)?;
+    show_line(&name, &made);
+    response.add_header(name, made)
+}
+
+/// Removes the white space at the ends of values, which is no part of them (RFC 9110, section 5.5).
+pub(crate) fn trim_values(alloc: Global, response: &mut Response) -> Result<(), AllocError>
+    ensures headers { OnOk result (fields_of response.new ≡ trimmed_lines (fields_of response.old)) }
+    ensures valid { OnOk result (list_all is_line (fields_of response.new) ≡ true) }
+    ensures pieces { response.new.pieces.items ≡ response.old.pieces.items }
+{
+    let room = Vec::with_capacity(alloc, response.headers.len())?;
+    let headers = replace(&mut response.headers, room);
+    for (name, value) in headers {
+        add_line(alloc, response, name, value)?;
+    }
+    Ok(())
 }

@@ -1,17 +1,17 @@
 //! The service: a request is answered from a store.
-ghost use Rattle.std.specs.Prelude.{◌≡◌, [], OnOk, IfOk};
+ghost use Rattle.std.specs.Prelude.{◌≡◌, true, [], OnOk, IfOk};
 ghost use Rattle.std.specs.Prelude.{◌++◌};
 ghost use Rattle.headers.specs.LineMap.{fields_of as encoded_fields};
 ghost use Rattle.headers_serve.specs.Answer.{Carries, FitsIn, IsDescribed, clock, explained_fields, pieces_for};
-ghost use Rattle.headers_serve.specs.Answer.{pieces_sent, source_sent, status_for};
+ghost use Rattle.headers_serve.specs.Answer.{pieces_sent, source_sent, status_for, tag_sent};
 ghost use Rattle.headers_serve.specs.File.{len_of};
 ghost use Rattle.headers_serve.specs.Parts.{Fits};
-ghost use Rattle.headers_serve.specs.Response.{fields_of};
+ghost use Rattle.headers_serve.specs.Response.{fields_of, is_bare_tag};
 
 use crate::answer::decide;
 use crate::asked::{asked, authority_of};
 use crate::cache::put_cache_control;
-use crate::fields::{add_fields, date_of, put_closing, put_date, put_sniff};
+use crate::fields::{add_fields, date_of, put_closing, put_date, put_sniff, trim_values};
 use crate::file::File;
 use crate::found::{Found, look_up};
 use crate::multipart::{extent_of, push_parts};
@@ -96,6 +96,19 @@ fn put_content(
     }
 }
 
+// What the type of its tag says of the file of which an answer sends something.
+fn show_tag(files: &[File], sends: &Sends)
+    ensures { is_bare_tag (tag_sent files.now sends.now) ≡ true }
+{
+    match sends {
+        Sends::Planned(Some(place), _) => match files.get(*place) {
+            Some(file) => file.source.show_tag(),
+            None => {}
+        },
+        Sends::Planned(None, _) | Sends::Nothing | Sends::Alternatives | Sends::Perform => {}
+    }
+}
+
 // The status of an answer, where this is that of what can't be read.
 fn status_for(absent: StatusCode, reason: Reason, status: Option<StatusCode>) -> StatusCode
     ensures { result ≡ status_for absent reason status }
@@ -126,6 +139,10 @@ fn carry(
     add_fields(response, site.resource.cors.is_some(), fields)?;
     let divider = site.divider.as_str();
     put_content(alloc, divider, &site.pages, files, status, sends, response)?;
+    trim_values(alloc, response)?;
+    // A proof needs what it says, and that the length is a number of 64 bits.
+    show_tag(files, sends);
+    let _len = response.len;
     response.status = status;
     Ok(())
 }

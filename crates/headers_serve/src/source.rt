@@ -1,7 +1,8 @@
 //! Where the bytes of a file come from.
-ghost use Rattle.std.specs.Prelude.{◌≡◌, IfOk, take};
+ghost use Rattle.std.specs.Prelude.{◌≡◌, true, IfOk, take};
 ghost use Rattle.std.specs.Io.{ReadsAtMost};
-ghost use Rattle.headers_serve.specs.File.{gives_at, len_of};
+ghost use Rattle.headers_serve.specs.File.{gives_at, len_of, tag_of};
+ghost use Rattle.headers_serve.specs.Response.{is_bare_tag};
 
 use headers::ETag;
 use headers_files::Kept;
@@ -39,6 +40,16 @@ impl Source {
         }
     }
 
+    // What the type of a tag says of its ends. The tag of bytes in memory is known.
+    pub(crate) fn show_tag(&self)
+        ensures { is_bare_tag (tag_of self.now) ≡ true }
+    {
+        match self {
+            Source::Kept(_) => {}
+            Source::Opened(opened) => show_tag(&opened.tag),
+        }
+    }
+
     /// Reads bytes from a place on.
     pub(crate) fn read(&self, start: u64, buffer: &mut [u8]) -> io::Result<usize>
         ensures bound { ReadsAtMost result buffer.new }
@@ -48,5 +59,17 @@ impl Source {
             Source::Kept(kept) => Ok(kept.read(start, buffer)),
             Source::Opened(opened) => opened.file.read_at(buffer, start),
         }
+    }
+}
+
+// What the type of a tag says of its ends.
+fn show_tag(tag: &Option<ETag>)
+    ensures { is_bare_tag tag.now ≡ true }
+{
+    match tag {
+        Some(tag) => {
+            let _weak = tag.is_weak();
+        }
+        None => {}
     }
 }

@@ -1,7 +1,7 @@
 -- What a connection sends in answer to a literal request.
-use Rattle.std.proofs.Common.{◌≡◌, ◌≢◌, ℕ, ◌+◌, ◌<◌, ◌≤◌, ◌⊎◌, Bool, true, false, not, ◌&&◌, List, []}
+use Rattle.std.proofs.Common.{◌≡◌, ◌≢◌, ℕ, ◌+◌, ◌<◌, ◌≤◌, ◌⊎◌, Bool, true, false, not, List, []}
 use Rattle.std.proofs.Common.{◌∷◌, ◌++◌, length}
-use Rattle.std.proofs.Common.{map, take, codes, Option, Some, None, refl, sym, ap, subst, ◌∙◌, arith, append-nil}
+use Rattle.std.proofs.Common.{take, codes, Some, None, refl, sym, ap, subst, ◌∙◌, arith, append-nil}
 use Rattle.std.proofs.Common.{inl, inr}
 use Rattle.std.proofs.Common.{zero, suc}
 use Rattle.std.specs.Prelude.{Any, slice_index_or}
@@ -12,29 +12,22 @@ use Rattle.std.proofs.lemmas.List.Sums.{AllPass-from_list_all}
 use Rattle.http.specs.declared.error.Error.{Error}
 use Rattle.http.specs.declared.error.Error.TheVariants as Invalid
 use Rattle.http.specs.declared.request.Request.{Request}
-use Rattle.httparse.specs.Grammar.{RequestHead, ReadsRequest, trim_ows}
-use Rattle.httparse.specs.Grammar as Grammar
-use Rattle.httparse.specs.Spans.{name_and_value}
+use Rattle.httparse.specs.Grammar.{RequestHead, trim_ows}
 use Rattle.httparse.proofs.GrammarLemmas.{ReadsRequest-append, request_unique}
 use Rattle.http_header.specs.FieldName.{IsFieldName}
 use Rattle.http_header.specs.FieldValue.{FieldValue, IsFieldValue}
 use Rattle.http_header.specs.HeaderMap.{Entries, RefusesAppend, value_count}
 use Rattle.http_header.specs.Token.{is_token_byte, is_value_byte}
-use Rattle.http_uri.specs.Uri.{SpellsNone}
 use Rattle.http1.specs.declared.conn.Limits.{Limits}
-use Rattle.http1.specs.declared.error.WriteError.{WriteError}
 use Rattle.http1.specs.declared.framing.Framing.{Framing}
-use Rattle.http1.specs.Conn.{keeps_alive}
-use Rattle.http1.specs.Fields.{Header, elements, known_fields}
+use Rattle.http1.specs.Fields.{Header, known_fields}
 use Rattle.http1.specs.Framing.{method_kind}
 use Rattle.http1.specs.Message as Wire
 use Rattle.http1.specs.Message.{AcceptsRequest, ReadsRequestMessage, known_of}
 use Rattle.http1.specs.Server.{is_head, request_of, response_refusal}
 use Rattle.http1.specs.Text.{eq_ignore_case}
 use Rattle.http1_typed.specs.Parts.{reason_of}
-use Rattle.http_server.specs.declared.response.Response.{Response}
 use Rattle.http_server.specs.declared.state.Config.{Config}
-use Rattle.http_server.specs.declared.state.Reason.{Reason}
 use Rattle.http_server.specs.declared.state.Reason.TheVariants.{Asked, EndOfInput, Refused}
 use Rattle.http_server.specs.declared.state.Refusal.{Refusal}
 use Rattle.http_server.specs.declared.state.Refusal.TheVariants.{Truncated, Unreadable, BodyTooLarge, InvalidPart}
@@ -42,10 +35,10 @@ use Rattle.http_server.specs.declared.state.Refusal.TheVariants.{InvalidHost, Un
 use Rattle.http_server.specs.declared.state.State.{State}
 use Rattle.http_server.specs.declared.state.State.TheVariants.{Open, Closing, Upgraded, Aborted}
 use Rattle.http_server.specs.Encoding.{answering, refusal_of, size_of}
-use Rattle.http_server.specs.Exchange.{Call, Chain, Exchanges, ExpectsContinue, IsAnswer, IsInterim, ReadsCall, Serves}
+use Rattle.http_server.specs.Exchange.{Call, Chain, Exchanges, ExpectsContinue, IsAnswer, ReadsCall, Serves}
 use Rattle.http_server.specs.Exchange.{keeps_open, map_of}
 use Rattle.http_server.specs.History.{HasInvalidHost, HasInvalidPart, HasTooManyFields, HasUnknownCoding, History}
-use Rattle.http_server.specs.History.{IsPartError, IsServed, Justifies, NextIs, Stands, output}
+use Rattle.http_server.specs.History.{IsPartError, Justifies, NextIs, Stands, output}
 use Rattle.http_server.specs.Host.{IsHostValid}
 use Rattle.http_server.specs.Response.{fields_of}
 use Rattle.headers_exchange.specs.Connection.{Exchanged, IsClosing}
@@ -55,7 +48,7 @@ use Rattle.headers_exchange.specs.Plan.{Answers, HasHeadOf, IsContentOf, Plans}
 use Rattle.headers_exchange.specs.declared.plan.Plan.{Plan}
 use Rattle.headers_exchange.proofs.PieceLemmas.{Advances-length}
 use Rattle.headers_serve_laws.specs.Literal.{AsksForRoot, request_text, root_head}
-use Rattle.headers_serve_laws.specs.Served.{GoesOn, IsOneAnswer, IsRefused}
+use Rattle.headers_serve_laws.specs.Served.{GoesOn, IsOneAnswer}
 use Rattle.headers_serve_laws.proofs.RequestLemmas.{get_asked, get_reads, get_valid, message_with, one_get}
 use Rattle.headers_serve_laws.proofs.RequestLemmas.{root_text}
 
@@ -169,7 +162,7 @@ module _ {H : Type 0} (plans : Plans H) (gives : H → Gives) (config : Config) 
   abbrev pub GoOn : Type 0
   GoOn =
       (request : Request (List ℕ)) (plan : Plan) (after : H) → AsksForRoot (codes "GET") request
-      → plans first request plan after → GoesOn plan
+      → plans first request plan after → GoesOn config.limits (root_head (codes "GET")) plan
 
   -- ---- what was read
 
@@ -211,7 +204,7 @@ module _ {H : Type 0} (plans : Plans H) (gives : H → Gives) (config : Config) 
       planned : plans first c.0 plan last
       has_head : HasHeadOf plan c.1
       content : AreSent (gives last) plan.pieces.items c.1.body.items
-      goes : GoesOn plan
+      goes : GoesOn config.limits (root_head (codes "GET")) plan
 
     called : (c : Call) → AsksForRoot (codes "GET") c.0 → Chain (Answers plans gives) first (c ∷ []) last
         → IsPlannedCall c
@@ -268,33 +261,30 @@ module _ {H : Type 0} (plans : Plans H) (gives : H → Gives) (config : Config) 
       place : (answered : List Call) (rest : List ℕ) → At answered rest → (rest ≡ stream) ⊎ (rest ≡ [])
       place answered rest at = elim at [ inl is ↦ inl is.1 | inr is ↦ inr is ]
 
-      abbrev Refuses : Type 0
-      Refuses = IsRefused plans config.limits (root_head (codes "GET")) first last
-
+      -- the connection refused nothing
       refuses : (why : Refusal) (answered : List Call) (rest : List ℕ) → At answered rest
-          → Justifies why config h answered rest → Refuses
+          → Justifies why config h answered rest → ⊥
       refuses Truncated answered rest at x =
-          absurd
-          (elim at [
+          elim at [
             | inl is ↦
                 x.3 message []
                 (subst (λ (s : List ℕ). ReadsRequestMessage config.limits s message []) (sym is.1)
                 (get_reads config.limits room))
             | inr is ↦ x.2 is
-          ])
+          ]
       refuses (Unreadable e) answered rest at x =
-          absurd (few_fields (next_is config.limits rest HasTooManyFields room (place answered rest at) x.1))
+          few_fields (next_is config.limits rest HasTooManyFields room (place answered rest at) x.1)
       refuses BodyTooLarge answered rest at x =
           let large =
           next_is config.limits rest (λ m. config.max_body_len < length m.body.bytes) room (place answered rest at)
           x.1 in
-          absurd (omega (arith, large))
+          omega (arith, large)
       refuses (InvalidPart e) answered rest at x =
-          absurd (parts_are_valid e (next_is config.limits rest (HasInvalidPart e) room (place answered rest at) x.1))
+          parts_are_valid e (next_is config.limits rest (HasInvalidPart e) room (place answered rest at) x.1)
       refuses InvalidHost answered rest at x =
-          absurd (host_is_valid (next_is config.limits rest HasInvalidHost room (place answered rest at) x.1))
+          host_is_valid (next_is config.limits rest HasInvalidHost room (place answered rest at) x.1)
       refuses UnknownCoding answered rest at x =
-          absurd (coding_is_known (next_is config.limits rest HasUnknownCoding room (place answered rest at) x.1))
+          coding_is_known (next_is config.limits rest HasUnknownCoding room (place answered rest at) x.1)
       refuses (InvalidResponse e) answered rest at x =
           elim at [
             | inl is ↦
@@ -306,24 +296,18 @@ module _ {H : Type 0} (plans : Plans H) (gives : H → Gives) (config : Config) 
                 let calls : h.calls ≡ c ∷ [] = x.1.calls ∙ ap (λ (l : List Call). l ++ c ∷ []) is.0 in
                 let p = called c asks (chained (c ∷ []) calls) in
                 let head = (one_get config.limits m x.0 read.reads).head in
-                record {
-                  request = c.0;
-                  asks = asks;
-                  plan = p.plan;
-                  planned = p.planned;
-                  framing = x.1.request.reads.framing;
-                  error = e;
-                  refusal =
-                      sym (refusal_same c p x.1.request.reads.framing)
-                      ∙ ap
-                      (λ (r : RequestHead). refusal_of (answering config.limits r x.1.request.reads.framing) c.1)
-                      (sym head)
-                      ∙ x.2;
-                }
+                let framing = x.1.request.reads.framing in
+                let server = answering config.limits (root_head (codes "GET")) framing in
+                let none = p.goes.accepted framing in
+                let refusal : response_refusal server p.plan.status (reason_of p.plan.status) (plan_size p.plan)
+                (plan_fields p.plan) ≡ Some e =
+                sym (refusal_same c p framing)
+                ∙ ap (λ (r : RequestHead). refusal_of (answering config.limits r framing) c.1) (sym head)
+                ∙ x.2 in
+                cc (none, refusal)
             | inr is ↦
-                absurd
-                (empty_reads config.limits x.1.message x.0
-                (subst (λ (s : List ℕ). ReadsRequestMessage config.limits s x.1.message x.0) is x.1.request.reads))
+                empty_reads config.limits x.1.message x.0
+                (subst (λ (s : List ℕ). ReadsRequestMessage config.limits s x.1.message x.0) is x.1.request.reads)
           ]
 
       abbrev Result : List ℕ → Type 0
@@ -352,7 +336,7 @@ module _ {H : Type 0} (plans : Plans H) (gives : H → Gives) (config : Config) 
 
       by_state : (state : State) (answered : List Call) (text interim rest sent : List ℕ) → IsClosing state
           → Progress answered text rest → output h ≡ sent
-          → Stands state config h answered text interim rest → Result sent ⊎ Refuses
+          → Stands state config h answered text interim rest → Result sent
       by_state Open answered text interim rest sent closing at out x = absurd closing
       by_state Upgraded answered text interim rest sent closing at out x = absurd closing
       by_state Aborted answered text interim rest sent closing at out x = absurd closing
@@ -382,15 +366,14 @@ module _ {H : Type 0} (plans : Plans H) (gives : H → Gives) (config : Config) 
                 let len : length stream ≡ 0 = ap length none in
                 absurd (omega (arith, len))
             | inr one ↦
-                inl (subst Result (sym x.3 ∙ out) (answered_by one.0 text (x.0 ∙ one.1) one.3))
+                subst Result (sym x.3 ∙ out) (answered_by one.0 text (x.0 ∙ one.1) one.3)
           ]
       by_state (Closing (Refused why)) answered text interim rest sent closing at out x =
-          inr (refuses why answered rest (elim at [ inl is ↦ inl (is.0, is.1) | inr one ↦ inr one.2 ]) x.0)
+          absurd (refuses why answered rest (elim at [ inl is ↦ inl (is.0, is.1) | inr one ↦ inr one.2 ]) x.0)
 
-  -- a whole connection that got this request sent its response, unless that is none that is sent
+  -- a whole connection that got this request sent its response
   pub one_answer : GoOn → (now : H) (sent : List ℕ) → Exchanged plans gives config first now stream sent true
       → IsOneAnswer plans gives (root_head (codes "GET")) first now sent
-      ⊎ IsRefused plans config.limits (root_head (codes "GET")) first now
   one_answer good now sent e =
       let h = e.history in
       let s = e.ended.0 in
@@ -400,6 +383,5 @@ module _ {H : Type 0} (plans : Plans H) (gives : H → Gives) (config : Config) 
       let at = progress s.answered s.text s.rest
       (subst (λ (r : List ℕ). Serves config r s.answered s.text s.rest) e.is_received s.serves) in
       subst
-      (λ (l : H). IsOneAnswer plans gives (root_head (codes "GET")) first l sent
-      ⊎ IsRefused plans config.limits (root_head (codes "GET")) first l) e.ended.3
+      (λ (l : H). IsOneAnswer plans gives (root_head (codes "GET")) first l sent) e.ended.3
       (by_state good e.last h e.answered h.state s.answered s.text s.interim s.rest sent closing at out s.stands)

@@ -1,7 +1,9 @@
 mod ExchangeLemmas
 mod FramedLemmas
 mod FramingLemmas
+mod NameLemmas
 mod RequestLemmas
 mod RootLemmas
 mod ServedLemmas
 mod TextLemmas
+mod TrimmedLemmas

@@ -58,7 +58,7 @@ use Rattle.headers_serve.specs.Found.{FindsEntry, LeadsTo}
 use Rattle.headers_serve.specs.Memory.{HasOne}
 use Rattle.headers_files.specs.Path.{IsStorePath, Names}
 use Rattle.headers_serve.specs.Representations.{AreContents}
-use Rattle.headers_serve.specs.Response.{headers_of, headers_sent}
+use Rattle.headers_serve.specs.Response.{headers_of, headers_sent, trimmed_lines}
 use Rattle.headers_serve.specs.SiteSettings.{IsSiteOf, hosts_in}
 use Rattle.headers_serve.specs.Sites.{IsSite}
 use Rattle.headers_serve.specs.declared.file.Entry.{Entry}
@@ -423,11 +423,13 @@ module _ (now : Option ℕ) (left : ℕ) (settings : Settings) (site : Site) (st
           x.carries.headers
           ∙ ap
           (λ (s : Sends).
-          ((first_fields now left ++ cache_sent s site.cache_control)
+          trimmed_lines (((first_fields now left ++ cache_sent s site.cache_control)
           ++ headers_sent (is_some resource.cors) (encoded_fields x.answer.fields.items))
-          ++ explained_fields last_code s) full.sends
-          ∙ append-nil _
-          ∙ ap (λ (l : List Header). (first_fields now left ++ cache_fields site.cache_control) ++ l) shown;
+          ++ explained_fields last_code s)) full.sends
+          ∙ ap trimmed_lines (append-nil _)
+          ∙ ap
+          (λ (l : List Header).
+          trimmed_lines ((first_fields now left ++ cache_fields site.cache_control) ++ l)) shown;
       pieces =
           x.carries.pieces
           ∙ (λ i. pieces_for (string_bytes site.divider) site.pages.items (given.2.files i) last_code (full.sends i));

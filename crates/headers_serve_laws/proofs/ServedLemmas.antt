@@ -1,26 +1,33 @@
 -- What the file server sends in answer to a literal request.
-use Rattle.std.proofs.Common.{◌≡◌, ◌⊎◌, ℕ, ◌-◌, ◌^◌, ◌<◌, ◌≤◌, Bool, true, false, List, [], ◌∷◌, ◌++◌, length}
-use Rattle.std.proofs.Common.{codes, map}
-use Rattle.std.proofs.Common.{Option, Some, None, refl, sym, ap, subst, ◌∙◌, arith, append-nil, cond, inl, inr}
-use Rattle.std.specs.Prelude.{All, decimal, nat_lt, string_bytes}
-use Rattle.std.proofs.lemmas.Bool.{cond-true, lt-ltb}
+use Rattle.std.proofs.Common.{◌≡◌, ℕ, ◌+◌, ◌^◌, ◌<◌, ◌≤◌, true, false, List, [], ◌∷◌, ◌++◌, length}
+use Rattle.std.proofs.Common.{codes}
+use Rattle.std.proofs.Common.{Option, Some, None, refl, sym, ap, subst, ◌∙◌, arith, inl, inr}
+use Rattle.std.specs.List.{list_all}
+use Rattle.std.specs.Prelude.{All, decimal, string_bytes}
+use Rattle.std.proofs.lemmas.Bool.{and_from, cond-true, lt-ltb}
 use Rattle.http.specs.declared.request.Request.{Request}
-use Rattle.httparse.specs.Spans.{name_and_value}
 use Rattle.http_header.specs.FieldValue.{FieldValue, plain_value}
+use Rattle.http1.specs.declared.framing.Framing.{Framing}
 use Rattle.http1.specs.Fields.{Header, known_fields}
+use Rattle.http1.specs.Framing.{method_kind}
+use Rattle.http1.specs.Head.{is_header}
+use Rattle.http1.specs.Server.{response_refusal}
 use Rattle.http1.specs.Text.{eq_ignore_case}
+use Rattle.http1_typed.specs.Parts.{reason_of}
 use Rattle.http_server.specs.declared.state.Config.{Config}
-use Rattle.http_server.specs.Exchange.{IsAdded, IsAnswer}
+use Rattle.http_server.specs.Encoding.{answering}
+use Rattle.http_server.specs.Exchange.{IsAdded}
 use Rattle.headers_exchange.specs.Connection.{Exchanged}
-use Rattle.headers_exchange.specs.Encoding.{plan_fields}
-use Rattle.headers_exchange.specs.Pieces.{AreSent}
+use Rattle.headers_exchange.specs.Encoding.{content_len, plan_fields, plan_size, size_for}
+use Rattle.headers_exchange.specs.Pieces.{total_len}
 use Rattle.headers_exchange.specs.declared.plan.Plan.{Plan}
-use Rattle.headers_serve.specs.Answer.{IsAnswerAt, cache_fields, closing_fields, date_fields, first_fields, sniff_field}
+use Rattle.headers_serve.specs.Answer.{cache_fields, closing_fields, date_fields, first_fields, sniff_field}
 use Rattle.headers_serve.specs.File.{coding_value, len_of, tag_of}
-use Rattle.headers_serve.specs.Response.{lines_under}
+use Rattle.headers_serve.specs.Response.{is_bare, is_line, lines_under, trimmed_lines}
 use Rattle.headers_preconditions.specs.Fields.{lines_sent}
 use Rattle.headers_resource.specs.Fields.{lines_of_value}
 use Rattle.headers.specs.Date.{fixdate}
+use Rattle.headers.specs.Text.{trim}
 use Rattle.headers_serve.specs.Memory.{HasOne, IsKept}
 use Rattle.headers_serve.specs.SiteSettings.{IsSiteOf}
 use Rattle.headers_files.specs.Tags.{content_digest, strong_tag}
@@ -35,11 +42,17 @@ use Rattle.headers_serve.specs.declared.settings.Settings.{Settings}
 use Rattle.headers_serve.specs.declared.settings.Site.{Site}
 use Rattle.headers_serve.specs.declared.source.Source.{Source}
 use Rattle.headers_serve.specs.declared.source.Source.TheVariants.{Kept as InMemory, Opened}
+use Rattle.headers_serve.proofs.TrimLemmas.{tag_text_bare}
 use Rattle.headers_serve_laws.specs.Answered.{HasNoOptions, IsWhole, SendsContent, whole_fields}
 use Rattle.headers_serve_laws.specs.Literal.{AsksForRoot, ok_fields, request_text, root_head}
-use Rattle.headers_serve_laws.specs.Served.{GoesOn, IsOneAnswer, IsRefused, IsServedFile, gives, plans}
+use Rattle.headers_serve_laws.specs.Sendable.{IsFinal}
+use Rattle.headers_serve_laws.specs.Served.{GoesOn, IsOneAnswer, IsServedFile, gives, plans}
 use Rattle.headers_serve_laws.proofs.ExchangeLemmas.{one_answer}
+use Rattle.headers_serve_laws.proofs.FramingLemmas.{response_sent}
+use Rattle.headers_serve_laws.proofs.NameLemmas.{headers_valid, is_tidy}
 use Rattle.headers_serve_laws.proofs.RootLemmas.{get_root}
+use Rattle.headers_serve_laws.proofs.TextLemmas.{states}
+use Rattle.headers_serve_laws.proofs.TrimmedLemmas.{decimal_trimmed, fixdate_trimmed}
 
 -- ---- the fields
 
@@ -119,6 +132,26 @@ module _ (store : Memory) (undated : store.modified ≡ None) where
       (λ i. (((date_fields now ++ sniff_field ∷ []) ++ going i) ++ cache_fields (bare i)) ++ fields_of_file file p i)
       ∙ in_order now
 
+-- ---- what is left of their values
+
+-- the fields are those of a 200, whose media type has no white space at its ends
+trimmed_ok : (now : Option ℕ) (tag : List ℕ) (len : ℕ) (media_type : List ℕ) → len < 2 ^ 64
+    → trimmed_lines (ok_fields now tag len media_type) ≡ ok_fields now tag len (trim media_type)
+trimmed_ok None tag len media_type short = λ i.
+    (codes "x-content-type-options", codes "nosniff") ∷ (codes "etag", tag)
+    ∷ (codes "accept-ranges", codes "bytes") ∷ (codes "content-length", decimal_trimmed len short i)
+    ∷ (codes "content-type", trim media_type) ∷ []
+trimmed_ok (Some seconds) tag len media_type short = λ i.
+    (codes "date", fixdate_trimmed seconds i)
+    ∷ (codes "x-content-type-options", codes "nosniff") ∷ (codes "etag", tag)
+    ∷ (codes "accept-ranges", codes "bytes") ∷ (codes "content-length", decimal_trimmed len short i)
+    ∷ (codes "content-type", trim media_type) ∷ []
+
+tidy_ok : (now : Option ℕ) (tag : List ℕ) (len : ℕ) (type : List ℕ) → is_bare tag ≡ true
+    → list_all is_tidy (ok_fields now tag len type) ≡ true
+tidy_ok None tag len type bare = and_from (is_bare tag) true bare refl
+tidy_ok (Some seconds) tag len type bare = and_from (is_bare tag) true bare refl
+
 -- ---- the answer
 
 module _ (config : Config) (settings : Settings) (first : FileService Memory) (room : 35 ≤ config.limits.max_head_len)
@@ -134,6 +167,8 @@ module _ (config : Config) (settings : Settings) (first : FileService Memory) (r
     plain : IsPlainFile store.content.content store.media_type.bytes file
     whole : IsWhole time first.left first.site file plan after.source
     sends : SendsContent file plan after.source
+    lines : list_all is_line (plan_fields plan) ≡ true
+    short : content_len plan < 2 ^ 64
 
   planned_by : (request : Request (List ℕ)) (plan : Plan) (after : FileService Memory)
       → AsksForRoot (codes "GET") request → plans first request plan after → IsPlanned request plan after
@@ -146,27 +181,95 @@ module _ (config : Config) (settings : Settings) (first : FileService Memory) (r
         plain = plain_file store undated (codes "index.html") root.0 root.1;
         whole = root.2;
         sends = root.3;
+        lines = x.0.1.carries.valid;
+        short = x.0.1.carries.short;
       }
+
+  abbrev type : List ℕ
+  type = trim store.media_type.bytes
+
+  abbrev content_tag : List ℕ
+  content_tag = strong_tag (content_digest store.content.content)
+
+  len_is : (request : Request (List ℕ)) (plan : Plan) (after : FileService Memory) → IsPlanned request plan after
+      → content_len plan ≡ length store.content.content
+  len_is request plan after p =
+      let whole : total_len plan.pieces.items ≡ len_of p.file.source + 0 = ap total_len p.whole.pieces in
+      let bytes : len_of p.file.source ≡ length store.content.content =
+      ap len_of p.plain.source ∙ ap (λ (l : List ℕ). length l) p.plain.bytes in
+      omega (arith, whole, bytes)
+
+  short_content : (request : Request (List ℕ)) (plan : Plan) (after : FileService Memory)
+      → IsPlanned request plan after → length store.content.content < 2 ^ 64
+  short_content request plan after p = subst (λ (n : ℕ). n < 2 ^ 64) (len_is request plan after p) p.short
+
+  untrimmed : (request : Request (List ℕ)) (plan : Plan) (after : FileService Memory)
+      → (p : IsPlanned request plan after)
+      → plan_fields plan
+      ≡ trimmed_lines (ok_fields p.time content_tag (length store.content.content) store.media_type.bytes)
+  untrimmed request plan after p =
+      p.whole.fields
+      ∙ ap trimmed_lines
+      (all_fields store undated p.time first.left first.site p.file more (of.cache_control ∙ bare.cache_control)
+      p.plain)
 
   fields_are : (request : Request (List ℕ)) (plan : Plan) (after : FileService Memory)
       → (p : IsPlanned request plan after)
-      → plan_fields plan ≡ ok_fields p.time (strong_tag (content_digest store.content.content))
-      (length store.content.content) store.media_type.bytes
+      → plan_fields plan ≡ ok_fields p.time content_tag (length store.content.content) type
   fields_are request plan after p =
-      p.whole.fields
-      ∙ all_fields store undated p.time first.left first.site p.file more (of.cache_control ∙ bare.cache_control)
-      p.plain
+      untrimmed request plan after p
+      ∙ trimmed_ok p.time content_tag (length store.content.content) store.media_type.bytes
+      (short_content request plan after p)
+
+  valid_are : (request : Request (List ℕ)) (plan : Plan) (after : FileService Memory)
+      → (p : IsPlanned request plan after)
+      → list_all is_header (ok_fields p.time content_tag (length store.content.content) type) ≡ true
+  valid_are request plan after p =
+      let given = ok_fields p.time content_tag (length store.content.content) store.media_type.bytes in
+      let lines =
+      subst (λ (l : List Header). list_all is_line l ≡ true) (untrimmed request plan after p) p.lines in
+      let bare = tag_text_bare false (content_digest store.content.content) in
+      subst (λ (l : List Header). list_all is_header l ≡ true)
+      (trimmed_ok p.time content_tag (length store.content.content) store.media_type.bytes
+      (short_content request plan after p))
+      (headers_valid given lines
+      (tidy_ok p.time content_tag (length store.content.content) store.media_type.bytes bare))
+
+  accepted : (request : Request (List ℕ)) (plan : Plan) (after : FileService Memory) (p : IsPlanned request plan after)
+      (framing : Framing)
+      → response_refusal (answering config.limits (root_head (codes "GET")) framing) plan.status
+      (reason_of plan.status) (plan_size plan) (plan_fields plan) ≡ None
+  accepted request plan after p framing =
+      let head = root_head (codes "GET") in
+      let server = answering config.limits head framing in
+      let n : ℕ = length store.content.content in
+      let len = len_is request plan after p in
+      let fields = fields_are request plan after p in
+      let short = short_content request plan after p in
+      let valid = valid_are request plan after p in
+      let final : IsFinal (method_kind head.method) 200 n true =
+      record {
+        least = omega arith;
+        greatest = omega arith;
+        other = λ is. omega (arith, is);
+        bodiless = λ is. absurd (elim is [ inl a ↦ omega (arith, a) | inr b ↦ omega (arith, b) ]);
+        connect = refl;
+      } in
+      (λ i. response_refusal server (p.whole.status i) (reason_of (p.whole.status i)) (size_for (len i)) (fields i))
+      ∙ response_sent config.limits head framing 200 n (reason_of 200) (ok_fields p.time content_tag n type) true short
+      (omega arith) refl (states content_tag n type short p.time valid) final
 
   stays : (request : Request (List ℕ)) (plan : Plan) (after : FileService Memory)
-      → AsksForRoot (codes "GET") request → plans first request plan after → GoesOn plan
+      → AsksForRoot (codes "GET") request → plans first request plan after
+      → GoesOn config.limits (root_head (codes "GET")) plan
   stays request plan after asks x =
       let p = planned_by request plan after asks x in
       record {
         stays =
             ap (λ (hs : List Header). (known_fields hs).close) (fields_are request plan after p)
-            ∙ goes_on p.time (strong_tag (content_digest store.content.content)) (length store.content.content)
-            store.media_type.bytes;
+            ∙ goes_on p.time content_tag (length store.content.content) type;
         late = λ is. let wrong : 200 ≡ 101 = sym p.whole.status ∙ is in omega (arith, wrong);
+        accepted = accepted request plan after p;
       }
 
   module _ (now : FileService Memory) (sent : List ℕ) where
@@ -192,9 +295,5 @@ module _ (config : Config) (settings : Settings) (first : FileService Memory) (r
         }
 
     pub served : Exchanged plans gives config first now (request_text (codes "GET")) sent true
-        → IsServedFile store sent ⊎ IsRefused plans config.limits (root_head (codes "GET")) first now
-    served e =
-        elim (one_answer plans gives config room first stays now sent e) [
-          | inl a ↦ inl (served_by a)
-          | inr r ↦ inr r
-        ]
+        → IsServedFile store sent
+    served e = served_by (one_answer plans gives config room first stays now sent e)

@@ -74,7 +74,7 @@ module _ (tag : List ℕ) (len : ℕ) (media_type : List ℕ) (short : len < 2 ^
       ap (λ (t : List ℕ). is_plain_number t && true) (decimal_is_numeral len short)
       ∙ and_from _ _ (decimal_is_plain len short) refl
 
-  states : (now : Option ℕ) → list_all is_header (fields now) ≡ true → States len true (fields now)
+  pub states : (now : Option ℕ) → list_all is_header (fields now) ≡ true → States len true (fields now)
   unfolding eq_ignore_case
   states None valid = record {
     valid = valid;

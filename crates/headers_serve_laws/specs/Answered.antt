@@ -11,7 +11,7 @@ use Rattle.headers_preconditions.specs.Fields.{lines_sent}
 use Rattle.headers_resource.specs.Fields.{lines_of_value}
 use Rattle.headers_serve.specs.Answer.{cache_fields, first_fields}
 use Rattle.headers_serve.specs.File.{coding_value, gives_of, len_of, tag_of}
-use Rattle.headers_serve.specs.Response.{fields_of, lines_under}
+use Rattle.headers_serve.specs.Response.{fields_of, lines_under, trimmed_lines}
 use Rattle.headers_serve.specs.declared.file.File.{File}
 use Rattle.headers_files.specs.declared.kept.Kept.{Kept}
 use Rattle.headers_serve.specs.declared.settings.Settings.{Settings}
@@ -42,12 +42,12 @@ whole_fields file =
 
 -- The response is a 200 with all of the file, which its ranges are read from. Its fields are, in this order, Date if
 -- there is a clock, X-Content-Type-Options, `Connection: close` if it is the last, Cache-Control if it is asked for,
--- and those of the file.
+-- and those of the file. White space at the ends of a value isn't sent.
 pub record IsWhole (now : Option ℕ) (left : ℕ) (site : Site) (file : File) (response : Response)
     (source : Option Source) : Type 0 where
   pub status : response.status ≡ 200
   pub fields : fields_of response
-      ≡ (first_fields now left ++ cache_fields site.cache_control) ++ whole_fields file
+      ≡ trimmed_lines ((first_fields now left ++ cache_fields site.cache_control) ++ whole_fields file)
   pub pieces : response.pieces.items ≡ all_of file.source
   pub opens : source ≡ Some file.source
 

@@ -1,10 +1,9 @@
 -- What a connection that got one request has sent.
-use Rattle.std.specs.Prelude.{◌≡◌, ◌≢◌, ℕ, ◌-◌, ◌≤◌, false, List, [], ◌++◌, length, map, All, Option, Some, codes}
+use Rattle.std.specs.Prelude.{◌≡◌, ◌≢◌, ℕ, ◌-◌, ◌≤◌, false, List, [], ◌++◌, length, map, All, Option, None, codes}
 use Rattle.http.specs.declared.request.Request.{Request}
 use Rattle.httparse.specs.Grammar.{RequestHead, print_response, status_code}
 use Rattle.httparse.specs.Spans.{name_and_value}
 use Rattle.http1.specs.declared.conn.Limits.{Limits}
-use Rattle.http1.specs.declared.error.WriteError.{WriteError}
 use Rattle.http1.specs.declared.framing.Framing.{Framing}
 use Rattle.http1.specs.Fields.{Header, known_fields}
 use Rattle.http1.specs.Framing.{method_kind}
@@ -15,6 +14,7 @@ use Rattle.http1_typed.specs.Parts.{reason_of}
 use Rattle.http_server.specs.declared.response.Response.{Response}
 use Rattle.http_server.specs.Encoding.{answering}
 use Rattle.http_server.specs.Exchange.{IsAdded, IsAnswer as IsAnswerOf}
+use Rattle.headers.specs.Text.{trim}
 use Rattle.headers_exchange.specs.Encoding.{plan_fields, plan_size}
 use Rattle.headers_exchange.specs.Pieces.{AreSent, Gives}
 use Rattle.headers_exchange.specs.Plan.{HasHeadOf, Plans}
@@ -27,10 +27,13 @@ use Rattle.headers_serve.specs.declared.memory.Memory.{Memory}
 use Rattle.headers_serve.specs.declared.service.FileService.{FileService}
 use Rattle.headers_serve_laws.specs.Literal.{AsksForRoot, ok_fields}
 
--- the plan is that of a final response, after which the connection goes on
-pub record GoesOn (plan : Plan) : Type 0 where
+-- The plan is that of a final response to the request, which `http1` sends however the request was framed, and after
+-- which the connection goes on.
+pub record GoesOn (limits : Limits) (head : RequestHead) (plan : Plan) : Type 0 where
   pub stays : (known_fields (plan_fields plan)).close ≡ false
   pub late : plan.status ≢ 101
+  pub accepted : (framing : Framing) → response_refusal (answering limits head framing) plan.status
+      (reason_of plan.status) (plan_size plan) (plan_fields plan) ≡ None
 
 -- What was sent is one response, whole. The handler made a plan for the request, and the response has its status, its
 -- field lines and the bytes of its pieces: a client that sent the request reads it so by the grammar of HTTP/1.1.
@@ -45,18 +48,6 @@ pub record IsOneAnswer {H : Type 0} (plans : Plans H) (gives : H → Gives) (hea
   pub content : AreSent (gives now) plan.pieces.items response.body.items
   pub answer : IsAnswerOf head response sent
 
--- the handler made a plan for the request that is no response of `http1`
-pub record IsRefused {H : Type 0} (plans : Plans H) (limits : Limits) (head : RequestHead) (first now : H)
-    : Type 0 where
-  pub request : Request (List ℕ)
-  pub asks : AsksForRoot (codes "GET") request
-  pub plan : Plan
-  pub planned : plans first request plan now
-  pub framing : Framing
-  pub error : WriteError
-  pub refusal : response_refusal (answering limits head framing) plan.status (reason_of plan.status) (plan_size plan)
-      (plan_fields plan) ≡ Some error
-
 -- ---- a store of one file
 
 abbrev pub plans : Plans (FileService Memory)
@@ -68,7 +59,8 @@ abbrev pub gives : FileService Memory → Gives
 gives now = gives_of now.source
 
 -- What was sent is one response: a client that sent a GET reads it, whole, as a 200 of HTTP/1.1 with exactly these
--- fields in this order, and with the content of the store's file. After them stand those that the connection adds.
+-- fields in this order, and with the content of the store's file. After them stand those that the connection adds. Of
+-- the media type the white space at its ends isn't sent.
 pub record IsServedFile (store : Memory) (sent : List ℕ) : Type 0 where
   pub now : Option ℕ
   pub message : Wire.Response
@@ -80,6 +72,6 @@ pub record IsServedFile (store : Memory) (sent : List ℕ) : Type 0 where
   pub added : List Header
   pub fields : map name_and_value message.head.fields
       ≡ ok_fields now (strong_tag (content_digest store.content.content)) (length store.content.content)
-      store.media_type.bytes ++ added
+      (trim store.media_type.bytes) ++ added
   pub own : All (IsAdded (length store.content.content)) added
   pub body : message.body.bytes ≡ store.content.content

@@ -1,5 +1,5 @@
 //! Theorems about the definitions alone. To cite one in a proof, call it.
-ghost use Rattle.std.specs.Prelude.{◌≡◌, ◌⊎◌, ℕ, ◌^◌, ◌<◌, ◌≤◌, ◌++◌, Bool, true, false, List, [], Option, None};
+ghost use Rattle.std.specs.Prelude.{◌≡◌, ℕ, ◌^◌, ◌<◌, ◌≤◌, ◌++◌, Bool, true, false, List, [], Option, None};
 ghost use Rattle.std.specs.Prelude.{codes, string_bytes};
 ghost use Rattle.http.specs.declared.request.Request.{Request};
 ghost use Rattle.http1.specs.declared.conn.Limits.{Limits};
@@ -33,9 +33,9 @@ ghost use Rattle.headers_serve.specs.declared.settings.Site.{Site};
 ghost use Rattle.headers_serve.specs.declared.source.Source.{Source};
 ghost use Rattle.headers_serve_laws.specs.Answered.{HasNoOptions, IsWhole, SendsContent};
 ghost use Rattle.headers_serve_laws.specs.Framed.{IsOk, StaysOpen};
-ghost use Rattle.headers_serve_laws.specs.Literal.{AsksForRoot, ok_fields, ok_text, request_text, root_head};
+ghost use Rattle.headers_serve_laws.specs.Literal.{AsksForRoot, ok_fields, ok_text, request_text};
 ghost use Rattle.headers_serve_laws.specs.Sendable.{IsFinal, StatesLength};
-ghost use Rattle.headers_serve_laws.specs.Served.{IsRefused, IsServedFile, gives, plans};
+ghost use Rattle.headers_serve_laws.specs.Served.{IsServedFile, gives, plans};
 
 /// Theorem: the bytes of `GET / HTTP/1.1`, `Host: a.example` and an empty line are one request, and
 /// a connection that reads a request from them gets a GET of the root, without content. HEAD is read
@@ -117,5 +117,5 @@ pub fn get_is_answered_by_the_file()
         → 35 ≤ config.limits.max_head_len → IsSiteOf settings first.site → HasNoOptions settings
         → string_bytes first.store.path ≡ codes "index.html" → first.store.modified ≡ None → 1 < first.left
         → Exchanged plans gives config first now (request_text (codes "GET")) sent true
-        → IsServedFile first.store sent ⊎ IsRefused plans config.limits (root_head (codes "GET")) first now }
+        → IsServedFile first.store sent }
 {}
