@@ -2,8 +2,10 @@ mod ExchangeLemmas
 mod FramedLemmas
 mod FramingLemmas
 mod NameLemmas
+mod PlainLemmas
 mod RequestLemmas
 mod RootLemmas
+mod SentLemmas
 mod ServedLemmas
 mod TextLemmas
 mod TrimmedLemmas

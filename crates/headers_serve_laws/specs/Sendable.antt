@@ -1,10 +1,14 @@
 -- Responses that a connection sends.
 use Rattle.std.specs.Prelude.{◌≡◌, ◌≢◌, ◌⊎◌, ℕ, ◌≤◌, Bool, true, false, ◌&&◌, List, [], ◌∷◌, ◌++◌, All, codes}
-use Rattle.std.specs.Prelude.{if◌then◌else◌, nat_lt}
+use Rattle.std.specs.Prelude.{if◌then◌else◌, nat_lt, Option, Some, None, ⊤}
+use Rattle.std.specs.List.{list_all}
+use Rattle.std.specs.Option.{option_map_or}
 use Rattle.http1.specs.declared.framing.MethodKind.{MethodKind}
 use Rattle.http1.specs.Conn.{is_connect, length_header}
 use Rattle.http1.specs.Fields.{Header, is_named}
 use Rattle.http1.specs.Head.{is_header}
+use Rattle.headers_cors_policy.specs.Policy.{Policy}
+use Rattle.headers_serve.specs.Response.{is_bare}
 
 -- The field line is sent as it is. Its name is a token, and its value has no control byte but the tab, and no white
 -- space at its ends (RFC 9110, section 5.5). It says nothing of where the message ends.
@@ -34,3 +38,16 @@ pub record StatesLength (len : ℕ) (stated : Bool) (fields : List Header) : Typ
   pub are : fields ≡ before ++ (length_fields stated len ++ after)
   pub first : All IsOrdinary before
   pub last : All IsOrdinary after
+
+-- No value of a policy for requests from other origins has white space at its ends. What is allowed is lists of tokens,
+-- numbers, and origins as browsers send them.
+pub record IsBarePolicy (policy : Policy) : Type 0 where
+  pub origins : option_map_or (list_all is_bare) policy.origins true ≡ true
+  pub methods : is_bare policy.methods ≡ true
+  pub names : is_bare policy.names ≡ true
+  pub exposed : is_bare policy.exposed ≡ true
+  pub max_age : option_map_or is_bare policy.max_age true ≡ true
+
+abbrev pub IsBareIfAny : Option Policy → Type 0
+IsBareIfAny None = ⊤
+IsBareIfAny (Some policy) = IsBarePolicy policy

@@ -1,6 +1,7 @@
 //! Theorems about the definitions alone. To cite one in a proof, call it.
 ghost use Rattle.std.specs.Prelude.{◌≡◌, ℕ, ◌^◌, ◌<◌, ◌≤◌, ◌++◌, Bool, true, false, List, [], Option, None};
 ghost use Rattle.std.specs.Prelude.{codes, string_bytes};
+ghost use Rattle.http.specs.Request.{head_of};
 ghost use Rattle.http.specs.declared.request.Request.{Request};
 ghost use Rattle.http1.specs.declared.conn.Limits.{Limits};
 ghost use Rattle.http1.specs.declared.framing.Framing.{Framing};
@@ -24,6 +25,8 @@ ghost use Rattle.headers_exchange.specs.declared.plan.Plan.{Plan};
 ghost use Rattle.headers_serve.specs.Answer.{IsAnswerAt};
 ghost use Rattle.headers_serve.specs.Memory.{HasOne};
 ghost use Rattle.headers_serve.specs.SiteSettings.{IsSiteOf};
+ghost use Rattle.headers_serve.specs.Sites.{IsSite};
+ghost use Rattle.headers_serve.specs.declared.file.Entry.{Entry};
 ghost use Rattle.headers_serve.specs.declared.file.Entry.TheVariants.{Readable};
 ghost use Rattle.headers_serve.specs.declared.file.File.{File};
 ghost use Rattle.headers_serve.specs.declared.memory.Memory.{Memory};
@@ -34,7 +37,7 @@ ghost use Rattle.headers_serve.specs.declared.source.Source.{Source};
 ghost use Rattle.headers_serve_laws.specs.Answered.{HasNoOptions, IsWhole, SendsContent};
 ghost use Rattle.headers_serve_laws.specs.Framed.{IsOk, StaysOpen};
 ghost use Rattle.headers_serve_laws.specs.Literal.{AsksForRoot, ok_fields, ok_text, request_text};
-ghost use Rattle.headers_serve_laws.specs.Sendable.{IsFinal, StatesLength};
+ghost use Rattle.headers_serve_laws.specs.Sendable.{IsBareIfAny, IsFinal, StatesLength};
 ghost use Rattle.headers_serve_laws.specs.Served.{IsServedFile, gives, plans};
 
 /// Theorem: the bytes of `GET / HTTP/1.1`, `Host: a.example` and an empty line are one request, and
@@ -107,6 +110,19 @@ pub fn ordinary_responses_are_sent()
         → IsFinal (method_kind head.method) plan.status (content_len plan) stated
         → response_refusal (answering limits head framing) plan.status (reason_of plan.status) (plan_size plan)
         (plan_fields plan) ≡ None }
+{}
+
+/// Theorem: `http1` sends each answer of the file server, whatever the store has, the settings say and
+/// the client asks, if a policy for requests from other origins says nothing with white space at its
+/// ends. So a 500 never takes the place of an answer.
+pub fn answers_are_sendable()
+    ensures { (limits : Limits) (head : RequestHead) (framing : Framing) (now : Option ℕ) (left : ℕ) (site : Site)
+        (look : List ℕ → Entry) (request : Request (List ℕ)) (response : Plan) (source : Option Source)
+        → IsSite (string_bytes site.divider) site.resource → IsBareIfAny site.resource.cors → head.minor ≤ 1
+        → head.method ≡ (head_of request).method
+        → IsAnswerAt now left site (λ path entry. entry ≡ look path) request response source
+        → response_refusal (answering limits head framing) response.status (reason_of response.status)
+        (plan_size response) (plan_fields response) ≡ None }
 {}
 
 /// Theorem: a connection that receives that GET alone, and ends without an error, has sent one
