@@ -10,13 +10,14 @@ use Rattle.http1.specs.Fields.{Header}
 use Rattle.headers.specs.Date.{fixdate}
 use Rattle.headers.specs.LineMap.{Field}
 use Rattle.headers.specs.Lines.{Line}
+use Rattle.headers.specs.Text.{trim}
 use Rattle.headers_exchange.specs.declared.plan.Plan.{Plan as Response}
 use Rattle.headers_resource.specs.declared.answer.Sends.{Sends}
 use Rattle.headers_resource.specs.declared.answer.Sends.TheVariants.{Nothing, Alternatives, Planned, Perform}
 use Rattle.headers_serve.specs.Answer.{Carries, cache_fields, cache_sent, closing_fields, date_fields}
 use Rattle.headers_serve.specs.Answer.{explained_fields, first_fields, is_stored, sniff_field}
-use Rattle.headers_serve.specs.Response.{fields_of, headers_of, headers_sent, headers_set, html_field, is_named}
-use Rattle.headers_serve.specs.Response.{lines_under, lines_unless, page_fields}
+use Rattle.headers_serve.specs.Response.{fields_of, headers_of, headers_sent, headers_set, html_field, is_kept}
+use Rattle.headers_serve.specs.Response.{is_named, lines_under, lines_unless, page_fields, trimmed_line, trimmed_lines}
 use Rattle.headers_serve.specs.declared.file.File.{File}
 use Rattle.headers_serve.specs.declared.settings.Site.{Site}
 use Rattle.headers_serve_answers.specs.ResponseLines.{line_named, lines_in}
@@ -135,10 +136,29 @@ module _ (name : List ℕ) where
       ∙ sent-skip has_policy h.before ((name, lines) ∷ h.after) h.first
       ∙ one_sent has_policy lines h.after h.last
 
+  -- ---- white space at the ends of values
+
+  -- a field line keeps its value if the name is one whose values stay as they are
+  one_kept : (h : Header) → is_kept name ≡ true → line_named name (trimmed_line h) ≡ line_named name h
+  one_kept h kept = by (bytes_eq h.0 name) refl (is_kept h.0) refl
+    where
+      by : (b : Bool) → bytes_eq h.0 name ≡ b → (c : Bool) → is_kept h.0 ≡ c
+          → line_named name (cond c h (h.0, trim h.1)) ≡ line_named name h
+      by b e true f = refl
+      by false e false f =
+          ap (λ (t : Bool). cond t (trim h.1 ∷ []) []) e ∙ sym (ap (λ (t : Bool). cond t (h.1 ∷ []) []) e)
+      by true e false f =
+          let other = sym (ap is_kept ((bytes_eq-Decides h.0 name).0 e)) ∙ f in absurd (cc (kept, other))
+
+  lines_in-trimmed : is_kept name ≡ true → (hs : List Header) → lines_in (trimmed_lines hs) name ≡ lines_in hs name
+  lines_in-trimmed kept [] = refl
+  lines_in-trimmed kept (h ∷ hs) = λ i. one_kept h kept i ++ lines_in-trimmed kept hs i
+
   -- ---- the other fields of a response
 
-  -- the name is that of none of the fields that a response has beside those of the answer
+  -- the name is that of none of the fields that a response has beside those of the answer, and its values are kept
   pub record IsOfAnswer : Type 0 where
+    pub kept : is_kept name ≡ true
     pub date : bytes_eq (codes "date") name ≡ false
     pub sniff : bytes_eq (codes "x-content-type-options") name ≡ false
     pub connection : bytes_eq (codes "connection") name ≡ false
@@ -199,6 +219,7 @@ module _ (name : List ℕ) where
         let front : List Header = first_fields now left ++ cache_sent sent site.cache_control in
         let own : List Header = headers_sent (is_some site.resource.cors) given in
         ap (λ (hs : List Header). lines_in hs name) h.headers
+        ∙ lines_in-trimmed free.kept ((front ++ own) ++ explained_fields code sent)
         ∙ lines_in-append (front ++ own) (explained_fields code sent)
         ∙ ap (λ (ls : List Line). lines_in (front ++ own) name ++ ls) (no_explained code sent)
         ∙ append-nil (lines_in (front ++ own) name)

@@ -210,16 +210,16 @@ module _ (now : Option ℕ) (left : ℕ) (site : Site) (look : List ℕ → Entr
   read_alike = record {
     origin =
         read_as_set (codes "access-control-allow-origin")
-        (record { date = refl; sniff = refl; connection = refl; cache = refl; media_type = refl });
+        (record { kept = refl; date = refl; sniff = refl; connection = refl; cache = refl; media_type = refl });
     credentials =
         read_as_set (codes "access-control-allow-credentials")
-        (record { date = refl; sniff = refl; connection = refl; cache = refl; media_type = refl });
+        (record { kept = refl; date = refl; sniff = refl; connection = refl; cache = refl; media_type = refl });
     methods =
         read_as_set (codes "access-control-allow-methods")
-        (record { date = refl; sniff = refl; connection = refl; cache = refl; media_type = refl });
+        (record { kept = refl; date = refl; sniff = refl; connection = refl; cache = refl; media_type = refl });
     names =
         read_as_set (codes "access-control-allow-headers")
-        (record { date = refl; sniff = refl; connection = refl; cache = refl; media_type = refl });
+        (record { kept = refl; date = refl; sniff = refl; connection = refl; cache = refl; media_type = refl });
   }
 
   pub preflight_answered : PreflightIsAnswered → (rules : CorsRules) (sent : Sent) (asked : Asked)

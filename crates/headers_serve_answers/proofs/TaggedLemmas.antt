@@ -57,7 +57,8 @@ abbrev pub etag : List ℕ
 etag = codes "etag"
 
 pub etag_is_of_answer : IsOfAnswer etag
-etag_is_of_answer = record { date = refl; sniff = refl; connection = refl; cache = refl; media_type = refl }
+etag_is_of_answer =
+    record { kept = refl; date = refl; sniff = refl; connection = refl; cache = refl; media_type = refl }
 
 -- ---- which fields have no tag
 
