@@ -1,3 +1,4 @@
 pub mod PieceLemmas
+pub mod PopLemmas
 pub mod SendLemmas
 pub mod TurnLemmas

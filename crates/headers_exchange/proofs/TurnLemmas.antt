@@ -12,17 +12,16 @@ use Rattle.http_server.specs.declared.state.State.{State}
 use Rattle.http_server.specs.declared.state.State.TheVariants.{Open, Closing, Upgraded, Aborted}
 use Rattle.http_server.specs.declared.state.Reason.TheVariants.{Asked}
 use Rattle.http_server.specs.Exchange.{Call}
-use Rattle.http_server.specs.History.{IsServed, after_read, after_sent, new_history, output}
+use Rattle.http_server.specs.History.{History, IsServed, after_read, after_sent, new_history, output}
 use Rattle.http_server.specs.Machine.{Core, Holds}
 use Rattle.http_server.proofs.KnownLemmas.{Appends-then, Consumes-then}
 use Rattle.http_server.proofs.MachineLemmas.{served}
 use Rattle.http_server.proofs.TransferLemmas.{hands_out, receives, with_history}
 use Rattle.headers_exchange.specs.declared.machine.Machine.{Machine}
-use Rattle.headers_exchange.specs.declared.piece.Piece.{Piece}
 use Rattle.headers_exchange.specs.declared.plan.Plan.{Plan}
-use Rattle.headers_exchange.specs.Connection.{Exchanged, IsClosing, Turns, past_after}
-use Rattle.headers_exchange.specs.Machine.{Begins, CutsOff, Ends, HandsOut, HasAnswered, HasPlanned, IsSending}
-use Rattle.headers_exchange.specs.Machine.{Keeps, Leads, Past, PutsBytes, Runs, RunsAt, Sends, SendsOn, TakesIn}
+use Rattle.headers_exchange.specs.Connection.{Exchanged, HasEnded, IsClosing, Turns, past_after}
+use Rattle.headers_exchange.specs.Machine.{Begins, Ends, HandsOut, HasAnswered, HasPlanned, IsSending, Keeps}
+use Rattle.headers_exchange.specs.Machine.{KeepsRest, KeepsState, Leads, Past, Runs, RunsAt, Sends, SendsOn, TakesIn}
 use Rattle.headers_exchange.specs.Machine.{core, head_now, history_of, view, with_calls}
 use Rattle.headers_exchange.specs.Pieces.{Gives}
 use Rattle.headers_exchange.specs.Plan.{Answers, Plans, sent_pieces}
@@ -45,52 +44,55 @@ pub stays_known : (u : Option (List ℕ)) → StaysKnown u u
 stays_known None = tt
 stays_known (Some xs) = refl
 
--- ---- a step of sending
+-- ---- a connection by its parts
 
-view_moved : (p : Past) (old new : Machine) (bytes : List ℕ) (left : List Piece) → PutsBytes old bytes left new
-    → view new p ≡ record (view old p) {
-      history = record (history_of old p) { pending = old.output.items ++ bytes };
-      left = left;
+history_by : (m : Machine) (p : Past) {state : State} {received unread sent pending : List ℕ} {ended : Bool}
+    → m.state ≡ state → p.received ≡ received → m.ended ≡ ended → m.input.items ≡ unread → p.sent ≡ sent
+    → m.output.items ≡ pending → history_of m p ≡ record {
+      state = state;
+      received = received;
+      ended = ended;
+      unread = unread;
+      calls = p.calls;
+      sent = sent;
+      pending = pending;
     }
-view_moved p old new bytes left x = λ i. record {
-  config = x.rest.config i;
-  history = record {
-    state = x.state i;
-    received = p.received;
-    ended = x.rest.ended i;
-    unread = x.rest.input i;
-    calls = p.calls;
-    sent = p.sent;
-    pending = x.output i;
-  };
-  server = x.rest.server i;
-  tail = x.rest.tail i;
-  left = x.left i;
-  has_head = x.rest.has_head i;
-  body = x.rest.body i;
+history_by m p state received ended unread sent pending = λ i. record {
+  state = state i;
+  received = received i;
+  ended = ended i;
+  unread = unread i;
+  calls = p.calls;
+  sent = sent i;
+  pending = pending i;
 }
 
-view_cut : (p : Past) (old new : Machine) → CutsOff old new
-    → view new p ≡ record (view old p) {
-      history = record (history_of old p) { state = Aborted; pending = [] };
+-- a read or a write changes the history alone
+core_by : (old new : Machine) (p q : Past) (h : History) → KeepsState old new → history_of new q ≡ h
+    → core new q ≡ with_history (core old p) h
+core_by old new p q h x same = λ i. record {
+  config = x.config i;
+  history = same i;
+  server = x.server i;
+  head = if x.has_head i then Some (head_of (x.request i)) else None;
+  body = x.body i;
+}
+
+-- ---- a step of sending
+
+view_sent : (p : Past) (old new : Machine) (state : State) (pending : List ℕ) → KeepsRest old new → new.state ≡ state
+    → new.output.items ≡ pending → view new p ≡ record (view old p) {
+      history = record (history_of old p) { state = state; pending = pending };
       left = new.left.items;
     }
-view_cut p old new x = λ i. record {
-  config = x.rest.config i;
-  history = record {
-    state = x.state i;
-    received = p.received;
-    ended = x.rest.ended i;
-    unread = x.rest.input i;
-    calls = p.calls;
-    sent = p.sent;
-    pending = x.output i;
-  };
-  server = x.rest.server i;
-  tail = x.rest.tail i;
+view_sent p old new state pending x is out = λ i. record {
+  config = x.config i;
+  history = history_by new p is refl x.ended x.input refl out i;
+  server = x.server i;
+  tail = x.tail i;
   left = new.left.items;
-  has_head = x.rest.has_head i;
-  body = x.rest.body i;
+  has_head = x.has_head i;
+  body = x.body i;
 }
 
 no_head : (m : Machine) → m.has_head ≡ false → head_now m ≡ None
@@ -110,15 +112,7 @@ core_ended : (p : Past) (calls : List Call) (old new : Machine) (state : State) 
     → old.has_head ≡ false → old.body.items ≡ [] → core new (with_calls p calls) ≡ core_after old p state calls
 core_ended p calls old new state x is head body = λ i. record {
   config = x.rest.config i;
-  history = record {
-    state = is i;
-    received = p.received;
-    ended = x.rest.ended i;
-    unread = x.rest.input i;
-    calls = calls;
-    sent = p.sent;
-    pending = x.output i;
-  };
+  history = history_by new (with_calls p calls) is refl x.rest.ended x.rest.input refl x.output i;
   server = x.rest.server i;
   head = no_head new (x.rest.has_head ∙ head) i;
   body = (x.rest.body ∙ body) i;
@@ -139,15 +133,7 @@ aborted p old new config ended input is none x = subst Holds (sym same) x
     }
     same = λ i. record {
       config = config i;
-      history = record {
-        state = is i;
-        received = p.received;
-        ended = ended i;
-        unread = input i;
-        calls = p.calls;
-        sent = p.sent;
-        pending = none i;
-      };
+      history = history_by new p is refl ended input refl none i;
       server = new.server;
       head = head_now new;
       body = new.body.items;
@@ -166,15 +152,7 @@ pub view_begun : (p : Past) (plan : Plan) (bodiless : Bool) (old new : Machine) 
     }
 view_begun p plan bodiless old new x head body = λ i. record {
   config = x.config i;
-  history = record {
-    state = x.state i;
-    received = p.received;
-    ended = x.ended i;
-    unread = x.input i;
-    calls = p.calls;
-    sent = p.sent;
-    pending = new.output.items;
-  };
+  history = history_by new p x.state refl x.ended x.input refl refl i;
   server = new.server;
   tail = new.tail.items;
   left = x.left i;
@@ -217,7 +195,8 @@ module _ {H : Type 0} (plans : Plans H) (gives : H → Gives) where
           sent first now new p (moved.puts.is_sending ∙ is) (
             y.0,
             y.1,
-            subst (IsSending plans gives y.0 now) (sym (view_moved p old new moved.bytes new.left.items moved.puts))
+            subst (IsSending plans gives y.0 now) (sym (view_sent p old new old.state (old.output.items ++ moved.bytes)
+                moved.puts.rest moved.puts.state moved.puts.output))
                 (moves plans gives y.0 now (view old p) y.2 is_open moved.bytes new.left.items moved.advances),
           ),
         )
@@ -250,28 +229,32 @@ module _ {H : Type 0} (plans : Plans H) (gives : H → Gives) where
             sent first now new p (cut.is_sending ∙ is) (
               y.0,
               y.1,
-              subst (IsSending plans gives y.0 now) (sym (view_cut p old new cut))
+              subst (IsSending plans gives y.0 now) (sym (view_sent p old new Aborted [] cut.rest cut.state cut.output))
                   (cuts plans gives y.0 now (view old p) y.2 new.left.items),
             ),
           )
         ]
       ]
 
-  -- a step that isn't one of sending, and leaves the handler as it is
-  pub step_by : (old new : Machine) (h : H) → Keeps old new → old.is_sending ≡ false → old.state ≡ Open
+  -- A step that isn't one of sending, and leaves the handler as it is. The server may have taken some of the input
+  -- before it.
+  pub step_by : (old : Machine) {mid new : Machine} (h : H) → Keeps mid new
+      → mid ≡ record old { server = mid.server; input = mid.input } → old.is_sending ≡ false → old.state ≡ Open
       → ((p : Past) → Holds (core old p) → Holds (core new p)) → Leads plans gives old h new h
-  step_by old new h keeps is is_open holding = record {
-    config = keeps.config;
-    ended = keeps.ended;
-    runs = λ first p x.
-        let y = waiting first h old p is x in (
-          p.calls,
-          waited first h new p (keeps.is_sending ∙ is) (
-            (y.0.0, y.0.1, λ _. y.0.2 (λ aborted. let wrong = sym is_open ∙ aborted in cc)),
-            holding p y.1,
-          ),
-        );
-  }
+  step_by old {mid} {new} h kept taken is is_open holding =
+      let keeps = subst (λ (m : Machine). Keeps m new) taken kept in
+      record {
+        config = keeps.config;
+        ended = keeps.ended;
+        runs = λ first p x.
+            let y = waiting first h old p is x in (
+              p.calls,
+              waited first h new p (keeps.is_sending ∙ is) (
+                (y.0.0, y.0.1, λ _. y.0.2 (λ aborted. let wrong = sym is_open ∙ aborted in cc)),
+                holding p y.1,
+              ),
+            );
+      }
 
   -- nothing happens
   pub step_none : (m : Machine) (h : H) → Leads plans gives m h m h
@@ -338,14 +321,6 @@ module _ {H : Type 0} (plans : Plans H) (gives : H → Gives) where
           (z.0, subst (λ q. Runs plans gives first new now q) (same_past p z.0) z.1);
     }
 
-    -- nothing but the reader and the writer moves
-    pub turns_none : (m : Machine) (h : H) → StaysKnown remaining left → StaysKnown contents grown → TurnsTo m h m h
-    turns_none m h read written = turns_step {old = m} {new = m} {before = h} {now = h} (record {
-      config = refl;
-      ended = refl;
-      runs = λ first p x. (p.calls, x);
-    }) read written
-
     pub turns_write : {old new : Machine} (h : H) (count : ℕ) → HandsOut old new count → StaysKnown remaining left
         → Appends contents grown (take count old.output.items) → TurnsTo old h new h
     turns_write {old} {new} h count x read written = record {
@@ -369,15 +344,7 @@ module _ {H : Type 0} (plans : Plans H) (gives : H → Gives) where
             { history = record (history_of old p) { sent = q.sent; pending = drop count old.output.items } } =
             λ i. record {
               config = x.rest.config i;
-              history = record {
-                state = x.rest.state i;
-                received = append-nil p.received i;
-                ended = x.ended i;
-                unread = x.input i;
-                calls = p.calls;
-                sent = q.sent;
-                pending = x.output i;
-              };
+              history = history_by new q x.rest.state (append-nil p.received) x.ended x.input refl x.output i;
               server = x.rest.server i;
               tail = x.rest.tail i;
               left = x.rest.left i;
@@ -394,21 +361,8 @@ module _ {H : Type 0} (plans : Plans H) (gives : H → Gives) where
             let z = waiting first h old p is y in
             let q = past_after p [] (take count old.output.items) p.calls in
             let cored : core new q ≡ with_history (core old p) (after_sent (history_of old p) count) =
-            λ i. record {
-              config = x.rest.config i;
-              history = record {
-                state = x.rest.state i;
-                received = append-nil p.received i;
-                ended = x.ended i;
-                unread = x.input i;
-                calls = p.calls;
-                sent = q.sent;
-                pending = x.output i;
-              };
-              server = x.rest.server i;
-              head = if x.rest.has_head i then Some (head_of (x.rest.request i)) else None;
-              body = x.rest.body i;
-            } in
+            core_by old new p q (after_sent (history_of old p) count) x.rest
+            (history_by new q x.rest.state (append-nil p.received) x.ended x.input refl x.output) in
             waited first h new q (x.rest.is_sending ∙ is) (
               (z.0.0, z.0.1, λ going. z.0.2 (λ aborted. going (x.rest.state ∙ aborted))),
               subst Holds (sym cored) (hands_out (core old p) count _ refl z.1),
@@ -443,39 +397,19 @@ module _ {H : Type 0} (plans : Plans H) (gives : H → Gives) where
 
         read_core : (p : Past) → new.ended ≡ (if old.ended then old.ended else length bytes == 0)
             → core new (past_after p bytes [] p.calls) ≡ with_history (core old p) (after_read (history_of old p) bytes)
-        read_core p ended = λ i. record {
-          config = x.rest.config i;
-          history = record {
-            state = x.rest.state i;
-            received = p.received ++ bytes;
-            ended = ended i;
-            unread = x.input i;
-            calls = p.calls;
-            sent = append-nil p.sent i;
-            pending = x.output i;
-          };
-          server = x.rest.server i;
-          head = if x.rest.has_head i then Some (head_of (x.rest.request i)) else None;
-          body = x.rest.body i;
-        }
+        read_core p ended =
+            let q = past_after p bytes [] p.calls in
+            core_by old new p q (after_read (history_of old p) bytes) x.rest
+            (history_by new q x.rest.state refl ended x.input (append-nil p.sent) x.output)
 
         same_core : (p : Past) → new.ended ≡ old.ended → bytes ≡ [] → core new (past_after p bytes [] p.calls) ≡ core
             old p
-        same_core p ended none = λ i. record {
-          config = x.rest.config i;
-          history = record {
-            state = x.rest.state i;
-            received = (ap (λ (t : List ℕ). p.received ++ t) none ∙ append-nil p.received) i;
-            ended = ended i;
-            unread = (x.input ∙ ap (λ (t : List ℕ). old.input.items ++ t) none ∙ append-nil old.input.items) i;
-            calls = p.calls;
-            sent = append-nil p.sent i;
-            pending = x.output i;
-          };
-          server = x.rest.server i;
-          head = if x.rest.has_head i then Some (head_of (x.rest.request i)) else None;
-          body = x.rest.body i;
-        }
+        same_core p ended none =
+            let q = past_after p bytes [] p.calls in
+            core_by old new p q (history_of old p) x.rest
+            (history_by new q x.rest.state (ap (λ (t : List ℕ). p.received ++ t) none ∙ append-nil p.received) ended
+            (x.input ∙ ap (λ (t : List ℕ). old.input.items ++ t) none ∙ append-nil old.input.items)
+            (append-nil p.sent) x.output)
 
   -- one turn after another
   pub turns_then : (r s t u v w : Option (List ℕ)) {a b c : Machine} {f g h : H} → Turns plans gives r s u v a f b g
@@ -501,6 +435,47 @@ module _ {H : Type 0} (plans : Plans H) (gives : H → Gives) where
         calls = calls;
       }
 
+  -- a turn begins with a step, and then writes,
+  pub turns_then_write : {remaining contents grown : Option (List ℕ)} {old mid new : Machine} {before now : H}
+      → Leads plans gives old before mid now → (count : ℕ) → HandsOut mid new count
+      → Appends contents grown (take count mid.output.items)
+      → Turns plans gives remaining remaining contents grown old before new now
+  turns_then_write {remaining} {contents} {grown} {now = now} step count out written =
+      turns_then remaining remaining remaining contents contents grown
+      (turns_step remaining remaining contents contents step (stays_known remaining) (stays_known contents))
+      (turns_write remaining remaining contents grown now count out (stays_known remaining) written)
+
+  -- or flushes and reads
+  pub turns_then_read : {remaining left contents grown : Option (List ℕ)} {old mid new : Machine} {before now : H}
+      → Leads plans gives old before mid now → StaysKnown contents grown → (bytes : List ℕ) → mid.is_sending ≡ false
+      → TakesIn mid new bytes → Consumes remaining left bytes
+      → Turns plans gives remaining left contents grown old before new now
+  turns_then_read {remaining} {left} {contents} {grown} {now = now} step flushed bytes is taken read =
+      turns_then remaining remaining left contents grown grown
+      (turns_step remaining remaining contents grown step (stays_known remaining) flushed)
+      (turns_read remaining left grown grown now bytes is taken read (stays_known grown))
+
+  -- ---- turns since the beginning
+
+  -- the connection has this configuration, and a past of all that was read and written
+  abbrev pub HasRun : Config → H → (remaining left contents grown : Option (List ℕ)) → Machine → H → Type 0
+  HasRun config first remaining left contents grown m now =
+      (p : Past) × Consumes remaining left p.received × Appends contents grown p.sent × (m.config ≡ config)
+      × Runs plans gives first m now p
+
+  -- one turn more
+  pub runs_on : (config : Config) (first : H) (r u : Option (List ℕ)) {s t v w : Option (List ℕ)} {a b : Machine}
+      {f g : H} → Turns plans gives s t v w a f b g → HasRun config first r s u v a f
+      → HasRun config first r t u w b g
+  runs_on config first r u {s} {t} {v} {w} turn run =
+      let runs = turn.runs first run.0 run.4 in (
+        past_after run.0 turn.received turn.sent runs.0,
+        Consumes-then r s t run.0.received turn.received run.1 turn.consumes,
+        Appends-then u v w run.0.sent turn.sent run.2 turn.appends,
+        turn.config ∙ run.3,
+        runs.1,
+      )
+
   -- ---- the end
 
   closing_served : (s : State) → IsClosing s → s ≢ Aborted
@@ -510,28 +485,28 @@ module _ {H : Type 0} (plans : Plans H) (gives : H → Gives) where
   closing_served Aborted x = absurd x
 
   module _ (config : Config) (first now : H) (m : Machine) (p : Past) (configured : m.config ≡ config) where
+    exchanged_by : (is_whole : Bool) (last : H) → HasPlanned plans gives first last p
+        → HasEnded plans gives config last now (history_of m p) is_whole
+        → Exchanged plans gives config first now p.received p.sent is_whole
+    exchanged_by is_whole last answered ended = record {
+      history = history_of m p;
+      is_received = refl;
+      is_sent = refl;
+      last = last;
+      answered = answered;
+      ended = ended;
+    }
+
     cut_at : (b : Bool) → m.is_sending ≡ b → Runs plans gives first m now p
         → Exchanged plans gives config first now p.received p.sent false
     cut_at true is x =
         let y = sending first now m p is x in
-        record {
-          history = history_of m p;
-          is_received = refl;
-          is_sent = refl;
-          last = y.0;
-          answered = y.1;
-          ended = inr (subst (λ c. Sends plans gives y.0 now c (history_of m p)) configured y.2.response);
-        }
+        exchanged_by false y.0 y.1
+        (inr (subst (λ c. Sends plans gives y.0 now c (history_of m p)) configured y.2.response))
     cut_at false is x =
         let y = waiting first now m p is x in
-        record {
-          history = history_of m p;
-          is_received = refl;
-          is_sent = refl;
-          last = y.0.0;
-          answered = y.0.1;
-          ended = inl (subst (λ c. IsServed c (history_of m p)) configured (served (core m p) y.1));
-        }
+        exchanged_by false y.0.0 y.0.1
+        (inl (subst (λ c. IsServed c (history_of m p)) configured (served (core m p) y.1)))
 
     -- whatever happens, what was sent until then is as promised
     pub is_cut : Runs plans gives first m now p → Exchanged plans gives config first now p.received p.sent false
@@ -547,19 +522,12 @@ module _ {H : Type 0} (plans : Plans H) (gives : H → Gives) where
         ])
     whole_at false is closing out x =
         let y = waiting first now m p is x in
-        record {
-          history = history_of m p;
-          is_received = refl;
-          is_sent = refl;
-          last = y.0.0;
-          answered = y.0.1;
-          ended = (
-            subst (λ c. IsServed c (history_of m p)) configured (served (core m p) y.1),
-            closing,
-            out,
-            y.0.2 (closing_served m.state closing),
-          );
-        }
+        exchanged_by true y.0.0 y.0.1 (
+          subst (λ c. IsServed c (history_of m p)) configured (served (core m p) y.1),
+          closing,
+          out,
+          y.0.2 (closing_served m.state closing),
+        )
 
     -- where it closed, all was sent
     pub is_whole : IsClosing m.state → m.output.items ≡ [] → Runs plans gives first m now p

@@ -1,10 +1,9 @@
-use Rattle.std.proofs.Common.{[], ap, is_ok, refl, subst, sym, ◌∙◌}
+use Rattle.std.proofs.Common.{[], ap, is_ok, refl, subst, sym}
 use Rattle.std.proofs.lemmas.Result.{err_from_is_err_and}
-use Rattle.http_server.proofs.KnownLemmas.{Appends-then, Consumes-then}
-use Rattle.headers_exchange.specs.Connection.{Exchanged, past_after}
+use Rattle.headers_exchange.specs.Connection.{Exchanged}
 use Rattle.headers_exchange.specs.Machine.{new_past}
-use Rattle.headers_exchange.proofs.TurnLemmas.{Appends-none, Consumes-none, ended, is_cut, not_begun, stays_known}
-use Rattle.headers_exchange.proofs.TurnLemmas.{waited}
+use Rattle.headers_exchange.proofs.TurnLemmas.{Appends-none, Consumes-none, ended, is_cut, not_begun, runs_on}
+use Rattle.headers_exchange.proofs.TurnLemmas.{stays_known, waited}
 use Rattle.headers_exchange.proofs.serve.serve_exchanges.Goals as goal
 
 pub returns-in_err-machine : goal.returns-in_err-machine
@@ -36,55 +35,39 @@ loop-init g c =
 
 pub loop-preserved : goal.loop-preserved
 loop-preserved g c =
-    let i = c.loop.invariant in
-    let t = c.turn.ensures.turns in
-    let runs = t.runs c.args.handler.now i.0 i.4 in (
-      past_after i.0 t.received t.sent runs.0,
-      Consumes-then (g.R.Read.remaining c.args.reader.now) (g.R.Read.remaining c.loop.reader)
-          (g.R.Read.remaining c.turn.new.reader) i.0.received t.received i.1 t.consumes,
-      Appends-then (g.W.Write.contents c.args.writer.now) (g.W.Write.contents c.loop.writer)
-          (g.W.Write.contents c.turn.new.writer) i.0.sent t.sent i.2 t.appends,
-      t.config ∙ i.3,
-      runs.1,
-    )
+    runs_on g.H.Handler.plans g.H.Handler.gives c.args.config c.args.handler.now (g.R.Read.remaining c.args.reader.now)
+    (g.W.Write.contents c.args.writer.now) c.turn.ensures.turns c.loop.invariant
 
 pub returns-in_err-turn : goal.returns-in_err-turn
 returns-in_err-turn g c =
-    let i = c.loop.invariant in
-    let t = c.turn.ensures.turns in
-    let runs = t.runs c.args.handler.now i.0 i.4 in
-    let q = past_after i.0 t.received t.sent runs.0 in
+    let run = runs_on g.H.Handler.plans g.H.Handler.gives c.args.config c.args.handler.now
+    (g.R.Read.remaining c.args.reader.now) (g.W.Write.contents c.args.writer.now) c.turn.ensures.turns
+    c.loop.invariant in
     let p = err_from_is_err_and c.from_residual-in_err-turn.result c.from_residual-in_err-turn.ensures.1 in (
-      q.received,
-      q.sent,
-      Consumes-then (g.R.Read.remaining c.args.reader.now) (g.R.Read.remaining c.loop.reader)
-          (g.R.Read.remaining c.turn.new.reader) i.0.received t.received i.1 t.consumes,
-      Appends-then (g.W.Write.contents c.args.writer.now) (g.W.Write.contents c.loop.writer)
-          (g.W.Write.contents c.turn.new.writer) i.0.sent t.sent i.2 t.appends,
+      run.0.received,
+      run.0.sent,
+      run.1,
+      run.2,
       subst
           (λ b. Exchanged g.H.Handler.plans g.H.Handler.gives c.args.config c.args.handler.now c.turn.new.handler
-          q.received
-          q.sent b)
+          run.0.received
+          run.0.sent b)
           (sym (ap is_ok p.1))
           (is_cut g.H.Handler.plans g.H.Handler.gives c.args.config c.args.handler.now c.turn.new.handler
-          c.turn.new.machine q
-          (t.config ∙ i.3) runs.1),
+          c.turn.new.machine run.0 run.3 run.4),
     )
 
 pub returns-then-branch : goal.returns-then-branch
 returns-then-branch g c =
-    let i = c.loop.invariant in
-    let t = c.turn.ensures.turns in
-    let runs = t.runs c.args.handler.now i.0 i.4 in
-    let q = past_after i.0 t.received t.sent runs.0 in (
-      q.received,
-      q.sent,
-      Consumes-then (g.R.Read.remaining c.args.reader.now) (g.R.Read.remaining c.loop.reader)
-          (g.R.Read.remaining c.turn.new.reader) i.0.received t.received i.1 t.consumes,
-      Appends-then (g.W.Write.contents c.args.writer.now) (g.W.Write.contents c.loop.writer)
-          (g.W.Write.contents c.turn.new.writer) i.0.sent t.sent i.2 t.appends,
-      ended g.H.Handler.plans g.H.Handler.gives c.args.config c.args.handler.now c.turn.new.handler c.turn.new.machine q
-          (t.config ∙ i.3) c.ending.result c.ending.ensures (c.in_ok-turn.ensures.done c.if-branch.true) runs.1,
+    let run = runs_on g.H.Handler.plans g.H.Handler.gives c.args.config c.args.handler.now
+    (g.R.Read.remaining c.args.reader.now) (g.W.Write.contents c.args.writer.now) c.turn.ensures.turns
+    c.loop.invariant in (
+      run.0.received,
+      run.0.sent,
+      run.1,
+      run.2,
+      ended g.H.Handler.plans g.H.Handler.gives c.args.config c.args.handler.now c.turn.new.handler c.turn.new.machine
+          run.0 run.3 c.ending.result c.ending.ensures (c.in_ok-turn.ensures.done c.if-branch.true) run.4,
     )
 
 pub returns : goal.returns

@@ -15,29 +15,23 @@ returns-then-self g c =
 
 pub returns-in-Err : goal.returns-in-Err
 returns-in-Err g c =
-    let kept = c.refuse.ensures.keeps in
-    step_by g.H.Handler.plans g.H.Handler.gives c.args.self.now c.refuse.new.self c.args.handler.now
-    (record { config = kept.config; ended = kept.ended; is_sending = kept.is_sending }) c.if-self.false
-    (c.if-not-is_open.ensures.0 refl)
+    step_by g.H.Handler.plans g.H.Handler.gives c.args.self.now c.args.handler.now c.refuse.ensures.keeps refl
+    c.if-self.false (c.if-not-is_open.ensures.0 refl)
     (λ p x. c.refuse.ensures.reaches p (unreadable (core c.args.self.now p) c.read.new.self c.in-Err.e
     (c.if-not-is_open.ensures.0 refl) (rw (c.as_slice.ensures, c.requires) at c.in-Err.ensures.err) x))
 
 pub returns-in-Head : goal.returns-in-Head
 returns-in-Head g c =
-    let kept = c.begin.ensures.keeps in
-    step_by g.H.Handler.plans g.H.Handler.gives c.args.self.now c.begin.new.self c.args.handler.now
-    (record { config = kept.config; ended = kept.ended; is_sending = kept.is_sending }) c.if-self.false
-    (c.if-not-is_open.ensures.0 refl)
+    step_by g.H.Handler.plans g.H.Handler.gives c.args.self.now c.args.handler.now c.begin.ensures.keeps refl
+    c.if-self.false (c.if-not-is_open.ensures.0 refl)
     (λ p x. c.begin.ensures.reaches p
     (after_event (core c.args.self.now p) c.read.new.headers c.read.new.self c.in-Ok.read _
     c.in-Head.is (c.if-not-is_open.ensures.0 refl) (rw c.as_slice.ensures at c.in-Ok.ensures.ok) x))
 
 pub returns-in-Data : goal.returns-in-Data
 returns-in-Data g c =
-    let kept = c.take.ensures.keeps in
-    step_by g.H.Handler.plans g.H.Handler.gives c.args.self.now c.take.new.self c.args.handler.now
-    (record { config = kept.config; ended = kept.ended; is_sending = kept.is_sending }) c.if-self.false
-    (c.if-not-is_open.ensures.0 refl)
+    step_by g.H.Handler.plans g.H.Handler.gives c.args.self.now c.args.handler.now c.take.ensures.keeps refl
+    c.if-self.false (c.if-not-is_open.ensures.0 refl)
     (λ p x. c.take.ensures.reaches p
     (after_event (core c.args.self.now p) c.read.new.headers c.read.new.self c.in-Ok.read _
     c.in-Data.is (c.if-not-is_open.ensures.0 refl) (rw c.as_slice.ensures at c.in-Ok.ensures.ok) x))
@@ -54,10 +48,8 @@ returns-in-End g c =
 
 pub returns-in_default : goal.returns-in_default
 returns-in_default g c =
-    let kept = c.wait-in_default.ensures.keeps in
-    step_by g.H.Handler.plans g.H.Handler.gives c.args.self.now c.wait-in_default.new.self c.args.handler.now
-    (record { config = kept.config; ended = kept.ended; is_sending = kept.is_sending }) c.if-self.false
-    (c.if-not-is_open.ensures.0 refl)
+    step_by g.H.Handler.plans g.H.Handler.gives c.args.self.now c.args.handler.now c.wait-in_default.ensures.keeps refl
+    c.if-self.false (c.if-not-is_open.ensures.0 refl)
     (λ p x. c.wait-in_default.ensures.reaches p
     (subst (λ t. IsStarved (with_server (core c.args.self.now p) c.read.new.self t))
     (sym c.advance-in_default.ensures.items)
