@@ -1,10 +1,10 @@
 //! The handle of a cache, as C has it.
-ghost use Rattle.std.specs.Prelude.{◌≡◌, ◌≢◌, Option, Some, None, is_some, true, false, MatchOption};
+ghost use Rattle.std.specs.Prelude.{◌≡◌, Option, Some, None, is_some, true, false, MatchOption};
 ghost use Rattle.headers_c_store.specs.Ownership.{cache_owns};
 ghost use Rattle.headers_c_store.specs.declared.held.Held.{Held};
 
 use crate::held::Held;
-use headers_c_boxes::RawBox;
+use headers_c_boxes::{Loose, RawBox};
 use std::alloc::Global;
 use std::marker::{Model, Send};
 use std::mem::replace;
@@ -27,30 +27,6 @@ impl Model for Cache {
 // C may pass it to another thread, if the calls on it are ordered.
 unsafe impl Send for Cache {}
 
-// The pointer of a handle. Dropping it frees nothing, so it is dropped only if the handle was closed.
-#[derive(Drop)]
-struct Loose {
-    at: *mut u8,
-    ghost held: { Option Held },
-}
-
-impl Model for Loose {
-    ghost also_owns = { λ loose. cache_owns loose.at loose.held };
-}
-
-impl Loose {
-    fn into_raw_box(self, alloc: Global) -> RawBox<Held, Global>
-        requires { self.held ≢ None }
-        ensures { self.held ≡ Some result.value }
-    {
-        let Loose { at } = self;
-        RawBox {
-            at: at as *mut Held,
-            alloc,
-        }
-    }
-}
-
 impl Cache {
     /// A closed handle.
     pub fn closed() -> Cache
@@ -72,11 +48,16 @@ impl Cache {
         }
     }
 
-    fn into_loose(self) -> (bool, Loose)
+    fn into_loose(self) -> (bool, Loose<Held>)
         ensures { (result.0 ≡ is_some self.held) × (result.1.held ≡ self.held) }
     {
         let Cache { at, is_open } = self;
-        (is_open, Loose { at })
+        (
+            is_open,
+            Loose {
+                at: at as *mut Held,
+            },
+        )
     }
 
     /// Takes out what the handle has. It is closed then.

@@ -25,7 +25,8 @@ use denote.Struct.Tuple.{Tuple}
 use Rattle.headers_c_boxes.proofs.HandleValues.{flagged_val, flagged_told, flagged_typed, lone_val, lone_own}
 use Rattle.headers_c_boxes.proofs.HandleValues.{lone_made, lone_typed, ptr_typed}
 use Rattle.headers_c_store.specs.contracts.handle.Cache as handle
-use Rattle.headers_c_store.specs.contracts.handle.Loose as loose
+use Rattle.headers_c_boxes.specs.contracts.loose.Loose as loose
+use Rattle.headers_c_store.specs.contracts.held.Held as Stored
 use Rattle.headers_c_store.specs.contracts.handle.Cache.into_loose.{ended, clauses}
 use Rattle.headers_c_store.specs.contracts.handle.Cache.into_loose.Key.{name as #self}
 use Rattle.headers_c_store.proofs.handle.Cache.into_loose.Statement.{statement}
@@ -53,7 +54,8 @@ into_loose_spec 𝓤 𝓛 𝓜 𝓡 wired =
     let p = x.at in
     let t = x.is_open in
     let told = flagged_told p t z.0.4.0 are.0.0 in
-    let left : (loose.the_row).Denot = record { at = p; held = x.held } in
+    let Left = loose.the_row Stored.the_row in
+    let left : Left.Denot = record { at = p; held = x.held } in
     let made = pair_val (vbool t) (lone_val p) in
     qed 𝓛 ((raw (alive 𝓛 ended.signature z.0.0 z.0.1) ⊛ ‵ (owns
     (types_at ended.signature.params z.0.0) z.0.3 z.0.4)) ∷ ‵ ftrue ∷ []) ∵
@@ -63,14 +65,15 @@ into_loose_spec 𝓤 𝓛 𝓜 𝓡 wired =
     alloc_all ! (λ l. pass_all ! refl (flagged_typed p t, tt) $
     sets ! (of_opd ! (get_in ! (fld ! refl (stop !)) (sub ! 0 refl (whole !)))) refl (ptr_typed p) $
     sets ! (of_opd ! (get_in ! (fld ! refl (stop !)) (sub ! 1 refl (whole !)))) refl (tt, tt) $
+    sets ! (of_opd ! (get ! refl)) refl (ptr_typed p) $
     sets ! (agg ! (and_then ! (get ! refl) (no_more !))) refl (lone_typed p) $
     sets ! (agg ! (and_then ! (get ! refl) (and_then ! (get ! refl) (no_more !)))) refl (pair_Typed ty_bool
     (ty_struct [] (tcons ty_ptr tnil)) (vbool t) (lone_val p) (tt, tt) (lone_typed p)) $
     returns ! (look_at ! 0 refl) $ free_all ! refl $
     use0 𝓛 (‵ (lone_own p (lone_val p ∷ []))) (lone_made 𝓛 p) $ fjoin ! $
     feq_i ! (List Val) (vbool t ∷ []) (vbool t ∷ []) refl $
-    use2 𝓛 (‵ ((Tuple (bool ∷ loose.the_row ∷ [])).own_val (t, left) (made ∷ [])))
-    (pair_of 𝓛 bool loose.the_row t left (vbool t) (lone_val p)) $
+    use2 𝓛 (‵ ((Tuple (bool ∷ Left ∷ [])).own_val (t, left) (made ∷ [])))
+    (pair_of 𝓛 bool Left t left (vbool t) (lone_val p)) $
     use0 𝓛 (raw (fact 𝓤 ((t ≡ is_some x.held) × (x.held ≡ x.held)))) (fact_i 𝓤 ((t ≡ is_some x.held) ×
     (x.held ≡ x.held)) (emp 𝓤) (x.opened, refl)) $
     nothing ! $ nothing ! $ fjoin ! $ move ! (3 ∷ 0 ∷ 2 ∷ 1 ∷ []) $
