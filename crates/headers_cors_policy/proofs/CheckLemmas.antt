@@ -49,7 +49,7 @@ listed_from text listed = Contains-from_any {eq = bytes_eq} (λ x y. (bytes_eq-D
 from_listed : (text : List ℕ) (listed : List Line) → Contains listed text → list_any (bytes_eq text) listed ≡ true
 from_listed text listed = list_any-from_Contains {eq = bytes_eq} bytes_equiv text listed
 
--- the check by a line that is granted or not
+-- the CORS check, by the value of Access-Control-Allow-Origin, if the response has one
 abbrev ChecksLine : Option Line → Bool → Request → Type 0
 ChecksLine line credentials request =
     Checks (combined (lines_if (is_some line) line))
@@ -132,7 +132,7 @@ vary_skips true true value m name e = refl
 vary_skips true false value m name e = rw e refl
 vary_skips false c value m name e = refl
 
--- the lines of a response by the line that its origin is granted
+-- the field lines of a response, by the value that its origin is granted
 abbrev lines_by : Policy → Bool → Option Line → LineMap → LineMap
 lines_by policy pre line before = set_all before (grant_fields policy pre line)
 
@@ -193,7 +193,7 @@ names_read Names.Any line h = star_extracted line h
 names_read Names.AnyAndAuthorization line h = all_extracted line h
 names_read (Names.Listed names) line h = names_extracted names.items line h
 
--- a line that is left out if it is empty lists as much
+-- leaving out an empty field line leaves the listed values as they are
 filled_read : (line : Line) → extracted (filled_line line) ≡ extracted (Some line)
 unfolding elements
 filled_read [] = refl
@@ -310,7 +310,7 @@ names_at request value line allowed no_star excludes same h =
       (λ k name c. (name_by allowed request no_star excludes name).1 (k name c)),
     ))
 
--- the value of a line that is put, if there is one
+-- the value of a field that is set to one field line, if there is one
 combined_if : (line : Option Line) → combined (lines_if true line) ≡ line
 combined_if None = refl
 combined_if (Some line) = refl

@@ -1,4 +1,4 @@
--- The elements of what is written of a list.
+-- A list of methods or names encodes to a value whose elements are exactly these.
 use Rattle.std.proofs.Common.{◌≡◌, ℕ, ◌-◌, true, false, List, [], ◌∷◌, length, map, Some}
 use Rattle.std.proofs.Common.{IsTrue, refl, ap, subst, ◌∙◌, inl, inr, arith, leb}
 use Rattle.std.specs.Prelude.{codes, filter, nat_lt, ◌==◌}
@@ -10,12 +10,13 @@ use Rattle.std.proofs.lemmas.List.Elements.{All-weaker}
 use Rattle.std.proofs.lemmas.List.Splits.{slice_split_at, slice_split_none}
 use Rattle.std.proofs.lemmas.List.Sums.{AllPass-from_list_all, list_all-from_AllPass, suffix_len_is}
 use Rattle.http_header.specs.Token.{IsToken, is_token_byte, lowercase}
-use Rattle.http_header.proofs.TokenLemmas.{IsHeaderName-lowercase, token_byte_range}
+use Rattle.http_header.proofs.TokenLemmas.{IsHeaderName-lowercase}
 use Rattle.headers.specs.Lines.{Line}
 use Rattle.headers.specs.ListItem.{IsListOf, is_token, method_of, name_of, values}
 use Rattle.headers.specs.Merge.{merge}
 use Rattle.headers.specs.Places.{comma}
 use Rattle.headers.specs.Text.{is_blank, trim}
+use Rattle.headers.proofs.TextLemmas.{token_no_blank}
 use Rattle.headers_cors_policy.specs.Browser.{extracted, star}
 use Rattle.headers_cors_policy.specs.Elements.{elements, is_filled}
 
@@ -28,24 +29,21 @@ is_token-of item t =
     let some = t.0 in
     and_from _ _ (grind (arith, nat_tests)) (list_all-from_AllPass is_token_byte item t.1)
 
--- a byte of a token is no comma and no white space
+-- no byte of a token is a comma
 no_comma : (b : ℕ) → IsTrue (is_token_byte b) → (b == comma) ≡ false
 unfolding is_token_byte
 no_comma b t = ne_eqb _ _ (λ e. let f : IsTrue (is_token_byte comma) =
     subst (λ (x : ℕ). IsTrue (is_token_byte x)) e t in absurd (cc f))
 
-no_blank : (b : ℕ) → IsTrue (is_token_byte b) → is_blank b ≡ false
-no_blank b t = let r = token_byte_range b t in grind (arith, nat_tests)
-
 token_front : (x : List ℕ) → IsToken x → prefix_len is_blank x ≡ 0
 token_front [] t = absurd (omega (arith, t.0))
-token_front (b ∷ bs) t = let no : is_blank b ≡ false = no_blank b (t.1 0 0 t.0) in rw no refl
+token_front (b ∷ bs) t = let no : is_blank b ≡ false = token_no_blank b (t.1 0 0 t.0) in rw no refl
 
 token_back : (x : List ℕ) → IsToken x → suffix_len is_blank x ≡ 0
 token_back x t =
     let some = t.0 in
     suffix_len_is is_blank x (length x) 0 (omega arith) (λ k a b. absurd (omega (arith, a, b)))
-    (λ h. no_blank _ (t.1 (length x - 1) 0 (omega arith)))
+    (λ h. token_no_blank _ (t.1 (length x - 1) 0 (omega arith)))
     ∙ (let z : length x - length x ≡ 0 = omega arith in z)
 
 token_trim : (x : List ℕ) → IsToken x → trim x ≡ x
@@ -58,7 +56,7 @@ token_trim_behind x t =
     let whole : length x - 0 ≡ length x = omega arith in
     rw (token_front x t) (rw (token_back x t) (rw whole (take-length x)))
 
--- The pieces of joined tokens: the first token, and what is trimmed to the others.
+-- Joined tokens split into the first token and pieces that the trim turns into the others.
 split_tokens : (x : List ℕ) (xs : List (List ℕ)) → IsToken x → list_all is_token xs ≡ true
     → (rest : List (List ℕ)) × (slice_split (λ b. b == comma) (merge comma (x ∷ xs)) ≡ x ∷ rest)
     × (map trim rest ≡ xs)
@@ -85,7 +83,7 @@ filled (x ∷ xs) h =
     let some = and_parts (nat_lt 0 (length x)) (list_all is_token_byte x) parts.0 in
     rw (some.0) (ap (λ (r : List (List ℕ)). x ∷ r) (filled xs parts.1))
 
--- tokens are the elements of their list
+-- joined tokens have themselves as elements
 elements_tokens : (xs : List (List ℕ)) → list_all is_token xs ≡ true → elements (merge comma xs) ≡ xs
 unfolding elements
 elements_tokens [] h = refl
@@ -95,7 +93,7 @@ elements_tokens (x ∷ xs) h =
     let split = split_tokens x xs token parts.1 in
     rw (split.1) (rw (token_trim x token, split.2) (filled (x ∷ xs) h))
 
--- what reads as a method or a name is a token
+-- a method or a name, as a list item parses to it, is a token
 methods_tokens : (items : List (List ℕ)) → list_all is_token (values method_of items) ≡ true
 unfolding method_of
 methods_tokens [] = refl
@@ -125,7 +123,7 @@ extracted_tokens : (xs : List (List ℕ)) (line : Line) → list_all is_token xs
     → extracted (Some line) ≡ Some xs
 extracted_tokens xs line h e = rw e (rw (elements_tokens xs h) (rw h refl))
 
--- a browser reads just the methods and the names that are listed
+-- a browser extracts exactly the methods and the names that are listed
 pub methods_extracted : (xs : List (List ℕ)) (line : Line) → IsListOf method_of xs line
     → extracted (Some line) ≡ Some xs
 methods_extracted xs line h =
@@ -137,12 +135,12 @@ names_extracted xs line h =
     extracted_tokens xs line
     (subst (λ (ns : List (List ℕ)). list_all is_token ns ≡ true) h.all (names_tokens _)) h.bytes
 
--- and a star alone
+-- of a star, it extracts a star
 pub star_extracted : (line : Line) → line ≡ star → extracted (Some line) ≡ Some (star ∷ [])
 unfolding elements is_token_byte
 star_extracted line e = rw e refl
 
--- and one beside `authorization`
+-- of a star and `authorization`, these two
 pub all_extracted : (line : Line) → line ≡ codes "*, authorization"
     → extracted (Some line) ≡ Some (star ∷ codes "authorization" ∷ [])
 unfolding elements is_token_byte

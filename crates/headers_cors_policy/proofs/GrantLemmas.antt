@@ -7,7 +7,7 @@ use Rattle.headers.specs.Lines.{Line, lines_of}
 use Rattle.headers_cors_policy.specs.Fields.{grant}
 use Rattle.headers_cors_policy.specs.SentOrigins.{are_sent, is_sent}
 
--- a test of the lines of some values
+-- a test of the bytes of some values
 any_lines : (p : Line → Bool) (values : List FieldValue)
     → list_any (λ value. p value.bytes) values ≡ list_any p (lines_of values)
 any_lines p [] = refl
@@ -18,7 +18,7 @@ pub all_lines : (p : Line → Bool) (values : List FieldValue)
 all_lines p [] = refl
 all_lines p (value ∷ values) = grind (arith, all_lines p values)
 
--- what is granted of the only line of Origin
+-- what a request with one field line of Origin is granted
 pub granted_by : (origins : Option (List Line)) (sent : Option Line) (listed : List FieldValue) (text : Line)
     (b : Bool) → origins ≡ Some (lines_of listed) → sent ≡ Some text
     → b ≡ list_any (λ value. bytes_eq text value.bytes) listed
@@ -28,7 +28,7 @@ granted_by origins sent listed text b e f r =
     (ap (λ (any : Bool). let line : Option Line = if any then Some text else None in line)
     (any_lines (bytes_eq text) listed))))
 
--- what is told of the lines of listed origins is told of their texts
+-- a fact about the bytes of the listed origins' values is one about the origins' texts
 pub sent_by : (origins : Option (List Line)) (listed : List FieldValue) → origins ≡ Some (lines_of listed)
     → list_all (λ line. is_sent line.bytes) listed ≡ are_sent origins
 sent_by origins listed e = rw e (all_lines is_sent listed)

@@ -14,7 +14,7 @@ use Rattle.headers_cors_policy.specs.declared.kind.CorsKind.{CorsKind}
 use Rattle.headers_cors_policy.specs.declared.kind.CorsKind.TheVariants.{Preflight, Plain, NoOrigin}
 use Rattle.headers_cors_policy.specs.declared.policy.CorsAnswer.{CorsAnswer}
 
--- requests with the same lines of Origin and Access-Control-Request-Method are of one kind
+-- requests whose fields Origin and Access-Control-Request-Method are equal are of one kind
 pre_once : (method : List ℕ) (r s : LineMap) (k l : CorsKind) → r (codes "origin") ≡ s (codes "origin")
     → r (codes "access-control-request-method") ≡ s (codes "access-control-request-method")
     → IsKindOf method r k → IsKindOf method s l → is_preflight k ≡ is_preflight l
@@ -87,7 +87,7 @@ answer_once policy method sent response a b h k =
       fields = same_lines policy method sent sent response a b h k refl refl;
     }
 
--- lines, or none
+-- a list of field lines is empty, or it isn't
 line_or_none : (lines : List Line) → HasLine lines ⊎ (¬ (HasLine lines))
 line_or_none [] = inr (λ h. absurd (omega (arith, h)))
 line_or_none (line ∷ lines) = inl (omega arith)

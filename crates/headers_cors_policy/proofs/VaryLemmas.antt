@@ -23,7 +23,7 @@ or_true : (b : Bool) → (b || true) ≡ true
 or_true true = refl
 or_true false = refl
 
--- lines of Vary have a star or `origin`
+-- Vary has a star or `origin`
 abbrev TellsOrigins : List Line → Type 0
 TellsOrigins lines = IsTrue (nominates lines (codes "*")) ⊎ IsTrue (nominates lines (codes "origin"))
 
@@ -31,7 +31,7 @@ lines_tell : (lines : List Line) → covers_origin lines ≡ true → TellsOrigi
 lines_tell lines e =
     elim (cases_Bool (nominates lines (codes "*"))) [ inl t ↦ inl t | inr f ↦ inr (rw f at e) ]
 
--- what the last lines nominate, all do
+-- what the last field lines nominate, all of them nominate
 nominates-behind : (lines others : List Line) (name : Line) → nominates others name ≡ true
     → nominates (lines ++ others) name ≡ true
 nominates-behind lines others name e =
@@ -46,7 +46,7 @@ origin_tells = refl
 behind_tells : (lines : List Line) → TellsOrigins (lines ++ codes "origin" ∷ [])
 behind_tells lines = inr (nominates-behind lines (codes "origin" ∷ []) (codes "origin") origin_tells)
 
--- the lines of Vary after an answer
+-- the field lines of Vary after an answer
 abbrev varied : Policy → List Line → List Line
 varied policy lines =
     if is_some policy.origins then (if covers_origin lines then lines else lines ++ codes "origin" ∷ [])
@@ -108,7 +108,7 @@ same_grant policy r s lines v = by policy.origins refl
           | inr names ↦ ap (granted policy) (v.same (codes "origin") names)
         ]
 
--- a shared cache hands no request a response with another's lines
+-- a cache gives no request a response whose fields were made for another request
 pub cache_same : (policy : Policy) (method : List ℕ) (r s response : LineMap) (a b : CorsAnswer)
     → IsAnswer policy method r response a → IsAnswer policy method s response b → method ≢ codes "OPTIONS"
     → Serves (set_all response (fields_of a.fields.items) (codes "vary")) r s

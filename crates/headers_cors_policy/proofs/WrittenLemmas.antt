@@ -1,4 +1,4 @@
--- Lists that are written of vectors.
+-- The field lines that vectors of methods and of names encode to.
 use Rattle.std.proofs.Common.{◌≡◌, ℕ, List, [], ◌∷◌, length, sym, subst, ◌∙◌}
 use Rattle.std.specs.Iterator.{Drains}
 use Rattle.std.specs.declared.vec.IntoIter.{IntoIter}
@@ -14,7 +14,7 @@ drained : {X Z : Type 0} (s : IntoIter X Z) (xs given : List X) → into_iter_it
 drained s xs given e l d =
     sym (map-id given) ∙ items_from_drains given (d.1.0, d.1.1, λ _. (d.0, d.1.2)) (YieldsList-from_vec xs e l)
 
--- the line of a list that was made of a vector is that of its elements
+-- a list that was made of a vector encodes to the vector's elements, joined
 moved : (reading : Reading) (given xs : List (List ℕ)) (value line : List ℕ) → IsListOf reading given value
     → given ≡ xs → value ∷ [] ≡ line ∷ [] → IsListOf reading xs line
 moved reading given xs value line h e w =

@@ -9,7 +9,7 @@ use Rattle.headers_cors_policy.specs.declared.kind.CorsKind.{CorsKind}
 use Rattle.headers_cors_policy.specs.declared.kind.CorsKind.TheVariants.{Preflight, Plain, NoOrigin}
 use Rattle.headers_cors_policy.specs.declared.policy.CorsAnswer.{CorsAnswer}
 
--- a request without Origin is allowed; any other, if a line of Access-Control-Allow-Origin is granted to it
+-- A request without Origin is allowed. Any other is allowed if its response gets Access-Control-Allow-Origin.
 abbrev pub allows : CorsKind → Option Line → Bool
 allows NoOrigin line = true
 allows Preflight line = is_some line

@@ -13,17 +13,17 @@ abbrev pub lines_if : Bool → Option Line → List Line
 lines_if condition None = []
 lines_if condition (Some line) = if condition then line ∷ [] else []
 
--- the line, if it isn't empty
+-- the field line, unless it is empty
 abbrev pub filled_line : Line → Option Line
 filled_line line = if is_filled line then Some line else None
 
--- the line of Access-Control-Allow-Origin: a star if any origin is allowed; else the line of Origin, if it is listed
+-- The value of Access-Control-Allow-Origin: a star if any origin is allowed, otherwise that of Origin, if it is listed.
 abbrev pub grant : Option (List Line) → Option Line → Option Line
 grant None sent = Some (codes "*")
 grant (Some listed) None = None
 grant (Some listed) (Some line) = if list_any (bytes_eq line) listed then Some line else None
 
--- the same by all lines of Origin
+-- the same for all field lines of Origin: more than one are granted nothing, unless any origin is allowed
 abbrev pub granted : Policy → List Line → Option Line
 granted policy lines = grant policy.origins (only_line lines)
 
@@ -35,7 +35,7 @@ leave_fields policy condition =
     ∷ (codes "access-control-allow-headers", lines_if condition (filled_line policy.names))
     ∷ (codes "access-control-max-age", lines_if condition policy.max_age) ∷ []
 
--- the fields of a response with this line of Access-Control-Allow-Origin, and of whether it answers a preflight
+-- the fields of a response except Vary, by the value of Access-Control-Allow-Origin and whether it answers a preflight
 abbrev pub grant_fields : Policy → Bool → Option Line → List Field
 grant_fields policy is_preflight line =
     (codes "access-control-allow-origin", lines_if (is_some line) line)
@@ -47,7 +47,7 @@ grant_fields policy is_preflight line =
 abbrev pub covers_origin : List Line → Bool
 covers_origin lines = nominates lines (codes "*") || nominates lines (codes "origin")
 
--- `origin` after the response's lines of Vary, if it isn't there
+-- `origin` after the field lines of the response's Vary, unless Vary has it
 abbrev pub vary_fields : List Line → List Field
 vary_fields lines =
     if covers_origin lines then [] else (codes "vary", lines ++ codes "origin" ∷ []) ∷ []
@@ -56,7 +56,7 @@ vary_fields lines =
 abbrev pub vary_sent : Policy → List Line → List Field
 vary_sent policy lines = if is_some policy.origins then vary_fields lines else []
 
--- the fields of a response, by the request's field lines of Origin and the response's of Vary
+-- the fields of a response, by the field lines of the request's Origin and of the response's Vary
 abbrev pub fields_sent : Policy → Bool → List Line → List Line → List Field
 fields_sent policy is_preflight sent varying =
     grant_fields policy is_preflight (granted policy sent) ++ vary_sent policy varying

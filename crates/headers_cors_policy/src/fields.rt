@@ -6,7 +6,7 @@ ghost use Rattle.headers_cors_policy.specs.Fields.{filled_line, lines_if};
 use headers::{Encoded, HeaderName, HeaderValue};
 use std::alloc::{AllocError, Global};
 
-// The line, if it isn't empty.
+// The field line, unless it is empty.
 pub(crate) fn filled(line: &HeaderValue) -> Option<&HeaderValue>
     ensures { option_map (λ value. value.now.bytes) result ≡ filled_line line.now.bytes }
 {
@@ -17,7 +17,7 @@ pub(crate) fn filled(line: &HeaderValue) -> Option<&HeaderValue>
     }
 }
 
-// The field of this line, or without field lines if there is none.
+// The field with this field line. Without a field line it is removed.
 pub(crate) fn field(
     alloc: Global,
     name: HeaderName,
@@ -37,7 +37,7 @@ pub(crate) fn field(
     Ok(Encoded { name, lines })
 }
 
-// The same of a copy of the line, if the condition holds.
+// The field with a copy of this field line, if the condition holds. Otherwise it is removed.
 pub(crate) fn field_if(
     alloc: Global,
     name: HeaderName,

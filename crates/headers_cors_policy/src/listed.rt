@@ -4,7 +4,7 @@ ghost use Rattle.std.specs.List.{list_any};
 
 use headers::HeaderValue;
 
-// Whether the line is one of the list, byte for byte.
+// Whether the list has this field line, byte for byte.
 pub(crate) fn is_listed(listed: &[HeaderValue], line: &HeaderValue) -> bool
     ensures { result ≡ list_any (λ value. bytes_eq line.now.bytes value.bytes) listed.now }
 {

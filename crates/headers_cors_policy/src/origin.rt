@@ -10,7 +10,7 @@ use headers_fields::only_value;
 use http_header::ORIGIN;
 use std::alloc::AllocError;
 
-// The line of `Access-Control-Allow-Origin`, by the listed origins, or `None` for any.
+// The value of `Access-Control-Allow-Origin`. `None` in place of the listed origins stands for any origin.
 pub(crate) fn granted(
     origins: &Option<Vec<HeaderValue>>,
     request: &HeaderMap,

@@ -98,7 +98,7 @@ impl CorsPolicy {
         })
     }
 
-    // The line of Access-Control-Allow-Origin.
+    // The value of `Access-Control-Allow-Origin`, if this request gets the field.
     fn granted(&self, request: &HeaderMap) -> Result<Option<HeaderValue>, AllocError>
         ensures { IfOk result (λ line. option_map (λ value. value.bytes) line
             ≡ granted self.now (lines_at request.now (codes "origin"))) }
@@ -122,7 +122,7 @@ impl CorsPolicy {
         push_vary(alloc, fields, response)
     }
 
-    // The fields except Vary, for this line of Access-Control-Allow-Origin.
+    // The fields except `Vary`, given the value of `Access-Control-Allow-Origin`.
     fn grant_fields(
         &self,
         alloc: Global,
@@ -237,7 +237,7 @@ fn written_of(alloc: Global, rules: CorsRules) -> Result<CorsPolicy, RulesError>
     })
 }
 
-// Whether a request of this kind is allowed, if this is its line.
+// Whether a request of this kind is allowed, given its value of `Access-Control-Allow-Origin`.
 fn is_allowed(kind: CorsKind, line: &Option<HeaderValue>) -> bool
     ensures { result ≡ allows kind (option_map (λ value. value.bytes) line.now) }
 {

@@ -17,7 +17,7 @@ fn response_covers_origin(response: &HeaderMap) -> bool
     contains_token(&lines, b"*") || contains_token(&lines, b"origin")
 }
 
-// The response's lines of `Vary`, and `origin` after them.
+// The field lines of the response's `Vary`, and then `origin`.
 fn lines_with_origin(alloc: Global, response: &HeaderMap) -> Result<Vec<HeaderValue>, AllocError>
     ensures { IfOk result (λ lines. lines_of lines.items
         ≡ lines_at response.now (codes "vary") ++ codes "origin" ∷ []) }

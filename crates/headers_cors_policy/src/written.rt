@@ -17,7 +17,7 @@ use std::alloc::{AllocError, Global};
 // 2^31 - 1.
 const GREATEST_AGE: u64 = 2147483647;
 
-// The field line of a header that encodes to one.
+// The field line of a header that encodes to exactly one.
 fn line_of<H: Header>(alloc: Global, header: &H) -> Result<HeaderValue, AllocError>
     requires { length (H.writes header.now) ≡ 1 }
     ensures { IfOk result (λ line. H.writes header.now ≡ line.bytes ∷ []) }
