@@ -5,7 +5,6 @@ ghost use Rattle.headers.specs.LineMap.{lines_at};
 ghost use Rattle.headers.specs.Typed.{HasLine};
 ghost use Rattle.headers_cache.specs.Changes.{IsFront};
 ghost use Rattle.headers_cache.specs.Contents.{responses_at, without};
-ghost use Rattle.headers_cache_parts.specs.Combining.{HaveSameTag};
 ghost use Rattle.headers_cache_parts.specs.Received.{IsPart};
 ghost use Rattle.headers_cache_parts.specs.declared.extent.Extent.{Extent};
 ghost use Rattle.headers_cache_rules.specs.Stored.{request_of_stored};
@@ -18,7 +17,7 @@ ghost use Rattle.headers_cache_part_store.specs.Recording.{IsTakenAlone};
 
 use crate::store::PartStore;
 use headers::{HeaderMap, HeaderName, InsertError};
-use headers_cache_parts::{Combined, Extent, combine, is_part, record, strong_tag};
+use headers_cache_parts::{Combined, Extent, combine, have_same_tag, is_part, record};
 use headers_cache_rules::{Reception, StoredResponse, select};
 use http::Method;
 use http_header::{CONTENT_RANGE, IF_RANGE};
@@ -44,16 +43,6 @@ pub(crate) fn has_field(message: &HeaderMap, name: HeaderName) -> bool
     ensures { MatchBool result (HasLine (lines_at message.now name)) (¬ (HasLine (lines_at message.now name))) }
 {
     message.get_all(name).iter().next().is_some()
-}
-
-// Whether two responses have the same strong validator.
-fn have_same_tag(stored: &StoredResponse, came: &StoredResponse) -> bool
-    ensures { MatchBool result (HaveSameTag stored.now came.now) (¬ (HaveSameTag stored.now came.now)) }
-{
-    match (strong_tag(&stored.response), strong_tag(&came.response)) {
-        (Some(own), Some(other)) => own.as_bytes() == other.as_bytes(),
-        _ => false,
-    }
 }
 
 // Whether a response has content of the representation that its GET selected.

@@ -27,8 +27,8 @@ pub enum Combined {
     Once(StoredResponse),
 }
 
-// Whether two responses have the same strong validator.
-fn have_same_tag(stored: &StoredResponse, came: &StoredResponse) -> bool
+/// Whether two responses have the same strong validator (RFC 9110, section 8.8.1).
+pub fn have_same_tag(stored: &StoredResponse, came: &StoredResponse) -> bool
     ensures { MatchBool result (HaveSameTag stored.now came.now) (¬ (HaveSameTag stored.now came.now)) }
 {
     match (strong_tag(&stored.response), strong_tag(&came.response)) {

@@ -13,7 +13,7 @@ mod received;
 mod recording;
 
 pub use crate::answering::{answer_part, bytes_of_part, part_fields};
-pub use crate::combining::{Combined, combine};
+pub use crate::combining::{Combined, combine, have_same_tag};
 pub use crate::completing::{completing_fields, lacking};
 pub use crate::extent::{Extent, extent_in, strong_tag};
 pub use crate::received::{is_part, received_extent};
