@@ -4,7 +4,7 @@ use Rattle.headers.specs.Typed.{HasLine}
 use Rattle.headers_cache.specs.Changes.{FitsAlone, IsInserted, IsStoredAs, IsToStore}
 use Rattle.headers_cache.specs.Contents.{Contents, responses_at, size_of, without}
 use Rattle.headers_cache.specs.declared.limits.Limits.{Limits}
-use Rattle.headers_cache_parts.specs.Combining.{HaveSameTag, IsCombinedAs}
+use Rattle.headers_cache_parts.specs.Combining.{AreCombinable, HaveSameTag, IsCombinedAs}
 use Rattle.headers_cache_parts.specs.Received.{IsPart, IsRecorded, IsSelfContained}
 use Rattle.headers_cache_parts.specs.declared.combining.Combined.{Combined}
 use Rattle.headers_cache_parts.specs.declared.combining.Combined.TheVariants as combined
@@ -24,6 +24,12 @@ abbrev pub IsSelectedPart : Request → List StoredResponse → Option StoredRes
 IsSelectedPart request parts None = IsSelected (IsCandidate request) parts None
 IsSelectedPart request parts (Some stored) =
     (place : ℕ) × (found : IsMostRecent (IsCandidate request) parts place) × (found.response ≡ stored)
+
+-- the received part and the one that its request selects may be combined
+abbrev pub IsCombinable : List StoredResponse → StoredResponse → Reception → Type 0
+IsCombinable parts came reception =
+    (stored : StoredResponse) × IsSelectedPart (request_of_stored came) parts (Some stored)
+    × ((own : Extent) × (other : Extent) × AreCombinable stored came reception own other)
 
 -- ---- a response that isn't stored
 
@@ -83,6 +89,13 @@ module _ (policy : Policy) (parts : List StoredResponse) (came : StoredResponse)
   IsNotTaken =
       ((extent : Extent) → ¬ (IsPart policy came reception extent))
       ⊎ (IsMerged combined.Apart × ¬ (IsSelfContained came))
+
+  -- Memory is allocated for the response: it is a part that may have all fields of the representation, or that may be
+  -- combined with the selected one.
+  pub record NeedsMemory : Type 0 where
+    pub extent : Extent
+    pub part : IsPart policy came reception extent
+    pub used : IsSelfContained came ⊎ IsCombinable parts came reception
 
 module _ (policy : Policy) (limits : Limits) (key : List ℕ) (old : Contents) where
   -- A taken part is stored, as the ordinary store stores a response; or it is the whole, and is returned; or it may not

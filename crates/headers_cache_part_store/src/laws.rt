@@ -1,5 +1,5 @@
 //! Theorems about every list of calls. To cite one in a proof, call it.
-ghost use Rattle.std.specs.Prelude.{◌≡◌, ℕ, List, ◌∷◌, Some, length, slice_get};
+ghost use Rattle.std.specs.Prelude.{◌≡◌, ◌⊎◌, ℕ, List, ◌∷◌, Some, length, slice_get};
 ghost use Rattle.headers.specs.Lines.{Line};
 ghost use Rattle.headers_cache.specs.Contents.{Contents, responses_at};
 ghost use Rattle.headers_cache.specs.Room.{HasRoom};
@@ -14,9 +14,10 @@ ghost use Rattle.headers_cache_part_store.specs.Answering.{HasBytesAt, IsLookedU
 ghost use Rattle.headers_cache_part_store.specs.History.PartCall.{Received};
 ghost use Rattle.headers_cache_part_store.specs.History.{AreBytesOf, AreReceived, PartHistory, Run};
 ghost use Rattle.headers_cache_part_store.specs.Kept.{limits_of_parts, parts_of};
-ghost use Rattle.headers_cache_part_store.specs.Recording.{IsTaken, IsWhole};
+ghost use Rattle.headers_cache_part_store.specs.Recording.{IsNotTaken, IsRecordedAs, IsTaken, IsWhole, NeedsMemory};
 ghost use Rattle.headers_cache_part_store.specs.declared.answering.PartAnswer.{PartAnswer};
 ghost use Rattle.headers_cache_part_store.specs.declared.answering.PartLookup.TheVariants.{Serve};
+ghost use Rattle.headers_cache_part_store.specs.declared.recording.Recorded.{Recorded};
 ghost use Rattle.headers_cache_part_store.specs.declared.store.PartStore.{PartStore};
 
 /// Theorem: after any calls of a new store, each byte of a 206 is one that was received at its position.
@@ -44,6 +45,19 @@ pub fn wholes_were_received()
         → (tag : Line) × (strong_tag (fields_of_stored part) ≡ Some tag)
         × AreReceived (Received key came reception ∷ calls) key tag (length part.content.items) 0
         part.content.items }
+{}
+
+/// Theorem: `record` needs memory exactly if a part of the response is taken by itself or combined. If
+/// none is, as of a 206 to a request with If-Range that isn't combined, it can't run out of memory. Each
+/// other outcome is of a response that needs memory.
+pub fn memory_is_for_what_is_taken()
+    ensures untaken { (policy : Policy) (parts : List StoredResponse) (came : StoredResponse) (reception : Reception)
+        → IsNotTaken policy parts came reception → ¬ (NeedsMemory policy parts came reception) }
+    ensures taken { (policy : Policy) (limits : Limits) (key : List ℕ) (old new : Contents) (came : StoredResponse)
+        (reception : Reception) (recorded : Recorded)
+        → IsRecordedAs policy limits key old came reception new recorded
+        → IsNotTaken policy (responses_at key old) came reception
+        ⊎ NeedsMemory policy (responses_at key old) came reception }
 {}
 
 /// Theorem: a store of parts never has more parts, or bytes of them, than its limits.

@@ -5,15 +5,14 @@ ghost use Rattle.headers.specs.LineMap.{lines_at};
 ghost use Rattle.headers.specs.Typed.{HasLine};
 ghost use Rattle.headers_cache.specs.Changes.{IsFront};
 ghost use Rattle.headers_cache.specs.Contents.{responses_at, without};
-ghost use Rattle.headers_cache_parts.specs.Received.{IsPart};
-ghost use Rattle.headers_cache_parts.specs.declared.extent.Extent.{Extent};
+ghost use Rattle.headers_cache_parts.specs.Received.{IsSelfContained};
 ghost use Rattle.headers_cache_rules.specs.Stored.{request_of_stored};
 ghost use Rattle.headers_cache_part_store.specs.History.PartCall.{Received};
 ghost use Rattle.headers_cache_part_store.specs.History.{Step};
 ghost use Rattle.headers_cache_part_store.specs.Kept.{limits_of_parts, parts_of, policy_of_parts};
-ghost use Rattle.headers_cache_part_store.specs.Recording.{Changes, IsContent, IsCurrent, IsKeptAs, IsMerged};
-ghost use Rattle.headers_cache_part_store.specs.Recording.{IsLeft, IsRecordedAs, IsSelectedPart, IsSuperseded};
-ghost use Rattle.headers_cache_part_store.specs.Recording.{IsTakenAlone};
+ghost use Rattle.headers_cache_part_store.specs.Recording.{Changes, IsCombinable, IsContent, IsCurrent, IsKeptAs};
+ghost use Rattle.headers_cache_part_store.specs.Recording.{IsLeft, IsMerged, IsRecordedAs, IsSelectedPart};
+ghost use Rattle.headers_cache_part_store.specs.Recording.{IsSuperseded, IsTakenAlone, NeedsMemory};
 
 use crate::store::PartStore;
 use headers::{HeaderMap, HeaderName, InsertError};
@@ -72,9 +71,9 @@ impl PartStore {
     /// does a 200 or 206 that isn't stored and hasn't the strong validator of the stored part: the
     /// representation has changed.
     ///
-    /// Fails only if an allocation fails, or if the fields don't fit into a map; both need a part. Then
-    /// the store is as before; or nothing is stored under the key, and maybe under keys that weren't used
-    /// for the longest time.
+    /// Fails only if an allocation fails, or if the fields don't fit into a map. Both need a part that may
+    /// be combined with the selected one, or be stored by itself. Then the store is as before; or nothing
+    /// is stored under the key, and maybe under keys that weren't used for the longest time.
     pub fn record(
         &mut self,
         alloc: Global,
@@ -86,7 +85,8 @@ impl PartStore {
             (parts_of self.old) came reception (parts_of self.new)) }
         ensures err { OnErr result ((parts_of self.new ≡ parts_of self.old)
             ⊎ IsFront (without key.now (parts_of self.old)) (parts_of self.new)) }
-        ensures memory { OnErr result ((extent : Extent) × IsPart (policy_of_parts self.old) came reception extent) }
+        ensures memory { OnErr result (NeedsMemory (policy_of_parts self.old)
+            (responses_at key.now (parts_of self.old)) came reception) }
         ensures step { Step (policy_of_parts self.old) (limits_of_parts self.old) (Received key.now came reception)
             (parts_of self.old) (parts_of self.new) }
         ensures policy { policy_of_parts self.new ≡ policy_of_parts self.old }
@@ -119,6 +119,7 @@ impl PartStore {
             (parts_of self.old) came extent (parts_of self.new)) }
         ensures err { OnErr result ((parts_of self.new ≡ parts_of self.old)
             ⊎ IsFront (without key.now (parts_of self.old)) (parts_of self.new)) }
+        ensures memory { OnErr result (IsSelfContained came) }
         ensures policy { policy_of_parts self.new ≡ policy_of_parts self.old }
         ensures limits { limits_of_parts self.new ≡ limits_of_parts self.old }
     {
@@ -173,8 +174,9 @@ impl PartStore {
         came: &StoredResponse,
         reception: Reception,
     ) -> Result<Combined, InsertError>
-        ensures { IfOk result (IsMerged (policy_of_parts self.now) (responses_at key.now (parts_of self.now))
+        ensures merged { IfOk result (IsMerged (policy_of_parts self.now) (responses_at key.now (parts_of self.now))
             came.now reception) }
+        ensures memory { OnErr result (IsCombinable (responses_at key.now (parts_of self.now)) came.now reception) }
     {
         match self.selected(key, came) {
             Some(stored) => combine(alloc, stored, came, reception, &self.policy()),

@@ -1,11 +1,11 @@
 use Rattle.std.proofs.Common.{inr, subst}
-use Rattle.headers_cache.proofs.LookupLemmas.{if_ok}
+use Rattle.headers_cache.proofs.LookupLemmas.{if_ok, on_err}
 use Rattle.headers_cache_parts.specs.Combining.{IsCombinedAs}
 use Rattle.headers_cache_policy.specs.Policies.{Policy}
 use Rattle.headers_cache_part_store.proofs.store.PartStore.merged.Goals as goal
 
-pub returns-in-Some : goal.returns-in-Some
-returns-in-Some c =
+pub returns-in-Some-clause-merged : goal.returns-in-Some-clause-merged
+returns-in-Some-clause-merged c =
     if_ok c.combine.result
     (λ result is. inr (
       c.in-Some.stored.now,
@@ -14,3 +14,7 @@ returns-in-Some c =
           c.policy.ensures is,
     ))
     c.combine.ensures.combined
+
+pub returns-in-Some-clause-memory : goal.returns-in-Some-clause-memory
+returns-in-Some-clause-memory c =
+    on_err c.combine.result (λ may. (c.in-Some.stored.now, c.in-Some.ensures, may)) c.combine.ensures.memory

@@ -7,8 +7,17 @@ use Rattle.headers_cache_parts.specs.declared.extent.Extent.{Extent}
 use Rattle.headers_cache_policy.specs.Policies.{Policy}
 use Rattle.headers_cache_part_store.specs.Kept.{limits_of_parts, parts_of, policy_of_parts}
 use Rattle.headers_cache_part_store.specs.Recording.{IsMerged}
-use Rattle.headers_cache_part_store.proofs.CallLemmas.{alone_recorded, kept_recorded, on_err_always, recorded_step}
+use Rattle.headers_cache_part_store.proofs.CallLemmas.{alone_recorded, kept_recorded, recorded_step}
+use Rattle.headers_cache_part_store.proofs.MemoryLemmas.{alone_needs, combined_needs, stored_combinable}
 use Rattle.headers_cache_part_store.proofs.store.PartStore.record.Goals as goal
+
+pub returns-in_err-merged-clause-memory : goal.returns-in_err-merged-clause-memory
+returns-in_err-merged-clause-memory c =
+    combined_needs (policy_of_parts c.args.self.now) (responses_at c.args.key.now (parts_of c.args.self.now))
+    c.args.came c.args.reception c.in-Some.extent
+    (subst (λ (p : Policy). IsPart p c.args.came c.args.reception c.in-Some.extent) c.policy.ensures
+    c.in-Some.ensures.value)
+    c.from_residual.result c.in_err-merged.ensures.memory
 
 pub returns-in_default-clause-recorded : goal.returns-in_default-clause-recorded
 returns-in_default-clause-recorded c =
@@ -28,8 +37,16 @@ returns-in-Apart-clause-recorded c =
     (subst
     (λ (r : Combined). IsMerged (policy_of_parts c.args.self.now)
     (responses_at c.args.key.now (parts_of c.args.self.now)) c.args.came c.args.reception r)
-    c.in-Apart.is c.in_ok-merged.ensures))
+    c.in-Apart.is c.in_ok-merged.ensures.merged))
     c.take.ensures.taken
+
+pub returns-in-Apart-clause-memory : goal.returns-in-Apart-clause-memory
+returns-in-Apart-clause-memory c =
+    alone_needs (policy_of_parts c.args.self.now) (responses_at c.args.key.now (parts_of c.args.self.now))
+    c.args.came c.args.reception c.in-Some.extent
+    (subst (λ (p : Policy). IsPart p c.args.came c.args.reception c.in-Some.extent) c.policy.ensures
+    c.in-Some.ensures.value)
+    c.take.result c.take.ensures.memory
 
 pub returns-in-Apart-clause-step : goal.returns-in-Apart-clause-step
 returns-in-Apart-clause-step c =
@@ -48,17 +65,23 @@ returns-in-Stored-clause-recorded c =
       inr (subst
           (λ (r : Combined). IsMerged (policy_of_parts c.args.self.now)
           (responses_at c.args.key.now (parts_of c.args.self.now)) c.args.came c.args.reception r)
-          c.in-Stored.is c.in_ok-merged.ensures),
+          c.in-Stored.is c.in_ok-merged.ensures.merged),
     ))
     c.keep.ensures.kept
 
 pub returns-in-Stored-clause-memory : goal.returns-in-Stored-clause-memory
 returns-in-Stored-clause-memory c =
-    on_err_always c.keep.result (
-      c.in-Some.extent,
-      subst (λ (p : Policy). IsPart p c.args.came c.args.reception c.in-Some.extent) c.policy.ensures
-          c.in-Some.ensures.value,
-    )
+    combined_needs (policy_of_parts c.args.self.now) (responses_at c.args.key.now (parts_of c.args.self.now))
+    c.args.came c.args.reception c.in-Some.extent
+    (subst (λ (p : Policy). IsPart p c.args.came c.args.reception c.in-Some.extent) c.policy.ensures
+    c.in-Some.ensures.value)
+    c.keep.result
+    (stored_combinable (policy_of_parts c.args.self.now) (responses_at c.args.key.now (parts_of c.args.self.now))
+    c.args.came c.args.reception c.in-Stored.part
+    (subst
+    (λ (r : Combined). IsMerged (policy_of_parts c.args.self.now)
+    (responses_at c.args.key.now (parts_of c.args.self.now)) c.args.came c.args.reception r)
+    c.in-Stored.is c.in_ok-merged.ensures.merged))
 
 pub returns-in-Stored-clause-step : goal.returns-in-Stored-clause-step
 returns-in-Stored-clause-step c =
@@ -74,6 +97,6 @@ returns-in-Once-clause-recorded c = (
   subst
       (λ (r : Combined). IsMerged (policy_of_parts c.args.self.now)
       (responses_at c.args.key.now (parts_of c.args.self.now)) c.args.came c.args.reception r)
-      c.in-Once.is c.in_ok-merged.ensures,
+      c.in-Once.is c.in_ok-merged.ensures.merged,
   c.remove.ensures.contents,
 )
