@@ -1,7 +1,7 @@
 """Runs the parts, and writes what they show into docs/BESIDE_PEERS.md. `run` calls it, and says what is built and
 installed.
 
-    judge.py [--inputs N] [--seed N] [--table FILE] WORK PART..
+    judge.py [--inputs N] [--seed N] [--jobs N] [--table FILE] WORK PART..
 
 A part's section of the table is replaced if all its peers are here. The last lines are one for each part; the status
 is 0 exactly if nothing was wrong.
@@ -43,6 +43,7 @@ def main() -> int:
     words = argparse.ArgumentParser()
     words.add_argument("--inputs", type=int, default=100_000, help="how many inputs each model is given")
     words.add_argument("--seed", type=int, default=1)
+    words.add_argument("--jobs", type=int, help="in how many processes histories are played")
     words.add_argument("--table", type=Path, default=Path(__file__).resolve().parents[2] / "docs/BESIDE_PEERS.md")
     words.add_argument("work", type=Path)
     words.add_argument("parts", nargs="*", choices=PARTS, metavar="PART")
@@ -53,7 +54,7 @@ def main() -> int:
         work = given.work / name
         work.mkdir()
         work.chmod(0o755)
-        part = run_part(name, Context(work, given.inputs, given.seed))
+        part = run_part(name, Context(work, given.inputs, given.seed, given.jobs))
         parts.append(part)
         for fault in part.faults:
             print(f"{name}: {fault}", flush=True)

@@ -37,8 +37,9 @@ def code(text: object) -> str:
 
 @dataclass
 class Context:
-    """Where a part works, and what it is to ask."""
+    """Where a part works, what it is to ask, and in how many processes (`None`: as many as there are processors)."""
 
     work: Path
     inputs: int
     seed: int
+    jobs: int | None

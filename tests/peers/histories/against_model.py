@@ -45,11 +45,11 @@ def compare_batch(program: Path, seed: int, option: str, indices: range) -> Comp
     return comparison
 
 
-def compare(seed: int, option: str, count: int) -> Comparison:
+def compare(seed: int, option: str, count: int, jobs: int | None) -> Comparison:
     comparison = Comparison()
     program = products.program("headers_cache")
     batches = [range(first, min(first + BATCH, count)) for first in range(0, count, BATCH)]
-    with ProcessPoolExecutor() as pool:
+    with ProcessPoolExecutor(jobs) as pool:
         for found in pool.map(compare_batch, repeat(program), repeat(seed), repeat(option), batches):
             comparison.merge(found)
     return comparison

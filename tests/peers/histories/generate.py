@@ -40,8 +40,8 @@ CONDITIONS = {"if-none-match": ['"1"', '"1"', 'W/"1"', '"2"', '"0", "1"', "*", '
               "if-unmodified-since": [imf_fixdate(BEGIN)]}
 CONNECTIONS = ["close", "close, x-b", "x-b", "keep-alive", "Vary", "cache-control", "x b", ",", "date",
                "CDN-Cache-Control"]
-# The options of a cache, and how many of a hundred histories have each beside those without options.
-OPTIONS = {"none": 100, "immutable": 10, "targeted fields": 10, "guessed lifetimes": 10, "all": 10}
+# The options of a cache.
+OPTIONS = ("none", "immutable", "targeted fields", "guessed lifetimes", "all")
 TARGETED = [("cdn-cache-control",), ("cdn-cache-control",), ("cdn-cache-control", "x-cdn-control"),
             ("x-cdn-control", "cdn-cache-control")]
 MEMBERS = ["max-age=60", "max-age=60", "max-age=600", "max-age=0", "max-age=3600", "s-maxage=60", "no-store",

@@ -4,26 +4,31 @@ from common.part import Context, Part
 from histories import against_model, generate
 
 INTRODUCTION = """
-`headers_cache` and the model play the same {total:,} random histories of a cache, each of at least 22 calls. Of these
-{count:,} have no options. Clients ask with fields that Vary names, conditions, ranges, Authorization and malformed
-directives. The origin answers, validates by 304 or HEAD, with strong, weak and no validators, and invalidates. Time
-goes on, and sometimes back. Limits are small, so responses are evicted. Each answer is compared, and at the end all
-that is stored.
+`headers_cache` and the model play the same {total:,} random histories of a cache, each of at least 22 calls. Clients
+ask with fields that Vary names, conditions, ranges, Authorization and malformed directives. The origin answers,
+validates by 304 or HEAD, with strong, weak and no validators, and invalidates. Time goes on, and sometimes back. Limits
+are small, so responses are evicted. Each answer is compared, and at the end all that is stored. A history ends with its
+first answer that is otherwise.
+"""
+OPTIONS = """
+A cache has no [options](CACHE_POLICY.md#options), or `immutable` (RFC 8246), or targeted fields (RFC 9213), or it may
+guess lifetimes by `lookup_guessing` (RFC 9111, section 4.2.2), or it has all of these. Its origin makes use of them.
 """
 
 
 def run(context: Context) -> Part:
     part = Part("A cache over time")
-    counts = {option: context.inputs * share // 100 for option, share in generate.OPTIONS.items()}
-    found = {option: against_model.compare(context.seed, option, count) for option, count in counts.items()}
+    count = max(1, context.inputs // len(generate.OPTIONS))
+    found = {it: against_model.compare(context.seed, it, count, context.jobs) for it in generate.OPTIONS}
     every = Comparison()
     for comparison in found.values():
         every.merge(comparison)
-    total = sum(counts.values())
-    part.section += INTRODUCTION.strip().format(total=total, count=counts["none"]).split("\n") + [""]
-    part.table(["Options", "histories", "answers as the model", "otherwise"],
-               [[it, f"{counts[it]:,}", comparison.agree.total(), comparison.differences]
-                for it, comparison in found.items()])
+    total = count * len(found)
+    part.section += INTRODUCTION.strip().format(total=total).split("\n") + [""]
+    part.section += OPTIONS.strip().split("\n") + [""]
+    part.table(["Options", "histories", "answers", "otherwise"],
+               [[option, count, it.agree.total() + it.differences, it.differences] for option, it in found.items()])
+    part.section += ["The same answers by call:", ""]
     part.table(["Call", "as the model", "otherwise"], [it[:3] for it in every.rows()])
     part.want(f"differences from the model in {total:,} histories", every.differences, 0)
     part.faults += every.faults()
