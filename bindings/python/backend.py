@@ -38,7 +38,6 @@ Name: typed-headers
 Version: {version}
 Summary: Typed HTTP headers, by a library whose calls are proved to follow their specifications
 License: MIT
-License-File: LICENSE
 Keywords: http,headers,caching,cors,range requests
 Classifier: Development Status :: 5 - Production/Stable
 Classifier: Intended Audience :: Developers
