@@ -33,9 +33,9 @@
 
 /* The version of this file. `typed_headers_version` returns that of the library. */
 #define TYPED_HEADERS_VERSION_MAJOR 1
-#define TYPED_HEADERS_VERSION_MINOR 0
+#define TYPED_HEADERS_VERSION_MINOR 1
 #define TYPED_HEADERS_VERSION_PATCH 0
-#define TYPED_HEADERS_VERSION "1.0.0"
+#define TYPED_HEADERS_VERSION "1.1.0"
 
 #ifdef __cplusplus
 extern "C" {

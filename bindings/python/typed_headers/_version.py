@@ -1,3 +1,3 @@
 """The version, which tools/version writes."""
 
-VERSION = "1.0.0"
+VERSION = "1.1.0"

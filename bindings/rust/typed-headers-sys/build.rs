@@ -2,6 +2,8 @@
 use std::path::Path;
 use std::process::Command;
 
+const VERSION: &str = "1.1";
+
 fn main() {
     println!("cargo::rerun-if-env-changed=TYPED_HEADERS");
     println!("cargo::rerun-if-env-changed=PKG_CONFIG_PATH");
@@ -26,11 +28,11 @@ fn link_folder(folder: &Path) -> Result<(), String> {
 fn link_installed() -> Result<(), String> {
     const INSTALL: &str = "install libtyped-headers-dev, or set TYPED_HEADERS to the folder of libtyped_headers.a";
     let told = Command::new(std::env::var_os("PKG_CONFIG").unwrap_or("pkg-config".into()))
-        .args(["--libs", "typed_headers >= 1.0"])
+        .args(["--libs", &format!("typed_headers >= {VERSION}")])
         .output()
         .map_err(|error| format!("pkg-config doesn't run ({error}): {INSTALL}"))?;
     if !told.status.success() {
-        return Err(format!("pkg-config doesn't know typed_headers 1.0 or later: {INSTALL}"));
+        return Err(format!("pkg-config doesn't know typed_headers {VERSION} or later: {INSTALL}"));
     }
     for word in String::from_utf8_lossy(&told.stdout).split_whitespace() {
         if let Some(folder) = word.strip_prefix("-L") {
