@@ -1,23 +1,32 @@
 //! Paths with every link resolved, below a root.
-ghost use Rattle.std.specs.Path.{PathStartsWith, path_buf_bytes};
+ghost use Rattle.std.specs.Prelude.{◌↔◌, ◌≢◌, All, IsTrue, codes};
+ghost use Rattle.std.specs.Path.{PathStartsWith, path_buf_bytes, path_components};
 
 use std::path::PathBuf;
 use std::{fs, io};
 
-/// A path with every link resolved, which begins with that of a root. Files are opened only at such
-/// paths.
+/// A path with every link resolved, which begins with that of a root and has no `..`. So it names what
+/// stands in the root, or the root. Files are opened only at such paths.
 #[derive(Drop)]
 pub struct Place<'a> {
     root: &'a str,
     path: PathBuf,
     ghost is_inside: { ∥ PathStartsWith (path_buf_bytes path) root.now ∥₁ },
+    ghost goes_down: { All (λ part. part ≢ codes "..") (path_components (path_buf_bytes path)) },
+}
+
+// Whether no component of a path is `..`.
+fn has_no_way_up(path: &PathBuf) -> bool
+    ensures { IsTrue result ↔ All (λ part. part ≢ codes "..") (path_components (path_buf_bytes path.now)) }
+{
+    path.components().all(|part| part.as_os_str() != "..")
 }
 
 impl<'a> Place<'a> {
-    /// Resolves the links of a path. `None` if it leads out of the root.
+    /// Resolves the links of a path. `None` if it leads out of the root, or if the resolved path has a `..`.
     pub fn resolve(rt: &HostRuntime, root: &'a str, path: &str) -> io::Result<Option<Place<'a>>> {
         let path = fs::canonicalize(rt, path)?;
-        if path.starts_with(root) {
+        if path.starts_with(root) && has_no_way_up(&path) {
             Ok(Some(Place { root, path }))
         } else {
             Ok(None)
