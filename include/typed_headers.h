@@ -1,6 +1,7 @@
 /*
- * Typed HTTP headers for C. The functions of this file are proved: each meets the contract that docs/C.md tells of,
- * and reads and writes nothing but what it is handed.
+ * Typed HTTP headers for C. The functions of this file are proved: each meets its contract, which this file puts into
+ * words, and reads and writes only what it is passed. typed_headers(3) has a first program, and docs/C.md of the
+ * sources a guide.
  *
  * What holds of every call
  *
@@ -433,7 +434,7 @@ uint8_t typed_headers_canonical(const uint8_t *section, size_t section_length, c
 
 /*
  * The canonical field lines of a header: what the typed header of this name writes of the value that the lines say,
- * each line with a LF. `name` is the name of a field, in any case: of the 51 headers that docs/C.md lists. The lines of
+ * each line with a LF. `name` is the name of a field, in any case: of the 51 headers of the library. The lines of
  * `authorization` and `proxy-authorization` are read as credentials of Basic, or else of Bearer. The lines of a name
  * that no header has are as they came.
  *
