@@ -66,19 +66,25 @@ impl Plan {
         let content_range = self.content_range(alloc, content.len)?;
         let content_length = self.content_length(alloc, content.len)?;
         let content_type = self.content_type(alloc, is_known, content, boundary)?;
-        let mut fields = vec![in alloc;
+        if self.keeps_encoding(is_known) {
+            return Ok(vec![in alloc;
+                etag,
+                last_modified,
+                accept_ranges,
+                content_range,
+                content_length,
+                content_type,
+            ]?);
+        }
+        Ok(vec![in alloc;
             etag,
             last_modified,
             accept_ranges,
             content_range,
             content_length,
             content_type,
-        ]?;
-        if self.keeps_encoding(is_known) {
-            return Ok(fields);
-        }
-        fields.push(absent(alloc, CONTENT_ENCODING))?;
-        Ok(fields)
+            absent(alloc, CONTENT_ENCODING),
+        ]?)
     }
 
     // Whether Content-Encoding stays as the server set it.

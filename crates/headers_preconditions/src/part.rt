@@ -1,11 +1,11 @@
 //! Parts of a representation.
-ghost use Rattle.std.specs.Prelude.{◌≡◌, ◌↔◌, ◌+◌, ◌^◌, ◌<◌, ◌≤◌, ℕ, All, Any, IfOk, Some, nat_le};
+ghost use Rattle.std.specs.Prelude.{◌≡◌, ◌↔◌, ◌+◌, ◌^◌, ◌<◌, ◌≤◌, ℕ, All, Any, Some, nat_le};
+ghost use Rattle.std.specs.Prelude.{if◌then◌else◌};
 ghost use Rattle.std.specs.List.Sorted.{IsNonDecreasingBy, IsPermutation};
-ghost use Rattle.headers_preconditions.specs.Merged.{merged, merged_from};
+ghost use Rattle.headers_preconditions.specs.Merged.{joined, merged};
 ghost use Rattle.headers_preconditions.specs.Parts.{AreCoalesced, Holds, IsJoined, IsPartOf, part_size};
 
 use headers::ContentRange;
-use std::alloc::{AllocError, Global};
 use std::ops::Bound;
 
 /// A part of a representation: the bytes from one position to another, both included.
@@ -40,21 +40,15 @@ impl Part {
 }
 
 // The parts in order, with those joined between which at most `gap` positions lie. This takes the
-// time of a sort, and the memory of a copy.
-pub(crate) fn coalesce(
-    alloc: Global,
-    len: u64,
-    gap: u64,
-    mut parts: Vec<Part>,
-) -> Result<Vec<Part>, AllocError>
+// time of a sort, and no memory: the result is the list that was given.
+pub(crate) fn coalesce(len: u64, gap: u64, mut parts: Vec<Part>) -> Vec<Part>
     requires { All (IsPartOf len) parts.items }
-    ensures coalesced { IfOk result (λ joined. AreCoalesced len gap joined.items) }
-    ensures same { IfOk result (λ joined. (p : ℕ) → Any (Holds p) joined.items
-        ↔ IsJoined gap (λ q. Any (Holds q) parts.items) p) }
+    ensures coalesced { AreCoalesced len gap result.items }
+    ensures same { (p : ℕ) → Any (Holds p) result.items ↔ IsJoined gap (λ q. Any (Holds q) parts.items) p }
 {
     sort(&mut parts);
-    let joined = merge(alloc, gap, parts.as_slice())?;
-    Ok(joined)
+    merge(gap, &mut parts);
+    parts
 }
 
 // Sorts parts by their first positions.
@@ -66,13 +60,22 @@ fn sort(parts: &mut Vec<Part>)
 }
 
 // Joins parts that are in order.
-fn merge(alloc: Global, gap: u64, parts: &[Part]) -> Result<Vec<Part>, AllocError>
-    ensures { IfOk result (λ joined. joined.items ≡ merged gap parts.now) }
+fn merge(gap: u64, parts: &mut Vec<Part>)
+    ensures { parts.new.items ≡ merged gap parts.old.items }
 {
-    let Some((first, rest)) = parts.split_first() else {
-        return Ok(Vec::new(alloc));
-    };
-    merge_from(alloc, gap, *first, rest)
+    parts.dedup_by(|next, part| join_if_close(gap, part, next));
+}
+
+// Joins the next part to a part if they are close, and returns whether they are.
+fn join_if_close(gap: u64, part: &mut Part, next: &Part) -> bool
+    ensures close { result ≡ nat_le next.now.first (part.old.last + gap + 1) }
+    ensures joined { part.new ≡ (if result then joined part.old next.now else part.old) }
+{
+    if !are_close(gap, part, next) {
+        return false;
+    }
+    part.last = part.last.max(next.last);
+    true
 }
 
 // Whether at most `gap` positions lie between the parts, the second of which doesn't begin first.
@@ -80,22 +83,4 @@ fn are_close(gap: u64, part: &Part, next: &Part) -> bool
     ensures { result ≡ nat_le next.now.first (part.now.last + gap + 1) }
 {
     next.first <= part.last.saturating_add(gap).saturating_add(1)
-}
-
-// Joins a part and those after it.
-fn merge_from(alloc: Global, gap: u64, first: Part, rest: &[Part]) -> Result<Vec<Part>, AllocError>
-    ensures { IfOk result (λ joined. joined.items ≡ merged_from gap first rest.now) }
-{
-    let mut joined = Vec::new(alloc);
-    let mut open = first;
-    for part in rest {
-        if are_close(gap, &open, part) {
-            open.last = open.last.max(part.last);
-        } else {
-            joined.push(open)?;
-            open = *part;
-        }
-    }
-    joined.push(open)?;
-    Ok(joined)
 }

@@ -1,11 +1,11 @@
 //! The part of a representation that a request selects.
-ghost use Rattle.std.specs.Prelude.{◌≡◌, ◌↔◌, ◌+◌, ◌*◌, ℕ, List, All, Any, IfOk, MatchOption, OnErr};
+ghost use Rattle.std.specs.Prelude.{◌≡◌, ◌↔◌, ◌+◌, ◌*◌, ℕ, List, Any, IfOk, MatchOption, OnErr};
 ghost use Rattle.std.specs.Prelude.{bytes_eq, codes, map, nat_eq, nat_lt, option_map};
 ghost use Rattle.std.specs.Char.{to_ascii_lowercase};
 ghost use Rattle.headers_dates.specs.Calendar.{unix_epoch};
 ghost use Rattle.headers.specs.LineMap.{lines_at};
 ghost use Rattle.headers_preconditions.specs.Limits.{are_too_many};
-ghost use Rattle.headers_preconditions.specs.Parts.{AreCoalesced, Holds, IsJoined, IsPartOf};
+ghost use Rattle.headers_preconditions.specs.Parts.{AreCoalesced, Holds, IsJoined};
 ghost use Rattle.headers_preconditions.specs.Selection.{has_bytes_unit, if_range_lets, is_exactly, is_modified_at};
 ghost use Rattle.headers_preconditions.specs.Selection.{range_set_of, set_asked, Applies, AsksForSome, IsAsked};
 ghost use Rattle.headers_preconditions.specs.Selection.{Selects};
@@ -177,16 +177,6 @@ fn parts_asked(alloc: Global, set: &[u8], len: u64, gap: u64) -> Result<Vec<Part
     ensures covers { IfOk result (λ parts. (p : ℕ) → Any (Holds p) parts.items
         ↔ IsJoined gap (IsAsked len set.now) p) }
 {
-    let asked = parts_as_asked(alloc, set, len)?;
-    let parts = coalesce(alloc, len, gap, asked)?;
-    Ok(parts)
-}
-
-// The parts that a range-set asks for, in their order.
-fn parts_as_asked(alloc: Global, set: &[u8], len: u64) -> Result<Vec<Part>, AllocError>
-    ensures within { IfOk result (λ parts. All (IsPartOf len) parts.items) }
-    ensures covers { IfOk result (λ parts. (p : ℕ) → Any (Holds p) parts.items ↔ IsAsked len set.now p) }
-{
     let parts = parts_in(alloc, len, set)?;
-    Ok(parts)
+    Ok(coalesce(len, gap, parts))
 }
