@@ -1,6 +1,7 @@
 -- What a step of sending does to a response.
 use Rattle.std.proofs.Common.{◌≡◌, ℕ, ◌+◌, ◌^◌, ◌<◌, ◌≤◌, Bool, true, false, cond, List, [], ◌∷◌, ◌++◌, length}
-use Rattle.std.proofs.Common.{replicate, None, refl, sym, ap, ◌∙◌, subst, arith, append_assoc, append-nil, inl, inr}
+use Rattle.std.proofs.Common.{replicate, not, None, refl, sym, ap, ◌∙◌, subst, arith, append_assoc, append-nil, inl}
+use Rattle.std.proofs.Common.{inr}
 use Rattle.std.proofs.lemmas.Bool.{ne_eqb, cond-false}
 use Rattle.std.proofs.lemmas.List.{length-replicate, nil_from_length}
 use Rattle.http.specs.declared.request.Request.{Request}
@@ -10,6 +11,7 @@ use Rattle.http1.specs.declared.conn.Writing.TheVariants as Writes
 use Rattle.http1.specs.declared.server.Server.{Server}
 use Rattle.http1.specs.Conn.{after_data, data_prefix, data_refusal, data_suffix, data_text, finish_text}
 use Rattle.http1.specs.Framing.{method_kind}
+use Rattle.http1.specs.Message.{ReadsRequestMessage, known_of}
 use Rattle.http1.specs.Server.{is_head, peer_method, writing, with_writing, after_end, after_response}
 use Rattle.http1.specs.Server.{planned_response, response_refusal, IsClosed}
 use Rattle.http1_typed.specs.Parts.{reason_of}
@@ -19,19 +21,22 @@ use Rattle.http_server.specs.declared.state.State.TheVariants.{Open, Closing, Ab
 use Rattle.http_server.specs.declared.state.Reason.TheVariants.{Asked}
 use Rattle.http_server.specs.Encoding.{Encodes, answering, size_of, after_body, final_text}
 use Rattle.http_server.specs.Encoding as Whole
-use Rattle.http_server.specs.Exchange.{ArePartsOf, Call, Chain, ReadsCall, Serves}
+use Rattle.http_server.specs.Exchange.{ArePartsOf, Call, Chain, Exchanges, IsAnswer, ReadsCall, Serves, keeps_open}
 use Rattle.http_server.specs.History.{History, IsServed, output}
 use Rattle.http_server.specs.Machine.{Core, HasRequest, HasResponse, IsRunning}
-use Rattle.http_server.proofs.AnswerLemmas.{body_is_taken}
+use Rattle.http_server.proofs.AnswerLemmas.{body_is_taken, final_answer, starts_over}
 use Rattle.http_server.proofs.ReplyLemmas.{closes, goes_on}
+use Rattle.http_server.proofs.StreamLemmas.{Serves-push}
 use Rattle.headers_exchange.specs.declared.piece.Piece.{Piece}
 use Rattle.headers_exchange.specs.declared.plan.Plan.{Plan}
 use Rattle.headers_exchange.specs.Encoding.{Frames, after_content, after_head, content_len, head_text, plan_size}
 use Rattle.headers_exchange.specs.Encoding.{plan_fields, prefix_of, size_for}
-use Rattle.headers_exchange.specs.Machine.{IsSending, Sends, View}
+use Rattle.headers_exchange.specs.Literal.{IsLater, IsLiteral, SendsCall}
+use Rattle.headers_exchange.specs.Machine.{Account, IsLaid, IsSending, Sends, View}
 use Rattle.headers_exchange.specs.Pieces.{Advances, Gives}
 use Rattle.headers_exchange.specs.Pieces.Advances.{stays}
 use Rattle.headers_exchange.specs.Plan.{Answers, IsContentOf, Plans, sent_pieces}
+use Rattle.headers_exchange.proofs.LiteralLemmas.{SendsCalls-push, rest_same}
 use Rattle.headers_exchange.proofs.PieceLemmas.{Advances-length, Advances-then}
 
 -- ---- a response with this content
@@ -133,12 +138,21 @@ out_after sent pending lost base head front bytes none out =
     append-nil _ ∙ sym (append_assoc sent pending bytes) ∙ ap (λ (t : List ℕ). t ++ bytes) before
     ∙ append_assoc base (head ++ front) bytes ∙ ap (λ (t : List ℕ). base ++ t) (append_assoc head front bytes)
 
-module _ {H : Type 0} (plans : Plans H) (gives : H → Gives) (before now : H) where
-  pub begins : (k : Core) (x : HasRequest k) (request : Request (List ℕ)) → ArePartsOf x.message.head (head_of request)
+module _ {H : Type 0} (plans : Plans H) (gives : H → Gives) (first before now : H) where
+  pub begins : (k : Core) (x : HasRequest k) {has_head : Bool}
+      → IsLaid plans gives first before (record {
+        config = k.config;
+        state = k.history.state;
+        received = k.history.received;
+        calls = k.history.calls;
+        output = output k.history;
+        has_head = has_head;
+      })
+      → (request : Request (List ℕ)) → ArePartsOf x.message.head (head_of request)
       → body_of request ≡ k.body → (plan : Plan) → plans before request plan now → (bodiless : Bool)
       → bodiless ≡ is_head (method_kind x.message.head.method) → (new : Server) (after tail : List ℕ)
       → Frames bodiless plan k.server k.history.pending [] new after tail
-      → IsSending plans gives before now (record {
+      → IsSending plans gives first before now (record {
         config = k.config;
         history = record (k.history) { pending = after };
         server = new;
@@ -147,22 +161,31 @@ module _ {H : Type 0} (plans : Plans H) (gives : H → Gives) (before now : H) w
         has_head = false;
         body = [];
       })
-  begins k x request parts body plan planned bodiless kind new after tail f =
-      let s = answering k.config.limits x.message.head x.reads.framing in
-      let g = subst (λ t. Frames bodiless plan t k.history.pending [] new after tail) x.server f in
+  begins k x laid request parts body plan planned bodiless kind new after tail f =
+      let l = laid.literal in
+      let same : x.base.rest ≡ l.rest =
+      rest_same k.config k.history.calls k.history.received x.base.text l.text x.base.rest l.rest
+      (subst (λ (calls : List Call). Serves k.config k.history.received calls x.base.text x.base.rest) (sym x.calls)
+      x.base.serves) (laid.serves x.base.is_open) in
+      let none : laid.lost ≡ [] = laid.whole (λ aborted. let wrong = sym x.base.is_open ∙ aborted in cc) in
+      let out : output k.history ≡ l.text ++ l.later =
+      sym (append-nil (output k.history)) ∙ ap (λ (t : List ℕ). output k.history ++ t) (sym none) ∙ l.out in
+      let at = subst
+      (λ (r : List ℕ). (reads : ReadsRequestMessage k.config.limits r x.message k.history.unread)
+      × (k.server ≡ answering k.config.limits x.message.head reads.framing)) same (x.reads, x.server) in
+      let s = answering k.config.limits x.message.head at.0.framing in
+      let g = subst (λ t. Frames bodiless plan t k.history.pending [] new after tail) at.1 f in
       record {
         response = record {
-          text = x.base.text;
-          rest = x.base.rest;
-          serves = subst (λ (calls : List Call). Serves k.config k.history.received calls x.base.text x.base.rest)
-              (sym x.calls)
-              x.base.serves;
-          interim = x.base.interim;
-          is_interim = x.base.is_interim;
+          text = l.text;
+          rest = l.rest;
+          serves = laid.serves x.base.is_open;
+          interim = l.later;
+          is_interim = subst (λ t. IsLater k.config.limits t l.rest l.later) x.base.is_open l.is_later;
           message = x.message;
           request = request;
           reads = record {
-            reads = x.reads;
+            reads = at.0;
             parts = parts;
             body = body ∙ x.body;
             fits = subst (λ (t : List ℕ). length t ≤ k.config.max_body_len) x.body x.fits;
@@ -180,10 +203,10 @@ module _ {H : Type 0} (plans : Plans H) (gives : H → Gives) (before now : H) w
           left = sent_pieces bodiless plan;
           advances = stays (sent_pieces bodiless plan);
           lost = [];
-          out = out_at_start k.history.sent k.history.pending (head_text s plan) (prefix_of bodiless s plan) _ after
-              x.base.out
+          out = out_at_start k.history.sent k.history.pending (head_text s plan) (prefix_of bodiless s plan) _ after out
               g.head;
         };
+        sends = l.sends;
         server = refl;
         tail = refl;
         left = λ _. refl;
@@ -193,7 +216,7 @@ module _ {H : Type 0} (plans : Plans H) (gives : H → Gives) (before now : H) w
         state = inl x.base.is_open;
       }
 
-  module _ (v : View) (x : IsSending plans gives before now v) where
+  module _ (v : View) (x : IsSending plans gives first before now v) where
     abbrev pub s : Sends plans gives before now v.config v.history
     s = x.response
 
@@ -230,7 +253,7 @@ module _ {H : Type 0} (plans : Plans H) (gives : H → Gives) (before now : H) w
 
     -- pieces are put into the output
     pub moves : v.history.state ≡ Open → (bytes : List ℕ) (left : List Piece) → Advances (gives now) v.left bytes left
-        → IsSending plans gives before now
+        → IsSending plans gives first before now
         (record v { history = record (v.history) { pending = v.history.pending ++ bytes }; left = left })
     moves is_open bytes left step = record {
       response = again (record (v.history) { pending = v.history.pending ++ bytes }) s.serves s.reads s.frames
@@ -239,6 +262,7 @@ module _ {H : Type 0} (plans : Plans H) (gives : H → Gives) (before now : H) w
           (Advances-then (gives now) s.advances
           (subst (λ l. Advances (gives now) l bytes left) (x.left is_open) step)) []
           (out_after v.history.sent v.history.pending s.lost _ s.head s.front bytes (x.going is_open) s.out);
+      sends = x.sends;
       server = x.server;
       tail = x.tail;
       left = λ _. refl;
@@ -249,7 +273,7 @@ module _ {H : Type 0} (plans : Plans H) (gives : H → Gives) (before now : H) w
     }
 
     -- the connection is cut off
-    pub cuts : (left : List Piece) → IsSending plans gives before now
+    pub cuts : (left : List Piece) → IsSending plans gives first before now
         (record v { history = record (v.history) { state = Aborted; pending = [] }; left = left })
     cuts left = record {
       response = again (record (v.history) { state = Aborted; pending = [] }) s.serves s.reads s.frames s.front s.left
@@ -257,6 +281,7 @@ module _ {H : Type 0} (plans : Plans H) (gives : H → Gives) (before now : H) w
           (v.history.pending ++ s.lost)
           (ap (λ (t : List ℕ). t ++ (v.history.pending ++ s.lost)) (append-nil v.history.sent)
           ∙ sym (append_assoc v.history.sent v.history.pending s.lost) ∙ s.out);
+      sends = x.sends;
       server = x.server;
       tail = x.tail;
       left = λ wrong. absurd (cc);
@@ -268,12 +293,13 @@ module _ {H : Type 0} (plans : Plans H) (gives : H → Gives) (before now : H) w
 
     -- bytes of the output are written
     pub hands_on : (sent pending : List ℕ) → sent ++ pending ≡ output v.history
-        → IsSending plans gives before now
+        → IsSending plans gives first before now
         (record v { history = record (v.history) { sent = sent; pending = pending } })
     hands_on sent pending same = record {
       response = again (record (v.history) { sent = sent; pending = pending }) s.serves s.reads s.frames s.front
           s.left s.advances
           s.lost (ap (λ (t : List ℕ). t ++ s.lost) same ∙ s.out);
+      sends = x.sends;
       server = x.server;
       tail = x.tail;
       left = x.left;
@@ -431,6 +457,122 @@ module _ {H : Type 0} (plans : Plans H) (gives : H → Gives) (before now : H) w
               sym ended_output ∙ r.stands.5,
             );
           }
+
+      -- ---- its bytes
+
+      ended_text : text ≡ final_text s.bodiless at_response.server response
+      ended_text =
+          text_for s.plan at_response.server s.server s.head s.tail content (is_content s.bodiless whole).0 s.bodiless
+          s.frames s.kind
+
+      valid_response : response_refusal at_response.server response.status (reason_of response.status)
+          (size_of response) (plan_fields s.plan) ≡ None
+      valid_response =
+          valid s.plan at_response.server s.server s.head s.tail content (is_content s.bodiless whole).0 s.bodiless
+          s.frames
+
+      next : v.server ≡ after_end (after_body s.bodiless at_response.server response)
+      next =
+          x.server ∙ s.frames.next
+          ∙ next_same s.plan at_response.server s.server s.head s.tail content (is_content s.bodiless whole).0
+          s.bodiless
+
+      read_as : (a : IsAnswer s.message.head response text)
+          × ((known_of a.message.head.fields).close ≡ not (keeps_open s.message.head response))
+      read_as =
+          subst
+          (λ (t : List ℕ). (a : IsAnswer s.message.head response t)
+          × ((known_of a.message.head.fields).close ≡ not (keeps_open s.message.head response))) (sym ended_text)
+          (final_answer at_response.server response valid_response v.config.limits s.message.head
+          s.reads.reads.framing refl s.bodiless s.kind (did.short s.frames.late))
+
+      abbrev exchanged : (on : Bool) → keeps_open s.message.head response ≡ on
+          → Exchanges v.config on s.rest call (s.interim ++ text) v.history.unread
+      exchanged on persists = record {
+        message = s.message;
+        request = s.reads;
+        interim = s.interim;
+        is_interim = s.is_interim;
+        answer = text;
+        is_answer = read_as.0;
+        joined = refl;
+        persists = persists;
+        announced = read_as.1 ∙ ap not persists;
+      }
+
+      sends_call : (on : Bool) → keeps_open s.message.head response ≡ on
+          → SendsCall plans gives v.config before now s.rest call (s.interim ++ text) v.history.unread
+      sends_call on persists = record {
+        stays = on;
+        exchange = exchanged on persists;
+        plan = s.plan;
+        planned = s.planned;
+        has_head = record { status = refl; headers = refl };
+        bodiless = s.bodiless;
+        kind = s.kind;
+        server = s.server;
+        head = s.head;
+        tail = s.tail;
+        frames = s.frames;
+        content = s.front;
+        is_content = whole;
+        body = sym (is_content s.bodiless whole).2;
+        literal = ap (λ (t : List ℕ). s.head ++ (t ++ s.tail)) (is_content s.bodiless whole).2;
+      }
+
+      abbrev pub account_after : State → Account
+      account_after state = record {
+        config = v.config;
+        state = state;
+        received = v.history.received;
+        calls = v.history.calls ++ call ∷ [];
+        output = v.history.sent ++ (v.history.pending ++ v.tail);
+        has_head = false;
+      }
+
+      abbrev literal_after : (state : State) (on : Bool) → keeps_open s.message.head response ≡ on
+          → IsLater v.config.limits state v.history.unread []
+          → IsLiteral plans gives v.config first now state v.history.received (v.history.calls ++ call ∷ [])
+          ((v.history.sent ++ (v.history.pending ++ v.tail)) ++ [])
+      literal_after state on persists is_later = record {
+        text = s.text ++ (s.interim ++ text);
+        rest = v.history.unread;
+        sends = SendsCalls-push plans gives v.config first before now v.history.calls call v.history.received s.text
+            s.rest (s.interim ++ text) v.history.unread x.sends (sends_call on persists);
+        later = [];
+        is_later = is_later;
+        out = append-nil _ ∙ sym ended_output ∙ append_assoc s.text s.interim text ∙ sym (append-nil _);
+      }
+
+      -- all that was put out is known, and nothing follows the response
+      pub laid_open : ¬ (IsClosed v.server) → IsLaid plans gives first now (account_after Open)
+      laid_open going =
+          elim (starts_over at_response.server response valid_response v.config.limits s.message.head
+          s.reads.reads.framing refl s.bodiless s.kind) [
+            | inl open_still ↦ record {
+              lost = [];
+              literal = literal_after Open true open_still.0 (inl refl);
+              whole = λ _. refl;
+              serves = λ _. Serves-push v.config v.history.calls call v.history.received s.text s.rest
+                  (s.interim ++ text) v.history.unread s.serves (exchanged true open_still.0);
+              between = λ _ _. refl;
+            }
+            | inr ends ↦ absurd (going (subst IsClosed (sym next) ends.1))
+          ]
+
+      pub laid_closed : IsClosed v.server → IsLaid plans gives first now (account_after (Closing Asked))
+      laid_closed closed =
+          elim (starts_over at_response.server response valid_response v.config.limits s.message.head
+          s.reads.reads.framing refl s.bodiless s.kind) [
+            | inl open_still ↦ let wrong = sym closed ∙ ap writing (next ∙ open_still.1) in absurd (cc)
+            | inr ends ↦ record {
+              lost = [];
+              literal = literal_after (Closing Asked) false ends.0 refl;
+              whole = λ _. refl;
+              serves = λ wrong. absurd (cc);
+              between = λ wrong _. absurd (cc);
+            }
+          ]
 
 -- one exchange more
 pub Chain-push : {S : Type 0} (answers : S → Request (List ℕ) → Response → S → Type 0) (calls : List Call)

@@ -6,27 +6,43 @@ use Rattle.std.proofs.lemmas.Bool.{cond-false}
 use Rattle.std.proofs.lemmas.List.{take-append-drop}
 use Rattle.std.specs.declared.io.Error.{Error}
 use Rattle.std.specs.Io.KnownBytes.{Appends, Consumes, Keeps as StaysKnown}
+use Rattle.http.specs.declared.request.Parts.{Parts}
 use Rattle.http.specs.Request.{head_of}
+use Rattle.http1.specs.declared.conn.Event.{Event}
+use Rattle.http1.specs.declared.conn.Event.TheVariants.{Head}
+use Rattle.http1.specs.declared.conn.Progress.{Progress}
+use Rattle.http1.specs.declared.server.Server.{Server}
+use Rattle.http1.specs.Conn.{ReadsPiece}
+use Rattle.http1.specs.Server.{ReadsAt, ServerReads, reading}
+use Rattle.httparse.specs.declared.spans.HeaderSpan.{HeaderSpan}
+use Rattle.httparse.specs.declared.spans.RequestSpans.{RequestSpans}
 use Rattle.http_server.specs.declared.state.Config.{Config}
 use Rattle.http_server.specs.declared.state.State.{State}
 use Rattle.http_server.specs.declared.state.State.TheVariants.{Open, Closing, Upgraded, Aborted}
-use Rattle.http_server.specs.declared.state.Reason.TheVariants.{Asked}
-use Rattle.http_server.specs.Exchange.{Call}
-use Rattle.http_server.specs.History.{History, IsServed, after_read, after_sent, new_history, output}
-use Rattle.http_server.specs.Machine.{Core, Holds}
+use Rattle.http_server.specs.declared.state.Reason.TheVariants.{Asked, EndOfInput, Refused}
+use Rattle.http_server.specs.declared.state.Refusal.{Refusal}
+use Rattle.http_server.specs.Exchange.{Call, ExpectsContinue, IsInterim, Serves, continue_text}
+use Rattle.http_server.specs.History.{History, IsServed, after_read, after_sent, new_history}
+use Rattle.http_server.specs.Machine.{Core, HasHead, Holds, IsPlaced}
+use Rattle.http_server.specs.Refusal.{refusal_text}
 use Rattle.http_server.proofs.KnownLemmas.{Appends-then, Consumes-then}
-use Rattle.http_server.proofs.MachineLemmas.{served}
+use Rattle.http_server.proofs.MachineLemmas.{running, served}
 use Rattle.http_server.proofs.TransferLemmas.{hands_out, receives, with_history}
 use Rattle.headers_exchange.specs.declared.machine.Machine.{Machine}
 use Rattle.headers_exchange.specs.declared.plan.Plan.{Plan}
-use Rattle.headers_exchange.specs.Connection.{Exchanged, HasEnded, IsClosing, Turns, past_after}
-use Rattle.headers_exchange.specs.Machine.{Begins, Ends, HandsOut, HasAnswered, HasPlanned, IsSending, Keeps}
+use Rattle.headers_exchange.specs.Connection.{Exchanged, HasEnded, IsClosing, IsSentLiterally, Turns, past_after}
+use Rattle.headers_exchange.specs.Literal.{IsLater, IsLiteral, SendsCalls}
+use Rattle.headers_exchange.specs.Machine.{Account, Begins, Ends, GoesOn, HandsOut, HasAnswered, HasAborted}
+use Rattle.headers_exchange.specs.Machine.{HasPlanned, IsLaid}
+use Rattle.headers_exchange.specs.Machine.{IsSending, Keeps, Opens, PutsNothing, PutsRefusal, Refuses, account}
+use Rattle.headers_exchange.specs.Machine.{new_past}
 use Rattle.headers_exchange.specs.Machine.{KeepsRest, KeepsState, Leads, Past, Runs, RunsAt, Sends, SendsOn, TakesIn}
 use Rattle.headers_exchange.specs.Machine.{core, head_now, history_of, view, with_calls}
 use Rattle.headers_exchange.specs.Pieces.{Gives}
 use Rattle.headers_exchange.specs.Plan.{Answers, Plans, sent_pieces}
-use Rattle.headers_exchange.proofs.SendLemmas.{Chain-push, answers, call, closes_after, cuts, hands_on, moves}
-use Rattle.headers_exchange.proofs.SendLemmas.{stays_open}
+use Rattle.headers_exchange.proofs.LiteralLemmas.{laid_more, rest_same}
+use Rattle.headers_exchange.proofs.SendLemmas.{Chain-push, answers, call, closes_after, cuts, hands_on, laid_closed}
+use Rattle.headers_exchange.proofs.SendLemmas.{laid_open, moves, stays_open}
 
 -- ---- known bytes
 
@@ -118,6 +134,24 @@ core_ended p calls old new state x is head body = λ i. record {
   body = (x.rest.body ∙ body) i;
 }
 
+account_ended : (p : Past) (calls : List Call) (old new : Machine) (state : State) → Ends old new → new.state ≡ state
+    → old.has_head ≡ false → account new (with_calls p calls) ≡ record {
+      config = old.config;
+      state = state;
+      received = p.received;
+      calls = calls;
+      output = p.sent ++ (old.output.items ++ old.tail.items);
+      has_head = false;
+    }
+account_ended p calls old new state x is head = λ i. record {
+  config = x.rest.config i;
+  state = is i;
+  received = p.received;
+  calls = calls;
+  output = p.sent ++ x.output i;
+  has_head = (x.rest.has_head ∙ head) i;
+}
+
 -- an aborted connection
 pub aborted : (p : Past) (old new : Machine) → new.config ≡ old.config → new.ended ≡ old.ended
     → new.input.items ≡ old.input.items → new.state ≡ Aborted → new.output.items ≡ []
@@ -160,10 +194,284 @@ view_begun p plan bodiless old new x head body = λ i. record {
   body = (x.body ∙ body) i;
 }
 
+-- ---- a step that isn't one of sending
+
+-- a request is rejected, or memory ran out
+pub refused_on : {why : Refusal} {old mid new : Machine} → mid.output.items ≡ old.output.items → Refuses why mid new
+    → GoesOn old new
+refused_on {why} same puts =
+    elim puts [
+      | inl refused ↦ inr (inl (
+        why,
+        record {
+          state = refused.state;
+          output = refused.output ∙ ap (λ (t : List ℕ). t ++ refusal_text why) same;
+        },
+      ))
+      | inr aborted ↦ inr (inr aborted)
+    ]
+
+-- the server may have taken some of the input before
+goes_from : (old mid new : Machine) → GoesOn (record old { server = mid.server; input = mid.input }) new
+    → GoesOn old new
+goes_from old mid new puts =
+    elim puts [
+      | inl nothing ↦
+          inl (record { state = nothing.state; output = nothing.output; has_head = nothing.has_head })
+      | inr other ↦ elim other [
+        | inl refused ↦
+            inr (inl (refused.0, record { state = refused.1.state; output = refused.1.output }))
+        | inr aborted ↦ inr (inr aborted)
+      ]
+    ]
+
+opens_from : (stream : List ℕ) (old mid new : Machine)
+    → Opens stream (record old { server = mid.server; input = mid.input }) new → Opens stream old new
+opens_from stream old mid new puts =
+    elim puts [
+      | inl asked ↦
+          inl (record {
+            state = asked.state;
+            output = asked.output;
+            has_head = asked.has_head;
+            expects = asked.expects;
+          })
+      | inr other ↦ inr (goes_from old mid new other)
+    ]
+
+-- a head is read where none has begun
+no_head_yet : (k : Core) (spans : List HeaderSpan) (new : Server) (read : Progress RequestSpans) (r : RequestSpans)
+    → read.event ≡ Head r → k.history.state ≡ Open → ServerReads k.server k.history.unread spans new read → Holds k
+    → k.head ≡ None
+no_head_yet k spans new read r is is_open did x =
+    let runs = running k x is_open in by_head k.head refl runs.placed
+  where
+    by_head : (o : Option Parts) → k.head ≡ o → IsPlaced o k (running k x is_open).base → k.head ≡ None
+    by_head None none placed = none
+    by_head (Some parts) some placed =
+        let found = subst (λ t. ReadsAt t k.server k.history.unread spans new read) (ap reading placed.0.server) did in
+        absurd
+        (subst (λ (e : Event RequestSpans). ReadsPiece placed.0.decoder k.history.unread spans found.0 read.consumed e)
+        is found.1)
+
+unheaded : (b : Bool) (parts : Parts) → (if b then Some parts else None) ≡ None → b ≡ false
+unheaded true parts is = absurd (cc)
+unheaded false parts is = refl
+
+-- the bytes that a head is read from are where the next request begins
+pub opens_at : (k : Core) (spans : List HeaderSpan) (r : RequestSpans) → HasHead k spans r → (old new : Machine)
+    → Opens k.history.unread old new
+    → (text : List ℕ) × (rest : List ℕ) × Serves k.config k.history.received k.history.calls text rest
+    × Opens rest old new
+opens_at k spans r x old new opens = (
+  x.0.text,
+  x.0.rest,
+  subst (λ (calls : List Call). Serves k.config k.history.received calls x.0.text x.0.rest) (sym x.1) x.0.serves,
+  subst (λ (t : List ℕ). Opens t old new) x.2.0 opens,
+)
+
+-- whether a head has begun, where one is read
+pub has_no_head : (m : Machine) (p : Past) (spans : List HeaderSpan) (new : Server) (read : Progress RequestSpans)
+    (r : RequestSpans) → read.event ≡ Head r → m.state ≡ Open → ServerReads m.server m.input.items spans new read
+    → Holds (core m p) → m.has_head ≡ false
+has_no_head m p spans new read r is is_open did x =
+    unheaded m.has_head (head_of m.request) (no_head_yet (core m p) spans new read r is is_open did x)
+
+module _ {H : Type 0} (plans : Plans H) (gives : H → Gives) (first last : H) (old new : Machine) (p : Past)
+    (is_open : old.state ≡ Open) (config : new.config ≡ old.config)
+    (x : IsLaid plans gives first last (account old p)) where
+  abbrev Laid : Account → Type 0
+  Laid a = IsLaid plans gives first last a
+
+  abbrev l : IsLiteral plans gives old.config first last old.state p.received p.calls
+      ((p.sent ++ old.output.items) ++ x.lost)
+  l = x.literal
+
+  abbrev at : State → List ℕ → Bool → Account
+  at state out has_head = record {
+    config = old.config;
+    state = state;
+    received = p.received;
+    calls = p.calls;
+    output = p.sent ++ out;
+    has_head = has_head;
+  }
+
+  laid_at : (state : State) (out : List ℕ) (has_head : Bool) → new.state ≡ state → new.output.items ≡ out
+      → new.has_head ≡ has_head → Laid (at state out has_head) → Laid (account new p)
+  laid_at state out has_head is put head y = subst Laid (sym same) y
+    where
+      same : account new p ≡ at state out has_head
+      same = λ i. record {
+        config = config i;
+        state = is i;
+        received = p.received;
+        calls = p.calls;
+        output = p.sent ++ put i;
+        has_head = head i;
+      }
+
+  interim_is : IsInterim old.config.limits l.rest l.later
+  interim_is = subst (λ s. IsLater old.config.limits s l.rest l.later) is_open l.is_later
+
+  out_is : p.sent ++ old.output.items ≡ l.text ++ l.later
+  out_is =
+      sym (append-nil (p.sent ++ old.output.items))
+      ∙ ap (λ (t : List ℕ). (p.sent ++ old.output.items) ++ t)
+      (sym (x.whole (λ aborted. let wrong = sym is_open ∙ aborted in cc)))
+      ∙ l.out
+
+  longer : (more : List ℕ) → (p.sent ++ (old.output.items ++ more)) ++ [] ≡ l.text ++ (l.later ++ more)
+  longer more =
+      append-nil _ ∙ sym (append_assoc p.sent old.output.items more) ∙ ap (λ (t : List ℕ). t ++ more) out_is
+      ∙ append_assoc l.text l.later more
+
+  laid_nothing : PutsNothing old new → Laid (account new p)
+  laid_nothing puts =
+      elim puts.state [
+        | inl same ↦
+            laid_at old.state old.output.items new.has_head same puts.output refl
+            (record {
+              lost = x.lost;
+              literal = l;
+              whole = x.whole;
+              serves = x.serves;
+              between = λ s none. x.between s (puts.has_head none);
+            })
+        | inr ended ↦
+            laid_at (Closing EndOfInput) old.output.items new.has_head ended.0 puts.output refl
+            (record {
+              lost = [];
+              literal = record {
+                text = l.text;
+                rest = l.rest;
+                sends = l.sends;
+                later = l.later;
+                is_later = x.between is_open ended.1;
+                out = append-nil _ ∙ out_is;
+              };
+              whole = λ _. refl;
+              serves = λ wrong. absurd (cc);
+              between = λ wrong _. absurd (cc);
+            })
+      ]
+
+  laid_refused : (why : Refusal) → PutsRefusal why old new → Laid (account new p)
+  laid_refused why refused =
+      laid_at (Closing (Refused why)) (old.output.items ++ refusal_text why) new.has_head refused.state
+      refused.output refl
+      (record {
+        lost = [];
+        literal = record {
+          text = l.text;
+          rest = l.rest;
+          sends = l.sends;
+          later = l.later ++ refusal_text why;
+          is_later = (l.later, interim_is, refl);
+          out = longer (refusal_text why);
+        };
+        whole = λ _. refl;
+        serves = λ wrong. absurd (cc);
+        between = λ wrong _. absurd (cc);
+      })
+
+  laid_aborted : HasAborted new → Laid (account new p)
+  laid_aborted aborted =
+      laid_at Aborted [] new.has_head aborted.0 aborted.1 refl
+      (record {
+        lost = old.output.items;
+        literal = record {
+          text = l.text;
+          rest = l.rest;
+          sends = l.sends;
+          later = l.later;
+          is_later = interim_is;
+          out = ap (λ (t : List ℕ). t ++ old.output.items) (append-nil p.sent) ∙ out_is;
+        };
+        whole = λ going. absurd (going refl);
+        serves = λ wrong. absurd (cc);
+        between = λ wrong _. absurd (cc);
+      })
+
+  pub laid_on : GoesOn old new → Laid (account new p)
+  laid_on puts =
+      elim puts [
+        | inl nothing ↦ laid_nothing nothing
+        | inr other ↦ elim other [
+          | inl refused ↦ laid_refused refused.0 refused.1
+          | inr aborted ↦ laid_aborted aborted
+        ]
+      ]
+
+  -- a request begins
+  laid_opened : old.has_head ≡ false → (text rest : List ℕ) → Serves old.config p.received p.calls text rest
+      → Opens rest old new → Laid (account new p)
+  laid_opened none text rest serves puts =
+      elim puts [
+        | inl asked ↦
+            let same : rest ≡ l.rest =
+            rest_same old.config p.calls p.received text l.text rest l.rest serves (x.serves is_open) in
+            laid_at Open (old.output.items ++ continue_text) true (asked.state ∙ is_open) asked.output asked.has_head
+            (record {
+              lost = [];
+              literal = record {
+                text = l.text;
+                rest = l.rest;
+                sends = l.sends;
+                later = continue_text;
+                is_later = inr (refl, subst (ExpectsContinue old.config.limits) same asked.expects);
+                out =
+                    longer continue_text
+                    ∙ ap (λ (t : List ℕ). l.text ++ (t ++ continue_text)) (x.between is_open none);
+              };
+              whole = λ _. refl;
+              serves = λ _. x.serves is_open;
+              between = λ _ wrong. absurd (cc);
+            })
+        | inr other ↦ laid_on other
+      ]
+
+-- before anything was read
+abbrev nothing_sent : {H : Type 0} (plans : Plans H) (gives : H → Gives) (config : Config) (h : H)
+    → IsLiteral plans gives config h h Open [] [] []
+nothing_sent plans gives config h =
+    record { text = []; rest = []; sends = (refl, refl, refl); later = []; is_later = inl refl; out = refl }
+
+pub laid_first : {H : Type 0} (plans : Plans H) (gives : H → Gives) (h : H) (m : Machine) → m.state ≡ Open
+    → m.output.items ≡ [] → IsLaid plans gives h h (account m new_past)
+laid_first plans gives h m is_open none =
+    subst (IsLaid plans gives h h) (sym same)
+    (record {
+      lost = [];
+      literal = nothing_sent plans gives m.config h;
+      whole = λ _. refl;
+      serves = λ _. (refl, refl);
+      between = λ _ _. refl;
+    })
+  where
+    same : account m new_past ≡ record {
+      config = m.config;
+      state = Open;
+      received = [];
+      calls = [];
+      output = [];
+      has_head = m.has_head;
+    }
+    same = λ i. record {
+      config = m.config;
+      state = is_open i;
+      received = [];
+      calls = [];
+      output = none i;
+      has_head = m.has_head;
+    }
+
+-- ---- the invariant
+
 module _ {H : Type 0} (plans : Plans H) (gives : H → Gives) where
   abbrev Sending : H → H → Machine → Past → Type 0
-  Sending first now m p = (before : H) × HasPlanned plans gives first before p × IsSending plans gives before now
-      (view m p)
+  Sending first now m p =
+      (before : H) × HasPlanned plans gives first before p × IsSending plans gives first before now (view m p)
 
   sending : (first now : H) (m : Machine) (p : Past) → m.is_sending ≡ true → Runs plans gives first m now p → Sending
       first now m p
@@ -174,7 +482,7 @@ module _ {H : Type 0} (plans : Plans H) (gives : H → Gives) where
   sent first now m p is x = subst (λ b. RunsAt b plans gives first m now p) (sym is) x
 
   abbrev Waiting : H → H → Machine → Past → Type 0
-  Waiting first now m p = HasAnswered plans gives first now m.state p × Holds (core m p)
+  Waiting first now m p = HasAnswered plans gives first now m p × Holds (core m p)
 
   pub waiting : (first now : H) (m : Machine) (p : Past) → m.is_sending ≡ false → Runs plans gives first m now p
       → Waiting first now m p
@@ -183,6 +491,21 @@ module _ {H : Type 0} (plans : Plans H) (gives : H → Gives) where
   pub waited : (first now : H) (m : Machine) (p : Past) → m.is_sending ≡ false → Waiting first now m p
       → Runs plans gives first m now p
   waited first now m p is x = subst (λ b. RunsAt b plans gives first m now p) (sym is) x
+
+  -- the connection is aborted before the response to the next request begins
+  pub runs_aborted : (first before now : H) (old new : Machine) (p : Past) → old.state ≡ Open
+      → new.config ≡ old.config → new.is_sending ≡ false → HasAborted new → HasPlanned plans gives first before p
+      → IsLaid plans gives first before (account old p) → Holds (core new p) → Runs plans gives first new now p
+  runs_aborted first before now old new p is_open config is aborted chain laid held =
+      waited first now new p is (
+        (
+          before,
+          chain,
+          λ going. absurd (going aborted.0),
+          laid_on plans gives first before old new p is_open config laid (inr (inr aborted)),
+        ),
+        held,
+      )
 
   pub after_send : (first now : H) (old new : Machine) (p : Past) → old.is_sending ≡ true → old.state ≡ Open
       → SendsOn (gives now) old new → Runs plans gives first old now p
@@ -195,32 +518,43 @@ module _ {H : Type 0} (plans : Plans H) (gives : H → Gives) where
           sent first now new p (moved.puts.is_sending ∙ is) (
             y.0,
             y.1,
-            subst (IsSending plans gives y.0 now) (sym (view_sent p old new old.state (old.output.items ++ moved.bytes)
+            subst (IsSending plans gives first y.0 now)
+                (sym (view_sent p old new old.state (old.output.items ++ moved.bytes)
                 moved.puts.rest moved.puts.state moved.puts.output))
-                (moves plans gives y.0 now (view old p) y.2 is_open moved.bytes new.left.items moved.advances),
+                (moves plans gives first y.0 now (view old p) y.2 is_open moved.bytes new.left.items moved.advances),
           ),
         )
         | inr other ↦ elim other [
           | inl ended ↦
-              let z = call plans gives y.0 now (view old p) y.2 is_open ended.0 in
+              let z = call plans gives first y.0 now (view old p) y.2 is_open ended.0 in
               let calls = p.calls ++ z ∷ [] in (
                 calls,
                 waited first now new (with_calls p calls) ended.1.is_sending (
                   (
                     now,
                     Chain-push (Answers plans gives) p.calls first y.0 now z y.1
-                        (answers plans gives y.0 now (view old p) y.2 is_open ended.0),
+                        (answers plans gives first y.0 now (view old p) y.2 is_open ended.0),
                     λ _. refl,
+                    elim ended.1.state [
+                      | inl closed ↦
+                          subst (IsLaid plans gives first now)
+                          (sym (account_ended p calls old new (Closing Asked) ended.1 closed.1 y.2.head))
+                          (laid_closed plans gives first y.0 now (view old p) y.2 is_open ended.0 closed.0)
+                      | inr goes_on ↦
+                          subst (IsLaid plans gives first now)
+                          (sym (account_ended p calls old new Open ended.1 (goes_on.1 ∙ is_open) y.2.head))
+                          (laid_open plans gives first y.0 now (view old p) y.2 is_open ended.0 goes_on.0)
+                    ],
                   ),
                   elim ended.1.state [
                     | inl closed ↦
                         subst Holds (sym (core_ended p calls old new (Closing Asked) ended.1 closed.1 y.2.head
                         y.2.body))
-                        (closes_after plans gives y.0 now (view old p) y.2 is_open ended.0 closed.0)
+                        (closes_after plans gives first y.0 now (view old p) y.2 is_open ended.0 closed.0)
                     | inr goes_on ↦
                         subst Holds (sym (core_ended p calls old new Open ended.1 (goes_on.1 ∙ is_open) y.2.head
                         y.2.body))
-                        (stays_open plans gives y.0 now (view old p) y.2 is_open ended.0 goes_on.0)
+                        (stays_open plans gives first y.0 now (view old p) y.2 is_open ended.0 goes_on.0)
                   ],
                 ),
               )
@@ -229,8 +563,9 @@ module _ {H : Type 0} (plans : Plans H) (gives : H → Gives) where
             sent first now new p (cut.is_sending ∙ is) (
               y.0,
               y.1,
-              subst (IsSending plans gives y.0 now) (sym (view_sent p old new Aborted [] cut.rest cut.state cut.output))
-                  (cuts plans gives y.0 now (view old p) y.2 new.left.items),
+              subst (IsSending plans gives first y.0 now)
+                  (sym (view_sent p old new Aborted [] cut.rest cut.state cut.output))
+                  (cuts plans gives first y.0 now (view old p) y.2 new.left.items),
             ),
           )
         ]
@@ -238,11 +573,15 @@ module _ {H : Type 0} (plans : Plans H) (gives : H → Gives) where
 
   -- A step that isn't one of sending, and leaves the handler as it is. The server may have taken some of the input
   -- before it.
-  pub step_by : (old : Machine) {mid new : Machine} (h : H) → Keeps mid new
+  step_with : (old : Machine) {mid new : Machine} (h : H) → Keeps mid new
       → mid ≡ record old { server = mid.server; input = mid.input } → old.is_sending ≡ false → old.state ≡ Open
-      → ((p : Past) → Holds (core old p) → Holds (core new p)) → Leads plans gives old h new h
-  step_by old {mid} {new} h kept taken is is_open holding =
+      → ((p : Past) → Holds (core old p) → Holds (core new p))
+      → ((first last : H) (p : Past) → Holds (core old p) → new.config ≡ old.config
+      → IsLaid plans gives first last (account old p) → IsLaid plans gives first last (account new p))
+      → Leads plans gives old h new h
+  step_with old {mid} {new} h kept taken is is_open holding laying =
       let keeps = subst (λ (m : Machine). Keeps m new) taken kept in
+      let going : old.state ≢ Aborted = λ aborted. let wrong = sym is_open ∙ aborted in cc in
       record {
         config = keeps.config;
         ended = keeps.ended;
@@ -250,11 +589,34 @@ module _ {H : Type 0} (plans : Plans H) (gives : H → Gives) where
             let y = waiting first h old p is x in (
               p.calls,
               waited first h new p (keeps.is_sending ∙ is) (
-                (y.0.0, y.0.1, λ _. y.0.2 (λ aborted. let wrong = sym is_open ∙ aborted in cc)),
+                (y.0.0, y.0.1, λ _. y.0.2 going, laying first y.0.0 p y.1 keeps.config y.0.3),
                 holding p y.1,
               ),
             );
       }
+
+  pub step_by : (old : Machine) {mid new : Machine} (h : H) → Keeps mid new → GoesOn mid new
+      → mid ≡ record old { server = mid.server; input = mid.input } → old.is_sending ≡ false → old.state ≡ Open
+      → ((p : Past) → Holds (core old p) → Holds (core new p)) → Leads plans gives old h new h
+  step_by old {mid} {new} h kept puts taken is is_open holding =
+      step_with old h kept taken is is_open holding
+      (λ first last p held config laid. laid_on plans gives first last old new p is_open config laid
+      (goes_from old mid new (subst (λ (m : Machine). GoesOn m new) taken puts)))
+
+  -- the head of a request is read
+  pub step_opens : (old : Machine) {mid new : Machine} (h : H) → Keeps mid new
+      → mid ≡ record old { server = mid.server; input = mid.input } → old.is_sending ≡ false → old.state ≡ Open
+      → ((p : Past) → Holds (core old p) → Holds (core new p))
+      → ((p : Past) → Holds (core old p) → old.has_head ≡ false)
+      → ((p : Past) → Holds (core old p)
+      → (text : List ℕ) × (rest : List ℕ) × Serves old.config p.received p.calls text rest × Opens rest mid new)
+      → Leads plans gives old h new h
+  step_opens old {mid} {new} h kept taken is is_open holding none opening =
+      step_with old h kept taken is is_open holding
+      (λ first last p held config laid.
+      let puts = opening p held in
+      laid_opened plans gives first last old new p is_open config laid (none p held) puts.0 puts.1 puts.2
+      (opens_from puts.1 old mid new (subst (λ (m : Machine). Opens puts.1 m new) taken puts.3)))
 
   -- nothing happens
   pub step_none : (m : Machine) (h : H) → Leads plans gives m h m h
@@ -282,16 +644,18 @@ module _ {H : Type 0} (plans : Plans H) (gives : H → Gives) where
   -- a response begins, or the connection is aborted
   pub step_answers : (old new : Machine) (before now : H) → new.config ≡ old.config → new.ended ≡ old.ended
       → old.is_sending ≡ false → old.state ≡ Open
-      → ((first : H) (p : Past) → HasPlanned plans gives first before p → Holds (core old p) → Runs plans gives first
-      new now p)
+      → ((first : H) (p : Past) → HasPlanned plans gives first before p
+      → IsLaid plans gives first before (account old p) → Holds (core old p) → Runs plans gives first new now p)
       → Leads plans gives old before new now
   step_answers old new before now config ended is is_open answering = record {
     config = config;
     ended = ended;
     runs = λ first p x.
         let y = waiting first before old p is x in
-        let same = y.0.2 (λ aborted. let wrong = sym is_open ∙ aborted in cc) in
-        (p.calls, answering first p (subst (λ t. HasPlanned plans gives first t p) same y.0.1) y.1);
+        let going : old.state ≢ Aborted = λ aborted. let wrong = sym is_open ∙ aborted in cc in
+        let planned = subst (λ t. HasPlanned plans gives first t p) (y.0.2 going) y.0.1 in
+        let laid = subst (λ t. IsLaid plans gives first t (account old p)) (y.0.2 going) y.0.3 in
+        (p.calls, answering first p planned laid y.1);
   }
 
   -- ---- turns
@@ -332,14 +696,16 @@ module _ {H : Type 0} (plans : Plans H) (gives : H → Gives) where
       runs = λ first p y. (p.calls, runs_out old.is_sending first p refl y);
     }
       where
+        same_out : (p : Past)
+            → (p.sent ++ take count old.output.items) ++ drop count old.output.items ≡ p.sent ++ old.output.items
+        same_out p =
+            append_assoc p.sent _ _ ∙ ap (λ (t : List ℕ). p.sent ++ t) (take-append-drop count old.output.items)
+
         runs_out : (b : Bool) (first : H) (p : Past) → old.is_sending ≡ b → Runs plans gives first old h p
             → Runs plans gives first new h (past_after p [] (take count old.output.items) p.calls)
         runs_out true first p is y =
             let z = sending first h old p is y in
             let q = past_after p [] (take count old.output.items) p.calls in
-            let same : output (record (history_of old p) { sent = q.sent; pending = drop count old.output.items }) ≡
-            output (history_of old p) =
-            append_assoc p.sent _ _ ∙ ap (λ (t : List ℕ). p.sent ++ t) (take-append-drop count old.output.items) in
             let viewed : view new q ≡ record (view old p)
             { history = record (history_of old p) { sent = q.sent; pending = drop count old.output.items } } =
             λ i. record {
@@ -354,8 +720,9 @@ module _ {H : Type 0} (plans : Plans H) (gives : H → Gives) where
             sent first h new q (x.rest.is_sending ∙ is) (
               z.0,
               z.1,
-              subst (IsSending plans gives z.0 h) (sym viewed)
-                  (hands_on plans gives z.0 h (view old p) z.2 q.sent (drop count old.output.items) same),
+              subst (IsSending plans gives first z.0 h) (sym viewed)
+                  (hands_on plans gives first z.0 h (view old p) z.2 q.sent (drop count old.output.items)
+                  (same_out p)),
             )
         runs_out false first p is y =
             let z = waiting first h old p is y in
@@ -363,8 +730,21 @@ module _ {H : Type 0} (plans : Plans H) (gives : H → Gives) where
             let cored : core new q ≡ with_history (core old p) (after_sent (history_of old p) count) =
             core_by old new p q (after_sent (history_of old p) count) x.rest
             (history_by new q x.rest.state (append-nil p.received) x.ended x.input refl x.output) in
+            let accounted : account new q ≡ account old p = λ i. record {
+              config = x.rest.config i;
+              state = x.rest.state i;
+              received = append-nil p.received i;
+              calls = p.calls;
+              output = (ap (λ (t : List ℕ). q.sent ++ t) x.output ∙ same_out p) i;
+              has_head = x.rest.has_head i;
+            } in
             waited first h new q (x.rest.is_sending ∙ is) (
-              (z.0.0, z.0.1, λ going. z.0.2 (λ aborted. going (x.rest.state ∙ aborted))),
+              (
+                z.0.0,
+                z.0.1,
+                λ going. z.0.2 (λ aborted. going (x.rest.state ∙ aborted)),
+                subst (IsLaid plans gives first z.0.0) (sym accounted) z.0.3,
+              ),
               subst Holds (sym cored) (hands_out (core old p) count _ refl z.1),
             )
 
@@ -380,7 +760,13 @@ module _ {H : Type 0} (plans : Plans H) (gives : H → Gives) where
           let z = waiting first h old p is y in (
             p.calls,
             waited first h new (past_after p bytes [] p.calls) (x.rest.is_sending ∙ is) (
-              (z.0.0, z.0.1, λ going. z.0.2 (λ aborted. going (x.rest.state ∙ aborted))),
+              (
+                z.0.0,
+                z.0.1,
+                λ going. z.0.2 (λ aborted. going (x.rest.state ∙ aborted)),
+                subst (IsLaid plans gives first z.0.0) (sym (read_account p))
+                    (laid_more plans gives first z.0.0 (account old p) bytes z.0.3),
+              ),
               elim x.ended [
                 | inl going ↦
                     subst Holds (sym (read_core p (cond_ended going.0 going.1)))
@@ -401,6 +787,17 @@ module _ {H : Type 0} (plans : Plans H) (gives : H → Gives) where
             let q = past_after p bytes [] p.calls in
             core_by old new p q (after_read (history_of old p) bytes) x.rest
             (history_by new q x.rest.state refl ended x.input (append-nil p.sent) x.output)
+
+        read_account : (p : Past) → account new (past_after p bytes [] p.calls)
+            ≡ record (account old p) { received = p.received ++ bytes }
+        read_account p = λ i. record {
+          config = x.rest.config i;
+          state = x.rest.state i;
+          received = p.received ++ bytes;
+          calls = p.calls;
+          output = append-nil p.sent i ++ x.output i;
+          has_head = x.rest.has_head i;
+        }
 
         same_core : (p : Past) → new.ended ≡ old.ended → bytes ≡ [] → core new (past_after p bytes [] p.calls) ≡ core
             old p
@@ -487,26 +884,43 @@ module _ {H : Type 0} (plans : Plans H) (gives : H → Gives) where
   module _ (config : Config) (first now : H) (m : Machine) (p : Past) (configured : m.config ≡ config) where
     exchanged_by : (is_whole : Bool) (last : H) → HasPlanned plans gives first last p
         → HasEnded plans gives config last now (history_of m p) is_whole
+        → IsSentLiterally plans gives config first last now (history_of m p) is_whole
         → Exchanged plans gives config first now p.received p.sent is_whole
-    exchanged_by is_whole last answered ended = record {
+    exchanged_by is_whole last answered ended literal = record {
       history = history_of m p;
       is_received = refl;
       is_sent = refl;
       last = last;
       answered = answered;
       ended = ended;
+      literal = literal;
     }
+
+    literal_of : (last : H) (out : List ℕ) (x : IsLaid plans gives first last (account m p))
+        → (p.sent ++ m.output.items) ++ x.lost ≡ out
+        → IsLiteral plans gives config first last m.state p.received p.calls out
+    literal_of last out x all =
+        subst (λ c. IsLiteral plans gives c first last m.state p.received p.calls out) configured
+        (subst (IsLiteral plans gives m.config first last m.state p.received p.calls) all x.literal)
 
     cut_at : (b : Bool) → m.is_sending ≡ b → Runs plans gives first m now p
         → Exchanged plans gives config first now p.received p.sent false
     cut_at true is x =
         let y = sending first now m p is x in
-        exchanged_by false y.0 y.1
-        (inr (subst (λ c. Sends plans gives y.0 now c (history_of m p)) configured y.2.response))
+        let cut =
+        subst
+        (λ c. (z : Sends plans gives y.0 now c (history_of m p))
+        × SendsCalls plans gives c first y.0 p.received p.calls z.text z.rest) configured (y.2.response, y.2.sends) in
+        exchanged_by false y.0 y.1 (inr cut.0) (inr cut)
     cut_at false is x =
         let y = waiting first now m p is x in
+        let laid = y.0.3 in
         exchanged_by false y.0.0 y.0.1
         (inl (subst (λ c. IsServed c (history_of m p)) configured (served (core m p) y.1)))
+        (inl (
+          m.output.items ++ laid.lost,
+          literal_of y.0.0 _ laid (append_assoc p.sent m.output.items laid.lost),
+        ))
 
     -- whatever happens, what was sent until then is as promised
     pub is_cut : Runs plans gives first m now p → Exchanged plans gives config first now p.received p.sent false
@@ -522,12 +936,18 @@ module _ {H : Type 0} (plans : Plans H) (gives : H → Gives) where
         ])
     whole_at false is closing out x =
         let y = waiting first now m p is x in
+        let going = closing_served m.state closing in
+        let laid = y.0.3 in
+        let all : (p.sent ++ m.output.items) ++ laid.lost ≡ p.sent =
+        ap (λ (t : List ℕ). (p.sent ++ m.output.items) ++ t) (laid.whole going)
+        ∙ append-nil (p.sent ++ m.output.items) ∙ ap (λ (t : List ℕ). p.sent ++ t) out ∙ append-nil p.sent in
         exchanged_by true y.0.0 y.0.1 (
           subst (λ c. IsServed c (history_of m p)) configured (served (core m p) y.1),
           closing,
           out,
-          y.0.2 (closing_served m.state closing),
+          y.0.2 going,
         )
+        (literal_of y.0.0 p.sent laid all)
 
     -- where it closed, all was sent
     pub is_whole : IsClosing m.state → m.output.items ≡ [] → Runs plans gives first m now p
@@ -557,4 +977,5 @@ module _ {H : Type 0} (plans : Plans H) (gives : H → Gives) where
       is_interim = inl refl;
       stands = (refl, refl);
     });
+    literal = inl ([], nothing_sent plans gives config h);
   }

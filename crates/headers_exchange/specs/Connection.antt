@@ -7,6 +7,7 @@ use Rattle.http_server.specs.declared.state.State.TheVariants.{Open, Closing, Up
 use Rattle.http_server.specs.Exchange.{Call, Chain}
 use Rattle.http_server.specs.History.{History, IsServed}
 use Rattle.headers_exchange.specs.declared.machine.Machine.{Machine}
+use Rattle.headers_exchange.specs.Literal.{IsLiteral, SendsCalls}
 use Rattle.headers_exchange.specs.Machine.{Past, Runs, Sends}
 use Rattle.headers_exchange.specs.Pieces.{Gives}
 use Rattle.headers_exchange.specs.Plan.{Answers, Plans}
@@ -27,6 +28,18 @@ HasEnded plans gives config last now h true =
     IsServed config h × IsClosing h.state × (h.pending ≡ []) × (last ≡ now)
 HasEnded plans gives config last now h false = IsServed config h ⊎ Sends plans gives last now config h
 
+-- All bytes that were sent are known literally. For each request, in order, they are the interim response if one was
+-- sent, the head that `http1` writes for the handler's plan, the content and what ends it. After them follows nothing,
+-- or the response that says why the next request was rejected. Where the connection ended with an error, the last of
+-- these bytes may not have been sent; or the response to the next request was being sent after them, and its front was.
+abbrev pub IsSentLiterally : {H : Type 0} → Plans H → (H → Gives) → Config → H → H → H → History → Bool → Type 0
+IsSentLiterally plans gives config first last now h true =
+    IsLiteral plans gives config first last h.state h.received h.calls h.sent
+IsSentLiterally plans gives config first last now h false =
+    ((lost : List ℕ) × IsLiteral plans gives config first last h.state h.received h.calls (h.sent ++ lost))
+    ⊎ ((x : Sends plans gives last now config h)
+    × SendsCalls plans gives config first last h.received h.calls x.text x.rest)
+
 -- Of the bytes that were received these were sent. Each response that was sent whole carries out a plan of the handler
 -- for its request.
 pub record Exchanged {H : Type 0} (plans : Plans H) (gives : H → Gives) (config : Config) (first now : H)
@@ -37,6 +50,7 @@ pub record Exchanged {H : Type 0} (plans : Plans H) (gives : H → Gives) (confi
   pub last : H
   pub answered : Chain (Answers plans gives) first history.calls last
   pub ended : HasEnded plans gives config last now history is_whole
+  pub literal : IsSentLiterally plans gives config first last now history is_whole
 
 -- the past after these bytes were read and written
 abbrev pub past_after : Past → List ℕ → List ℕ → List Call → Past

@@ -11,17 +11,20 @@ use Rattle.http1.specs.Server.{is_head, IsClosed}
 use Rattle.http_server.specs.declared.state.Config.{Config}
 use Rattle.http_server.specs.declared.state.State.{State}
 use Rattle.http_server.specs.declared.state.State.TheVariants.{Open, Closing, Aborted}
-use Rattle.http_server.specs.declared.state.Reason.TheVariants.{Asked}
+use Rattle.http_server.specs.declared.state.Reason.TheVariants.{Asked, EndOfInput, Refused}
+use Rattle.http_server.specs.declared.state.Refusal.{Refusal}
 use Rattle.http_server.specs.Encoding.{answering}
-use Rattle.http_server.specs.Exchange.{Call, Chain, IsInterim, ReadsCall, Serves}
+use Rattle.http_server.specs.Exchange.{Call, Chain, ExpectsContinue, IsInterim, ReadsCall, Serves, continue_text}
 use Rattle.http_server.specs.History.{History, output}
 use Rattle.http_server.specs.Machine.{Core, Holds}
+use Rattle.http_server.specs.Refusal.{refusal_text}
 use Rattle.headers_exchange.specs.declared.machine.Machine.{Machine}
 use Rattle.headers_exchange.specs.declared.piece.Extent.{Extent}
 use Rattle.headers_exchange.specs.declared.piece.Piece.{Piece}
 use Rattle.headers_exchange.specs.declared.piece.Piece.TheVariants.{Range}
 use Rattle.headers_exchange.specs.declared.plan.Plan.{Plan}
 use Rattle.headers_exchange.specs.Encoding.{Frames}
+use Rattle.headers_exchange.specs.Literal.{IsLiteral, SendsCalls}
 use Rattle.headers_exchange.specs.Pieces.{Gives, Advances, rest_of}
 use Rattle.headers_exchange.specs.Plan.{Plans, Answers, sent_pieces}
 
@@ -108,9 +111,11 @@ view m p = record {
   body = m.body.items;
 }
 
--- the connection sends that response
-pub record IsSending {H : Type 0} (plans : Plans H) (gives : H → Gives) (before now : H) (v : View) : Type 0 where
+-- the connection sends that response, and the bytes before it are known literally
+pub record IsSending {H : Type 0} (plans : Plans H) (gives : H → Gives) (first before now : H) (v : View) : Type 0 where
   pub response : Sends plans gives before now v.config v.history
+  pub sends : SendsCalls plans gives v.config first before v.history.received v.history.calls response.text
+      response.rest
   pub server : v.server ≡ response.server
   pub tail : v.tail ≡ response.tail
   pub left : v.history.state ≡ Open → v.left ≡ response.left
@@ -119,19 +124,49 @@ pub record IsSending {H : Type 0} (plans : Plans H) (gives : H → Gives) (befor
   pub going : v.history.state ≡ Open → response.lost ≡ []
   pub state : (v.history.state ≡ Open) ⊎ (v.history.state ≡ Aborted)
 
--- The exchanges lead from one state of the handler to another: to the one now, unless the connection was aborted.
-abbrev pub HasAnswered : {H : Type 0} → Plans H → (H → Gives) → H → H → State → Past → Type 0
-HasAnswered {H} plans gives first now state p =
-    (last : H) × Chain (Answers plans gives) first p.calls last × (state ≢ Aborted → last ≡ now)
-
--- the same, before the connection can have been aborted
+-- the exchanges lead from one state of the handler to another
 abbrev pub HasPlanned : {H : Type 0} → Plans H → (H → Gives) → H → H → Past → Type 0
 HasPlanned plans gives first now p = Chain (Answers plans gives) first p.calls now
 
+-- what of a connection counts while no response is sent
+pub record Account : Type 0 where
+  pub config : Config
+  pub state : State
+  pub received : List ℕ
+  pub calls : List Call
+  pub output : List ℕ
+  pub has_head : Bool
+
+abbrev pub account : Machine → Past → Account
+account m p = record {
+  config = m.config;
+  state = m.state;
+  received = p.received;
+  calls = p.calls;
+  output = p.sent ++ m.output.items;
+  has_head = m.has_head;
+}
+
+-- The output is known literally, but for what was lost if the connection was aborted. Until the head of the next
+-- request was read, nothing follows the responses.
+pub record IsLaid {H : Type 0} (plans : Plans H) (gives : H → Gives) (first last : H) (a : Account) : Type 0 where
+  pub lost : List ℕ
+  pub literal : IsLiteral plans gives a.config first last a.state a.received a.calls (a.output ++ lost)
+  pub whole : a.state ≢ Aborted → lost ≡ []
+  pub serves : a.state ≡ Open → Serves a.config a.received a.calls literal.text literal.rest
+  pub between : a.state ≡ Open → a.has_head ≡ false → literal.later ≡ []
+
+-- The exchanges lead to a state of the handler: to the one now, unless the connection was aborted. The output is known
+-- literally.
+abbrev pub HasAnswered : {H : Type 0} → Plans H → (H → Gives) → H → H → Machine → Past → Type 0
+HasAnswered {H} plans gives first now m p =
+    (last : H) × Chain (Answers plans gives) first p.calls last × (m.state ≢ Aborted → last ≡ now)
+    × IsLaid plans gives first last (account m p)
+
 abbrev pub RunsAt : Bool → {H : Type 0} → Plans H → (H → Gives) → H → Machine → H → Past → Type 0
-RunsAt false plans gives first m now p = HasAnswered plans gives first now m.state p × Holds (core m p)
+RunsAt false plans gives first m now p = HasAnswered plans gives first now m p × Holds (core m p)
 RunsAt true {H} plans gives first m now p =
-    (before : H) × HasPlanned plans gives first before p × IsSending plans gives before now (view m p)
+    (before : H) × HasPlanned plans gives first before p × IsSending plans gives first before now (view m p)
 
 -- The invariant: a connection with this past, whose handler was in the first state when it began.
 abbrev pub Runs : {H : Type 0} → Plans H → (H → Gives) → H → Machine → H → Past → Type 0
@@ -151,6 +186,37 @@ pub record Keeps (old new : Machine) : Type 0 where
   pub config : new.config ≡ old.config
   pub ended : new.ended ≡ old.ended
   pub is_sending : new.is_sending ≡ old.is_sending
+
+-- such a step puts nothing into the output, and closes the connection only where no request has begun,
+pub record PutsNothing (old new : Machine) : Type 0 where
+  pub state : (new.state ≡ old.state) ⊎ ((new.state ≡ Closing EndOfInput) × (old.has_head ≡ false))
+  pub output : new.output.items ≡ old.output.items
+  pub has_head : new.has_head ≡ false → old.has_head ≡ false
+
+-- or it puts in the interim response that the request at the head of these bytes waits for,
+pub record PutsContinue (stream : List ℕ) (old new : Machine) : Type 0 where
+  pub state : new.state ≡ old.state
+  pub output : new.output.items ≡ old.output.items ++ continue_text
+  pub has_head : new.has_head ≡ true
+  pub expects : ExpectsContinue old.config.limits stream
+
+-- or the response that says why the request is rejected
+pub record PutsRefusal (why : Refusal) (old new : Machine) : Type 0 where
+  pub state : new.state ≡ Closing (Refused why)
+  pub output : new.output.items ≡ old.output.items ++ refusal_text why
+
+-- where memory ran out, nothing more is sent
+abbrev pub HasAborted : Machine → Type 0
+HasAborted new = (new.state ≡ Aborted) × (new.output.items ≡ [])
+
+abbrev pub Refuses : Refusal → Machine → Machine → Type 0
+Refuses why old new = PutsRefusal why old new ⊎ HasAborted new
+
+abbrev pub GoesOn : Machine → Machine → Type 0
+GoesOn old new = PutsNothing old new ⊎ ((why : Refusal) × PutsRefusal why old new) ⊎ HasAborted new
+
+abbrev pub Opens : List ℕ → Machine → Machine → Type 0
+Opens stream old new = PutsContinue stream old new ⊎ GoesOn old new
 
 -- a step of sending changes the output, the state and what is left
 pub record KeepsRest (old new : Machine) : Type 0 where

@@ -9,6 +9,7 @@ ghost use Rattle.http1.specs.Server as http1;
 ghost use Rattle.http_server.specs.Machine.{Holds, IsStarved, HasHead, HasPiece, HasRequest, MayRefuse, MayAbort};
 ghost use Rattle.headers_exchange.specs.Machine.{core, Past, Keeps, KeepsRest, Puts, SendsOn, SendsRange};
 ghost use Rattle.headers_exchange.specs.Machine.{Finishes, HasPlanned, HandsOut, Leads, Runs, Starts, TakesIn};
+ghost use Rattle.headers_exchange.specs.Machine.{GoesOn, IsLaid, Opens, Refuses, account};
 ghost use Rattle.headers_exchange.specs.Pieces.{rest_of};
 
 use crate::encode::encode;
@@ -76,6 +77,8 @@ impl Machine {
     ) -> Result<Machine, AllocError>
         ensures config { IfOk result (λ machine. machine.config ≡ config) }
         ensures is_sending { IfOk result (λ machine. machine.is_sending ≡ false) }
+        ensures state { IfOk result (λ machine. machine.state ≡ State.Open) }
+        ensures output { IfOk result (λ machine. machine.output.items ≡ []) }
         ensures holds { IfOk result (λ machine. Holds (core machine new_past)) }
     {
         let parts = Parts {
@@ -186,6 +189,7 @@ impl Machine {
 
     fn wait(&mut self) -> bool
         ensures keeps { Keeps self.old self.new }
+        ensures puts { GoesOn self.old self.new }
         ensures reaches { (p : Past) → IsStarved (core self.old p) → Holds (core self.new p) }
     {
         if !self.ended {
@@ -201,6 +205,8 @@ impl Machine {
     fn begin(&mut self, head: &RequestSpans, spans: &[HeaderSpan]) -> bool
         requires { IsRequestWithin self.old.input.items spans.now head.now }
         ensures keeps { Keeps self.old self.new }
+        ensures puts { (p : Past) → HasHead (core self.old p) spans.now head.now
+            → Opens self.old.input.items self.old self.new }
         ensures reaches { (p : Past) → HasHead (core self.old p) spans.now head.now
             → Holds (core self.new p) }
     {
@@ -241,6 +247,7 @@ impl Machine {
     fn take(&mut self, piece: Span) -> bool
         requires { (piece.start < piece.end) × (piece.end ≤ length self.old.input.items) }
         ensures keeps { Keeps self.old self.new }
+        ensures puts { GoesOn self.old self.new }
         ensures reaches { (p : Past) → HasPiece (core self.old p) piece → Holds (core self.new p) }
     {
         if piece.end - piece.start > self.config.max_body_len.saturating_sub(self.body.len()) {
@@ -260,6 +267,7 @@ impl Machine {
 
     fn refuse(&mut self, why: Refusal) -> bool
         ensures keeps { Keeps self.old self.new }
+        ensures puts { Refuses why self.old self.new }
         ensures reaches { (p : Past) → MayRefuse why (core self.old p) → Holds (core self.new p) }
     {
         let Ok(()) = self.output.extend_from_slice(refusal_text(why)) else {
@@ -287,6 +295,7 @@ impl Machine {
         ensures config { self.new.config ≡ self.old.config }
         ensures ended { self.new.ended ≡ self.old.ended }
         ensures runs { (first : H) (p : Past) → HasPlanned H.plans H.gives first handler.old p
+            → IsLaid H.plans H.gives first handler.old (account self.old p)
             → HasRequest (core self.old p) → Runs H.plans H.gives first self.new handler.new p }
     {
         if !self.has_head {

@@ -3,7 +3,7 @@ use Rattle.std.proofs.lemmas.Result.{err_from_is_err_and}
 use Rattle.headers_exchange.specs.Connection.{Exchanged}
 use Rattle.headers_exchange.specs.Machine.{new_past}
 use Rattle.headers_exchange.proofs.TurnLemmas.{Appends-none, Consumes-none, ended, is_cut, not_begun, runs_on}
-use Rattle.headers_exchange.proofs.TurnLemmas.{stays_known, waited}
+use Rattle.headers_exchange.proofs.TurnLemmas.{laid_first, stays_known, waited}
 use Rattle.headers_exchange.proofs.serve.serve_exchanges.Goals as goal
 
 pub returns-in_err-machine : goal.returns-in_err-machine
@@ -30,7 +30,16 @@ loop-init g c =
       Appends-none w w (stays_known w),
       c.in_ok-machine.ensures.config,
       waited g.H.Handler.plans g.H.Handler.gives c.args.handler.now c.args.handler.now c.in_ok-machine.machine new_past
-          c.in_ok-machine.ensures.is_sending ((c.args.handler.now, refl, λ _. refl), c.in_ok-machine.ensures.holds),
+          c.in_ok-machine.ensures.is_sending (
+            (
+              c.args.handler.now,
+              refl,
+              λ _. refl,
+              laid_first g.H.Handler.plans g.H.Handler.gives c.args.handler.now c.in_ok-machine.machine
+                  c.in_ok-machine.ensures.state c.in_ok-machine.ensures.output,
+            ),
+            c.in_ok-machine.ensures.holds,
+          ),
     )
 
 pub loop-preserved : goal.loop-preserved

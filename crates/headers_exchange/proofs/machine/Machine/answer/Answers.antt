@@ -9,11 +9,11 @@ use Rattle.http_server.proofs.MachineLemmas.{busy, may_abort}
 use Rattle.headers_exchange.specs.declared.machine.Machine.{Machine}
 use Rattle.headers_exchange.specs.Machine.{IsSending, core}
 use Rattle.headers_exchange.proofs.SendLemmas.{begins}
-use Rattle.headers_exchange.proofs.TurnLemmas.{aborted, sent, view_begun, waited}
+use Rattle.headers_exchange.proofs.TurnLemmas.{aborted, runs_aborted, sent, view_begun}
 use Rattle.headers_exchange.proofs.machine.Machine.answer.Goals as goal
 
 pub returns-clause-runs : goal.returns-clause-runs
-returns-clause-runs g c = λ first p chain x.
+returns-clause-runs g c = λ first p chain laid x.
     let old = c.args.self.now in
     let new = c.start.new.self in
     let k = core old p in
@@ -36,18 +36,36 @@ returns-clause-runs g c = λ first p chain x.
           sent g.H.Handler.plans g.H.Handler.gives first c.plan.new.self new p begun.is_sending (
             c.args.handler.now,
             chain,
-            subst (IsSending g.H.Handler.plans g.H.Handler.gives c.args.handler.now c.plan.new.self)
+            subst (IsSending g.H.Handler.plans g.H.Handler.gives first c.args.handler.now c.plan.new.self)
                 (sym (view_begun p c.plan.new.plan c.is_head-is_head.result middle new begun refl emptied))
-                (begins g.H.Handler.plans g.H.Handler.gives c.args.handler.now c.plan.new.self k x request are_parts
-                body
+                (begins g.H.Handler.plans g.H.Handler.gives first c.args.handler.now c.plan.new.self k x laid request
+                are_parts body
                 c.plan.new.plan c.in-Ok-plan.ensures c.is_head-is_head.result kind new.server new.output.items
                 new.tail.items
                 begun.frames),
           )
       | inr over ↦
-          waited g.H.Handler.plans g.H.Handler.gives first c.plan.new.self new p (over.is_sending ∙ c.requires) (
-            (c.args.handler.now, chain, λ going. absurd (going over.state)),
-            aborted p middle new over.config over.ended over.input over.state over.output
-                (may_abort k x.base (busy k.config k.history x.reads.head) (inl x.calls)),
-          )
+          runs_aborted g.H.Handler.plans g.H.Handler.gives first c.args.handler.now c.plan.new.self old new p
+          x.base.is_open over.config (over.is_sending ∙ c.requires) (over.state, over.output) chain laid
+          (aborted p middle new over.config over.ended over.input over.state over.output
+          (may_abort k x.base (busy k.config k.history x.reads.head) (inl x.calls)))
     ]
+
+pub returns-in_default-clause-runs : goal.returns-in_default-clause-runs
+returns-in_default-clause-runs g c = λ first p chain laid x.
+    let old = c.args.self.now in
+    let k = core old p in
+    let abort = c.abort.ensures in
+    runs_aborted g.H.Handler.plans g.H.Handler.gives first c.args.handler.now c.args.handler.now old c.abort.new.self p
+    x.base.is_open abort.keeps.config (abort.keeps.is_sending ∙ c.requires) (abort.state, abort.output) chain laid
+    (abort.reaches p (may_abort k x.base (busy k.config k.history x.reads.head) (inl x.calls)))
+
+pub returns-in_default-plan-clause-runs : goal.returns-in_default-plan-clause-runs
+returns-in_default-plan-clause-runs g c = λ first p chain laid x.
+    let old = c.args.self.now in
+    let k = core old p in
+    let abort = c.abort-in_default-plan.ensures in
+    runs_aborted g.H.Handler.plans g.H.Handler.gives first c.args.handler.now c.plan.new.self old
+    c.abort-in_default-plan.new.self p x.base.is_open abort.keeps.config (abort.keeps.is_sending ∙ c.requires)
+    (abort.state, abort.output) chain laid
+    (abort.reaches p (may_abort k x.base (busy k.config k.history x.reads.head) (inl x.calls)))

@@ -5,7 +5,8 @@ use Rattle.httparse.specs.declared.spans.HeaderSpan.{HeaderSpan}
 use Rattle.httparse.specs.Spans.{header_bytes}
 use Rattle.http_server.specs.Host.{AreHostsValid}
 use Rattle.headers_exchange.specs.Machine.{core}
-use Rattle.http_server.specs.Exchange.{continue_text}
+use Rattle.http_server.specs.Exchange.{ExpectsContinue, continue_text}
+use Rattle.headers_exchange.proofs.TurnLemmas.{refused_on}
 use Rattle.headers_exchange.proofs.machine.Machine.begin.Goals.{in-OutOfMemory, in_default-e}
 use Rattle.http_server.proofs.MachineLemmas.{holds, running_at, moved, busy, may_abort, accepted, head_accepted}
 use Rattle.http_server.proofs.MachineLemmas.{coded_head, uncoded_head, head_hosts, invalid_host, invalid_part}
@@ -109,3 +110,41 @@ returns-in-Ok-extend_from_slice-clause-reaches c = λ p x.
           (append_assoc _ _ continue_text)
           ∙ ap (λ (t : List ℕ). t ++ continue_text) before;
     }) _ x.1 refl (body, fits))
+
+pub returns-then-has_codings-clause-puts : goal.returns-then-has_codings-clause-puts
+returns-then-has_codings-clause-puts c = λ p x. inr (refused_on refl c.refuse.ensures.puts)
+
+pub returns-then-not-are_hosts-clause-puts : goal.returns-then-not-are_hosts-clause-puts
+returns-then-not-are_hosts-clause-puts c = λ p x. inr (refused_on refl c.refuse-then-not-are_hosts.ensures.puts)
+
+pub returns-in_default-clause-puts : goal.returns-in_default-clause-puts
+returns-in_default-clause-puts c = λ p x. inr (inr (inr (c.abort.ensures.state, c.abort.ensures.output)))
+
+pub returns-in-Err-clause-puts : goal.returns-in-Err-clause-puts
+returns-in-Err-clause-puts c = λ p x.
+    elim c.match-e.branch [
+      | in-OutOfMemory w ↦
+          rw w.self-is
+          (inr (inr (inr (w.abort-in-OutOfMemory.ensures.state, w.abort-in-OutOfMemory.ensures.output))))
+      | in_default-e w ↦ rw w.self-is (inr (refused_on refl w.refuse-in_default-e.ensures.puts))
+    ]
+
+pub returns-clause-puts : goal.returns-clause-puts
+returns-clause-puts c = λ p x. inr (refused_on refl c.refuse-2.ensures.puts)
+
+pub returns-in-Ok-extend_from_slice-clause-puts : goal.returns-in-Ok-extend_from_slice-clause-puts
+returns-in-Ok-extend_from_slice-clause-puts c = λ p x.
+    let k = core c.args.self.now p in
+    let waits = sym c.expects_continue.ensures ∙ c.if-not-expects_continue.false in
+    inl (record {
+      state = refl;
+      output = c.in-Ok-extend_from_slice.ensures.ok;
+      has_head = refl;
+      expects =
+          subst (ExpectsContinue k.config.limits) (sym x.2.0)
+          (expecting k c.args.spans.now c.args.head.now x _ c.in-Ok.ensures.front waits);
+    })
+
+pub returns-2-clause-puts : goal.returns-2-clause-puts
+returns-2-clause-puts c = λ p x.
+    let abort = c.abort-in-Err-extend_from_slice.ensures in inr (inr (inr (abort.state, abort.output)))

@@ -1,9 +1,16 @@
-use Rattle.std.proofs.Common.{◌≡◌, ◌≤◌, ◌++◌, length, ap, arith, length-append}
+use Rattle.std.proofs.Common.{◌≡◌, ◌≤◌, ◌++◌, length, refl, ap, arith, length-append, inr}
 use Rattle.headers_exchange.specs.Machine.{core}
 use Rattle.httparse.specs.Spans.{span_bytes}
 use Rattle.httparse.proofs.RunLemmas.{length-slice_range}
 use Rattle.http_server.proofs.MachineLemmas.{holds, running_at, moved, busy, long_by_data}
+use Rattle.headers_exchange.proofs.TurnLemmas.{refused_on}
 use Rattle.headers_exchange.proofs.machine.Machine.take.Goals as goal
+
+pub returns-then-piece-saturating_sub-clause-puts : goal.returns-then-piece-saturating_sub-clause-puts
+returns-then-piece-saturating_sub-clause-puts c = refused_on refl c.refuse.ensures.puts
+
+pub returns-in-Err-clause-puts : goal.returns-in-Err-clause-puts
+returns-in-Err-clause-puts c = inr (inr (c.abort.ensures.state, c.abort.ensures.output))
 
 pub returns-then-piece-saturating_sub-clause-reaches : goal.returns-then-piece-saturating_sub-clause-reaches
 returns-then-piece-saturating_sub-clause-reaches c = λ p x.

@@ -1,9 +1,13 @@
-use Rattle.std.proofs.Common.{sym, ◌∙◌, arith}
+use Rattle.std.proofs.Common.{refl, sym, ◌∙◌, arith}
 use Rattle.std.proofs.lemmas.Bool.{cond-true}
 use Rattle.http_server.proofs.MachineLemmas.{holds, truncated}
 use Rattle.headers_exchange.proofs.machine.Machine.wait.Goals.{else-not-self-2-via-then-not-self-2+else-is_empty}
 use Rattle.headers_exchange.proofs.machine.Machine.wait.Goals.{else-not-self-2-via-else-not-self-2}
+use Rattle.headers_exchange.proofs.TurnLemmas.{refused_on}
 use Rattle.headers_exchange.proofs.machine.Machine.wait.Goals as goal
+
+pub returns-clause-puts : goal.returns-clause-puts
+returns-clause-puts c = refused_on refl c.refuse.ensures.puts
 
 pub returns-then-not-self-clause-reaches : goal.returns-then-not-self-clause-reaches
 returns-then-not-self-clause-reaches c = λ p x. holds _ x.0
