@@ -1,5 +1,6 @@
 -- The page that lists the names in a folder: what it shows, and where its links lead.
-use Rattle.std.proofs.Common.{◌≡◌, ℕ, ◌+◌, ◌<◌, Bool, true, false, not, ◌||◌, ◌==◌, List, [], ◌∷◌, ◌++◌, refl, sym, ap, subst, ◌∙◌}
+use Rattle.std.proofs.Common.{◌≡◌, ℕ, ◌+◌, ◌<◌, Bool, true, false, not, ◌||◌, ◌==◌, List, [], ◌∷◌, ◌++◌}
+use Rattle.std.proofs.Common.{refl, sym, ap, subst, ◌∙◌}
 use Rattle.std.proofs.Common.{append-nil, append_assoc, arith, get_or, length, map, take}
 use Rattle.std.proofs.lemmas.Bool.Decides.{nat_tests}
 use Rattle.std.proofs.lemmas.List.Elements.{All-append, All-cons, All-head, All-nil, All-tail, All-weaker}
@@ -9,9 +10,11 @@ use Rattle.std.proofs.lemmas.List.Splits.{slice_split_at, slice_split_none}
 use Rattle.std.specs.List.{list_all}
 use Rattle.std.specs.Prelude.{All, codes, filter, flat_map, if◌then◌else◌, string_bytes, String}
 use Rattle.percent_encoding.proofs.PercentLemmas.{All-percent_encode_byte, IsByte, IsEscapeByte}
-use Rattle.percent_encoding.proofs.PercentLemmas.{percent_decode-nil, percent_decode-percent_encode_byte, percent_decode_not_percent}
+use Rattle.percent_encoding.proofs.PercentLemmas.{percent_decode-nil, percent_decode-percent_encode_byte}
+use Rattle.percent_encoding.proofs.PercentLemmas.{percent_decode_not_percent}
 use Rattle.percent_encoding.specs.Percent.{percent_decode, percent_encode_byte}
-use Rattle.headers_files.specs.Listings.{is_escaped, is_unreserved, item, link, link_byte, listing_page, quoted, seconds}
+use Rattle.headers_files.specs.Listings.{is_escaped, is_unreserved, item, link, link_byte, listing_page, quoted}
+use Rattle.headers_files.specs.Listings.{seconds}
 use Rattle.headers_files.specs.Listings.{is_listable, listable, shown, shown_byte}
 use Rattle.headers_files.specs.Pages.{page_with}
 
@@ -63,7 +66,8 @@ link_decodes (byte ∷ name) small =
 links_decode : (names : List (List ℕ)) → All (All IsByte) names → map percent_decode (map link names) ≡ names
 links_decode [] small = refl
 links_decode (name ∷ names) small =
-    ap (λ (l : List ℕ). l ∷ map percent_decode (map link names)) (link_decodes name (All-head (All IsByte) name names small))
+    ap (λ (l : List ℕ). l ∷ map percent_decode (map link names))
+    (link_decodes name (All-head (All IsByte) name names small))
     ∙ ap (λ (l : List (List ℕ)). name ∷ l) (links_decode names (All-tail (All IsByte) name names small))
 
 -- ---- quotes

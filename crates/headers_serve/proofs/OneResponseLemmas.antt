@@ -27,9 +27,9 @@ use Rattle.headers_resource.specs.declared.resource.State.{State}
 use Rattle.headers_resource.proofs.AnswerLemmas.{one_answer}
 use Rattle.headers_resource.proofs.ItemLemmas.{same_answer}
 use Rattle.headers_files.specs.declared.listing.Listing.{Listing}
-use Rattle.headers_serve.specs.Answer.{Carries, Decides, IsAnswerAt, IsDescribed, IsHeldBy, IsSendable, cache_sent, clock}
-use Rattle.headers_serve.specs.Answer.{explained_fields, file_at, file_sent, first_fields, pieces_for, sends_several}
-use Rattle.headers_serve.specs.Answer.{pieces_of, status_for}
+use Rattle.headers_serve.specs.Answer.{Carries, Decides, IsAnswerAt, IsDescribed, IsHeldBy, IsSendable, cache_sent}
+use Rattle.headers_serve.specs.Answer.{clock, explained_fields, file_at, file_sent, first_fields, pieces_for}
+use Rattle.headers_serve.specs.Answer.{pieces_of, sends_several, status_for}
 use Rattle.headers_serve.specs.Asked.{Asks, HasAuthority, IsProtocolOf}
 use Rattle.headers_serve.specs.File.{representation_of}
 use Rattle.headers_serve.specs.Found.{FindsEntry, FindsFolder, FindsListing, IsAbsent, LeadsTo}

@@ -99,7 +99,8 @@ record IsWholePlan (own : File) (plan : Plan) : Type 0 where
   pieces : (divider : List ℕ) → pieces_sent divider own plan ≡ all_of own.source
 
 module _ (negotiates : Bool) (present : ℕ) (fields : LineMap) (own : File) (all : AsksForAll negotiates fields) where
-  selects_whole : Selects present get fields (validators_of present own) (len_of own.source) (limits_of own.coding) Whole
+  selects_whole : Selects present get fields (validators_of present own) (len_of own.source) (limits_of own.coding)
+      Whole
   selects_whole = inl (λ set applies. let asked = rw all.range at applies.asked in absurd (cc asked))
 
   full : IsPlan present get fields (current_of present own) (len_of own.source) (limits_of own.coding) Full
@@ -412,7 +413,9 @@ module _ (now : Option ℕ) (left : ℕ) (site : Site) (divider : List ℕ) (loo
       asked.fields host own_host expects present own others
       (subst (λ (f : LineMap). AsksForAll site.resource.negotiation.coding f) (sym asks.2.fields) all) items by
       x.found.files.items x.answer
-      (subst (λ (r : Resource). Decides present by x.found.files.items r (reading asked.protocol asked.authority asked.fields) x.answer) resource
+      (subst
+      (λ (r : Resource).
+      Decides present by x.found.files.items r (reading asked.protocol asked.authority asked.fields) x.answer) resource
       (subst (λ (q : Asked). Decides present by x.found.files.items x.resource q x.answer) reads x.decides)) in
       let carries = x.carries in
       let status =

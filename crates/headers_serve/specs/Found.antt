@@ -48,8 +48,8 @@ pub record HasListing (listing : Listing) (found : Found) : Type 0 where
   pub status : found.status ≡ 404
   pub files : found.files.items ≡ listed_file listing ∷ []
 
--- A folder is listed where its path ends in a slash, below which the links of the page lead to its names. Its index isn't
--- there by its own name.
+-- A folder is listed where its path ends in a slash, below which the links of the page lead to its names. Its index
+-- isn't there by its own name.
 abbrev pub FindsListing : List ℕ → Listing → Found → Type 0
 FindsListing path listing found =
     ((ends_in_slash path ≡ true) × HasListing listing found) ⊎ ((ends_in_slash path ≡ false) × IsAbsent 404 found)

@@ -36,8 +36,8 @@ part_pieces divider (Some file) part source e = refl
 
 module _ (law : SendsRanges) (now : Option ℕ) (left : ℕ) (site : Site) (look : List ℕ → Entry)
     (request : Request (List ℕ)) (response : Response) (kept : Kept)
-    (x : IsAnswerAt now left site (has_at look) request response (Some (InMemory kept))) (place : Option ℕ) (part : Part)
-    (sends : x.answer.sends ≡ Planned place (Single part)) where
+    (x : IsAnswerAt now left site (has_at look) request response (Some (InMemory kept))) (place : Option ℕ)
+    (part : Part) (sends : x.answer.sends ≡ Planned place (Single part)) where
   abbrev divider : List ℕ
   divider = string_bytes site.divider
 

@@ -1,4 +1,4 @@
-use Rattle.std.proofs.Common.{◌≡◌, ◌&&◌, ◌==◌, Bool, ℕ, true, false, ap, rules, sym, tests, ◌∙◌}
+use Rattle.std.proofs.Common.{◌≡◌, ◌&&◌, ◌==◌, Bool, List, ℕ, true, false, ap, rules, sym, tests, ◌∙◌}
 use Rattle.std.proofs.lemmas.Iterator.Search.{all_from_yields_List}
 use Rattle.std.proofs.lemmas.Iterator.Splits.{YieldsList-from_slice_split}
 use Rattle.std.specs.List.{list_all, slice_split}
@@ -8,9 +8,9 @@ use Rattle.headers_files.proofs.path.is_plain.Goals as goal
 
 pub returns-then-is_first_name : goal.returns-then-is_first_name
 returns-then-is_first_name c =
+    let parts : List (List ℕ) = slice_split (λ (b : ℕ). b == 47) c.args.path.now in
     let cut =
-    first_yielded _ _ c.split-names.result c.next.new.self (slice_split (λ (b : ℕ). b == 47) c.args.path.now) c.in-Some.first
-    c.in-Some.ensures.steps
+    first_yielded _ _ c.split-names.result c.next.new.self parts c.in-Some.first c.in-Some.ensures.steps
     (YieldsList-from_slice_split _ (λ b. b == 47) c.args.path.now
     (c.split-names.ensures.rest ∙ c.as_bytes.ensures.value) c.split-names.ensures.done
     c.split-names.ensures.closure (λ x b q k. search (rules, tests))) in
@@ -22,9 +22,9 @@ returns-then-is_first_name c =
 
 pub returns-else-is_first_name : goal.returns-else-is_first_name
 returns-else-is_first_name c =
+    let parts : List (List ℕ) = slice_split (λ (b : ℕ). b == 47) c.args.path.now in
     let cut =
-    first_yielded _ _ c.split-names.result c.next.new.self (slice_split (λ (b : ℕ). b == 47) c.args.path.now) c.in-Some.first
-    c.in-Some.ensures.steps
+    first_yielded _ _ c.split-names.result c.next.new.self parts c.in-Some.first c.in-Some.ensures.steps
     (YieldsList-from_slice_split _ (λ b. b == 47) c.args.path.now
     (c.split-names.ensures.rest ∙ c.as_bytes.ensures.value) c.split-names.ensures.done
     c.split-names.ensures.closure (λ x b q k. search (rules, tests))) in
