@@ -1,5 +1,5 @@
 //! Bytes in memory.
-ghost use Rattle.std.specs.Prelude.{◌≡◌, ◌≤◌, ◌-◌, IfOk, drop, length, take};
+ghost use Rattle.std.specs.Prelude.{◌≡◌, ◌-◌, ◌++◌, IfOk, drop, length, min, take};
 ghost use Rattle.http_header.specs.FieldValue.{plain_value};
 ghost use Rattle.headers_files.specs.Tags.{content_digest, strong_tag};
 
@@ -48,11 +48,11 @@ impl Kept {
         Ok(Kept { content, tag })
     }
 
-    /// Copies bytes from a place on, as many as there are and the buffer has room for.
+    /// Copies bytes from a place on, as many as there are and the buffer has room for. The rest of the
+    /// buffer stays as it is.
     pub fn read(&self, start: u64, buffer: &mut [u8]) -> usize
-        ensures bound { result ≤ length buffer.new }
-        ensures bytes { take result buffer.new ≡ take result (drop start self.now.content) }
-        ensures some { result ≤ length self.now.content - start }
+        ensures count { result ≡ min (length self.now.content - start) (length buffer.old) }
+        ensures copied { buffer.new ≡ take result (drop start self.now.content) ++ drop result buffer.old }
     {
         let content = self.content.as_slice();
         if start >= content.len() as u64 {

@@ -4,6 +4,7 @@ pub mod FieldLemmas
 pub mod OneResponseLemmas
 pub mod PartLemmas
 pub mod PlanLemmas
+pub mod ReadLemmas
 pub mod RepresentationLemmas
 pub mod TrimLemmas
 pub mod WholeLemmas

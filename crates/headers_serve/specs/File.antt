@@ -1,6 +1,7 @@
 -- What a file gives: its bytes, and its validators.
-use Rattle.std.specs.Prelude.{◌≡◌, ℕ, ◌+◌, Bool, false, nat_le, [], length, take, drop, Option, Some, None, ⊤}
-use Rattle.std.specs.Prelude.{if◌then◌else◌}
+use Rattle.std.specs.Prelude.{◌≡◌, ℕ, ◌+◌, ◌-◌, min, nat_le, Bool, false, if◌then◌else◌, List, [], ◌++◌, length, take}
+use Rattle.std.specs.Prelude.{drop, Option, Some, None, Result, Ok, IsOkAnd, ⊤}
+use Rattle.std.specs.Io.{ReadsAtMost}
 use Rattle.http_header.specs.FieldValue.{FieldValue, plain_value}
 use Rattle.headers_exchange.specs.Pieces.{Gives}
 use Rattle.headers_preconditions.specs.Limits.{usual_limits}
@@ -28,14 +29,23 @@ abbrev pub gives_at : Source → Gives
 gives_at (Kept kept) start bytes = bytes ≡ take (length bytes) (drop start kept.content)
 gives_at (Opened opened) start bytes = ⊤
 
+-- A read from this place on into a buffer. Of what is kept it takes as many bytes as there are and the buffer has room
+-- for, and leaves the rest of the buffer as it is. Of an open file only the system knows what it takes.
+abbrev pub Reads : {E : Type 0} → Source → ℕ → List ℕ → List ℕ → Result ℕ E → Type 0
+Reads (Kept kept) start old new result =
+    IsOkAnd result (λ count. (count ≡ min (length kept.content - start) (length old))
+    × (new ≡ take count (drop start kept.content) ++ drop count old))
+Reads (Opened opened) start old new result = ReadsAtMost result new
+
 -- the tag: of bytes in memory the digest of them, of an open file the one that it came with
 abbrev pub tag_of : Source → Option FieldValue
 tag_of (Kept kept) = Some (plain_value (strong_tag (content_digest kept.content)))
 tag_of (Opened opened) = opened.tag
 
--- The date is a strong validator (section 8.8.2.2): it is a minute before the time of the answer at least, which is that
--- of Date, so clocks that differ a little count for nothing. A client names a date in If-Range only if it was answered
--- after the second of that date (section 13.1.5), so it has the representation that the file had when the second ended.
+-- The date is a strong validator (section 8.8.2.2): it is a minute before the time of the answer at least, which is
+-- that of Date, so clocks that differ a little count for nothing. A client names a date in If-Range only if it was
+-- answered after the second of that date (section 13.1.5), so it has the representation that the file had when the
+-- second ended.
 abbrev pub is_settled : ℕ → Option ℕ → Bool
 is_settled present None = false
 is_settled present (Some modified) = nat_le (modified + 60) present
@@ -82,3 +92,7 @@ representation_of present file = record {
 abbrev pub gives_of : Option Source → Gives
 gives_of None start bytes = bytes ≡ []
 gives_of (Some source) start bytes = gives_at source start bytes
+
+abbrev pub ReadsOf : {E : Type 0} → Option Source → ℕ → List ℕ → List ℕ → Result ℕ E → Type 0
+ReadsOf None start old new result = (result ≡ Ok 0) × (new ≡ old)
+ReadsOf (Some source) start old new result = Reads source start old new result

@@ -1,10 +1,10 @@
 //! The service: a request is answered from a store.
-ghost use Rattle.std.specs.Prelude.{◌≡◌, true, [], OnOk, IfOk};
-ghost use Rattle.std.specs.Prelude.{◌++◌};
+ghost use Rattle.std.specs.Prelude.{◌≡◌, true, [], ◌++◌, IfOk, OnOk, take};
+ghost use Rattle.std.specs.Io.{ReadsAtMost};
 ghost use Rattle.headers.specs.LineMap.{fields_of as encoded_fields};
 ghost use Rattle.headers_serve.specs.Answer.{Carries, FitsIn, IsDescribed, clock, explained_fields, pieces_for};
 ghost use Rattle.headers_serve.specs.Answer.{pieces_sent, source_sent, status_for, tag_sent};
-ghost use Rattle.headers_serve.specs.File.{len_of};
+ghost use Rattle.headers_serve.specs.File.{ReadsOf, gives_of, len_of};
 ghost use Rattle.headers_serve.specs.Parts.{Fits};
 ghost use Rattle.headers_serve.specs.Response.{fields_of, is_bare_tag};
 
@@ -239,7 +239,12 @@ impl<S: Store> Handler for FileService<S> {
         Ok(())
     }
 
-    fn read(&self, start: u64, buffer: &mut [u8]) -> io::Result<usize> {
+    #[tactic(auto, using(crate::proofs::ReadLemmas::reads_at_most, crate::proofs::ReadLemmas::reads_give))]
+    fn read(&self, start: u64, buffer: &mut [u8]) -> io::Result<usize>
+        ensures bound { ReadsAtMost result buffer.new }
+        ensures bytes { IfOk result (λ count. gives_of self.now.source start (take count buffer.new)) }
+        ensures exact { ReadsOf self.now.source start buffer.old buffer.new result }
+    {
         match &self.source {
             Some(source) => source.read(start, buffer),
             None => Ok(0),

@@ -1,7 +1,6 @@
 //! Where the bytes of a file come from.
-ghost use Rattle.std.specs.Prelude.{◌≡◌, true, IfOk, take};
-ghost use Rattle.std.specs.Io.{ReadsAtMost};
-ghost use Rattle.headers_serve.specs.File.{gives_at, len_of, tag_of};
+ghost use Rattle.std.specs.Prelude.{◌≡◌, true};
+ghost use Rattle.headers_serve.specs.File.{Reads, len_of, tag_of};
 ghost use Rattle.headers_serve.specs.Response.{is_bare_tag};
 
 use headers::ETag;
@@ -50,10 +49,10 @@ impl Source {
         }
     }
 
-    /// Reads bytes from a place on.
+    /// Reads bytes from a place on: of those in memory, as many as there are and the buffer has room for.
+    /// Fails only if the system does.
     pub(crate) fn read(&self, start: u64, buffer: &mut [u8]) -> io::Result<usize>
-        ensures bound { ReadsAtMost result buffer.new }
-        ensures bytes { IfOk result (λ count. gives_at self.now start (take count buffer.new)) }
+        ensures { Reads self.now start buffer.old buffer.new result }
     {
         match self {
             Source::Kept(kept) => Ok(kept.read(start, buffer)),
