@@ -1,10 +1,11 @@
 -- Values and field lines without white space at their ends.
 use Rattle.std.proofs.Common.{◌≡◌, ℕ, zero, suc, ◌+◌, ◌-◌, ◌<◌, ◌≤◌, Bool, true, false, not, eqb, IsTrue, List, [], ◌∷◌}
 use Rattle.std.proofs.Common.{◌++◌, length, take, drop, reverse, get_or, refl, sym, ap, ◌∙◌, arith, inl, inr}
-use Rattle.std.proofs.Common.{nat_lt}
+use Rattle.std.proofs.Common.{nat_lt, if◌then◌else◌}
 use Rattle.std.specs.List.{list_all, prefix_len, suffix_len}
 use Rattle.std.proofs.Math.Bool.{or_comm}
-use Rattle.std.proofs.lemmas.Bool.{and_from, cases_Bool, cond-false, cond-true, lt-ltb, ltb-false, ltb-true, not-true}
+use Rattle.std.proofs.lemmas.Bool.{and_from, and_parts, cases_Bool, cond-false, cond-true, lt-ltb, ltb-false, ltb-true}
+use Rattle.std.proofs.lemmas.Bool.{not-true}
 use Rattle.std.proofs.lemmas.List.{drop_all, drop_more, get_or-reverse, length-drop, length-reverse, length-take-le}
 use Rattle.std.proofs.lemmas.List.{map_push, reverse-append, take_all, take_more}
 use Rattle.std.proofs.lemmas.List.Elements.{All-weaker}
@@ -18,7 +19,7 @@ use Rattle.http1.specs.Fields.{Header}
 use Rattle.http1.specs.Head.{is_field_value, starts_visible}
 use Rattle.headers.specs.EntityTag.{IsTag, tag_text}
 use Rattle.headers.specs.Text.{is_blank, trim, trim_end, trim_start}
-use Rattle.headers_serve.specs.Response.{is_bare, is_kept, is_line, trimmed_line, trimmed_lines}
+use Rattle.headers_serve.specs.Response.{is_bare, is_bare_line, is_kept, is_line, trimmed_line, trimmed_lines}
 
 -- ---- what is left has no white space at its ends
 
@@ -86,21 +87,9 @@ trim_visible s front back =
     ap (λ (k : ℕ). trim_end (drop k s)) first ∙ ap (λ (k : ℕ). take (length s - k) s) last
     ∙ take_all (length s - 0) s (omega arith)
 
--- what isn't shorter without the white space at its ends has none
-pub trim_same : (s : List ℕ) → nat_lt (length (trim s)) (length s) ≡ false → trim s ≡ s
-trim_same [] long = refl
-trim_same (b ∷ bs) long =
-    let s : List ℕ = b ∷ bs in
-    let k : ℕ = prefix_len is_blank s in
-    let t : List ℕ = drop k s in
-    let n : ℕ = length t - suffix_len is_blank t in
-    let some : 0 < length s = omega arith in
-    let kept : length s ≤ length (take n t) = ltb-false (length (take n t)) (length s) long in
-    let len : length (take n t) ≡ n = length-take-le n t (omega arith) in
-    let left : length t ≡ length s - k = length-drop k s in
-    let none : k ≡ 0 = omega (arith, some, kept, len, left) in
-    let all : length t ≤ n = omega (arith, some, kept, len, left) in
-    take_all n t all ∙ ap (λ (j : ℕ). drop j s) none
+pub trim_bare_text : (s : List ℕ) → is_bare s ≡ true → trim s ≡ s
+trim_bare_text s bare =
+    let ends = and_parts (starts_visible s) (starts_visible (reverse s)) bare in trim_visible s ends.0 ends.1
 
 -- ---- the ends of texts
 
@@ -187,3 +176,25 @@ pub valid-push : (lines : List Header) (line : Header) → list_all is_line line
 valid-push lines line all one =
     list_all-append is_line lines (line ∷ [])
     ∙ and_from (list_all is_line lines) (list_all is_line (line ∷ [])) all (and_from (is_line line) true one refl)
+
+-- whatever its name is
+line_same : (kept : Bool) (line : Header) → trim line.1 ≡ line.1
+    → (if kept then line else (line.0, trim line.1)) ≡ line
+line_same true line same = refl
+line_same false line same = ap (λ (text : List ℕ). (line.0, text)) same
+
+-- lines whose values have no white space at their ends are sent as they are
+pub lines_same : (lines : List Header) → list_all is_bare_line lines ≡ true → lines ≡ trimmed_lines lines
+lines_same [] bare = refl
+lines_same (line ∷ lines) bare =
+    let all = and_parts (is_bare_line line) (list_all is_bare_line lines) bare in
+    let first = and_parts (is_line line) (is_bare line.1) all.0 in
+    ap (λ (l : Header). l ∷ lines) (sym (line_same (is_kept line.0) line (trim_bare_text line.1 first.1)))
+    ∙ ap (λ (l : List Header). trimmed_line line ∷ l) (lines_same lines all.1)
+
+pub lines_valid : (lines : List Header) → list_all is_bare_line lines ≡ true → list_all is_line lines ≡ true
+lines_valid [] bare = refl
+lines_valid (line ∷ lines) bare =
+    let all = and_parts (is_bare_line line) (list_all is_bare_line lines) bare in
+    let first = and_parts (is_line line) (is_bare line.1) all.0 in
+    and_from (is_line line) (list_all is_line lines) first.0 (lines_valid lines all.1)

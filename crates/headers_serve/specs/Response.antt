@@ -87,6 +87,10 @@ is_line line = is_token line.0 && is_field_value line.1
 abbrev pub is_bare : List ℕ → Bool
 is_bare value = starts_visible value && starts_visible (reverse value)
 
+-- the field line is valid, and there is none at the ends of its value
+abbrev pub is_bare_line : Header → Bool
+is_bare_line line = is_line line && is_bare line.1
+
 -- there is none at the ends of a tag, if there is one
 abbrev pub is_bare_tag : Option FieldValue → Bool
 is_bare_tag None = true

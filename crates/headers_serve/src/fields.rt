@@ -1,12 +1,14 @@
 //! The fields of a response.
-ghost use Rattle.std.specs.Prelude.{◌≡◌, false, true, [], ◌∷◌, ◌++◌, IfOk, OnOk, bytes_eq};
+ghost use Rattle.std.specs.Prelude.{◌≡◌, false, true, [], ◌∷◌, ◌++◌, IfOk, OnErr, OnOk, bytes_eq};
 ghost use Rattle.std.specs.List.{list_all, list_any};
 ghost use Rattle.headers.specs.LineMap.{field_of, fields_of as encoded_fields};
 ghost use Rattle.headers.specs.Text.{trim};
+ghost use Rattle.http_server.specs.Response.{fields};
+ghost use Rattle.httparse.specs.Grammar.{is_ows};
 ghost use Rattle.headers_serve.specs.Answer.{closing_fields, date_fields, sniff_field};
 ghost use Rattle.headers_serve.specs.Response.{fields_of, headers_of, headers_sent, headers_set};
-ghost use Rattle.headers_serve.specs.Response.{is_kept, is_line, is_named, lines_under, lines_unless};
-ghost use Rattle.headers_serve.specs.Response.{trimmed_line, trimmed_lines};
+ghost use Rattle.headers_serve.specs.Response.{is_bare, is_bare_line, is_kept, is_line, is_named, lines_under};
+ghost use Rattle.headers_serve.specs.Response.{lines_unless, trimmed_line, trimmed_lines};
 
 use headers::{Date, Encoded, HeaderName, HeaderValue, encoding};
 use headers_exchange::Plan as Response;
@@ -166,12 +168,17 @@ fn is_kept(name: &HeaderName) -> bool
     name == b"etag".as_slice() || name.starts_with(b"access-control-")
 }
 
-// Whether a value has white space at an end.
-fn is_padded(value: &HeaderValue) -> bool
-    ensures { result ≡ false → trim value.now.bytes ≡ value.now.bytes }
+fn is_white_space(byte: u8) -> bool
+    ensures { result ≡ is_ows byte }
 {
-    let bytes = value.as_bytes();
-    trim(bytes).len() < bytes.len()
+    byte == b' ' || byte == b'\t'
+}
+
+// Whether a text has no white space at its ends.
+fn is_bare(text: &[u8]) -> bool
+    ensures { result ≡ is_bare text.now }
+{
+    text.is_empty() || (!is_white_space(text[0]) && !is_white_space(text[text.len() - 1]))
 }
 
 // A value without the white space at its ends. What is left of a value is one, so only memory can fail.
@@ -185,13 +192,15 @@ fn unpadded(alloc: Global, value: &HeaderValue) -> Result<HeaderValue, AllocErro
 }
 
 // The same, without a copy where there is none.
+#[tactic(auto, using(crate::proofs::TrimLemmas::trim_bare_text))]
 fn trimmed(alloc: Global, value: HeaderValue) -> Result<HeaderValue, AllocError>
-    ensures { IfOk result (λ made. made.bytes ≡ trim value.bytes) }
+    ensures value { IfOk result (λ made. made.bytes ≡ trim value.bytes) }
+    ensures memory { OnErr result (is_bare value.bytes ≡ false) }
 {
-    if is_padded(&value) {
-        return unpadded(alloc, &value);
+    if is_bare(value.as_bytes()) {
+        return Ok(value);
     }
-    Ok(value)
+    unpadded(alloc, &value)
 }
 
 // The value of a field line as it is sent.
@@ -234,8 +243,29 @@ fn add_line(
     response.add_header(name, made)
 }
 
-/// Removes the white space at the ends of values, which is no part of them (RFC 9110, section 5.5).
-pub(crate) fn trim_values(alloc: Global, response: &mut Response) -> Result<(), AllocError>
+// What its types say of a field line, and whether its value has no white space at its ends.
+fn is_bare_line(line: &(HeaderName, HeaderValue)) -> bool
+    ensures { result ≡ is_bare_line (line.now.0, line.now.1.bytes) }
+{
+    let (name, value) = line;
+    show_line(name, value);
+    is_bare(value.as_bytes())
+}
+
+fn each_is_bare(lines: &[(HeaderName, HeaderValue)]) -> bool
+    ensures { result ≡ list_all (λ line. is_bare_line (line.0, line.1.bytes)) lines.now }
+{
+    lines.iter().all(|line| is_bare_line(line))
+}
+
+fn are_bare_lines(lines: &[(HeaderName, HeaderValue)]) -> bool
+    ensures { result ≡ list_all is_bare_line (fields lines.now) }
+{
+    each_is_bare(lines)
+}
+
+// Makes the field lines anew, as they are sent.
+fn trim_lines(alloc: Global, response: &mut Response) -> Result<(), AllocError>
     ensures headers { OnOk result (fields_of response.new ≡ trimmed_lines (fields_of response.old)) }
     ensures valid { OnOk result (list_all is_line (fields_of response.new) ≡ true) }
     ensures pieces { response.new.pieces.items ≡ response.old.pieces.items }
@@ -246,4 +276,20 @@ pub(crate) fn trim_values(alloc: Global, response: &mut Response) -> Result<(), 
         add_line(alloc, response, name, value)?;
     }
     Ok(())
+}
+
+/// Removes the white space at the ends of values, which is no part of them (RFC 9110, section 5.5). Fails
+/// only if there is some and an allocation fails.
+#[tactic(auto, using(crate::proofs::TrimLemmas::lines_same, crate::proofs::TrimLemmas::lines_valid))]
+pub(crate) fn trim_values(alloc: Global, response: &mut Response) -> Result<(), AllocError>
+    ensures headers { OnOk result (fields_of response.new ≡ trimmed_lines (fields_of response.old)) }
+    ensures memory { OnErr result (list_all is_bare_line (fields_of response.old) ≡ false) }
+    ensures valid { OnOk result (list_all is_line (fields_of response.new) ≡ true) }
+    ensures pieces { response.new.pieces.items ≡ response.old.pieces.items }
+{
+    // So it is in almost every response, and then nothing is copied.
+    if are_bare_lines(&response.headers) {
+        return Ok(());
+    }
+    trim_lines(alloc, response)
 }

@@ -2,7 +2,7 @@ use Rattle.std.proofs.Common.{◌≡◌, true}
 use Rattle.std.specs.List.{list_all}
 use Rattle.http_server.specs.Response.{fields}
 use Rattle.headers_serve.specs.Response.{fields_of, is_line, trimmed_lines}
-use Rattle.headers_serve.proofs.fields.trim_values.Given as goal
+use Rattle.headers_serve.proofs.fields.trim_lines.Given as goal
 
 abbrev pub invariant-loop-name : goal.invariant-loop-name
 invariant-loop-name l =
