@@ -195,6 +195,11 @@ source_sent files sends = source_of (file_sent files sends)
 
 -- ---- a request
 
+-- the date of a time, if there is a clock and the year has four digits (section 5.6.7)
+abbrev pub date_of : Option ℕ → Option ℕ
+date_of None = None
+date_of (Some seconds) = if nat_lt seconds 253402300800 then Some seconds else None
+
 -- the fields of a date
 abbrev pub date_fields : Option ℕ → List Header
 date_fields None = []
@@ -233,10 +238,11 @@ pub record IsAnswerAt (now : Option ℕ) (left : ℕ) (site : Site) (has : List 
       (status_for found.status answer.reason answer.status) answer.sends (encoded_fields answer.fields.items) response
   pub opens : source ≡ source_sent found.files.items answer.sends
 
--- the response to a request at some time
-abbrev pub IsAnswer : ℕ → Site → (List ℕ → Entry → Type 0) → Request (List ℕ) → Response → Option Source → Type 0
-IsAnswer left site has request response source =
-    (now : Option ℕ) × IsAnswerAt now left site has request response source
+-- the response to a request at a time that the clock of the store tells
+abbrev pub IsAnswer : (Option ℕ → Type 0) → ℕ → Site → (List ℕ → Entry → Type 0) → Request (List ℕ) → Response
+    → Option Source → Type 0
+IsAnswer tells left site has request response source =
+    (now : Option ℕ) × IsAnswerAt (date_of now) left site has request response source × tells now
 
 -- both sites say the same of all resources: they differ in the state and the representations of the last request
 pub record IsSameSite (before after : Site) : Type 0 where

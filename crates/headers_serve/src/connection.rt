@@ -30,7 +30,8 @@ pub fn serve_store<S: Store, R: Read, W: Write>(
         × Consumes (R.remaining reader.old) (R.remaining reader.new) received
         × Appends (W.contents writer.old) (W.contents writer.new) sent
         × Exchanged
-        (λ before request plan after. IsAnswer before.left before.site (S.has before.store) request plan after.source
+        (λ before request plan after.
+        IsAnswer (S.tells before.store) before.left before.site (S.has before.store) request plan after.source
         × IsSameSite before.site after.site × (after.store ≡ before.store) × (after.left ≡ before.left - 1))
         (λ now. gives_of now.source) config service.old service.new received sent (is_ok result) }
 {

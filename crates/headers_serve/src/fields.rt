@@ -5,7 +5,7 @@ ghost use Rattle.headers.specs.LineMap.{field_of, fields_of as encoded_fields};
 ghost use Rattle.headers.specs.Text.{trim};
 ghost use Rattle.http_server.specs.Response.{fields};
 ghost use Rattle.httparse.specs.Grammar.{is_ows};
-ghost use Rattle.headers_serve.specs.Answer.{closing_fields, date_fields, sniff_field};
+ghost use Rattle.headers_serve.specs.Answer.{closing_fields, date_fields, date_of, sniff_field};
 ghost use Rattle.headers_serve.specs.Response.{fields_of, headers_of, headers_sent, headers_set};
 ghost use Rattle.headers_serve.specs.Response.{is_bare, is_bare_line, is_kept, is_line, is_named, lines_under};
 ghost use Rattle.headers_serve.specs.Response.{lines_unless, trimmed_line, trimmed_lines};
@@ -18,7 +18,9 @@ use std::alloc::{AllocError, Global};
 use std::mem::replace;
 
 /// The date of a moment, if there is a clock and its year has four digits.
-pub(crate) fn date_of(now: Option<u64>) -> Option<Date> {
+pub(crate) fn date_of(now: Option<u64>) -> Option<Date>
+    ensures { result ≡ date_of now }
+{
     match now {
         Some(seconds) if seconds < 253_402_300_800 => Some(Date::from_unix_secs(seconds)),
         _ => None,

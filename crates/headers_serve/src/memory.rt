@@ -24,9 +24,12 @@ pub struct Memory {
 }
 
 impl Store for Memory {
+    ghost use Rattle.std.specs.Prelude.{◌≡◌, None};
     ghost use Rattle.headers_serve.specs.Memory.{HasOne};
 
     ghost has = { HasOne };
+
+    ghost tells = { λ _ now. now ≡ None };
 
     fn find(&self, alloc: Global, path: &str) -> Result<Entry, AllocError> {
         if path != self.path.as_str() {

@@ -193,7 +193,7 @@ impl<S: Store> Handler for FileService<S> {
     ghost use Rattle.headers_serve.specs.File.{gives_of};
 
     ghost plans = { λ before request plan after.
-        IsAnswer before.left before.site (S.has before.store) request plan after.source
+        IsAnswer (S.tells before.store) before.left before.site (S.has before.store) request plan after.source
         × IsSameSite before.site after.site × (after.store ≡ before.store) × (after.left ≡ before.left - 1) };
 
     ghost gives = { λ service. gives_of service.source };

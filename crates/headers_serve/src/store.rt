@@ -1,5 +1,5 @@
 //! Where files come from.
-ghost use Rattle.std.specs.Prelude.{◌≡◌, ℕ, true, List, IfOk};
+ghost use Rattle.std.specs.Prelude.{◌≡◌, ℕ, true, List, Option, IfOk};
 ghost use Rattle.headers_files.specs.Path.{is_plain};
 ghost use Rattle.headers_serve.specs.Stores.{ListsOwn};
 ghost use Rattle.headers_serve.specs.declared.file.Entry.{Entry};
@@ -15,6 +15,9 @@ pub trait Store {
     // What the store may have at a path.
     ghost has: { Self → List ℕ → Entry → Type 0 };
 
+    // What the clock of the store may tell.
+    ghost tells: { Self → Option ℕ → Type 0 };
+
     /// What stands at a path. The error is for memory alone. The path is plain: no name in it is empty or
     /// begins with a dot, but for `.well-known` as the first, and none holds a NUL or a backslash. So it
     /// stays below the root of the store.
@@ -24,7 +27,8 @@ pub trait Store {
         ensures listed { IfOk result (ListsOwn path.now) };
 
     /// The seconds since the start of 1970, if there is a clock.
-    fn now(&self) -> Option<u64>;
+    fn now(&self) -> Option<u64>
+        ensures { tells self.now result };
 
     /// Is told each request and its response before that is sent, as for a log.
     fn note(&self, request: &Request<Bytes>, response: &Response);

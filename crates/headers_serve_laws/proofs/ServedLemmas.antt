@@ -21,7 +21,7 @@ use Rattle.headers_exchange.specs.Connection.{Exchanged}
 use Rattle.headers_exchange.specs.Encoding.{content_len, plan_fields, plan_size, size_for}
 use Rattle.headers_exchange.specs.Pieces.{total_len}
 use Rattle.headers_exchange.specs.declared.plan.Plan.{Plan}
-use Rattle.headers_serve.specs.Answer.{cache_fields, closing_fields, date_fields, first_fields, sniff_field}
+use Rattle.headers_serve.specs.Answer.{cache_fields, closing_fields, date_fields, date_of, first_fields, sniff_field}
 use Rattle.headers_serve.specs.File.{coding_value, len_of, tag_of}
 use Rattle.headers_serve.specs.Response.{is_bare, is_line, lines_under, trimmed_lines}
 use Rattle.headers_preconditions.specs.Fields.{lines_sent}
@@ -173,10 +173,11 @@ module _ (config : Config) (settings : Settings) (first : FileService Memory) (r
   planned_by : (request : Request (List ℕ)) (plan : Plan) (after : FileService Memory)
       → AsksForRoot (codes "GET") request → plans first request plan after → IsPlanned request plan after
   planned_by request plan after asks x =
+      let time : Option ℕ = date_of x.0.0 in
       let root =
-      get_root x.0.0 first.left settings first.site store request plan after.source of bare index asks x.0.1 in
+      get_root time first.left settings first.site store request plan after.source of bare index asks x.0.1 in
       record {
-        time = x.0.0;
+        time = time;
         file = root.0;
         plain = plain_file store undated (codes "index.html") root.0 root.1;
         whole = root.2;

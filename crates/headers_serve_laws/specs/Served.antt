@@ -52,7 +52,7 @@ pub record IsOneAnswer {H : Type 0} (plans : Plans H) (gives : H → Gives) (hea
 
 abbrev pub plans : Plans (FileService Memory)
 plans before request plan after =
-    IsAnswer before.left before.site (HasOne before.store) request plan after.source
+    IsAnswer (λ now. now ≡ None) before.left before.site (HasOne before.store) request plan after.source
     × IsSameSite before.site after.site × (after.store ≡ before.store) × (after.left ≡ before.left - 1)
 
 abbrev pub gives : FileService Memory → Gives

@@ -1,5 +1,5 @@
 //! The files of a folder.
-ghost use Rattle.std.specs.Prelude.{ℕ, List, IfOk};
+ghost use Rattle.std.specs.Prelude.{◌≡◌, ℕ, false, List, IfOk};
 ghost use Rattle.headers_serve.specs.Stores.{ListsOwn};
 
 use crate::kept::KeptFiles;
@@ -105,7 +105,9 @@ fn stamp_of(alloc: Global, metadata: &fs::Metadata) -> io::Result<Option<ETag>> 
 
 impl Folder<'_> {
     // The date of a file that was last modified then.
-    fn date(&self, modified: Option<SystemTime>) -> Option<LastModified> {
+    fn date(&self, modified: Option<SystemTime>) -> Option<LastModified>
+        ensures { self.now.has_dates ≡ false → result ≡ None }
+    {
         if !self.has_dates {
             return None;
         }
@@ -249,9 +251,11 @@ impl Folder<'_> {
 }
 
 impl Store for Folder<'_> {
-    ghost use Rattle.std.specs.Prelude.{⊤};
+    ghost use Rattle.std.specs.Prelude.{◌≡◌, false, None, ⊤};
 
     ghost has = { λ _ _ _. ⊤ };
+
+    ghost tells = { λ folder now. folder.has_dates ≡ false → now ≡ None };
 
     fn find(&self, alloc: Global, path: &str) -> Result<Entry, AllocError> {
         let entry = self.entry_at(alloc, path)?;

@@ -6,8 +6,8 @@ use Rattle.headers.specs.LineMap.{fields_of as encoded_fields}
 use Rattle.headers.specs.Lines.{Line}
 use Rattle.headers_resource.specs.Requests.{request_of}
 use Rattle.headers_resource.specs.declared.resource.Resource.{Resource}
-use Rattle.headers_serve.specs.Answer.{Carries, Decides, IsDescribed, closing_fields, first_fields, sniff_field}
-use Rattle.headers_serve.specs.Answer.{source_sent, status_for}
+use Rattle.headers_serve.specs.Answer.{Carries, Decides, IsAnswerAt, IsDescribed, closing_fields, first_fields}
+use Rattle.headers_serve.specs.Answer.{sniff_field, source_sent, status_for}
 use Rattle.headers_serve.specs.Asked.{IsAsked}
 use Rattle.headers_serve.specs.Response.{fields_of}
 use Rattle.headers_serve.specs.declared.file.File.{File}
@@ -19,10 +19,13 @@ pub returns : goal.returns
 returns g c =
     let site = c.args.self.now.site in
     let left = c.args.self.now.left in
+    let told = c.now.result in
     let now = c.date_of-date.result in
     let found = c.in_ok-found.found in
     let resource = c.describe.new.resource in
     let answer = c.in_ok-reason.field-0 in
+    let code = status_for found.status answer.reason answer.status in
+    let given = encoded_fields answer.fields.items in
     let asked = request_of c.asked-head.result in
     let after : Site =
     record {
@@ -49,42 +52,42 @@ returns g c =
     (subst
     (λ (l : List File). Decides c.clock-present.result c.as_str.result.now l resource asked answer)
     (c.deref.ensures.value ∙ files) c.in_ok-reason.ensures.answers)) in
+    let Carried : List Header → List File → ℕ → Type 0 =
+    λ h l n. Carries h after l n answer.sends given c.carry.new.response in
     let carries =
-    Carries-at (first_fields now left) site after found.files.items
-    (status_for found.status answer.reason answer.status) answer.sends (encoded_fields answer.fields.items)
-    c.carry.new.response refl refl refl cors
-    (subst
-    (λ (h : List Header).
-    Carries h after found.files.items (status_for found.status answer.reason answer.status) answer.sends
-    (encoded_fields answer.fields.items) c.carry.new.response) first
-    (subst
-    (λ (n : ℕ).
-    Carries before after found.files.items n answer.sends (encoded_fields answer.fields.items) c.carry.new.response) status
-    (subst
-    (λ (l : List File).
-    Carries before after l c.status_for-status.result answer.sends (encoded_fields answer.fields.items) c.carry.new.response)
-    (c.deref-2.ensures.value ∙ files) c.in_ok-carry.ensures))) in (
+    Carries-at (first_fields now left) site after found.files.items code answer.sends given c.carry.new.response refl
+    refl refl cors
+    (subst (λ (h : List Header). Carried h found.files.items code) first
+    (subst (λ (n : ℕ). Carried before found.files.items n) status
+    (subst (λ (l : List File). Carried before l c.status_for-status.result) (c.deref-2.ensures.value ∙ files)
+    c.in_ok-carry.ensures))) in
+    let Answered : Option ℕ → Type 0 =
+    λ time.
+    IsAnswerAt time left site (g.S.Store.has c.args.self.now.store) c.args.request.now c.carry.new.response
+    c.source_sent.result in (
       (
-        now,
-        record {
-          found = found;
-          leads = c.in_ok-found.ensures;
-          resource = resource;
-          described =
-              subst (λ (t : ℕ). IsDescribed t site.resource found resource) c.clock-present.ensures described;
-          asked = asked;
-          asks = (
-            option_map (λ (it : FieldValue). it.bytes) c.in_ok-authority.authority,
-            c.in_ok-authority.ensures,
-            subst (λ (a : Option Line). IsAsked c.args.request.now a asked)
-                (bytes_copied c.as_ref.result c.in_ok-authority.authority c.as_ref.ensures.value)
-                c.asked-head.ensures,
-          );
-          answer = answer;
-          decides = decides;
-          carries = carries;
-          opens = c.source_sent.ensures ∙ ap (λ (l : List File). source_sent l answer.sends) files;
-        },
+        told,
+        subst Answered c.date_of-date.ensures
+            (record {
+              found = found;
+              leads = c.in_ok-found.ensures;
+              resource = resource;
+              described =
+                  subst (λ (t : ℕ). IsDescribed t site.resource found resource) c.clock-present.ensures described;
+              asked = asked;
+              asks = (
+                option_map (λ (it : FieldValue). it.bytes) c.in_ok-authority.authority,
+                c.in_ok-authority.ensures,
+                subst (λ (a : Option Line). IsAsked c.args.request.now a asked)
+                    (bytes_copied c.as_ref.result c.in_ok-authority.authority c.as_ref.ensures.value)
+                    c.asked-head.ensures,
+              );
+              answer = answer;
+              decides = decides;
+              carries = carries;
+              opens = c.source_sent.ensures ∙ ap (λ (l : List File). source_sent l answer.sends) files;
+            }),
+        c.now.ensures,
       ),
       record {
         cache_control = refl;
