@@ -17,7 +17,7 @@ pub struct Kept {
 }
 
 impl Kept {
-    /// Keeps these bytes, and makes their tag.
+    /// Keeps these bytes, and makes their tag. Fails only if an allocation fails.
     pub fn new(alloc: Global, content: Bytes) -> Result<Kept, AllocError>
         ensures { IfOk result (λ kept. kept.content ≡ content) }
     {
@@ -39,7 +39,7 @@ impl Kept {
         &self.tag
     }
 
-    /// A copy, which shares the bytes.
+    /// A copy, which shares the bytes. Fails only if an allocation fails.
     pub fn clone(&self, alloc: Global) -> Result<Kept, AllocError>
         ensures { IfOk result (λ copy. copy.content ≡ self.now.content) }
     {

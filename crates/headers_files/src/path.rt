@@ -1,5 +1,5 @@
 //! Paths of a store.
-ghost use Rattle.std.specs.Prelude.{◌≡◌, ◌==◌, true, false, IfOk, MatchOption, drop, option_map, slice_index};
+ghost use Rattle.std.specs.Prelude.{◌≡◌, ◌==◌, true, false, IfOk, MatchOption, OnErr, drop, option_map, slice_index};
 ghost use Rattle.std.specs.Prelude.{string_bytes};
 ghost use Rattle.std.specs.List.{list_all};
 ghost use Rattle.percent_encoding.specs.Percent.{percent_decode};
@@ -129,9 +129,11 @@ fn below_root(alloc: Global, path: &str) -> Result<Option<String>, AllocError>
 
 /// The path in a store that the path of a URI names: what follows its first slash,
 /// percent-decoded, with `index.html` appended if it is empty or ends in a slash. `None` if it
-/// doesn't begin with a slash, if it isn't UTF-8, or if that path isn't plain.
+/// doesn't begin with a slash, if it isn't UTF-8, or if that path isn't plain. Fails only if it begins
+/// with a slash and an allocation fails.
 pub fn store_path(alloc: Global, path: &str) -> Result<Option<String>, AllocError>
-    ensures { IfOk result (λ named. Names path.now (option_map string_bytes named)) }
+    ensures named { IfOk result (λ named. Names path.now (option_map string_bytes named)) }
+    ensures memory { OnErr result (slice_index path.now 0 ≡ 47) }
 {
     if !is_rooted(path.as_bytes()) {
         return Ok(None);

@@ -1,5 +1,6 @@
 //! Where the index of a folder is found.
-ghost use Rattle.std.specs.Prelude.{◌≡◌, IfOk, option_copied, string_bytes};
+ghost use Rattle.std.specs.Prelude.{◌≡◌, false, IfOk, OnErr, option_copied, string_bytes};
+ghost use Rattle.headers_files.specs.Path.{ends_in_slash};
 ghost use Rattle.headers_files.specs.Redirect.{IsLocation, index_target};
 
 use crate::path::ends_in_slash;
@@ -8,13 +9,15 @@ use http_header::HeaderValueError;
 use std::alloc::{AllocError, Global};
 
 /// Where a folder's index is found: at the folder's path with a slash after it, and the query. `None` if
-/// the path ends in a slash already, or if no field can hold that. Fails only if an allocation fails.
+/// the path ends in a slash already, or if no field can hold that. Fails only if the path doesn't end in a
+/// slash and an allocation fails.
 pub fn index_location(
     alloc: Global,
     path: &str,
     query: Option<&str>,
 ) -> Result<Option<HeaderValue>, AllocError>
-    ensures { IfOk result (IsLocation path.now (option_copied query.entry)) }
+    ensures location { IfOk result (IsLocation path.now (option_copied query.entry)) }
+    ensures memory { OnErr result (ends_in_slash path.now ≡ false) }
 {
     if ends_in_slash(path.as_bytes()) {
         return Ok(None);

@@ -1,5 +1,5 @@
 //! The fields of a response.
-ghost use Rattle.std.specs.Prelude.{◌≡◌, false, true, [], ◌∷◌, ◌++◌, IfOk, OnErr, OnOk, bytes_eq};
+ghost use Rattle.std.specs.Prelude.{◌≡◌, ◌≤◌, false, true, [], ◌∷◌, ◌++◌, IfOk, OnErr, OnOk, bytes_eq};
 ghost use Rattle.std.specs.List.{list_all, list_any};
 ghost use Rattle.headers.specs.LineMap.{field_of, fields_of as encoded_fields};
 ghost use Rattle.headers.specs.Text.{trim};
@@ -51,9 +51,10 @@ pub(crate) fn put_sniff(response: &mut Response) -> Result<(), AllocError>
     response.add_header(X_CONTENT_TYPE_OPTIONS, HeaderValue::from_static("nosniff"))
 }
 
-/// Says that the connection ends, if no more response than this is left.
+/// Says that the connection ends, if no more response than this is left. Else it never fails.
 pub(crate) fn put_closing(response: &mut Response, left: u64) -> Result<(), AllocError>
     ensures headers { OnOk result (fields_of response.new ≡ fields_of response.old ++ closing_fields left) }
+    ensures memory { OnErr result (left ≤ 1) }
     ensures pieces { response.new.pieces.items ≡ response.old.pieces.items }
 {
     if left > 1 {

@@ -1,6 +1,7 @@
 //! How files are served.
-ghost use Rattle.std.specs.Prelude.{◌≡◌, IfOk, string_bytes};
-ghost use Rattle.headers_preconditions.specs.Boundaries.{multipart_type};
+ghost use Rattle.std.specs.Prelude.{◌≡◌, ◌↔◌, false, IfOk, string_bytes};
+ghost use Rattle.headers.specs.Refusal.{IsInvalid};
+ghost use Rattle.headers_preconditions.specs.Boundaries.{is_boundary, multipart_type};
 
 use bytes::Bytes;
 use headers::{HeaderValue, Refused};
@@ -20,9 +21,10 @@ pub struct Divider {
 }
 
 impl Divider {
-    /// A boundary of this text. `InvalidBoundary` if it is none.
+    /// A boundary of this text. `Invalid` if it is none; `Memory` if an allocation fails.
     pub fn new(alloc: Global, text: String) -> Result<Divider, Refused<InvalidBoundary>>
-        ensures { IfOk result (λ divider. divider.text ≡ text) }
+        ensures text { IfOk result (λ divider. divider.text ≡ text) }
+        ensures invalid { IsInvalid result ↔ (is_boundary (string_bytes text) ≡ false) }
     {
         let boundary = Boundary::new(alloc, text.as_str())?;
         Ok(Divider { text, boundary })

@@ -16,7 +16,7 @@ fn hosts_listed(hosts: Vec<HeaderValue>) -> Option<Vec<HeaderValue>>
 }
 
 impl Site {
-    /// What these settings say of all resources.
+    /// What these settings say of all resources. Fails only if an allocation fails.
     pub fn new(alloc: Global, settings: Settings) -> Result<Site, AllocError>
         ensures { IfOk result (IsSiteOf settings) }
     {
