@@ -1,6 +1,8 @@
 //! The files of a folder.
-ghost use Rattle.std.specs.Prelude.{◌≡◌, ℕ, false, List, IfOk};
+ghost use Rattle.std.specs.Prelude.{◌≡◌, ◌&&◌, ℕ, false, List, IfOk};
+ghost use Rattle.std.specs.IoError.{error_kind};
 ghost use Rattle.headers_serve.specs.Stores.{ListsOwn};
+ghost use Rattle.serve_folder.specs.Entries.{entry_for, is_missing};
 
 use crate::kept::KeptFiles;
 use crate::names::names_in;
@@ -52,7 +54,8 @@ fn seconds_of(time: SystemTime) -> Option<u64> {
 
 // What stands where the system gives this error, or the error of memory.
 fn entry_of(error: &io::Error) -> Result<Entry, AllocError>
-    ensures { (p : List ℕ) → IfOk result (ListsOwn p) }
+    ensures entry { result ≡ entry_for (error_kind error.now) }
+    ensures listed { (p : List ℕ) → IfOk result (ListsOwn p) }
 {
     match error.kind() {
         ErrorKind::NotFound | ErrorKind::NotADirectory | ErrorKind::InvalidFilename => {
@@ -209,7 +212,8 @@ impl Folder<'_> {
     // The entry at a path, or the listing that stands in for an index that isn't there.
     fn or_listing(&self, alloc: Global, path: &str, entry: Entry) -> Result<Entry, AllocError>
         requires { ListsOwn path.now entry }
-        ensures { IfOk result (ListsOwn path.now) }
+        ensures listed { IfOk result (ListsOwn path.now) }
+        ensures kept { (self.now.lists && is_missing entry) ≡ false → result ≡ Ok entry }
     {
         if self.lists && matches!(entry, Entry::Missing) {
             return self.listing(alloc, path);
