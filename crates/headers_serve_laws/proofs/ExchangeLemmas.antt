@@ -1,7 +1,7 @@
 -- What a connection sends in answer to a literal request.
 use Rattle.std.proofs.Common.{◌≡◌, ◌≢◌, ℕ, ◌+◌, ◌<◌, ◌≤◌, ◌⊎◌, Bool, true, false, not, List, []}
 use Rattle.std.proofs.Common.{◌∷◌, ◌++◌, length}
-use Rattle.std.proofs.Common.{take, codes, Some, None, refl, sym, ap, subst, ◌∙◌, arith, append-nil}
+use Rattle.std.proofs.Common.{cond, take, codes, Some, None, refl, sym, ap, subst, ◌∙◌, arith, append-nil}
 use Rattle.std.proofs.Common.{inl, inr}
 use Rattle.std.proofs.Common.{zero, suc}
 use Rattle.std.specs.Prelude.{Any, slice_index_or}
@@ -38,13 +38,14 @@ use Rattle.http_server.specs.Encoding.{answering, refusal_of, size_of}
 use Rattle.http_server.specs.Exchange.{Call, Chain, Exchanges, ExpectsContinue, IsAnswer, ReadsCall, Serves}
 use Rattle.http_server.specs.Exchange.{keeps_open, map_of}
 use Rattle.http_server.specs.History.{HasInvalidHost, HasInvalidPart, HasTooManyFields, HasUnknownCoding, History}
-use Rattle.http_server.specs.History.{IsPartError, Justifies, NextIs, Stands, output}
+use Rattle.http_server.specs.History.{IsPartError, Justifies, NextIs, Stands}
 use Rattle.http_server.specs.Host.{IsHostValid}
 use Rattle.http_server.specs.Response.{fields_of}
 use Rattle.headers_exchange.specs.Connection.{Exchanged, IsClosing}
-use Rattle.headers_exchange.specs.Encoding.{content_len, plan_fields, plan_size, size_for}
+use Rattle.headers_exchange.specs.Encoding.{Frames, content_len, plan_fields, plan_size, size_for}
+use Rattle.headers_exchange.specs.Literal.{IsLiteral, SendsCall, SendsCalls}
 use Rattle.headers_exchange.specs.Pieces.{AreSent, Gives}
-use Rattle.headers_exchange.specs.Plan.{Answers, HasHeadOf, IsContentOf, Plans}
+use Rattle.headers_exchange.specs.Plan.{Answers, HasHeadOf, IsContentOf, Plans, sent_pieces}
 use Rattle.headers_exchange.specs.declared.plan.Plan.{Plan}
 use Rattle.headers_exchange.proofs.PieceLemmas.{Advances-length}
 use Rattle.headers_serve_laws.specs.Literal.{AsksForRoot, request_text, root_head}
@@ -166,10 +167,9 @@ module _ {H : Type 0} (plans : Plans H) (gives : H → Gives) (config : Config) 
 
   -- ---- what was read
 
-  abbrev Progress : List Call → List ℕ → List ℕ → Type 0
-  Progress answered text rest =
-      ((answered ≡ []) × (rest ≡ stream) × (text ≡ []))
-      ⊎ ((c : Call) × (answered ≡ c ∷ []) × (rest ≡ []) × Exchanges config true stream c text [])
+  abbrev Progress : List Call → List ℕ → Type 0
+  Progress answered rest =
+      ((answered ≡ []) × (rest ≡ stream)) ⊎ ((c : Call) × (answered ≡ c ∷ []) × (rest ≡ []))
 
   ends : (stays : Bool) (c : Call) (text after : List ℕ) → Exchanges config stays stream c text after → after ≡ []
   ends stays c text after e = (get_asked config e.message c.0 after e.request).1
@@ -178,18 +178,9 @@ module _ {H : Type 0} (plans : Plans H) (gives : H → Gives) (config : Config) 
   not_on_empty stays c text after e = empty_reads config.limits e.message after e.request.reads
 
   progress : (answered : List Call) (text rest : List ℕ) → Serves config stream answered text rest
-      → Progress answered text rest
-  progress [] text rest h = inl (refl, sym h.0, h.1)
-  progress (c ∷ []) text rest h =
-      let done : h.1 ≡ [] = ends true c h.0 h.1 h.4 in
-      let alone : text ≡ h.0 = h.3 ∙ ap (λ (l : List ℕ). h.0 ++ l) h.5.1 ∙ append-nil h.0 in
-      inr (
-        c,
-        refl,
-        sym h.5.0 ∙ done,
-        subst (λ (t : List ℕ). Exchanges config true stream c t []) (sym alone)
-            (subst (λ (s : List ℕ). Exchanges config true stream c h.0 s) done h.4),
-      )
+      → Progress answered rest
+  progress [] text rest h = inl (refl, sym h.0)
+  progress (c ∷ []) text rest h = inr (c, refl, sym h.5.0 ∙ ends true c h.0 h.1 h.4)
   progress (c ∷ d ∷ more) text rest h =
       let done : h.1 ≡ [] = ends true c h.0 h.1 h.4 in
       absurd
@@ -311,36 +302,64 @@ module _ {H : Type 0} (plans : Plans H) (gives : H → Gives) (config : Config) 
           ]
 
       abbrev Result : List ℕ → Type 0
-      Result sent = IsOneAnswer plans gives (root_head (codes "GET")) first last sent
+      Result sent = IsOneAnswer plans gives config.limits (root_head (codes "GET")) first last sent
 
-      answered_by : (c : Call) (text : List ℕ) → h.calls ≡ c ∷ [] → Exchanges config true stream c text [] → Result text
-      answered_by c text calls e =
-          let asks = (get_asked config e.message c.0 [] e.request).0 in
-          let p = called c asks (chained (c ∷ []) calls) in
-          let head = (one_get config.limits e.message [] e.request.reads).head in
+      by_call : (c : Call) (text after : List ℕ) → SendsCall plans gives config first last stream c text after
+          → Result text
+      by_call c text after s =
+          let e = s.exchange in
+          let asks = (get_asked config e.message c.0 after e.request).0 in
+          let head = (one_get config.limits e.message after e.request.reads).head in
+          let framing = e.request.reads.framing in
           let quiet : e.interim ≡ [] =
           elim e.is_interim [ inl none ↦ none | inr waits ↦ absurd (waits_for_nothing config.limits waits.1) ] in
           let text_is : text ≡ e.answer = e.joined ∙ ap (λ (l : List ℕ). l ++ e.answer) quiet in
+          let bodied : s.bodiless ≡ false =
+          s.kind ∙ ap (λ (r : RequestHead). is_head (method_kind r.method)) head in
+          let pieces : AreSent (gives last) s.plan.pieces.items s.content =
+          subst (λ (b : Bool). AreSent (gives last) (sent_pieces b s.plan) s.content) bodied s.is_content in
+          let body : s.content ≡ c.1.body.items = s.body ∙ ap (λ (b : Bool). cond b [] c.1.body.items) bodied in
           record {
             request = c.0;
             asks = asks;
-            plan = p.plan;
-            planned = p.planned;
+            plan = s.plan;
+            planned = s.planned;
             response = c.1;
-            has_head = p.has_head;
-            content = p.content;
+            has_head = s.has_head;
+            content = subst (AreSent (gives last) s.plan.pieces.items) body pieces;
             answer =
                 subst (λ (r : RequestHead). IsAnswer r c.1 text) head
                 (subst (λ (t : List ℕ). IsAnswer e.message.head c.1 t) (sym text_is) e.is_answer);
+            framing = framing;
+            server = s.server;
+            front = s.head;
+            tail = s.tail;
+            frames =
+                subst
+                (λ (r : RequestHead).
+                Frames false s.plan (answering config.limits r framing) [] [] s.server s.head s.tail) head
+                (subst
+                (λ (b : Bool).
+                Frames b s.plan (answering config.limits e.message.head framing) [] [] s.server s.head s.tail)
+                bodied s.frames);
+            literal = text_is ∙ s.literal ∙ ap (λ (t : List ℕ). s.head ++ (t ++ s.tail)) body;
           }
 
+      one_sent : (c : Call) (text rest : List ℕ)
+          → SendsCalls plans gives config first last stream (c ∷ []) text rest → Result text
+      one_sent c text rest x =
+          let alone : text ≡ x.1 = x.4 ∙ ap (λ (l : List ℕ). x.1 ++ l) x.6.2 ∙ append-nil x.1 in
+          subst Result (sym alone)
+          (by_call c x.1 x.2
+          (subst (λ (next : H). SendsCall plans gives config first next stream c x.1 x.2) (sym x.6.0) x.5))
+
       by_state : (state : State) (answered : List Call) (text interim rest sent : List ℕ) → IsClosing state
-          → Progress answered text rest → output h ≡ sent
+          → Progress answered rest → IsLiteral plans gives config first last state stream h.calls sent
           → Stands state config h answered text interim rest → Result sent
-      by_state Open answered text interim rest sent closing at out x = absurd closing
-      by_state Upgraded answered text interim rest sent closing at out x = absurd closing
-      by_state Aborted answered text interim rest sent closing at out x = absurd closing
-      by_state (Closing Asked) answered text interim rest sent closing at out x =
+      by_state Open answered text interim rest sent closing at literal x = absurd closing
+      by_state Upgraded answered text interim rest sent closing at literal x = absurd closing
+      by_state Aborted answered text interim rest sent closing at literal x = absurd closing
+      by_state (Closing Asked) answered text interim rest sent closing at literal x =
           let c = x.0 in
           let ex = x.3 in
           absurd
@@ -359,29 +378,38 @@ module _ {H : Type 0} (plans : Plans H) (gives : H → Gives) (config : Config) 
                 not_on_empty false c x.1 x.2
                 (subst (λ (s : List ℕ). Exchanges config false s c x.1 x.2) one.2 ex)
           ])
-      by_state (Closing EndOfInput) answered text interim rest sent closing at out x =
+      by_state (Closing EndOfInput) answered text interim rest sent closing at literal x =
           elim at [
             | inl is ↦
                 let none : stream ≡ [] = sym is.1 ∙ x.2 in
                 let len : length stream ≡ 0 = ap length none in
                 absurd (omega (arith, len))
             | inr one ↦
-                subst Result (sym x.3 ∙ out) (answered_by one.0 text (x.0 ∙ one.1) one.3)
+                let all : sent ≡ literal.text =
+                literal.out ∙ ap (λ (t : List ℕ). literal.text ++ t) literal.is_later ∙ append-nil literal.text in
+                subst Result (sym all)
+                (one_sent one.0 literal.text literal.rest
+                (subst
+                (λ (calls : List Call).
+                SendsCalls plans gives config first last stream calls literal.text literal.rest) (x.0 ∙ one.1)
+                literal.sends))
           ]
-      by_state (Closing (Refused why)) answered text interim rest sent closing at out x =
-          absurd (refuses why answered rest (elim at [ inl is ↦ inl (is.0, is.1) | inr one ↦ inr one.2 ]) x.0)
+      by_state (Closing (Refused why)) answered text interim rest sent closing at literal x =
+          absurd (refuses why answered rest (elim at [ inl is ↦ inl is | inr one ↦ inr one.2 ]) x.0)
 
   -- a whole connection that got this request sent its response
   pub one_answer : GoOn → (now : H) (sent : List ℕ) → Exchanged plans gives config first now stream sent true
-      → IsOneAnswer plans gives (root_head (codes "GET")) first now sent
+      → IsOneAnswer plans gives config.limits (root_head (codes "GET")) first now sent
   one_answer good now sent e =
       let h = e.history in
       let s = e.ended.0 in
       let closing = e.ended.1 in
-      let out : output h ≡ sent =
-      ap (λ (l : List ℕ). h.sent ++ l) e.ended.2 ∙ append-nil h.sent ∙ e.is_sent in
       let at = progress s.answered s.text s.rest
       (subst (λ (r : List ℕ). Serves config r s.answered s.text s.rest) e.is_received s.serves) in
+      let literal : IsLiteral plans gives config first e.last h.state stream h.calls sent =
+      subst (λ (r : List ℕ). IsLiteral plans gives config first e.last h.state r h.calls sent) e.is_received
+      (subst (λ (t : List ℕ). IsLiteral plans gives config first e.last h.state h.received h.calls t) e.is_sent
+      e.literal) in
       subst
-      (λ (l : H). IsOneAnswer plans gives (root_head (codes "GET")) first l sent) e.ended.3
-      (by_state good e.last h e.answered h.state s.answered s.text s.interim s.rest sent closing at out s.stands)
+      (λ (l : H). IsOneAnswer plans gives config.limits (root_head (codes "GET")) first l sent) e.ended.3
+      (by_state good e.last h e.answered h.state s.answered s.text s.interim s.rest sent closing at literal s.stands)

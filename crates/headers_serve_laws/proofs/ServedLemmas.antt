@@ -1,11 +1,12 @@
 -- What the file server sends in answer to a literal request.
 use Rattle.std.proofs.Common.{◌≡◌, ℕ, ◌+◌, ◌^◌, ◌<◌, ◌≤◌, true, false, List, [], ◌∷◌, ◌++◌, length}
 use Rattle.std.proofs.Common.{codes}
-use Rattle.std.proofs.Common.{Option, Some, None, refl, sym, ap, subst, ◌∙◌, arith, inl, inr}
+use Rattle.std.proofs.Common.{Option, Some, None, refl, sym, ap, subst, ◌∙◌, append-nil, arith, inl, inr}
 use Rattle.std.specs.List.{list_all}
 use Rattle.std.specs.Prelude.{All, decimal, string_bytes}
 use Rattle.std.proofs.lemmas.Bool.{and_from, cond-true, lt-ltb}
 use Rattle.http.specs.declared.request.Request.{Request}
+use Rattle.httparse.specs.Grammar.{trim_ows}
 use Rattle.http_header.specs.FieldValue.{FieldValue, plain_value}
 use Rattle.http1.specs.declared.framing.Framing.{Framing}
 use Rattle.http1.specs.Fields.{Header, known_fields}
@@ -44,10 +45,12 @@ use Rattle.headers_serve.specs.declared.source.Source.{Source}
 use Rattle.headers_serve.specs.declared.source.Source.TheVariants.{Kept as InMemory, Opened}
 use Rattle.headers_serve.proofs.TrimLemmas.{tag_text_bare}
 use Rattle.headers_serve_laws.specs.Answered.{HasNoOptions, IsWhole, SendsContent, whole_fields}
-use Rattle.headers_serve_laws.specs.Literal.{AsksForRoot, ok_fields, request_text, root_head}
+use Rattle.headers_serve_laws.specs.Framed.{IsOk, StaysOpen}
+use Rattle.headers_serve_laws.specs.Literal.{AsksForRoot, ok_fields, ok_text, request_text, root_head}
 use Rattle.headers_serve_laws.specs.Sendable.{IsFinal}
 use Rattle.headers_serve_laws.specs.Served.{GoesOn, IsOneAnswer, IsServedFile, gives, plans}
 use Rattle.headers_serve_laws.proofs.ExchangeLemmas.{one_answer}
+use Rattle.headers_serve_laws.proofs.FramedLemmas.{framed_literally}
 use Rattle.headers_serve_laws.proofs.FramingLemmas.{response_sent}
 use Rattle.headers_serve_laws.proofs.NameLemmas.{headers_valid, is_tidy}
 use Rattle.headers_serve_laws.proofs.RootLemmas.{get_root}
@@ -61,6 +64,10 @@ goes_on : (now : Option ℕ) (tag : List ℕ) (len : ℕ) (media_type : List ℕ
 unfolding known_fields eq_ignore_case
 goes_on None tag len media_type = refl
 goes_on (Some seconds) tag len media_type = refl
+
+get_stays_open : StaysOpen (root_head (codes "GET"))
+unfolding known_fields eq_ignore_case trim_ows
+get_stays_open = record { minor = refl; keeps = refl; method = refl }
 
 -- a file in memory, in no coding and of no date, at a path
 record IsPlainFile (content media_type : List ℕ) (file : File) : Type 0 where
@@ -274,12 +281,24 @@ module _ (config : Config) (settings : Settings) (first : FileService Memory) (r
       }
 
   module _ (now : FileService Memory) (sent : List ℕ) where
-    served_by : IsOneAnswer plans gives (root_head (codes "GET")) first now sent → IsServedFile store sent
+    served_by : IsOneAnswer plans gives config.limits (root_head (codes "GET")) first now sent
+        → IsServedFile store sent
     served_by a =
         let p = planned_by a.request a.plan now a.asks a.planned in
         let content : a.response.body.items ≡ store.content.content =
         p.sends p.plain.kept a.response.body.items p.plain.source a.content ∙ p.plain.bytes in
         let answer = a.answer in
+        let len = len_is a.request a.plan now p in
+        let ok : IsOk p.time content_tag type a.plan =
+        record {
+          status = p.whole.status;
+          fields =
+              fields_are a.request a.plan now p
+              ∙ ap (λ (n : ℕ). ok_fields p.time content_tag n type) (sym len);
+        } in
+        let framed =
+        framed_literally config.limits (root_head (codes "GET")) a.framing a.plan p.time content_tag type ok
+        get_stays_open a.server [] [] a.front a.tail a.frames in
         record {
           now = p.time;
           message = answer.message;
@@ -293,6 +312,12 @@ module _ (config : Config) (settings : Settings) (first : FileService Memory) (r
               (a.has_head.headers ∙ fields_are a.request a.plan now p);
           own = subst (λ (n : ℕ). All (IsAdded n) answer.added) (ap length content) answer.headers.1;
           body = answer.body ∙ content;
+          literal =
+              a.literal
+              ∙ (λ i. framed.0 i ++ (content i ++ framed.1 i))
+              ∙ ap (λ (l : List ℕ). ok_text p.time content_tag (content_len a.plan) type ++ l)
+              (append-nil store.content.content)
+              ∙ ap (λ (n : ℕ). ok_text p.time content_tag n type ++ store.content.content) len;
         }
 
     pub served : Exchanged plans gives config first now (request_text (codes "GET")) sent true

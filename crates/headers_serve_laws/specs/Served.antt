@@ -5,6 +5,7 @@ use Rattle.httparse.specs.Grammar.{RequestHead, print_response, status_code}
 use Rattle.httparse.specs.Spans.{name_and_value}
 use Rattle.http1.specs.declared.conn.Limits.{Limits}
 use Rattle.http1.specs.declared.framing.Framing.{Framing}
+use Rattle.http1.specs.declared.server.Server.{Server}
 use Rattle.http1.specs.Fields.{Header, known_fields}
 use Rattle.http1.specs.Framing.{method_kind}
 use Rattle.http1.specs.Message as Wire
@@ -15,7 +16,7 @@ use Rattle.http_server.specs.declared.response.Response.{Response}
 use Rattle.http_server.specs.Encoding.{answering}
 use Rattle.http_server.specs.Exchange.{IsAdded, IsAnswer as IsAnswerOf}
 use Rattle.headers.specs.Text.{trim}
-use Rattle.headers_exchange.specs.Encoding.{plan_fields, plan_size}
+use Rattle.headers_exchange.specs.Encoding.{Frames, plan_fields, plan_size}
 use Rattle.headers_exchange.specs.Pieces.{AreSent, Gives}
 use Rattle.headers_exchange.specs.Plan.{HasHeadOf, Plans}
 use Rattle.headers_exchange.specs.declared.plan.Plan.{Plan}
@@ -25,7 +26,7 @@ use Rattle.headers_serve.specs.Memory.{HasOne}
 use Rattle.headers_files.specs.Tags.{content_digest, strong_tag}
 use Rattle.headers_serve.specs.declared.memory.Memory.{Memory}
 use Rattle.headers_serve.specs.declared.service.FileService.{FileService}
-use Rattle.headers_serve_laws.specs.Literal.{AsksForRoot, ok_fields}
+use Rattle.headers_serve_laws.specs.Literal.{AsksForRoot, ok_fields, ok_text}
 
 -- The plan is that of a final response to the request, which `http1` sends however the request was framed, and after
 -- which the connection goes on.
@@ -36,9 +37,10 @@ pub record GoesOn (limits : Limits) (head : RequestHead) (plan : Plan) : Type 0 
       (reason_of plan.status) (plan_size plan) (plan_fields plan) ≡ None
 
 -- What was sent is one response, whole. The handler made a plan for the request, and the response has its status, its
--- field lines and the bytes of its pieces: a client that sent the request reads it so by the grammar of HTTP/1.1.
-pub record IsOneAnswer {H : Type 0} (plans : Plans H) (gives : H → Gives) (head : RequestHead) (first now : H)
-    (sent : List ℕ) : Type 0 where
+-- field lines and the bytes of its pieces: a client that sent the request reads it so by the grammar of HTTP/1.1. It is
+-- literally that content, between what `http1` puts before and after it.
+pub record IsOneAnswer {H : Type 0} (plans : Plans H) (gives : H → Gives) (limits : Limits) (head : RequestHead)
+    (first now : H) (sent : List ℕ) : Type 0 where
   pub request : Request (List ℕ)
   pub asks : AsksForRoot (codes "GET") request
   pub plan : Plan
@@ -47,6 +49,12 @@ pub record IsOneAnswer {H : Type 0} (plans : Plans H) (gives : H → Gives) (hea
   pub has_head : HasHeadOf plan response
   pub content : AreSent (gives now) plan.pieces.items response.body.items
   pub answer : IsAnswerOf head response sent
+  pub framing : Framing
+  pub server : Server
+  pub front : List ℕ
+  pub tail : List ℕ
+  pub frames : Frames false plan (answering limits head framing) [] [] server front tail
+  pub literal : sent ≡ front ++ (response.body.items ++ tail)
 
 -- ---- a store of one file
 
@@ -60,7 +68,7 @@ gives now = gives_of now.source
 
 -- What was sent is one response: a client that sent a GET reads it, whole, as a 200 of HTTP/1.1 with exactly these
 -- fields in this order, and with the content of the store's file. After them stand those that the connection adds. Of
--- the media type the white space at its ends isn't sent.
+-- the media type the white space at its ends isn't sent. The bytes are literally the head of that 200 and the content.
 pub record IsServedFile (store : Memory) (sent : List ℕ) : Type 0 where
   pub now : Option ℕ
   pub message : Wire.Response
@@ -75,3 +83,6 @@ pub record IsServedFile (store : Memory) (sent : List ℕ) : Type 0 where
       (trim store.media_type.bytes) ++ added
   pub own : All (IsAdded (length store.content.content)) added
   pub body : message.body.bytes ≡ store.content.content
+  pub literal : sent
+      ≡ ok_text now (strong_tag (content_digest store.content.content)) (length store.content.content)
+      (trim store.media_type.bytes) ++ store.content.content
