@@ -7,8 +7,8 @@ use crate::store::Store;
 use headers_cache_policy::Policy;
 
 impl Store {
-    // Its policy.
-    pub(crate) fn policy(&self) -> Policy<'_>
+    /// Returns the policy by which it decides.
+    pub fn policy(&self) -> Policy<'_>
         ensures { policy_of result ≡ policy_of_store self.now }
     {
         Policy {

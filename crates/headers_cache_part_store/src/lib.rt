@@ -9,7 +9,6 @@ mod answering;
 mod invalidating;
 pub mod laws;
 mod making;
-mod policy;
 mod recording;
 mod store;
 

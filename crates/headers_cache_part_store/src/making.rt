@@ -25,14 +25,7 @@ impl PartStore {
         ensures policy { IfOk result (λ store. policy_of_parts store ≡ policy_with kind options) }
         ensures limits { IfOk result (λ store. limits_of_parts store ≡ limits) }
     {
-        let immutable = options.immutable;
-        let targeted = Vec::from_clones(alloc, options.targets.as_slice())?;
         let store = Store::with_options(alloc, kind, options, limits, keys)?;
-        Ok(PartStore {
-            store,
-            kind,
-            immutable,
-            targeted,
-        })
+        Ok(PartStore { store })
     }
 }

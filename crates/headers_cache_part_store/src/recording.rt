@@ -92,7 +92,7 @@ impl PartStore {
         ensures policy { policy_of_parts self.new ≡ policy_of_parts self.old }
         ensures limits { limits_of_parts self.new ≡ limits_of_parts self.old }
     {
-        let Some(extent) = is_part(alloc, &came, reception, &self.policy()) else {
+        let Some(extent) = is_part(alloc, &came, reception, &self.store.policy()) else {
             self.forget_changed(alloc, key, &came);
             return Ok(Recorded::Unstored);
         };
@@ -179,7 +179,7 @@ impl PartStore {
         ensures memory { OnErr result (IsCombinable (responses_at key.now (parts_of self.now)) came.now reception) }
     {
         match self.selected(key, came) {
-            Some(stored) => combine(alloc, stored, came, reception, &self.policy()),
+            Some(stored) => combine(alloc, stored, came, reception, &self.store.policy()),
             None => Ok(Combined::Apart),
         }
     }
