@@ -1,7 +1,6 @@
 //! What is stored.
-ghost use Rattle.std.specs.Prelude.{◌≡◌, ◌≢◌, ◌⊎◌, ◌+◌, ◌<◌, ◌≤◌, ◌^◌, ℕ, List, IfOk, OnOk, OnErr, true, false, length};
+ghost use Rattle.std.specs.Prelude.{◌≡◌, ◌≢◌, ◌⊎◌, ◌+◌, ◌<◌, ◌≤◌, ◌^◌, IfOk, OnOk, OnErr, true, false, length};
 ghost use Rattle.std.specs.Bool.{MatchBool};
-ghost use Rattle.headers.specs.LineMap.{fields_of, lines_at, set_all};
 ghost use Rattle.headers_cache_policy.specs.Requests.{request_of};
 ghost use Rattle.headers_cache.specs.Changes.{FitsAlone, IsFront, IsInserted, IsRest, IsStoredAs, IsToStore, IsTrimmed};
 ghost use Rattle.headers_cache.specs.Contents.{bytes_of, size_of, without};
@@ -12,21 +11,13 @@ ghost use Rattle.headers_cache.specs.Kept.{contents_of, policy_of_store};
 use crate::entries::bytes_of;
 use crate::limits::Limits;
 use crate::store::Store;
-use headers::{Encoded, HeaderMap, InsertError, set_all};
+use headers::InsertError;
 use headers_cache_policy::RequestHead;
-use headers_cache_rules::{Reception, StoredResponse, is_stored, select, storing_fields};
+use headers_cache_rules::{
+    Reception, StoredResponse, is_stored, select, set_fields, storing_fields,
+};
 use http::Method;
 use std::alloc::{AllocError, Global};
-
-fn set_fields(map: &mut HeaderMap, fields: Vec<Encoded>) -> Result<(), InsertError>
-    ensures { OnOk result ((name : List ℕ)
-        → lines_at map.new name ≡ set_all (lines_at map.old) (fields_of fields.items) name) }
-{
-    match set_all(map, fields) {
-        Ok(()) => Ok(()),
-        Err(error) => Err(error.cause),
-    }
-}
 
 // The response as it is stored.
 fn as_stored(alloc: Global, came: StoredResponse) -> Result<StoredResponse, InsertError>

@@ -14,7 +14,6 @@ ghost use Rattle.headers_cache_part_store.specs.History.PartCall.{Looked};
 ghost use Rattle.headers_cache_part_store.specs.History.{Step};
 ghost use Rattle.headers_cache_part_store.specs.Kept.{limits_of_parts, parts_of, policy_of_parts};
 
-use crate::recording::has_field;
 use crate::store::PartStore;
 use headers::Encoded;
 use headers_cache::Lookup;
@@ -23,6 +22,7 @@ use headers_cache_parts::{
 };
 use headers_cache_policy::{Decision, RequestHead, decide_unstored};
 use headers_cache_rules::StoredResponse;
+use headers_fields::has_line;
 use http::Method;
 use http_header::RANGE;
 use std::alloc::{AllocError, Global};
@@ -82,7 +82,7 @@ fn answered(
 fn is_for_whole(request: &RequestHead<'_>) -> bool
     ensures { MatchBool result (IsForWhole (request_of request.now)) (¬ (IsForWhole (request_of request.now))) }
 {
-    *request.method == Method::GET && !has_field(request.fields, RANGE)
+    *request.method == Method::GET && !has_line(&request.fields.get_all(RANGE))
 }
 
 // What a stored part lacks for a request for the whole.
@@ -184,7 +184,9 @@ impl PartStore {
         place: usize,
         request: &RequestHead<'_>,
     ) -> Result<PartLookup, AllocError>
-        ensures { IfOk result (λ lookup. (stored : StoredResponse) → slice_get (responses_at key.now (parts_of self.now)) place ≡ Some stored → IsAsked (request_of request.now) stored lookup) }
+        ensures { IfOk result (λ lookup. (stored : StoredResponse)
+            → slice_get (responses_at key.now (parts_of self.now)) place ≡ Some stored
+            → IsAsked (request_of request.now) stored lookup) }
     {
         match self.store.response(key, place) {
             Some(stored) => ask(alloc, request, stored),

@@ -1,8 +1,6 @@
 //! What is stored of a received response.
 ghost use Rattle.std.specs.Prelude.{◌≡◌, ◌⊎◌, ◌<◌, IfOk, MatchOption, None, OnErr, Some};
 ghost use Rattle.std.specs.Bool.{MatchBool};
-ghost use Rattle.headers.specs.LineMap.{lines_at};
-ghost use Rattle.headers.specs.Typed.{HasLine};
 ghost use Rattle.headers_cache.specs.Changes.{IsFront};
 ghost use Rattle.headers_cache.specs.Contents.{responses_at, without};
 ghost use Rattle.headers_cache_parts.specs.Received.{IsSelfContained};
@@ -15,9 +13,10 @@ ghost use Rattle.headers_cache_part_store.specs.Recording.{IsLeft, IsMerged, IsR
 ghost use Rattle.headers_cache_part_store.specs.Recording.{IsSuperseded, IsTakenAlone, NeedsMemory};
 
 use crate::store::PartStore;
-use headers::{HeaderMap, HeaderName, InsertError};
+use headers::InsertError;
 use headers_cache_parts::{Combined, Extent, combine, have_same_tag, is_part, record};
 use headers_cache_rules::{Reception, StoredResponse, select};
+use headers_fields::has_line;
 use http::Method;
 use http_header::{CONTENT_RANGE, IF_RANGE};
 use std::alloc::Global;
@@ -35,13 +34,6 @@ pub enum Recorded {
     /// It is combined with the stored part, and isn't stored, since its fields forbid that or the reuse
     /// for its request. Nothing is stored under the key any more. It may answer its own request.
     Once(StoredResponse),
-}
-
-// Whether a message has a field of this name.
-pub(crate) fn has_field(message: &HeaderMap, name: HeaderName) -> bool
-    ensures { MatchBool result (HasLine (lines_at message.now name)) (¬ (HasLine (lines_at message.now name))) }
-{
-    message.get_all(name).iter().next().is_some()
 }
 
 // Whether a response has content of the representation that its GET selected.
@@ -123,7 +115,7 @@ impl PartStore {
         ensures policy { policy_of_parts self.new ≡ policy_of_parts self.old }
         ensures limits { limits_of_parts self.new ≡ limits_of_parts self.old }
     {
-        if has_field(&came.request, IF_RANGE) {
+        if has_line(&came.request.get_all(IF_RANGE)) {
             self.forget_changed(alloc, key, &came);
             return Ok(Recorded::Unstored);
         }
@@ -198,7 +190,7 @@ impl PartStore {
         ensures policy { policy_of_parts self.new ≡ policy_of_parts self.old }
         ensures limits { limits_of_parts self.new ≡ limits_of_parts self.old }
     {
-        if !has_field(&part.response, CONTENT_RANGE) {
+        if !has_line(&part.response.get_all(CONTENT_RANGE)) {
             self.store.remove(alloc, key);
             return Ok(Recorded::Whole(part));
         }

@@ -9,10 +9,9 @@ ghost use Rattle.headers_cache_parts.specs.Extents.{joined};
 
 use crate::extent::{Extent, extent_in, strong_tag};
 use crate::received::received_extent;
-use crate::recording::set_fields;
 use headers::{Encoded, InsertError};
 use headers_cache_policy::{Policy, is_updated};
-use headers_cache_rules::{Exchange, Freshened, Reception, StoredResponse, freshen};
+use headers_cache_rules::{Exchange, Freshened, Reception, StoredResponse, freshen, set_fields};
 use std::alloc::{AllocError, Global};
 
 /// What becomes of a stored part and a new one.

@@ -1,23 +1,12 @@
 //! How a part is stored.
-ghost use Rattle.std.specs.Prelude.{◌≡◌, ◌<◌, ℕ, List, IfOk, OnOk};
-ghost use Rattle.headers.specs.LineMap.{fields_of, lines_at, set_all};
+ghost use Rattle.std.specs.Prelude.{◌<◌, IfOk};
 ghost use Rattle.headers_cache_parts.specs.Received.{IsRecorded};
 
 use crate::extent::Extent;
-use headers::{Encoded, HeaderMap, InsertError, set_all};
-use headers_cache_rules::StoredResponse;
+use headers::InsertError;
+use headers_cache_rules::{StoredResponse, set_fields};
 use http::StatusCode;
 use std::alloc::Global;
-
-pub(crate) fn set_fields(map: &mut HeaderMap, fields: Vec<Encoded>) -> Result<(), InsertError>
-    ensures { OnOk result ((name : List ℕ)
-        → lines_at map.new name ≡ set_all (lines_at map.old) (fields_of fields.items) name) }
-{
-    match set_all(map, fields) {
-        Ok(()) => Ok(()),
-        Err(error) => Err(error.cause),
-    }
-}
 
 /// A part as it is stored: as a 200 that isn't complete (RFC 9111, section 3.3). Its Content-Range says
 /// which part it is, and its Content-Length how long the whole is.

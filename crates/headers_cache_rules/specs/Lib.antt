@@ -1,5 +1,6 @@
 pub mod Conditions
 pub mod Errors
+pub mod Fields
 pub mod Freshening
 pub mod Identifying
 pub mod Invalidation

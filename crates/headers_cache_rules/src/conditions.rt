@@ -4,24 +4,22 @@ ghost use Rattle.std.specs.Bool.{MatchBool};
 ghost use Rattle.headers.specs.LineMap.{lines_at};
 ghost use Rattle.headers.specs.Lines.{Line};
 ghost use Rattle.headers.specs.Shapes.{only_tag};
-ghost use Rattle.headers.specs.Typed.{HasLine};
 ghost use Rattle.headers_cache_policy.specs.Requests.{request_of};
 ghost use Rattle.headers_cache_rules.specs.Conditions.{AreValidators, IsForCache, IsStoredAnswer, answer_of};
 ghost use Rattle.headers_cache_rules.specs.Conditions.{divisible, one_part};
 ghost use Rattle.headers_cache_rules.specs.Conditions.{modified_second, unix_second};
 
 use crate::stored::StoredResponse;
-use headers::{ETag, HeaderMap, HeaderMapExt, HeaderName, LastModified, Refused};
+use crate::storing::END_OF_DATES;
+use headers::{ETag, HeaderMap, HeaderMapExt, LastModified, Refused};
 use headers_cache_policy::{RequestHead, date};
 use headers_dates::Timestamp;
+use headers_fields::has_line;
 use headers_preconditions::{
     Part, Plan, RangeLimits, Resource, Validators, is_get_or_head, plan_answer,
 };
 use http_header::{IF_MATCH, IF_UNMODIFIED_SINCE, LAST_MODIFIED};
 use std::alloc::{AllocError, Global};
-
-// The first second of the year 10000, since 1970.
-const END_OF_DATES: u64 = 253_402_300_800;
 
 /// How a stored response answers the conditions and the ranges of a request.
 #[derive(Clone, Copy, Debug, PartialEq, Eq)]
@@ -90,8 +88,8 @@ pub fn is_for_cache(request: &RequestHead<'_>) -> bool
     ensures { MatchBool result (IsForCache (request_of request.now)) (¬ (IsForCache (request_of request.now))) }
 {
     is_get_or_head(request.method)
-        && !has_field(request.fields, IF_MATCH)
-        && !has_field(request.fields, IF_UNMODIFIED_SINCE)
+        && !has_line(&request.fields.get_all(IF_MATCH))
+        && !has_line(&request.fields.get_all(IF_UNMODIFIED_SINCE))
 }
 
 // How a plan is told. A request that a cache evaluates has no other: nothing of it can fail, and no two
@@ -106,12 +104,6 @@ fn answer_of(plan: Option<Plan>) -> StoredAnswer
         Some(Plan::Unsatisfiable) => StoredAnswer::Unsatisfiable,
         Some(Plan::Multiple(_)) | Some(Plan::Failed) | None => StoredAnswer::Forward,
     }
-}
-
-fn has_field(message: &HeaderMap, name: HeaderName) -> bool
-    ensures { MatchBool result (HasLine (lines_at message.now name)) (¬ (HasLine (lines_at message.now name))) }
-{
-    message.get_all(name).iter().next().is_some()
 }
 
 /// The limits of a cache that sends one part at most: a request for several gets all (RFC 9110, section
@@ -150,7 +142,7 @@ fn unix_second(time: Timestamp) -> Option<LastModified>
 fn modified_second(stored: &StoredResponse) -> Option<LastModified>
     ensures { result ≡ modified_second stored.now }
 {
-    if has_field(&stored.response, LAST_MODIFIED) {
+    if has_line(&stored.response.get_all(LAST_MODIFIED)) {
         unix_second(date(&stored.response, LAST_MODIFIED, stored.received)?)
     } else {
         unix_second(stored.made_at())

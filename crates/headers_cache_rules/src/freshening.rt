@@ -1,9 +1,8 @@
 //! Updates of a stored response by a validating one.
-ghost use Rattle.std.specs.Prelude.{◌≡◌, ◌∷◌, [], ℕ, List, IfOk, OnErr, OnOk, codes};
+ghost use Rattle.std.specs.Prelude.{◌≡◌, ◌∷◌, [], IfOk, OnErr, codes};
 ghost use Rattle.std.specs.Bool.{MatchBool};
 ghost use Rattle.headers.specs.LineMap.{fields_of, lines_at, set_all};
 ghost use Rattle.headers.specs.Lines.{lines_of};
-ghost use Rattle.headers.specs.Typed.{HasLine};
 ghost use Rattle.headers_cache_policy.specs.Policies.{MayStoreUnder, policy_of};
 ghost use Rattle.headers_cache_policy.specs.Requests.{request_of};
 ghost use Rattle.headers_cache_policy.specs.Updating.{IsUpdated};
@@ -12,11 +11,13 @@ ghost use Rattle.headers_cache_rules.specs.Freshening.{aged_anew};
 ghost use Rattle.headers_cache_rules.specs.Storing.{date_lines};
 ghost use Rattle.headers_cache_rules.specs.Stored.{fields_of_stored, request_of_stored};
 
+use crate::fields::set_fields;
 use crate::selection::is_sought;
 use crate::stored::StoredResponse;
 use crate::storing::{date_field, has_fair_options};
-use headers::{Encoded, HeaderMap, HeaderValue, InsertError, set_all};
+use headers::{Encoded, HeaderMap, HeaderValue, InsertError};
 use headers_cache_policy::{Policy, RequestHead, freshening_fields, is_updated};
+use headers_fields::has_line;
 use http_header::{AGE, CONTENT_LENGTH, GetAll, LAST_MODIFIED};
 use std::alloc::{AllocError, Global};
 
@@ -94,16 +95,6 @@ fn updated(
     Ok(fresh)
 }
 
-fn set_fields(map: &mut HeaderMap, fields: Vec<Encoded>) -> Result<(), InsertError>
-    ensures { OnOk result ((name : List ℕ)
-        → lines_at map.new name ≡ set_all (lines_at map.old) (fields_of fields.items) name) }
-{
-    match set_all(map, fields) {
-        Ok(()) => Ok(()),
-        Err(error) => Err(error.cause),
-    }
-}
-
 // The fields that say how old a response is: Date is the time of receipt, and Age is removed.
 fn age_fields(alloc: Global, received: u64) -> Result<Vec<Encoded>, AllocError>
     ensures { IfOk result (λ fields. fields_of fields.items
@@ -143,12 +134,6 @@ fn is_reusable(
         return false;
     }
     policy.may_store(request, fresh.status, &fresh.response) && is_sought(fresh, request, None)
-}
-
-fn has_line(lines: &GetAll<'_, HeaderValue>) -> bool
-    ensures { MatchBool result (HasLine (lines_of lines.now)) (¬ (HasLine (lines_of lines.now))) }
-{
-    lines.iter().next().is_some()
 }
 
 // Whether the field lines of a new message, if it has some, are those that are stored.

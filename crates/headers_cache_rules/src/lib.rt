@@ -7,6 +7,7 @@
 mod age;
 mod conditions;
 mod errors;
+mod fields;
 mod freshening;
 mod identifying;
 mod invalidation;
@@ -20,6 +21,7 @@ pub use crate::conditions::{
     StoredAnswer, answer_conditions, is_for_cache, one_part, validators_of,
 };
 pub use crate::errors::serves_on_error;
+pub use crate::fields::set_fields;
 pub use crate::freshening::{Exchange, Freshened, freshen, is_head_of};
 pub use crate::identifying::{select_updated, updated_by};
 pub use crate::invalidation::invalidates;

@@ -20,8 +20,8 @@ use http::StatusCode;
 use http_header::{CONNECTION, DATE, GetAll};
 use std::alloc::{AllocError, Global};
 
-// The first second of the year 10000, since 1970.
-const END_OF_DATES: u64 = 253_402_300_800;
+/// The first second of the year 10000, since 1970.
+pub(crate) const END_OF_DATES: u64 = 253_402_300_800;
 
 /// Whether all of a message came (RFC 9112, section 8).
 #[derive(Clone, Copy, Debug, PartialEq, Eq)]

@@ -5,9 +5,8 @@ use Rattle.headers_cache_rules.proofs.freshening.says_as_before.Goals as goal
 
 pub returns-then-has_line : goal.returns-then-has_line
 returns-then-has_line c =
-    as_before c.eq_values.result (lines_of c.args.own.now) (lines_of c.args.other.now)
-    (rw c.if-has_line.true at c.has_line.ensures)
+    as_before c.eq_values.result (lines_of c.args.own.now) (lines_of c.args.other.now) c.if-has_line.ensures.present
     (equal_lines c.eq_values.result c.args.own.now c.args.other.now c.eq_values.ensures)
 
 pub returns-else-has_line : goal.returns-else-has_line
-returns-else-has_line c = λ has. absurd ((rw c.if-has_line.false at c.has_line.ensures) has)
+returns-else-has_line c = λ has. absurd (c.if-has_line.ensures.present has)

@@ -1,0 +1,23 @@
+//! Fields that are set in a map.
+ghost use Rattle.std.specs.Prelude.{◌≡◌, ℕ, List, OnOk, IfErr};
+ghost use Rattle.std.specs.List.{All};
+ghost use Rattle.http_header.specs.HeaderMap.{get_all};
+ghost use Rattle.headers.specs.LineMap.{IsFieldOfOther, fields_of, lines_at, set_all};
+ghost use Rattle.headers_cache_rules.specs.Fields.{SetsPart};
+
+use headers::{Encoded, HeaderMap, InsertError, set_all};
+
+/// Sets fields in a header map, as `set_all` of `headers` does. The error is the cause alone, without
+/// the number of fields that were set before.
+pub fn set_fields(map: &mut HeaderMap, fields: Vec<Encoded>) -> Result<(), InsertError>
+    ensures ok { OnOk result ((name : List ℕ)
+        → lines_at map.new name ≡ set_all (lines_at map.old) (fields_of fields.items) name) }
+    ensures err { IfErr result (SetsPart map.old map.new fields.items) }
+    ensures others { (name : List ℕ) → All (IsFieldOfOther name) fields.items
+        → get_all map.new name ≡ get_all map.old name }
+{
+    match set_all(map, fields) {
+        Ok(()) => Ok(()),
+        Err(error) => Err(error.cause),
+    }
+}
