@@ -96,7 +96,8 @@ pub head_refreshed : (policy own : Policy) (target : List ℕ) (request : Reques
     (old new other : Contents) (taken left : List StoredResponse) → own ≡ policy → other ≡ without target old
     → taken ≡ responses_at target old → AreLeft (λ one. Becomes own request update exchange one Head) taken left
     → new ≡ with_target target left other → IsRefreshedByHead policy target request update exchange old new
-head_refreshed policy own target request update exchange old new other taken left is_own is_other is_taken are_left put =
+head_refreshed policy own target request update exchange old new other taken left is_own is_other is_taken are_left
+    put =
     record {
       left = left;
       each = subst (λ l. AreLeft (λ one. Becomes policy request update exchange one Head) l left) is_taken

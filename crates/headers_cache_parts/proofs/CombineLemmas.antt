@@ -95,7 +95,8 @@ module _ (policy : Policy) (stored came head fresh combined : StoredResponse) (r
   pub unusable : ¬ (IsReusable policy request (fields_of_stored came) fresh)
       → IsCombinedAs policy stored came reception (Once combined)
   unusable unfit =
-      let own_unfit = subst (λ (r : Request). ¬ (IsReusable policy r (fields_of_stored came) fresh)) is_request unfit in (
+      let own_unfit =
+      subst (λ (r : Request). ¬ (IsReusable policy r (fields_of_stored came) fresh)) is_request unfit in (
         own,
         other,
         whole,

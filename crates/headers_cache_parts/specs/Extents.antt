@@ -1,6 +1,6 @@
 -- Continuous parts of the content of a representation (RFC 9110, sections 8.8.1 and 14.4).
-use Rattle.std.specs.Prelude.{◌≡◌, ℕ, ◌+◌, ◌-◌, ◌^◌, ◌<◌, ◌≤◌, Bool, ◌&&◌, not, nat_le, nat_lt, List, [], ◌∷◌, ◌++◌, length}
-use Rattle.std.specs.Prelude.{take, drop, min, max, Option, Some, None, option_and_then, codes, decimal}
+use Rattle.std.specs.Prelude.{◌≡◌, ℕ, ◌+◌, ◌-◌, ◌^◌, ◌<◌, ◌≤◌, Bool, ◌&&◌, not, nat_le, nat_lt, List, [], ◌∷◌, ◌++◌}
+use Rattle.std.specs.Prelude.{length, take, drop, min, max, Option, Some, None, option_and_then, codes, decimal}
 use Rattle.std.specs.Prelude.{if◌then◌else◌}
 use Rattle.headers.specs.ContentBytes.{ContentBytes, content_bytes, content_text}
 use Rattle.headers.specs.EntityTag.{is_tag}
@@ -87,4 +87,5 @@ extent_fields extent =
 -- The strong validator of a message: the only line of its ETag, if that is an entity tag and isn't weak. A date isn't
 -- one here (section 8.8.2.2).
 abbrev pub strong_tag : LineMap → Option Line
-strong_tag message = option_and_then (λ tag. if is_tag tag && not (is_weak tag) then Some tag else None) (tag_in message)
+strong_tag message =
+    option_and_then (λ tag. if is_tag tag && not (is_weak tag) then Some tag else None) (tag_in message)

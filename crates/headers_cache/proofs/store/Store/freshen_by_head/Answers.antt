@@ -19,8 +19,8 @@ returns-clause-ok c =
     (request_of c.args.request.now) (lines_at c.args.head.now) c.args.exchange
     (contents_of c.args.self.now) (contents_of c.put_in.new.self) (contents_of c.take_out-responses.new.self)
     c.take_out-responses.result.items c.in_ok-left.left.items
-    (c.policy-policy.ensures ∙ c.take_out-responses.ensures.policy) c.take_out-responses.ensures.contents c.take_out-responses.ensures.taken
-    c.in_ok-left.ensures.left c.in_ok-put_in.ensures.ok
+    (c.policy-policy.ensures ∙ c.take_out-responses.ensures.policy) c.take_out-responses.ensures.contents
+    c.take_out-responses.ensures.taken c.in_ok-left.ensures.left c.in_ok-put_in.ensures.ok
 
 pub returns-clause-step : goal.returns-clause-step
 returns-clause-step c = inl (returns-clause-ok c)
