@@ -3,6 +3,7 @@ use Rattle.std.proofs.Common.{◌≡◌, ◌≢◌, ◌⊎◌, ℕ, zero, suc, B
 use Rattle.std.proofs.Common.{take, drop}
 use Rattle.std.proofs.Common.{Option, Some, None, refl, sym, ap, subst, arith, filter, remove, slice_get}
 use Rattle.std.proofs.Common.{inl, inr}
+use Rattle.std.proofs.lemmas.Option.{same_Some}
 use Rattle.std.proofs.lemmas.Slice.Eq.{bytes_eq-Decides}
 use Rattle.headers.specs.LineMap.{Field, LineMap, field_of}
 use Rattle.headers_cache_policy.specs.Decisions.{IsGoodEnough}
@@ -71,9 +72,6 @@ pub Has-slice_get : {X : Type 0} (xs : List X) (i : ℕ) (x : X) → slice_get x
 Has-slice_get [] i x h = absurd (grind (arith, h))
 Has-slice_get (y ∷ xs) zero x h = inl (grind (arith, h))
 Has-slice_get (y ∷ xs) (suc i) x h = inr (Has-slice_get xs i x h)
-
-some-same : {X : Type 0} (x y : X) → Some x ≡ Some y → x ≡ y
-some-same x y same = grind (arith, same)
 
 -- what is left of stored responses was made of one of them
 pub Has-left : (B : StoredResponse → Option StoredResponse → Type 0) (all left : List StoredResponse) → AreLeft B all
@@ -238,7 +236,7 @@ module _ (policy : Policy) (limits : Limits) where
               refl,
               (was.0, justified, is.0.sought.0, is.0.sought.1, is.1.0, is.1.1),
             )
-            | inr same ↦ inl (subst (IsJustified policy target calls) (sym (some-same stored was.0 same.1)) justified)
+            | inr same ↦ inl (subst (IsJustified policy target calls) (sym (same_Some stored was.0 same.1)) justified)
           ]
 
       -- the answer itself
@@ -309,7 +307,7 @@ module _ (policy : Policy) (limits : Limits) where
             | inl is ↦ inr (refl, (was.0, justified, is.0, is.1, is.2.0, is.2.1))
             | inr rest ↦ elim rest [
               | inl gone ↦ absurd (grind (arith, gone.2))
-              | inr same ↦ inl (subst (IsJustified policy target calls) (sym (some-same stored was.0 same.1)) justified)
+              | inr same ↦ inl (subst (IsJustified policy target calls) (sym (same_Some stored was.0 same.1)) justified)
             ]
           ]
 

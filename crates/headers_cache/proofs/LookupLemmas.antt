@@ -1,6 +1,5 @@
 -- What a lookup answers.
-use Rattle.std.proofs.Common.{◌≡◌, ◌≢◌, ℕ, List, get_or, Result, Ok, Err, IfOk}
-use Rattle.std.proofs.Common.{OnErr, OnOk, refl, sym, subst, inl, inr, ◌∙◌}
+use Rattle.std.proofs.Common.{◌≡◌, ◌≢◌, ℕ, List, get_or, refl, sym, subst, inl, inr, ◌∙◌}
 use Rattle.std.proofs.lemmas.Option.{get_or_from_slice_get}
 use Rattle.headers.specs.LineMap.{LineMap, field_of, fields_of}
 use Rattle.headers_cache_policy.specs.Decisions.{Answers, AnswersUnstored, counted}
@@ -22,19 +21,6 @@ use Rattle.headers_cache.specs.Lookups.{IsServed, freshness_of}
 use Rattle.headers_cache.specs.declared.lookup.Lookup.{Lookup}
 use Rattle.headers_cache.specs.declared.lookup.Lookup.TheVariants.{Serve, ServeAndRevalidate, Validate, ValidateOrServe}
 use Rattle.headers_cache.specs.declared.lookup.Lookup.TheVariants.{Unavailable, Forward}
-
-pub on_ok : {A E : Type 0} {P Q : Type 0} (result : Result A E) → (P → Q) → OnOk result P → OnOk result Q
-on_ok (Ok x) weaker h = weaker h
-on_ok (Err e) weaker h = h
-
-pub on_err : {A E : Type 0} {P Q : Type 0} (result : Result A E) → (P → Q) → OnErr result P → OnErr result Q
-on_err (Ok x) weaker h = h
-on_err (Err e) weaker h = weaker h
-
-pub if_ok : {A E : Type 0} {P Q : A → Type 0} (result : Result A E) → ((x : A) → P x → Q x) → IfOk result P → IfOk
-    result Q
-if_ok (Ok x) weaker h = weaker x h
-if_ok (Err e) weaker h = h
 
 -- how old a stored response is at a present
 abbrev pub age_now : ℕ → StoredResponse → ℕ

@@ -2,7 +2,7 @@
 use Rattle.std.proofs.Common.{◌≡◌, ◌∙◌, ◌⊎◌, ℕ, Bool, true, false, List, Some, Result, Ok, Err, IfOk, OnErr}
 use Rattle.std.proofs.Common.{refl, sym, subst, arith, inl, inr, get_or, slice_get}
 use Rattle.std.specs.Bool.{MatchBool}
-use Rattle.std.proofs.lemmas.Option.{get_or_from_slice_get}
+use Rattle.std.proofs.lemmas.Option.{get_or_from_slice_get, same_Some}
 use Rattle.headers.specs.LineMap.{Field}
 use Rattle.headers_cache.specs.Changes.{IsFront}
 use Rattle.headers_cache.specs.Contents.{Contents, responses_at, without}
@@ -33,13 +33,6 @@ use Rattle.headers_cache_part_store.specs.declared.recording.Recorded.TheVariant
 pub bool_map : {P Q P' Q' : Type 0} (b : Bool) → (P → P') → (Q → Q') → MatchBool b P Q → MatchBool b P' Q'
 bool_map true p q h = p h
 bool_map false p q h = q h
-
-pub on_err_always : {A E : Type 0} {P : Type 0} (result : Result A E) → P → OnErr result P
-on_err_always (Ok x) p = tt
-on_err_always (Err e) p = p
-
-pub some_is : {X : Type 0} (x y : X) → Some x ≡ Some y → x ≡ y
-some_is x y same = grind (arith, same)
 
 -- ---- the selected part
 
@@ -107,7 +100,7 @@ module _ (policy : Policy) (most : ℕ) (request : Request) (now : ℕ) (parts :
         → IsLookedUp policy most request now parts lookup
     reused_as decision reuse served lookup is =
         let same : stored ≡ served.found.selected.response =
-        some_is stored served.found.selected.response (at ∙ served.found.selected.at) in
+        same_Some stored served.found.selected.response (at ∙ served.found.selected.at) in
         decided_lookup lookup (record {
           place = place;
           decision = decision;

@@ -5,6 +5,7 @@ use Rattle.std.proofs.Common.{nat_le, nat_lt, IsSome, IsSomeAnd, codes, arith, i
 use Rattle.std.specs.Option.{option_and_then}
 use Rattle.std.proofs.lemmas.Bool.{and_parts, cases_Bool}
 use Rattle.std.proofs.lemmas.Bool.Decides.{nat_tests}
+use Rattle.std.proofs.lemmas.Option.{cond_some, none-some}
 use Rattle.headers.specs.ContentBytes.{ContentBytes, FitsContent, content_bytes}
 use Rattle.headers.specs.EntityTag.{is_tag}
 use Rattle.headers.specs.LineMap.{LineMap}
@@ -35,9 +36,6 @@ use Rattle.headers_ranges.specs.ContentRangeLaws.{content_read}
 use Rattle.headers_syntax.proofs.OptionLemmas.{then_parts}
 
 -- ---- what is stored of a field
-
-none-some : {X : Type 0} (x : X) → None ≡ Some x → ⊥
-none-some x e = grind (arith, e)
 
 -- a field of a stored response is as it came, or isn't there
 stays_or_goes : (received : ℕ) (given stored : LineMap) → IsAsStored received given stored → (name : List ℕ)
@@ -94,10 +92,6 @@ pub record IsPartOf (extent : Extent) (count : ℕ) : Type 0 where
   pub small : extent.len < 2 ^ 64
   pub size : count ≡ extent.last + 1 - extent.first
 
-from_if : {X : Type 0} (b : Bool) (x y : X) → cond b (Some x) None ≡ Some y → (b ≡ true) × (x ≡ y)
-from_if true x y h = (refl, grind (arith, h))
-from_if false x y h = absurd (none-some y h)
-
 of_if : {X : Type 0} (b : Bool) (o : Option X) (y : X) → cond b o None ≡ Some y → (b ≡ true) × (o ≡ Some y)
 of_if true o y h = (refl, h)
 of_if false o y h = absurd (none-some y h)
@@ -125,7 +119,7 @@ said_part : (range : Option (ℕ × ℕ)) (len : Option ℕ) (own : Extent) → 
 said_part None len own h = absurd (none-some own h)
 said_part (Some range) None own h = absurd (none-some own h)
 said_part (Some (first, last)) (Some len) own h =
-    let is = from_if (is_extent first last len) (record { first = first; last = last; len = len }) own h in
+    let is = cond_some (is_extent first last len) (record { first = first; last = last; len = len }) own h in
     subst (λ (e : Extent). IsPartOf e (e.last + 1 - e.first)) is.1
     (is_part_of (record { first = first; last = last; len = len }) is.0)
 
@@ -159,10 +153,10 @@ line_says extent own count is h =
     let read : content_bytes (range_line extent)
     ≡ cond (nat_le extent.first extent.last) (Some (content_of extent)) None =
     content_read (content_of extent) (fits extent count is) in
-    let same = from_if (nat_le extent.first extent.last) (content_of extent) content.0 (sym read ∙ content.1) in
+    let same = cond_some (nat_le extent.first extent.last) (content_of extent) content.0 (sym read ∙ content.1) in
     let by : extent_by (Some (extent.first, extent.last)) (Some extent.len) ≡ Some own =
     subst (λ (c : ContentBytes). extent_by c.range c.length ≡ Some own) (sym same.1) content.2 in
-    let is_it = from_if (is_extent extent.first extent.last extent.len)
+    let is_it = cond_some (is_extent extent.first extent.last extent.len)
     (record { first = extent.first; last = extent.last; len = extent.len }) own by in
     sym is_it.1
 
@@ -195,12 +189,12 @@ part_of_count : (reception : Reception) (count : ℕ) (sent extent : Extent)
     → IsPartOf sent (sent.last + 1 - sent.first) → came_of_part reception count sent ≡ Some extent
     → IsPartOf extent count
 part_of_count Complete count sent extent is h =
-    let all = from_if (count == size sent) sent extent h in
+    let all = cond_some (count == size sent) sent extent h in
     let many : count ≡ sent.last + 1 - sent.first = grind (arith, all.0, nat_tests) in
     subst (λ (e : Extent). IsPartOf e count) all.1
     (record { ordered = is.ordered; within = is.within; small = is.small; size = many })
 part_of_count Incomplete count sent extent is h =
-    let some = from_if (nat_lt 0 count && nat_le count (size sent))
+    let some = cond_some (nat_lt 0 count && nat_le count (size sent))
     (record { first = sent.first; last = sent.first + count - 1; len = sent.len }) extent h in
     let both = and_parts (nat_lt 0 count) (nat_le count (size sent)) some.0 in
     let positive : 0 < count = grind (arith, both.0, nat_tests) in
@@ -217,7 +211,7 @@ part_of_whole : (reception : Reception) (count len : ℕ) (extent : Extent)
     → came_of_whole reception count len ≡ Some extent → IsPartOf extent count
 part_of_whole Complete count len extent h = absurd (none-some extent h)
 part_of_whole Incomplete count len extent h =
-    let some = from_if (nat_lt 0 count && (nat_lt count len && nat_lt len greatest))
+    let some = cond_some (nat_lt 0 count && (nat_lt count len && nat_lt len greatest))
     (record { first = 0; last = count - 1; len = len }) extent h in
     let one = and_parts (nat_lt 0 count) (nat_lt count len && nat_lt len greatest) some.0 in
     let two = and_parts (nat_lt count len) (nat_lt len greatest) one.1 in
@@ -315,7 +309,7 @@ some-tag (Some tag) some = (tag, refl)
 planned-within : (extent part : Extent) (plan : Option Plan) → part_planned extent plan ≡ Some part
     → (part.first ≤ part.last) × (part.last ≤ extent.last) × (part.len ≡ extent.len)
 planned-within extent part (Some (Single sent)) h =
-    let is = from_if (nat_le extent.first sent.first && (nat_le sent.first sent.last
+    let is = cond_some (nat_le extent.first sent.first && (nat_le sent.first sent.last
     && nat_le sent.last extent.last)) (record { first = sent.first; last = sent.last; len = extent.len }) part h in
     let one = and_parts (nat_le extent.first sent.first) (nat_le sent.first sent.last && nat_le sent.last extent.last)
     is.0 in

@@ -4,6 +4,7 @@ use Rattle.std.proofs.Common.{Option, Some, refl, sym, ap, subst, arith, inl, in
 use Rattle.std.proofs.Common.{nat_le}
 use Rattle.std.proofs.lemmas.Bool.{and_parts}
 use Rattle.std.proofs.lemmas.Bool.Decides.{nat_tests}
+use Rattle.std.proofs.lemmas.Option.{same_Some}
 use Rattle.headers.specs.Lines.{Line}
 use Rattle.headers_cache.proofs.HistoryLemmas.{Has-slice_get, HasUnder-responses_at, run-justified}
 use Rattle.headers_cache.specs.Changes.{IsStoredAs}
@@ -25,19 +26,17 @@ use Rattle.headers_cache_rules.specs.declared.storing.Reception.{Reception}
 use Rattle.headers_cache_rules.specs.declared.storing.Reception.TheVariants.{Complete, Incomplete}
 use Rattle.headers_cache_rules.specs.declared.stored.StoredResponse.{StoredResponse}
 use Rattle.headers_cache_part_store.specs.Answering.{HasBytesAt, IsLookedUp}
-use Rattle.headers_cache_part_store.specs.History.{AreBytesOf, AreReceived, PartCall, PartHistory, Run, Step, WasReceived}
+use Rattle.headers_cache_part_store.specs.History.{AreBytesOf, AreReceived, PartCall, PartHistory, Run, Step}
+use Rattle.headers_cache_part_store.specs.History.{WasReceived}
 use Rattle.headers_cache_part_store.specs.History.PartCall.{Looked, Received, Answered, Removed}
 use Rattle.headers_cache_part_store.specs.Recording.{IsTaken, IsWhole}
 use Rattle.headers_cache_part_store.specs.declared.answering.PartAnswer.{PartAnswer}
 use Rattle.headers_cache_part_store.specs.declared.answering.PartLookup.TheVariants.{Serve}
 use Rattle.headers_cache_part_store.proofs.ByteLemmas.{AllAt, all-joined, all-within, length-joined, length-within}
-use Rattle.headers_cache_part_store.proofs.FieldLemmas.{IsPartOf, combined-range, combined-tag, extent-is, extent-stored}
-use Rattle.headers_cache_part_store.proofs.FieldLemmas.{joint-is, received-is, recorded-range, recorded-says}
-use Rattle.headers_cache_part_store.proofs.FieldLemmas.{recorded-tag, recorded_lines, some-tag, tag-stored, tags-same}
-use Rattle.headers_cache_part_store.proofs.FieldLemmas.{whole-lines}
-
-some-same : {X : Type 0} (x y : X) → Some x ≡ Some y → x ≡ y
-some-same x y same = grind (arith, same)
+use Rattle.headers_cache_part_store.proofs.FieldLemmas.{IsPartOf, combined-range, combined-tag, extent-is}
+use Rattle.headers_cache_part_store.proofs.FieldLemmas.{extent-stored, joint-is, received-is, recorded-range}
+use Rattle.headers_cache_part_store.proofs.FieldLemmas.{recorded-says, recorded-tag, recorded_lines, some-tag}
+use Rattle.headers_cache_part_store.proofs.FieldLemmas.{tag-stored, tags-same, whole-lines}
 
 -- what was received before a call was received before it
 earlier : (call : PartCall) (calls : PartHistory) (key : List ℕ) (tag : Line) (len at byte : ℕ)
@@ -77,7 +76,7 @@ module _ (calls : PartHistory) (key : List ℕ) where
       let same : own ≡ traced.extent =
       recorded-says (fields_of_stored part) traced.extent own (length part.content.items) traced.is traced.lines
       holds.extent in
-      let tags : traced.tag ≡ tag = some-same traced.tag tag (sym traced.strong ∙ strong) in
+      let tags : traced.tag ≡ tag = same_Some traced.tag tag (sym traced.strong ∙ strong) in
       subst (λ (t : Line). AreReceived calls key t own.len own.first part.content.items) tags
       (subst (λ (e : Extent). AreReceived calls key traced.tag e.len e.first part.content.items) (sym same)
       traced.each)

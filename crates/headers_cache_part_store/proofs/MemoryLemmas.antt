@@ -1,6 +1,7 @@
 -- Which responses memory is allocated for.
 use Rattle.std.proofs.Common.{◌≡◌, ◌∙◌, ◌⊎◌, ℕ, List, Some, Result, OnErr, sym, ap, subst, inl, inr, slice_get}
-use Rattle.headers_cache.proofs.LookupLemmas.{on_err}
+use Rattle.std.proofs.lemmas.Option.{same_Some}
+use Rattle.std.proofs.lemmas.Result.{on_err_weaker}
 use Rattle.headers_cache.specs.Contents.{Contents, responses_at}
 use Rattle.headers_cache.specs.declared.limits.Limits.{Limits}
 use Rattle.headers_cache_parts.specs.Combining.{AreCombinable}
@@ -14,20 +15,20 @@ use Rattle.headers_cache_rules.specs.Selection.{IsCandidate}
 use Rattle.headers_cache_rules.specs.Stored.{request_of_stored}
 use Rattle.headers_cache_rules.specs.declared.storing.Reception.{Reception}
 use Rattle.headers_cache_rules.specs.declared.stored.StoredResponse.{StoredResponse}
+use Rattle.headers_map.proofs.InsertLemmas.{OnErr-from}
 use Rattle.headers_cache_part_store.specs.Recording.{IsCombinable, IsMerged, IsNotTaken, IsRecordedAs, IsSelectedPart}
 use Rattle.headers_cache_part_store.specs.Recording.{IsTaken, NeedsMemory}
 use Rattle.headers_cache_part_store.specs.declared.recording.Recorded.{Recorded}
 use Rattle.headers_cache_part_store.specs.declared.recording.Recorded.TheVariants.{Unstored, Stored, Whole, Once}
-use Rattle.headers_cache_part_store.proofs.CallLemmas.{on_err_always, some_is}
 
 -- a request selects one part
 selected_same : (request : Request) (parts : List StoredResponse) (one other : StoredResponse)
     → IsSelectedPart request parts (Some one) → IsSelectedPart request parts (Some other) → one ≡ other
 selected_same request parts one other (place, found, is) (place_too, found_too, is_too) =
     let places : place ≡ place_too =
-    some_is place place_too (selects_one (IsCandidate request) parts (Some place) (Some place_too) found found_too) in
+    same_Some place place_too (selects_one (IsCandidate request) parts (Some place) (Some place_too) found found_too) in
     let responses : found.response ≡ found_too.response =
-    some_is found.response found_too.response (sym found.at ∙ ap (slice_get parts) places ∙ found_too.at) in
+    same_Some found.response found_too.response (sym found.at ∙ ap (slice_get parts) places ∙ found_too.at) in
     sym is ∙ responses ∙ is_too
 
 module _ (policy : Policy) (parts : List StoredResponse) (came : StoredResponse) (reception : Reception) where
@@ -64,11 +65,11 @@ module _ (policy : Policy) (parts : List StoredResponse) (came : StoredResponse)
 
     pub alone_needs : {A E : Type 0} (result : Result A E) → OnErr result (IsSelfContained came)
         → OnErr result Needs
-    alone_needs result fails = on_err result (λ has. needs_for (inl has)) fails
+    alone_needs result fails = on_err_weaker result (λ has. needs_for (inl has)) fails
 
     pub combined_needs : {A E : Type 0} (result : Result A E) → IsCombinable parts came reception
         → OnErr result Needs
-    combined_needs result may = on_err_always result (needs_for (inr may))
+    combined_needs result may = OnErr-from result (needs_for (inr may))
 
   -- ---- what is taken
 

@@ -1,12 +1,12 @@
 -- Which stored responses a 304 updates: all, one, or none.
-use Rattle.std.proofs.Common.{◌≡◌, ◌≢◌, ◌⊎◌, ◌↔◌, ℕ, ◌+◌, ◌<◌, ◌≤◌, List, [], ◌∷◌, ◌++◌, length, get_or, Option, Some, None}
-use Rattle.std.proofs.Common.{inl, inr, refl, sym, ◌∙◌, ap, subst, arith, rules}
-use Rattle.std.specs.Prelude.{IsSomeAnd, IsTrue, OnErr, Result, Ok, Err, codes}
+use Rattle.std.proofs.Common.{◌≡◌, ◌≢◌, ◌⊎◌, ◌↔◌, ℕ, ◌+◌, ◌<◌, ◌≤◌, List, [], ◌∷◌, ◌++◌, length, get_or, Option}
+use Rattle.std.proofs.Common.{Some, None, inl, inr, refl, sym, ◌∙◌, ap, subst, arith, rules}
+use Rattle.std.specs.Prelude.{IsSomeAnd, IsTrue, codes}
 use Rattle.std.specs.List.{AllPairs, Contains, slice_get}
 use Rattle.std.proofs.lemmas.Bool.{cases_order}
 use Rattle.std.proofs.lemmas.List.Elements.{Contains-append_left, Contains-push, Contains-push_cases, Contains-get_or}
 use Rattle.std.proofs.lemmas.List.Quantifiers.{all_pairs_push}
-use Rattle.std.proofs.lemmas.Option.{slice_get_read, slice_get_within}
+use Rattle.std.proofs.lemmas.Option.{same_Some, slice_get_read, slice_get_within}
 use Rattle.headers.specs.LineMap.{LineMap}
 use Rattle.headers.specs.Lines.{Line, only_line}
 use Rattle.headers.specs.Typed.{HasLine}
@@ -19,10 +19,7 @@ use Rattle.headers_cache_rules.specs.Stored.{made_at}
 use Rattle.headers_cache_rules.specs.declared.identifying.Found.{Found}
 use Rattle.headers_cache_rules.specs.declared.identifying.Found.TheVariants.{Nothing, One, Several}
 use Rattle.headers_cache_rules.specs.declared.stored.StoredResponse.{StoredResponse}
-use Rattle.headers_cache_rules.proofs.SelectionLemmas.{selects_one, some_one}
-
-same_place : {a b : ℕ} → Some a ≡ Some b → a ≡ b
-same_place {a} {b} e = some_one a b e
+use Rattle.headers_cache_rules.proofs.SelectionLemmas.{selects_one}
 
 only_member : (place other : ℕ) → Contains (place ∷ []) other → place ≡ other
 only_member place other among =
@@ -63,7 +60,7 @@ module _ (Is : StoredResponse → Type 0) (all : List StoredResponse) where
         ]
 
     is_here : IsAt Is all n → Is x
-    is_here h = subst Is (some_one h.0 x (sym h.1 ∙ at)) h.2
+    is_here h = subst Is (same_Some h.0 x (sym h.1 ∙ at)) h.2
 
     pub more_below : (places : List ℕ) → Is x → AreBelow n places → AreBelow (n + 1) (places ++ n ∷ [])
     more_below places is h =
@@ -269,7 +266,7 @@ module _ (request : Request) (update : LineMap) (all : List StoredResponse) wher
       let own = one.0.sought.0 in
       let only = one.0.none none in
       let is_own : (k : ℕ) (other : StoredResponse) → slice_get all k ≡ Some other → Sought other → other ≡ own =
-      λ k other at is. some_one other own
+      λ k other at is. same_Some other own
       (sym at ∙ ap (slice_get all) (only k other at is.0) ∙ one.0.sought.1) in (
         one.0,
         record {
@@ -289,7 +286,8 @@ module _ (request : Request) (update : LineMap) (all : List StoredResponse) wher
     answers.0,
     (λ other identified.
         let none : other ≢ place → ¬ (HasValidator update) = λ apart some.
-        apart (same_place (selects_one Sought all (Some other) (Some place) (identified.weak weak some) answers.1)) in
+        apart (same_Some other place
+        (selects_one Sought all (Some other) (Some place) (identified.weak weak some) answers.1)) in
         let twice : ¬ (other ≢ place) = λ apart.
         apart (answers.0.none (none apart) other identified.sought.0 identified.sought.1 identified.sought.2.0) in
         elim (cases_order other place) [
@@ -318,9 +316,3 @@ module _ (request : Request) (update : LineMap) (all : List StoredResponse) wher
         each = λ other. ((λ among. absurd (omega (arith, among.1))), (λ identified. absurd (none other identified)));
         ascending = λ i j d low high. absurd (omega (arith, low, high));
       }
-
--- ---- results
-
-pub on_err : {A E : Type 0} (P : Type 0) (r : Result A E) → P → OnErr r P
-on_err P (Ok x) p = search rules
-on_err P (Err e) p = p

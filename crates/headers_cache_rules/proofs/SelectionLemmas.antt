@@ -5,20 +5,12 @@ use Rattle.std.proofs.Common.{refl, sym, ◌∙◌, ap, subst, arith}
 use Rattle.std.specs.Prelude.{option_map, nat_lt, if◌then◌else◌}
 use Rattle.std.specs.List.{slice_get}
 use Rattle.std.proofs.lemmas.Bool.{cases_order, ltb-false, ltb-true}
-use Rattle.std.proofs.lemmas.Option.{slice_get_read, slice_get_within}
+use Rattle.std.proofs.lemmas.Option.{same_Some, slice_get_read, slice_get_within}
 use Rattle.headers_cache_policy.specs.Requests.{Request}
 use Rattle.headers_cache_rules.specs.Selection.{IsCandidate, IsMostRecent, IsSelected, renewed}
 use Rattle.headers_cache_rules.specs.Stored.{made_at}
 use Rattle.headers_cache_rules.specs.declared.selection.Newest.{Newest}
 use Rattle.headers_cache_rules.specs.declared.stored.StoredResponse.{StoredResponse}
-
--- an option has one value
-pub some_one : {A : Type 0} (a b : A) → Some a ≡ Some b → a ≡ b
-some_one {A} a b e = ap (λ (o : Option A). of o) e
-  where
-    of : Option A → A
-    of None = a
-    of (Some x) = x
 
 module _ (Is : StoredResponse → Type 0) (all : List StoredResponse) where
   -- of the first n this is the most recent one that has the property
@@ -42,7 +34,7 @@ module _ (Is : StoredResponse → Type 0) (all : List StoredResponse) where
     cases k other low here =
         elim (cases_order k n) [
           | inl same ↦
-              inr (same, some_one other x (sym here ∙ ap (λ (j : ℕ). slice_get all j) same ∙ at))
+              inr (same, same_Some other x (sym here ∙ ap (λ (j : ℕ). slice_get all j) same ∙ at))
           | inr apart ↦
               elim apart [
                 | inl lower ↦ inl lower

@@ -4,7 +4,7 @@ use Rattle.std.proofs.Common.{refl, sym, ap, arith}
 use Rattle.std.specs.List.{list_any}
 use Rattle.std.specs.Option.{option_map_or, option_or}
 use Rattle.std.specs.Prelude.{◌||◌, Option, bytes_eq, codes, if◌then◌else◌}
-use Rattle.std.proofs.lemmas.Bool.{both_ways, cases_Bool}
+use Rattle.std.proofs.lemmas.Bool.{both_ways, cases_Bool, false_from_ne_true, or_parts}
 use Rattle.std.proofs.lemmas.List.{map-append}
 use Rattle.std.proofs.lemmas.List.Folds.{list_any_at}
 use Rattle.std.proofs.lemmas.Slice.Eq.{bytes_eq-Decides}
@@ -31,10 +31,6 @@ apart a b differ =
       | inl same ↦ absurd (differ (sym ((bytes_eq-Decides a b).0 same)))
       | inr other ↦ other
     ]
-
-not_true : (b : Bool) → ¬ (b ≡ true) → b ≡ false
-not_true true not = absurd (not refl)
-not_true false not = refl
 
 some_date : (second : ℕ) (lines : List Line) → lines ≢ [] → or_date second lines ≡ lines
 some_date second [] some = absurd (some refl)
@@ -67,7 +63,7 @@ module _ (received : ℕ) (m : Entries FieldValue) where
   hops name is = end_to_end name ∙ rw is refl
 
   stays : (name : List ℕ) → ¬ (IsHopByHop given name) → set_all given removed name ≡ given name
-  stays name not = end_to_end name ∙ rw (not_true _ not) refl
+  stays name not = end_to_end name ∙ rw (false_from_ne_true _ not) refl
 
   lacked : LacksDate given → ¬ (IsHopByHop given (codes "date"))
       → date_lines received ≡ or_date received (given (codes "date"))
@@ -112,19 +108,15 @@ targeted directives = record { directives = directives; by_expires = false }
 abbrev governed_by : List Line → Governing
 governed_by lines = record { directives = directed_by_members (field_members true lines); by_expires = true }
 
-or_false : (a b : Bool) → (a || b) ≡ false → (a ≡ false) × (b ≡ false)
-or_false true b e = absurd (let h : true ≡ false = e in cc)
-or_false false b e = (refl, e)
-
 -- two messages that have the same lines of each field that a cache serves as it came, and of Cache-Control
 module _ (given a b : LineMap)
     (same : (name : List ℕ) → ¬ (IsHopByHop given name) → name ≢ codes "age" → name ≢ codes "date" → a name ≡ b name)
     (control : a (codes "cache-control") ≡ b (codes "cache-control")) where
   unlost : (name : List ℕ) → is_lost given name ≡ false → a name ≡ b name
   unlost name e =
-      let first = or_false (bytes_eq name (codes "age") || bytes_eq name (codes "date"))
+      let first = or_parts (bytes_eq name (codes "age") || bytes_eq name (codes "date"))
       (is_hop_by_hop true (connection_options given) name) e in
-      let set = or_false (bytes_eq name (codes "age")) (bytes_eq name (codes "date")) first.0 in
+      let set = or_parts (bytes_eq name (codes "age")) (bytes_eq name (codes "date")) first.0 in
       same name (λ hop. both_ways _ first.1 hop)
       (λ is. both_ways _ set.0 ((bytes_eq-Decides name (codes "age")).1 is))
       (λ is. both_ways _ set.1 ((bytes_eq-Decides name (codes "date")).1 is))
@@ -132,7 +124,7 @@ module _ (given a b : LineMap)
   told_alike : (names : List (List ℕ)) → list_any (is_lost given) names ≡ false → told names a ≡ told names b
   told_alike [] e = refl
   told_alike (name ∷ names) e =
-      let found = or_false (is_lost given name) (list_any (is_lost given) names) e in
+      let found = or_parts (is_lost given name) (list_any (is_lost given) names) e in
       ap (λ (lines : List Line). option_or (told_by lines) (told names a)) (unlost name found.0)
       ∙ ap (λ (o : Option Directives). option_or (told_by (b name)) o) (told_alike names found.1)
 

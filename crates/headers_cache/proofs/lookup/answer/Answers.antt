@@ -1,11 +1,12 @@
+use Rattle.std.proofs.lemmas.Result.{IfOk-weaker, on_err_weaker}
 use Rattle.headers_cache_policy.specs.Policies.{policy_of}
 use Rattle.headers_cache_policy.specs.Requests.{request_of}
-use Rattle.headers_cache.proofs.LookupLemmas.{answer_decided, has_fields, if_ok, on_err}
+use Rattle.headers_cache.proofs.LookupLemmas.{answer_decided, has_fields}
 use Rattle.headers_cache.proofs.lookup.answer.Goals as goal
 
 pub returns-in-Some-clause-answer : goal.returns-in-Some-clause-answer
 returns-in-Some-clause-answer c =
-    if_ok c.found.result
+    IfOk-weaker c.found.result _ _
     (λ lookup is. answer_decided (policy_of c.args.policy.now) c.args.most
     (request_of c.args.request.now) c.args.now c.args.responses.now
     c.in-Some.place c.in-Some.ensures c.decision_for-decision.result c.index-responses-place.result
@@ -14,7 +15,7 @@ returns-in-Some-clause-answer c =
 
 pub returns-in-Some-clause-memory : goal.returns-in-Some-clause-memory
 returns-in-Some-clause-memory c =
-    on_err c.found.result
+    on_err_weaker c.found.result
     (λ other. has_fields (policy_of c.args.policy.now) c.args.most
     (request_of c.args.request.now) c.args.now c.args.responses.now
     c.in-Some.place c.in-Some.ensures c.decision_for-decision.result c.index-responses-place.result

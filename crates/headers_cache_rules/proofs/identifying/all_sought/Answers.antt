@@ -1,6 +1,7 @@
 use Rattle.std.proofs.Common.{length, refl}
 use Rattle.std.proofs.lemmas.Option.{slice_get_read}
-use Rattle.headers_cache_rules.proofs.IdentifyingLemmas.{all_below, below_in, below_out, none_below, on_err}
+use Rattle.headers_map.proofs.InsertLemmas.{OnErr-from}
+use Rattle.headers_cache_rules.proofs.IdentifyingLemmas.{all_below, below_in, below_out, none_below}
 use Rattle.headers_cache_rules.proofs.identifying.all_sought.Goals as goal
 use Rattle.headers_cache_rules.proofs.identifying.all_sought.Goals.{then-is_sought+in_ok-push, else-is_sought}
 
@@ -29,7 +30,7 @@ returns-clause-places c =
 
 pub returns-in_err-push-clause-memory : goal.returns-in_err-push-clause-memory
 returns-in_err-push-clause-memory c =
-    on_err _ c.from_residual.result (
+    OnErr-from c.from_residual.result (
       c.loop-place.place,
       (
         c.index-stored-place.result,

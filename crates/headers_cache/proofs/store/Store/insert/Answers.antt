@@ -1,8 +1,8 @@
 use Rattle.std.proofs.Common.{◌≡◌, ◌+◌, length, ap, arith, ◌∙◌}
+use Rattle.std.proofs.lemmas.Result.{on_ok_weaker}
 use Rattle.headers_cache_policy.specs.Requests.{request_of}
 use Rattle.headers_cache.specs.Contents.{bytes_of, size_of}
 use Rattle.headers_cache.specs.Kept.{contents_of}
-use Rattle.headers_cache.proofs.LookupLemmas.{on_ok}
 use Rattle.headers_cache.proofs.StoringLemmas.{absent_rest, inserted}
 use Rattle.headers_cache.proofs.store.Store.insert.Goals as goal
 
@@ -18,7 +18,7 @@ returns-clause-ok c =
     let bytes : c.bytes_of.result + c.len-2.result ≡ bytes_of kept + size_of c.args.new =
     omega (arith, c.bytes_of.ensures ∙ ap bytes_of c.deref.ensures.value, c.len-2.ensures ∙ c.args.new.content.ok.0) in
     let count : c.len-3.result + 1 ≡ length kept + 1 = ap (λ n. n + 1) (c.len-3.ensures ∙ c.trim.new.responses.ok.0) in
-    on_ok c.put_with.result
+    on_ok_weaker c.put_with.result
     (inserted c.args.self.now.limits c.take_out-responses.new.self.limits c.args.target.now c.args.new (contents_of
     c.args.self.now) (contents_of c.take_out-responses.new.self)
     (contents_of c.make_room.new.self) (contents_of c.put_with.new.self) c.take_out-responses.result.items

@@ -1,14 +1,14 @@
 use Rattle.std.proofs.Common.{◌∙◌, subst}
-use Rattle.headers_cache.proofs.LookupLemmas.{if_ok}
+use Rattle.std.proofs.lemmas.Option.{same_Some}
+use Rattle.std.proofs.lemmas.Result.{IfOk-weaker}
 use Rattle.headers_cache_policy.specs.Requests.{request_of}
 use Rattle.headers_cache_rules.specs.declared.stored.StoredResponse.{StoredResponse}
 use Rattle.headers_cache_part_store.specs.Answering.{IsAsked}
-use Rattle.headers_cache_part_store.proofs.CallLemmas.{some_is}
 use Rattle.headers_cache_part_store.proofs.store.PartStore.ask.Goals as goal
 
 pub returns-in-Some : goal.returns-in-Some
 returns-in-Some c =
-    if_ok c.ask.result
+    IfOk-weaker c.ask.result _ _
     (λ lookup asked stored at. subst (λ (s : StoredResponse). IsAsked (request_of c.args.request.now) s lookup)
-    (some_is c.in-Some.stored.now stored (c.in-Some.ensures ∙ at)) asked)
+    (same_Some c.in-Some.stored.now stored (c.in-Some.ensures ∙ at)) asked)
     c.ask.ensures

@@ -1,6 +1,6 @@
 use Rattle.std.proofs.Common.{inl, inr, refl}
+use Rattle.std.proofs.lemmas.Result.{IfOk-weaker}
 use Rattle.headers.specs.LineMap.{field_of}
-use Rattle.headers_cache.proofs.LookupLemmas.{if_ok}
 use Rattle.headers_cache.specs.Contents.{responses_at}
 use Rattle.headers_cache.specs.Kept.{contents_of}
 use Rattle.headers_cache_policy.specs.Requests.{request_of}
@@ -11,7 +11,7 @@ use Rattle.headers_cache_part_store.proofs.store.PartStore.lookup.Goals as goal
 
 pub returns-in-Some-clause-answer : goal.returns-in-Some-clause-answer
 returns-in-Some-clause-answer c =
-    if_ok c.reused.result
+    IfOk-weaker c.reused.result _ _
     (λ lookup is. reused_lookup (policy_of_parts c.args.self.now) c.args.most (request_of c.args.request.now)
     c.args.now (responses_at c.args.key.now (contents_of c.lookup_guessing.new.self)) c.in-Serve.place
     c.in-Some.stored.now (field_of c.in-Serve.age) c.in-Some.ensures
@@ -21,7 +21,7 @@ returns-in-Some-clause-answer c =
 pub returns-in-ServeAndRevalidate-clause-answer : goal.returns-in-ServeAndRevalidate-clause-answer
 returns-in-ServeAndRevalidate-clause-answer c =
     let served = rw c.in-ServeAndRevalidate.is at c.in_ok-place.ensures.answer in
-    if_ok c.ask.result
+    IfOk-weaker c.ask.result _ _
     (λ lookup is. asked_lookup (policy_of_parts c.args.self.now) c.args.most (request_of c.args.request.now)
     c.args.now (responses_at c.args.key.now (contents_of c.lookup_guessing.new.self)) c.in-ServeAndRevalidate.place
     decisions.ServeAndRevalidate (inl refl) served.found lookup is)
@@ -30,7 +30,7 @@ returns-in-ServeAndRevalidate-clause-answer c =
 pub returns-in-Validate-clause-answer : goal.returns-in-Validate-clause-answer
 returns-in-Validate-clause-answer c =
     let asked = rw c.in-Validate.is at c.in_ok-place.ensures.answer in
-    if_ok c.ask-in-Validate.result
+    IfOk-weaker c.ask-in-Validate.result _ _
     (λ lookup is. asked_lookup (policy_of_parts c.args.self.now) c.args.most (request_of c.args.request.now)
     c.args.now (responses_at c.args.key.now (contents_of c.lookup_guessing.new.self)) c.in-Validate.place
     decisions.Revalidate (inr (inl refl)) asked.found lookup is)
@@ -39,7 +39,7 @@ returns-in-Validate-clause-answer c =
 pub returns-in-ValidateOrServe-clause-answer : goal.returns-in-ValidateOrServe-clause-answer
 returns-in-ValidateOrServe-clause-answer c =
     let asked = rw c.in-ValidateOrServe.is at c.in_ok-place.ensures.answer in
-    if_ok c.ask-in-ValidateOrServe.result
+    IfOk-weaker c.ask-in-ValidateOrServe.result _ _
     (λ lookup is. asked_lookup (policy_of_parts c.args.self.now) c.args.most (request_of c.args.request.now)
     c.args.now (responses_at c.args.key.now (contents_of c.lookup_guessing.new.self)) c.in-ValidateOrServe.place
     decisions.RevalidateOrServe (inr (inr refl)) asked.found lookup is)

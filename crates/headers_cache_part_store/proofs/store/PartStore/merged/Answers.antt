@@ -1,12 +1,12 @@
 use Rattle.std.proofs.Common.{inr, subst}
-use Rattle.headers_cache.proofs.LookupLemmas.{if_ok, on_err}
+use Rattle.std.proofs.lemmas.Result.{IfOk-weaker, on_err_weaker}
 use Rattle.headers_cache_parts.specs.Combining.{IsCombinedAs}
 use Rattle.headers_cache_policy.specs.Policies.{Policy}
 use Rattle.headers_cache_part_store.proofs.store.PartStore.merged.Goals as goal
 
 pub returns-in-Some-clause-merged : goal.returns-in-Some-clause-merged
 returns-in-Some-clause-merged c =
-    if_ok c.combine.result
+    IfOk-weaker c.combine.result _ _
     (λ result is. inr (
       c.in-Some.stored.now,
       c.in-Some.ensures,
@@ -17,4 +17,4 @@ returns-in-Some-clause-merged c =
 
 pub returns-in-Some-clause-memory : goal.returns-in-Some-clause-memory
 returns-in-Some-clause-memory c =
-    on_err c.combine.result (λ may. (c.in-Some.stored.now, c.in-Some.ensures, may)) c.combine.ensures.memory
+    on_err_weaker c.combine.result (λ may. (c.in-Some.stored.now, c.in-Some.ensures, may)) c.combine.ensures.memory

@@ -1,5 +1,5 @@
 use Rattle.std.proofs.Common.{inl, inr, subst}
-use Rattle.headers_cache.proofs.LookupLemmas.{if_ok}
+use Rattle.std.proofs.lemmas.Result.{IfOk-weaker}
 use Rattle.headers_cache.specs.Contents.{responses_at}
 use Rattle.headers_cache_parts.specs.Received.{IsPart}
 use Rattle.headers_cache_parts.specs.declared.combining.Combined.{Combined}
@@ -29,7 +29,7 @@ returns-in_default-clause-recorded c =
 
 pub returns-in-Apart-clause-recorded : goal.returns-in-Apart-clause-recorded
 returns-in-Apart-clause-recorded c =
-    if_ok c.take.result
+    IfOk-weaker c.take.result _ _
     (alone_recorded (policy_of_parts c.args.self.now) (limits_of_parts c.args.self.now) c.args.key.now
     (parts_of c.args.self.now) c.args.came c.args.reception (parts_of c.take.new.self) c.in-Some.extent
     (subst (λ (p : Policy). IsPart p c.args.came c.args.reception c.in-Some.extent) c.policy.ensures
@@ -56,7 +56,7 @@ returns-in-Apart-clause-step c =
 
 pub returns-in-Stored-clause-recorded : goal.returns-in-Stored-clause-recorded
 returns-in-Stored-clause-recorded c =
-    if_ok c.keep.result
+    IfOk-weaker c.keep.result _ _
     (kept_recorded (policy_of_parts c.args.self.now) (limits_of_parts c.args.self.now) c.args.key.now
     (parts_of c.args.self.now) c.args.came c.args.reception (parts_of c.keep.new.self) c.in-Stored.part (
       c.in-Some.extent,
