@@ -127,7 +127,7 @@ fn time(op: &Op, rounds: usize, target: f64) {
 fn count_both(op: &Op) {
     let (text, words) = (op.text.as_bytes(), op.words.as_bytes());
     for passes in [1, 2, 10] {
-        let at = format!("{} {passes} {}", op.name, op.per_pass);
+        let at = format!("{} {} {passes} {}", op.name, op.kind, op.per_pass);
         count(&format!("peer {at}"), || peer::run(op.kind, op.op, black_box(text), black_box(words), passes));
         count(&format!("port {at}"), || port(op.kind, op.op, black_box(text), black_box(words), passes));
     }

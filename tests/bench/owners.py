@@ -1,0 +1,88 @@
+"""Tells which crate's functions spend the instructions that callgrind counts, also where they were inlined.
+
+The program has the names that naming_clang gives. What `core` has in place of Rust's operators, loops and moves (slices,
+iterators, options, numbers) and what the C library does count for the function that uses it.
+"""
+import re
+import subprocess
+from collections import Counter, defaultdict
+
+OPTIONS = "--dump-instr=yes", "--compress-strings=no", "--compress-pos=no"
+OF_USER = re.compile(r"core::(?!fmt|hash|time)")
+# A function that a function is called by may itself be one that counts for its callers, and so on.
+STEPS = 12
+
+
+def crate_of(function):
+    """The crate of a function, or `None` if it counts for its callers."""
+    found = re.match(r"(\w+)::", function)
+    return None if not found or OF_USER.match(function) else found[1]
+
+
+class Owners:
+    """The functions of a program."""
+
+    def __init__(self, program):
+        self.program, self.crates = str(program), {}
+
+    def look_up(self, places):
+        """Finds the crate of each place in the code: that of the innermost function that has one."""
+        places = sorted({it for it in places if it not in self.crates})
+        said = subprocess.run(["addr2line", "-a", "-i", "-f", "-e", self.program], input="\n".join(places), text=True,
+                              stdout=subprocess.PIPE, check=True).stdout
+        for place, text in zip(places, re.split(r"(?m)^0x[0-9a-f]+\n", said)[1:]):
+            found = map(crate_of, text.splitlines()[::2])
+            self.crates[place] = next((it for it in found if it), None)
+
+    def read(self, text):
+        """The costs of a file of callgrind, and those of its calls: by place and function, or by library and function."""
+        own, calls, library, function, called, is_call = Counter(), [], "", "", [None, None], False
+        for line in text.splitlines():
+            key, _, value = line.partition("=")
+            if line.startswith("0x"):
+                place, _, cost = line.split()
+                where = place if library == self.program else None, library, function
+                if is_call:
+                    calls.append((where, (called[0] or library, called[1]), int(cost)))
+                    called, is_call = [None, None], False
+                else:
+                    own[where] += int(cost)
+            elif key == "ob":
+                library = value
+            elif key == "fn":
+                function = value
+            elif key in ("cob", "cfn"):
+                called[key == "cfn"] = value
+            elif key == "calls":
+                is_call = True
+        return own, calls
+
+    def costs(self, text):
+        """The instructions in a file of callgrind, by crate."""
+        own, calls = self.read(text)
+        self.look_up(place for place, *_ in [*own, *(it[0] for it in calls)] if place)
+        by_crate, without, callers = Counter(), Counter(), defaultdict(Counter)
+        for (place, *function), cost in own.items():
+            if crate := self.crates.get(place):
+                by_crate[crate] += cost
+            else:
+                without[tuple(function)] += cost
+        for (place, *function), called, cost in calls:
+            callers[called][self.crates.get(place) or tuple(function)] += cost
+        shares = {}
+        for _ in range(STEPS):
+            shares = {it: self.share(callers[it], it, shares) for it in [*without, *callers]}
+        for function, cost in without.items():
+            for crate, share in shares[function].items():
+                by_crate[crate] += cost * share
+        return by_crate
+
+    @staticmethod
+    def share(callers, function, shares):
+        """Which crates a function counts for, as what part."""
+        share, total = Counter(), sum(cost for it, cost in callers.items() if it != function)
+        for caller, cost in callers.items():
+            if caller != function and total:
+                for crate, part in ({caller: 1} if isinstance(caller, str) else shares.get(caller, {})).items():
+                    share[crate] += part * cost / total
+        return share or Counter({"other": 1})
