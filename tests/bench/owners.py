@@ -34,19 +34,19 @@ class Owners:
             found = map(crate_of, text.splitlines()[::2])
             self.crates[place] = next((it for it in found if it), None)
 
-    def read(self, text):
-        """The costs of a file of callgrind, and those of its calls: by place and function, or by library and function."""
-        own, calls, library, function, called, is_call = Counter(), [], "", "", [None, None], False
+    def read(self, text, weight, own, calls):
+        """Adds the costs in a file of callgrind, by place and function, and those of its calls."""
+        library, function, called, is_call = "", "", [None, None], False
         for line in text.splitlines():
             key, _, value = line.partition("=")
             if line.startswith("0x"):
                 place, _, cost = line.split()
                 where = place if library == self.program else None, library, function
                 if is_call:
-                    calls.append((where, (called[0] or library, called[1]), int(cost)))
+                    calls[where, (called[0] or library, called[1])] += weight * int(cost)
                     called, is_call = [None, None], False
                 else:
-                    own[where] += int(cost)
+                    own[where] += weight * int(cost)
             elif key == "ob":
                 library = value
             elif key == "fn":
@@ -55,11 +55,12 @@ class Owners:
                 called[key == "cfn"] = value
             elif key == "calls":
                 is_call = True
-        return own, calls
 
-    def costs(self, text):
-        """The instructions in a file of callgrind, by crate."""
-        own, calls = self.read(text)
+    def costs(self, weighted):
+        """The instructions in files of callgrind, each with what it counts for, by crate."""
+        own, calls = Counter(), Counter()
+        for text, weight in weighted:
+            self.read(text, weight, own, calls)
         self.look_up(place for place, *_ in [*own, *(it[0] for it in calls)] if place)
         by_crate, without, callers = Counter(), Counter(), defaultdict(Counter)
         for (place, *function), cost in own.items():
@@ -67,8 +68,8 @@ class Owners:
                 by_crate[crate] += cost
             else:
                 without[tuple(function)] += cost
-        for (place, *function), called, cost in calls:
-            callers[called][self.crates.get(place) or tuple(function)] += cost
+        for ((place, *function), called), cost in calls.items():
+            callers[called][self.crates.get(place) or tuple(function)] += max(cost, 0)
         shares = {}
         for _ in range(STEPS):
             shares = {it: self.share(callers[it], it, shares) for it in [*without, *callers]}
