@@ -1,7 +1,7 @@
 """Tells which crate's functions spend the instructions that callgrind counts, also where they were inlined.
 
-The program has the names that naming_clang gives. What `core` has in place of Rust's operators, loops and moves (slices,
-iterators, options, numbers) and what the C library does count for the function that uses it.
+The program has the names that naming_clang gives. What `core` has in place of Rust's operators, loops and moves, as
+slices, iterators and options, and what the C library does count for the function that uses it.
 """
 import re
 import subprocess
