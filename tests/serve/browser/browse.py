@@ -25,7 +25,7 @@ import site_of
 from chromium import Page
 
 HERE = Path(__file__).resolve().parent
-OURS, NGINX, OTHER = 18400, 18401, 18402
+OURS, NGINX, OTHER, LISTED = 18400, 18401, 18402, 18403
 ROUNDS = 3
 THINGS = ["a response", "a range", "the last bytes", "If-None-Match", "If-Range", "a redirect", "a 404", "a module",
           "a font", "a picture on a canvas", "a video", "WebAssembly"]
@@ -41,6 +41,8 @@ def running(words, port, **options):
             with contextlib.suppress(OSError), socket.create_connection(("127.0.0.1", port)):
                 break
             time.sleep(0.1)
+        else:
+            sys.exit(f"{words[0]} doesn't listen at port {port}")
         yield
     finally:
         os.killpg(process.pid, signal.SIGTERM)
@@ -57,7 +59,8 @@ def ours(program, site, *options):
 def nginx(work, site):
     work.mkdir(exist_ok=True)
     text = (HERE.parent / "nginx.conf").read_text("utf-8").replace("FOLDER/www", str(site)).replace("FOLDER", str(work))
-    text = text.replace("PORT", str(NGINX)).replace("worker_processes", "daemon off; worker_processes")
+    text = text.replace("PORT", str(NGINX)).replace("LISTED", str(LISTED))
+    text = text.replace("worker_processes", "daemon off; worker_processes")
     text = text.replace("if_modified_since", "add_header Cache-Control no-cache; if_modified_since")
     (work / "nginx.conf").write_text(text, "utf-8")
     return running(["nginx", "-c", str(work / "nginx.conf")], NGINX,
