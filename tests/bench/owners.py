@@ -1,4 +1,4 @@
-"""Tells which crate's functions spend the instructions that callgrind counts, also where they were inlined.
+"""Tells which functions spend the instructions that callgrind counts, also where they were inlined.
 
 The program has the names that naming_clang gives. What `core` has in place of Rust's operators, loops and moves, as
 slices, iterators and options, and what the C library does count for the function that uses it.
@@ -13,26 +13,29 @@ OF_USER = re.compile(r"core::(?!fmt|hash|time)")
 STEPS = 12
 
 
+def counts(function):
+    """Whether a function counts for itself, and not for its callers."""
+    return re.match(r"\w+::", function) and not OF_USER.match(function)
+
+
 def crate_of(function):
-    """The crate of a function, or `None` if it counts for its callers."""
-    found = re.match(r"(\w+)::", function)
-    return None if not found or OF_USER.match(function) else found[1]
+    """The crate of a function that `Owners` tells."""
+    return function.partition("::")[0]
 
 
 class Owners:
     """The functions of a program."""
 
     def __init__(self, program):
-        self.program, self.crates = str(program), {}
+        self.program, self.functions = str(program), {}
 
     def look_up(self, places):
-        """Finds the crate of each place in the code: that of the innermost function that has one."""
-        places = sorted({it for it in places if it not in self.crates})
+        """Finds the function of each place in the code: the innermost that counts for itself."""
+        places = sorted({it for it in places if it not in self.functions})
         said = subprocess.run(["addr2line", "-a", "-i", "-f", "-e", self.program], input="\n".join(places), text=True,
                               stdout=subprocess.PIPE, check=True).stdout
         for place, text in zip(places, re.split(r"(?m)^0x[0-9a-f]+\n", said)[1:]):
-            found = map(crate_of, text.splitlines()[::2])
-            self.crates[place] = next((it for it in found if it), None)
+            self.functions[place] = next(filter(counts, text.splitlines()[::2]), None)
 
     def read(self, text, weight, own, calls):
         """Adds the costs in a file of callgrind, by place and function, and those of its calls."""
@@ -57,33 +60,33 @@ class Owners:
                 is_call = True
 
     def costs(self, weighted):
-        """The instructions in files of callgrind, each with what it counts for, by crate."""
+        """The instructions in files of callgrind, each with what it counts for, by function."""
         own, calls = Counter(), Counter()
         for text, weight in weighted:
             self.read(text, weight, own, calls)
         self.look_up(place for place, *_ in [*own, *(it[0] for it in calls)] if place)
-        by_crate, without, callers = Counter(), Counter(), defaultdict(Counter)
+        known, without, callers = Counter(), Counter(), defaultdict(Counter)
         for (place, *function), cost in own.items():
-            if crate := self.crates.get(place):
-                by_crate[crate] += cost
+            if user := self.functions.get(place):
+                known[user] += cost
             else:
                 without[tuple(function)] += cost
         for ((place, *function), called), cost in calls.items():
-            callers[called][self.crates.get(place) or tuple(function)] += max(cost, 0)
+            callers[called][self.functions.get(place) or tuple(function)] += max(cost, 0)
         shares = {}
         for _ in range(STEPS):
             shares = {it: self.share(callers[it], it, shares) for it in [*without, *callers]}
         for function, cost in without.items():
-            for crate, share in shares[function].items():
-                by_crate[crate] += cost * share
-        return by_crate
+            for user, share in shares[function].items():
+                known[user] += cost * share
+        return known
 
     @staticmethod
     def share(callers, function, shares):
-        """Which crates a function counts for, as what part."""
+        """Which functions a function counts for, as what part."""
         share, total = Counter(), sum(cost for it, cost in callers.items() if it != function)
         for caller, cost in callers.items():
             if caller != function and total:
-                for crate, part in ({caller: 1} if isinstance(caller, str) else shares.get(caller, {})).items():
-                    share[crate] += part * cost / total
+                for user, part in ({caller: 1} if isinstance(caller, str) else shares.get(caller, {})).items():
+                    share[user] += part * cost / total
         return share or Counter({"other": 1})
