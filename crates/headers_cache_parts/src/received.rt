@@ -18,7 +18,7 @@ use std::alloc::Global;
 fn has_plus(text: &[u8]) -> bool
     ensures { result ≡ has_plus text.now }
 {
-    text.iter().any(|byte| *byte == b'+')
+    text.contains(&b'+')
 }
 
 // Whether Content-Range has a plus, which no number of it may have.
