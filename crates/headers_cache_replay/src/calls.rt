@@ -5,6 +5,7 @@ use headers_cache::{Limits, Lookup, Options, Refreshed, Store};
 use headers_cache_part_store::PartStore;
 use headers_cache_policy::{Kind, RequestHead};
 use headers_cache_rules::{Exchange, Reception, StoredAnswer, StoredResponse};
+use headers_cache_targets::named_targets;
 use headers_rows::{Answer, Arguments, Failure};
 use http::{Method, StatusCode};
 use std::alloc::{AllocError, Global};
@@ -340,6 +341,23 @@ fn call_invalidate(
     Ok(answer.word(store.responses(target).len())?)
 }
 
+// RESPONSE: how many URLs of its origin the response names, and these.
+fn call_named_targets(
+    target: &str,
+    arguments: &mut Arguments<'_>,
+    answer: &mut Answer,
+) -> Result<(), Failure> {
+    let response = arguments.map()?;
+    let Ok(urls) = named_targets(answer.alloc(), target, &response) else {
+        return Err(Failure::Memory);
+    };
+    answer.word(urls.len())?;
+    for url in &urls {
+        answer.bytes(url.as_str().as_bytes())?;
+    }
+    Ok(())
+}
+
 /// A stored response: method, status, content, times and fields.
 pub fn add_stored(response: &StoredResponse, answer: &mut Answer) -> Result<(), Failure> {
     answer.word(response.method.as_str())?;
@@ -382,6 +400,7 @@ pub fn make(
         }
         "answer" => call_answer(store, target, arguments, answer),
         "invalidate" => call_invalidate(store, target, arguments, answer),
+        "named_targets" => call_named_targets(target, arguments, answer),
         "responses" => call_responses(store, target, answer),
         _ => make_part_call(&mut caches.parts, store, name, target, arguments, answer),
     }
