@@ -1,4 +1,4 @@
--- What is read of a file.
+-- Reads of the bytes of a file.
 use Rattle.std.proofs.Common.{◌≡◌, ℕ, ◌-◌, ◌≤◌, List, ◌++◌, length, min, take, drop, arith, ap, sym, ◌∙◌}
 use Rattle.std.proofs.Common.{IfOk, Result, Ok, Err, take_all}
 use Rattle.std.proofs.Math.Nat.{min-le_left}
