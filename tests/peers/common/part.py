@@ -42,4 +42,4 @@ class Context:
     work: Path
     inputs: int
     seed: int
-    jobs: int | None
+    jobs: int | None = None
