@@ -20,8 +20,8 @@ pub All-values : (lines : List Line) → All IsFieldName lines → All IsFieldVa
 All-values lines names = All-weaker IsFieldName IsFieldValue IsFieldValue-field_name lines names
 
 -- the lines up to the next one
-pub lines_of-more : (lines : List FieldValue) (i : ℕ) (line : FieldValue) → i < length lines → line ≡ get_or lines i line
-    → lines_of (take (i + 1) lines) ≡ lines_of (take i lines) ++ line.bytes ∷ []
+pub lines_of-more : (lines : List FieldValue) (i : ℕ) (line : FieldValue) → i < length lines
+    → line ≡ get_or lines i line → lines_of (take (i + 1) lines) ≡ lines_of (take i lines) ++ line.bytes ∷ []
 lines_of-more lines i line below is =
     let next : take (i + 1) lines ≡ take i lines ++ line ∷ [] =
     take_more lines i line below ∙ ap (λ (v : FieldValue). take i lines ++ v ∷ []) (sym is) in
@@ -40,7 +40,8 @@ pub All-more : (P : Line → Type 0) (before after : List Line) (line : Line) �
 All-more P before after line next all one =
     subst (All P) (sym next) (All-append P before (line ∷ []) all (All-cons P line [] one (All-nil P)))
 
-module _ (lines : List FieldValue) (i : ℕ) (line : FieldValue) (below : i < length lines) (is : line ≡ get_or lines i line)
+module _ (lines : List FieldValue) (i : ℕ) (line : FieldValue) (below : i < length lines)
+    (is : line ≡ get_or lines i line)
   where
     length_lines : length (lines_of lines) ≡ length lines
     length_lines = length-map lines (λ (v : FieldValue). v.bytes)
@@ -49,11 +50,13 @@ module _ (lines : List FieldValue) (i : ℕ) (line : FieldValue) (below : i < le
     name_at : All IsFieldName (lines_of lines) → IsFieldName line.bytes
     name_at all =
         let at : get_or (lines_of lines) i line.bytes ≡ line.bytes =
-        get_or-map (λ (v : FieldValue). v.bytes) lines i line line.bytes below ∙ ap (λ (v : FieldValue). v.bytes) (sym is) in
+        get_or-map (λ (v : FieldValue). v.bytes) lines i line line.bytes below
+        ∙ ap (λ (v : FieldValue). v.bytes) (sym is) in
         subst IsFieldName at (all i line.bytes (rw length_lines below))
 
     -- what a failure to read one line says of all
-    pub ReadsNames-fails : (failure : Failure) → IsNameOf line.bytes (Err failure) → ReadsNames (lines_of lines) (Err failure)
+    pub ReadsNames-fails : (failure : Failure) → IsNameOf line.bytes (Err failure)
+        → ReadsNames (lines_of lines) (Err failure)
     ReadsNames-fails Refused none = λ all. none (name_at all)
     ReadsNames-fails Memory none = rw length_lines (omega (arith, below))
     ReadsNames-fails Absent none = none

@@ -16,8 +16,8 @@ use Rattle.headers_cache_rules.specs.declared.storing.Reception.{Reception}
 use Rattle.headers_cache_rules.specs.declared.stored.StoredResponse.{StoredResponse}
 use Rattle.headers_chain.specs.Caches.{IsNoted, IsPlain, IsSought, Reply, is_bare, key_of, special_names}
 use Rattle.headers_chain.specs.declared.cache.Action.{Action}
-use Rattle.headers_chain.specs.declared.cache.Action.TheVariants.{Serve, ServeAndFetch, Fetch, FetchOrServe, Unavailable}
-use Rattle.headers_chain.specs.declared.cache.Action.TheVariants.{Forward}
+use Rattle.headers_chain.specs.declared.cache.Action.TheVariants.{Serve, ServeAndFetch, Fetch, FetchOrServe}
+use Rattle.headers_chain.specs.declared.cache.Action.TheVariants.{Forward, Unavailable}
 use Rattle.headers_chain.specs.declared.cache.Pending.{Pending}
 use Rattle.headers_chain.specs.declared.cache.Received.{Received}
 use Rattle.headers_resource.specs.Requests.{Request}
@@ -77,8 +77,8 @@ reply_of received =
 
 -- What becomes of the response: it is stored as it came, with the times of both, or it isn't, since it may not be or is
 -- too large; or an allocation fails.
-pub record IsTaken {E : Type 0} (policy : Policy) (limits : Limits) (target : List ℕ) (request : Request) (requested : ℕ)
-    (reply : Reply) (reception : Reception) (now : ℕ) (result : Result Bool E) (old new : Contents)
+pub record IsTaken {E : Type 0} (policy : Policy) (limits : Limits) (target : List ℕ) (request : Request)
+    (requested : ℕ) (reply : Reply) (reception : Reception) (now : ℕ) (result : Result Bool E) (old new : Contents)
     : Type 0 where
   pub came : StoredResponse
   pub noted : IsNoted request requested reply now came
