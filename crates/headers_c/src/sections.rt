@@ -10,8 +10,8 @@ ghost use Rattle.headers_c_parts.specs.Endings.{Gives, Writes, done};
 ghost use Rattle.headers_c_fields.specs.Written.{lines_text};
 ghost use Rattle.headers_c_decisions.specs.Selection.{WritesSelection};
 ghost use Rattle.headers_c_handles.specs.Handles.{OnHeld, Opens, section_in};
-ghost use Rattle.headers_c_handles.specs.Sections.{EvaluatesOf, FindsOf, IsSectionHeld, IsWrittenOf, RespondsOf, SelectsOf};
-ghost use Rattle.headers_c_handles.specs.Sections.{lines_under};
+ghost use Rattle.headers_c_handles.specs.Sections.{EvaluatesOf, FindsOf, IsSectionHeld, IsWrittenOf, RespondsOf};
+ghost use Rattle.headers_c_handles.specs.Sections.{SelectsOf, lines_under};
 ghost use Rattle.headers_c.specs.CacheStore.{Ends};
 ghost use Rattle.headers_c.specs.Responses.{WritesResponse};
 
@@ -200,7 +200,8 @@ pub extern "C" fn typed_headers_section_choose_language(
     ensures same { fields.new.held ≡ fields.old.held }
     ensures place { Gives
         (OnHeld (λ held.
-        FindsOf (Chooses (quality_in (quality_by language_says) (lines_under held (codes "accept-language")))) offers.now)
+        FindsOf (Chooses (quality_in (quality_by language_says) (lines_under held (codes "accept-language"))))
+        offers.now)
         (section_in fields.old.held)) place.old place.new result }
 {
     give(choose::<AcceptLanguage>(alloc, fields, offers), place)

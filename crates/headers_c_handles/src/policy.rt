@@ -36,7 +36,8 @@ fn answer_in(
     response: &[u8],
     keys: &HashKeys,
 ) -> Result<Shared, Failure>
-    ensures { SharesBetween method.now response.now (policy_in (Some policy.now)) (section_in (Some request.now)) result }
+    ensures { SharesBetween method.now response.now (policy_in (Some policy.now)) (section_in (Some request.now))
+        result }
 {
     let Held::Policy(policy) = policy else {
         return Err(Failure::Absent);

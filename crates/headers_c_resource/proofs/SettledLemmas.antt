@@ -82,7 +82,8 @@ settled-others name (field ∷ fields) none =
     by f all (inr g) =
         let left : settled (field ∷ fields) ≡ field ∷ settled fields = rw g refl in
         let other : name ≢ field.0 =
-        λ is. let same : bytes_eq field.0 name ≡ true = (bytes_eq-Decides field.0 name).1 (sym is) in absurd (cc (f, same)) in
+        λ is. let same : bytes_eq field.0 name ≡ true = (bytes_eq-Decides field.0 name).1 (sym is) in
+        absurd (cc (f, same)) in
         subst (All (λ (it : Field). name ≢ it.0)) (sym left)
         (All-cons (λ (it : Field). name ≢ it.0) field (settled fields) other all)
 

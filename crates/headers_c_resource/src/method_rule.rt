@@ -3,7 +3,8 @@ ghost use Rattle.std.specs.Prelude.{◌≡◌, IfOk, codes, option_map};
 ghost use Rattle.headers.specs.LineMap.{lines_at};
 ghost use Rattle.headers.specs.Lines.{lines_of};
 ghost use Rattle.headers_c_resource.specs.Lists.{filled_at};
-ghost use Rattle.headers_c_resource.specs.MethodRules.{AreRulesRead, IsRuleAnswer, IsRulesAnswer, lines_by, option_lines};
+ghost use Rattle.headers_c_resource.specs.MethodRules.{AreRulesRead, IsRuleAnswer, IsRulesAnswer, lines_by};
+ghost use Rattle.headers_c_resource.specs.MethodRules.{option_lines};
 
 use crate::lists::{filled_at, is_named, read_list};
 use crate::resource::ResourceParts;

@@ -1,5 +1,6 @@
 -- What the members of a targeted field say, one after the other.
-use Rattle.std.proofs.Common.{◌≡◌, ℕ, List, [], ◌∷◌, ◌++◌, refl, ◌∙◌, ap, Option, Some, None, option_and_then, option_map}
+use Rattle.std.proofs.Common.{◌≡◌, ℕ, List, [], ◌∷◌, ◌++◌, refl, ◌∙◌, ap, Option, Some, None, option_and_then}
+use Rattle.std.proofs.Common.{option_map}
 use Rattle.headers_syntax.specs.Lines.{Line}
 use Rattle.headers_syntax.specs.Text.{trim}
 use Rattle.headers_structured.specs.Dictionaries.{Entry, MemberParts, dictionary, entry, members_in}

@@ -279,7 +279,7 @@ module _ (policy : Policy) (limits : Limits) where
   run-known (call ∷ calls) contents (before, ran, change) =
       step-known calls before contents (run-known calls before ran) call change
 
-  -- ---- what is handed out
+  -- ---- what is served
 
   module _ (calls : PartHistory) (contents : Contents) (ran : Run policy limits calls contents) (key : List ℕ) where
     -- the bytes of a part of a stored one

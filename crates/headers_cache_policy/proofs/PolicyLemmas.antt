@@ -3,8 +3,8 @@ use Rattle.std.proofs.Common.{◌≡◌, ◌∙◌, Bool, true, false, ◌≤◌
 use Rattle.std.specs.Prelude.{◌⊎◌, ◌&&◌, nat_lt, None}
 use Rattle.std.proofs.lemmas.Bool.{le-ltb}
 use Rattle.headers.specs.LineMap.{LineMap}
-use Rattle.headers_cache_policy.specs.Decisions.{Answers, AnswersUnstored, Decides, IsFromStore, IsServedMeanwhile, IsTakenStale}
-use Rattle.headers_cache_policy.specs.Decisions.{MayComeFromStore, MustBeFresh, counted}
+use Rattle.headers_cache_policy.specs.Decisions.{Answers, AnswersUnstored, Decides, IsFromStore, IsServedMeanwhile}
+use Rattle.headers_cache_policy.specs.Decisions.{IsTakenStale, MayComeFromStore, MustBeFresh, counted}
 use Rattle.headers_cache_fields.specs.Directives.{directed}
 use Rattle.headers_cache_policy.specs.Policies.{DecidesByUnder, DecidesUnder, Policy, asks, plain, tells}
 use Rattle.headers_cache_policy.specs.Requests.{Request}

@@ -1,7 +1,6 @@
 -- What a cache does with a request that a stored response could answer (RFC 9111, section 4, and RFC 5861).
-use Rattle.std.specs.Prelude.{◌≡◌, ◌⊎◌, ⊤, ℕ, ◌+◌, ◌-◌, ◌<◌, ◌≤◌, Bool, true, false, ◌&&◌, nat_lt, Option, None, IfSome, IsSome}
-use Rattle.std.specs.Prelude.{if◌then◌else◌}
-use Rattle.std.specs.Prelude.{IsSomeAnd, unwrap_or}
+use Rattle.std.specs.Prelude.{◌≡◌, ◌⊎◌, ⊤, ℕ, ◌+◌, ◌-◌, ◌<◌, ◌≤◌, Bool, true, false, ◌&&◌, nat_lt, Option, None, IfSome}
+use Rattle.std.specs.Prelude.{IsSome, if◌then◌else◌, IsSomeAnd, unwrap_or}
 use Rattle.headers.specs.LineMap.{LineMap}
 use Rattle.headers_cache_fields.specs.Age.{age_at}
 use Rattle.headers_cache_fields.specs.Directives.{directed}

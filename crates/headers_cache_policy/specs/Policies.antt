@@ -15,7 +15,8 @@ use Rattle.headers_cache_fields.specs.declared.directives.Directives.{Directives
 use Rattle.headers_cache_fields.specs.declared.kind.Kind.{Kind}
 use Rattle.headers_cache_policy.specs.declared.policy.Policy.{Policy as Given}
 
--- Whom a cache serves; whether `immutable` counts; and the names of its targeted fields, the first of which comes first.
+-- Whom a cache serves; whether `immutable` counts; and the names of its targeted fields, in the order in which they
+-- count.
 pub record Policy : Type 0 where
   pub kind : Kind
   pub immutable : Bool

@@ -1,6 +1,6 @@
 //! What a cache may do with a response: whether it may store it, how long it is fresh, how old it
-//! is, and what it does with a request that the stored response could answer (RFC 9111, RFC 5861), and as options RFC 8246
-//! and RFC 9213.
+//! is, and what it does with a request that the stored response could answer (RFC 9111, RFC 5861).
+//! As options it follows RFC 8246 and RFC 9213.
 //!
 //! Fields are parsed by the grammar of the RFCs, and what is malformed makes each answer stricter.
 //! Only `validation_fields` and `freshening_fields` allocate.

@@ -296,7 +296,8 @@ HeadIsAsGet =
 
 module _ (request : Request) where
   with_asks : (r s : Request) → r.protocol ≡ s.protocol → r.method ≡ s.method → r.authority ≡ s.authority
-      → r.content ≡ s.content → ((name : List ℕ) → bytes_eq (codes "range") name ≡ false → r.fields name ≡ s.fields name)
+      → r.content ≡ s.content
+      → ((name : List ℕ) → bytes_eq (codes "range") name ≡ false → r.fields name ≡ s.fields name)
       → r.fields (codes "range") ≡ s.fields (codes "range") → AreAlike r s
   with_asks r s protocol method authority content others range =
       record {

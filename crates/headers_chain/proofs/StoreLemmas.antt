@@ -453,7 +453,8 @@ module _ (law : StoreLaws) (caching : Caching) (origin : Origin) (now : ℕ) (ta
             | inr e ↦ e
           ]
 
-  governed_as : governing caching.policy.targets reply.fields ≡ governing caching.policy.targets (fields_of_stored come.came)
+  governed_as : governing caching.policy.targets reply.fields
+      ≡ governing caching.policy.targets (fields_of_stored come.came)
   governed_as =
       governed_alike (fields_of_stored come.came) reply.fields (fields_of_stored come.came)
       (λ name hop age date. f.fields name age ∙ come.kept.fields.end_to_end name hop date)
@@ -483,7 +484,8 @@ module _ (law : StoreLaws) (caching : Caching) (origin : Origin) (now : ℕ) (ta
       by : (k : Kind) → IsShareable k (lines_at come.came.request) (tells caching.policy (fields_of_stored come.came))
           → IsShareable k come.request.fields (tells caching.policy (fields_of_stored come.came))
       by Private h = tt
-      by Shared h = (h.0, λ present. h.1 (subst HasLine (sym (from.noted.asked_fields (codes "authorization"))) present))
+      by Shared h =
+          (h.0, λ present. h.1 (subst HasLine (sym (from.noted.asked_fields (codes "authorization"))) present))
 
   -- fields of one connection are stored by no cache
   pub stores_none : (name : List ℕ) → is_known true name ≡ true → reply.fields name ≡ []

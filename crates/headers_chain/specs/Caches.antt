@@ -1,6 +1,6 @@
 -- A cache before other servers (RFC 9111): which requests it answers from its store, what it stores, and when.
-use Rattle.std.specs.Prelude.{◌≡◌, ◌≢◌, ◌⊎◌, ℕ, ◌+◌, ◌-◌, ◌≤◌, Bool, true, ◌&&◌, not, ◌==◌, List, [], ◌∷◌, ◌++◌, All, None}
-use Rattle.std.specs.Prelude.{Some, bytes_eq, codes, if◌then◌else◌, slice_get, unwrap_or}
+use Rattle.std.specs.Prelude.{◌≡◌, ◌≢◌, ◌⊎◌, ℕ, ◌+◌, ◌-◌, ◌≤◌, Bool, true, ◌&&◌, not, ◌==◌, List, [], ◌∷◌, ◌++◌, All}
+use Rattle.std.specs.Prelude.{None, Some, bytes_eq, codes, if◌then◌else◌, slice_get, unwrap_or}
 use Rattle.std.specs.List.{list_all}
 use Rattle.headers.specs.LineMap.{Field, LineMap, lines_at}
 use Rattle.headers.specs.Lines.{Line, only_line}

@@ -1,4 +1,4 @@
--- What is read of a form is read of the header that keeps it.
+-- What a header's encoding shape decodes, the header decodes.
 use Rattle.std.proofs.Common.{List, Option}
 use Rattle.std.specs.Prelude.{Err}
 use Rattle.http_header.specs.FieldValue.{FieldValue}

@@ -1,4 +1,4 @@
--- A walk that hands out only some of the items: those that it passes over.
+-- An iterator that yields only some of the items, and passes over the others.
 use Rattle.std.proofs.Common.{◌≡◌, ℕ, ◌≤◌, ◌-◌, Bool, true, false, List, [], ◌∷◌, ◌++◌, length, drop, map, ◌≢◌, Some}
 use Rattle.std.proofs.Common.{refl, sym, ◌∙◌, ap, arith, inl, inr, ⊎_elim, append_assoc}
 use denote.Ref.{Bor}
@@ -11,7 +11,7 @@ use Rattle.headers_syntax.specs.Text.{trim}
 use Rattle.headers_items.specs.Places.{pieces, counting_from, is_counting_place}
 use Rattle.headers_items.proofs.ItemsLemmas.{filter_places_none}
 
--- a walk went from s to t over items that are not wanted
+-- an iterator went from s to t over items that are not wanted
 pub record PassesUnwanted (wanted : List ℕ → Bool) (s t : ItemsState) : Type 0 where
   pub text : t.text ≡ s.text
   pub separator : t.separator ≡ s.separator

@@ -159,7 +159,7 @@ count_counts sep s (suc p) l =
     subst Q (sym e) (let h : Q (p + 1) = omega (arith, one', more, before) in h))
     (cases_Bool (is_counting_place sep s p))
 
--- a whole walk makes no more searches than there are marks, and one
+-- before a place there are at most as many hits as the text has marks
 pub hits-le-marks : (sep : ℕ) (s : List ℕ) (p : ℕ) → p ≤ length s → hits sep s p ≤ marks sep s
 unfolding hits
 hits-le-marks sep s p l =

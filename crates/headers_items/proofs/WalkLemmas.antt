@@ -1,4 +1,4 @@
--- A step of a walk over items.
+-- A step of an iterator over items.
 use Rattle.std.proofs.Common.{◌≡◌, ℕ, ◌+◌, ◌≤◌, true, false, List, [], ◌∷◌, length, drop, refl, sym, ◌∙◌, ap}
 use Rattle.std.specs.List.{slice_range}
 use Rattle.std.proofs.lemmas.List.{take_rest}
@@ -54,13 +54,13 @@ NoCut-same sep sep' s s' i i' f a b c = rw (a, b, c) f
 pub le_same : (i i' : ℕ) (s s' : List ℕ) → i ≤ length s → i' ≡ i → s' ≡ s → i' ≤ length s'
 le_same i i' s s' l a b = rw (a, b) l
 
--- what a walk hands out, from where it read and trimmed it
+-- what an iterator yields, from where it read and trimmed it
 pub piece_trimmed : (item bytes text text' : List ℕ) (low high start start' end : ℕ)
     → item ≡ slice_range text low high → slice_range bytes low high ≡ trim (slice_range bytes start end)
     → bytes ≡ text → text' ≡ text → start' ≡ start → item ≡ trim (slice_range text' start' end)
 piece_trimmed item bytes text text' low high start start' end a b c d e = rw (d, e, a, ← c, b) refl
 
--- a bound on the searches of a walk
+-- a bound on the searches of an iterator
 pub searches_bound : (sep : ℕ) (s : List ℕ) (p n : ℕ) (e : Bool) → p ≤ length s → n ≡ hits sep s p + end_search e
     → n ≤ marks sep s + 1
 searches_bound sep s p n true l h = omega (arith, h, hits-le-marks sep s p l)

@@ -1,4 +1,4 @@
--- What the calls of a walk give, all together.
+-- What the calls of an iterator yield, all together.
 use Rattle.std.proofs.Common.{◌≡◌, List, Option, length, ap, subst}
 use Rattle.std.specs.Iterator.Runs.{EveryRun, ItemsMapTo}
 use Rattle.std.proofs.iter.runs.Sources.{from_front}
@@ -12,7 +12,7 @@ module _ {A B : Type 0} {view : A → B} {rest : ItemsState → List B}
   pub walk_runs : EveryRun (Walks view rest Scans) (λ p. ItemsMapTo p view (rest p.from))
   walk_runs = from_front (Walks view rest Scans) view rest (λ s t h. ap length h.gives.0) (λ s x t h. h.gives)
 
-  -- a walk gives what is left
+  -- an iterator yields what is left
   pub YieldsList-from_walk : {s : ItemsState} {all : List B} → rest s ≡ all
       → YieldsList (Walks view rest Scans) view s all
   YieldsList-from_walk {s} e =

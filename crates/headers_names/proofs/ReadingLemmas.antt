@@ -106,7 +106,7 @@ module _ (value_of : Reading) (item : List ℕ) (rest : List (List ℕ)) where
       → leading_values value_of (item ∷ rest) ≡ value ∷ leading_values value_of rest
   leading-some value e = rw (take_while-cons (λ x. is_some (value_of x)) item rest) (rw e (rw e refl))
 
--- a walk that has not ended hands out the next name
+-- an iterator that has not ended yields the next name
 pub names-next : (ended : Bool) (before left : List (List ℕ)) (item name : List ℕ) (rest : List (List ℕ))
     → cond ended [] (names before) ≡ left → ended ≡ false
     → before ≡ item ∷ rest → Some name ≡ name_of item → left ≡ name ∷ cond ended [] (names rest)

@@ -4,8 +4,8 @@ use Rattle.std.specs.Prelude.{length, nat_lt}
 use Rattle.std.specs.Global.{Vec}
 use Rattle.headers.specs.LineMap.{Field, LineMap}
 use Rattle.headers_negotiation.specs.Choice.{Picks}
-use Rattle.headers_resource.specs.Answers.{Gives, GivesIf, Goes, GoesOn, IsAnswer, IsSelected, Stops, at_place, is_admitted}
-use Rattle.headers_resource.specs.Answers.{place_in}
+use Rattle.headers_resource.specs.Answers.{Gives, GivesIf, Goes, GoesOn, IsAnswer, IsSelected, Stops, at_place}
+use Rattle.headers_resource.specs.Answers.{is_admitted, place_in}
 use Rattle.headers_resource.specs.Applies.{applies, is_current, is_read, is_unacceptable}
 use Rattle.headers_resource.specs.Fields.{reason_fields}
 use Rattle.headers_resource.specs.Reasons.{IsFirst}
@@ -23,7 +23,7 @@ use Rattle.headers_resource.specs.declared.reason.Reason.TheVariants.{Preconditi
 use Rattle.headers_resource.specs.declared.representation.Representation.{Representation}
 use Rattle.headers_resource.specs.declared.resource.Resource.{Resource}
 
-module _ (present : ℕ) (resource : Resource) (v w : Vec Representation) (e : v.items ≡ w.items) (request : Request) where
+module _ (now : ℕ) (resource : Resource) (v w : Vec Representation) (e : v.items ≡ w.items) (request : Request) where
   abbrev first : Resource
   first = record resource { representations = v }
 
@@ -89,8 +89,8 @@ module _ (present : ℕ) (resource : Resource) (v w : Vec Representation) (e : v
   }
 
   same_going : (place : Option ℕ) (representation : Option Representation) (status : Option ℕ) (sent : Sends)
-      (fields : List Field) → GoesOn present first request place representation status sent fields
-      → GoesOn present second request place representation status sent fields
+      (fields : List Field) → GoesOn now first request place representation status sent fields
+      → GoesOn now second request place representation status sent fields
   same_going place representation status sent fields h = record {
     response = h.response;
     answered = h.answered;
@@ -100,19 +100,19 @@ module _ (present : ℕ) (resource : Resource) (v w : Vec Representation) (e : v
   }
 
   same_goes : (status : Option ℕ) (sent : Sends) (fields : List Field)
-      → Goes present first request status sent fields → Goes present second request status sent fields
+      → Goes now first request status sent fields → Goes now second request status sent fields
   same_goes status sent fields h = record {
     place = h.place;
     selected = same_selected request.fields h.place h.selected;
     goes =
         subst
-        (λ (items : List Representation). GoesOn present second request h.place (at_place items h.place) status sent
+        (λ (items : List Representation). GoesOn now second request h.place (at_place items h.place) status sent
         fields) e (same_going h.place (at_place v.items h.place) status sent fields h.goes);
   }
 
   same_given : (admitted : Bool) (reason : Reason) (status : Option ℕ) (sent : Sends) (fields : List Field)
-      → GivesIf admitted present first request reason status sent fields
-      → GivesIf admitted present second request reason status sent fields
+      → GivesIf admitted now first request reason status sent fields
+      → GivesIf admitted now second request reason status sent fields
   same_given true reason status sent fields h = same_goes status sent fields h
   same_given false reason status sent fields h = record {
     has_status = h.has_status;
@@ -121,8 +121,8 @@ module _ (present : ℕ) (resource : Resource) (v w : Vec Representation) (e : v
   }
 
   -- an answer is one where the list of the same representations is stored elsewhere
-  pub same_answer : (answer : Answer) → IsAnswer present first request answer
-      → IsAnswer present second request answer
+  pub same_answer : (answer : Answer) → IsAnswer now first request answer
+      → IsAnswer now second request answer
   same_answer answer h = record {
     first = same_first answer.reason h.first;
     own = h.own;

@@ -1,10 +1,10 @@
 -- The members of a dictionary, one after the other.
-use Rattle.std.proofs.Common.{◌≡◌, ℕ, zero, suc, Bool, true, false, List, [], ◌∷◌, refl, sym, ◌∙◌, ap, ◌<◌, ◌≤◌, length, cond}
-use Rattle.std.proofs.Common.{Option, Some, None, option_and_then, option_map, arith}
+use Rattle.std.proofs.Common.{◌≡◌, ℕ, zero, suc, Bool, true, false, List, [], ◌∷◌, refl, sym, ◌∙◌, ap, ◌<◌, ◌≤◌, length}
+use Rattle.std.proofs.Common.{cond, Option, Some, None, option_and_then, option_map, arith}
 use Rattle.std.specs.Prelude.{◌==◌}
 use Rattle.headers_structured.specs.Bytes.{after_run, before}
-use Rattle.headers_structured.specs.Dictionaries.{Entry, MemberParts, after_comma, entry, entry_by, length_of, member_value}
-use Rattle.headers_structured.specs.Dictionaries.{members_in, members_within, next_members, value_behind}
+use Rattle.headers_structured.specs.Dictionaries.{Entry, MemberParts, after_comma, entry, entry_by, length_of}
+use Rattle.headers_structured.specs.Dictionaries.{member_value, members_in, members_within, next_members, value_behind}
 use Rattle.headers_structured.specs.Items.{Reading, after_inner, after_key, after_parameters, bare_item}
 use Rattle.headers_structured.specs.Items.ValueParts.{Other}
 use Rattle.headers_structured.specs.declared.bytes.Class.TheVariants.{Blank}

@@ -1,14 +1,14 @@
 -- What follows an item is shorter than the text.
-use Rattle.std.proofs.Common.{◌≡◌, ℕ, Bool, true, false, List, [], ◌∷◌, refl, sym, ◌∙◌, ap, subst, ◌<◌, ◌≤◌, ◌-◌, length, cond}
-use Rattle.std.proofs.Common.{Option, Some, None, IfSome, option_and_then, option_map, arith}
+use Rattle.std.proofs.Common.{◌≡◌, ℕ, Bool, true, false, List, [], ◌∷◌, refl, sym, ◌∙◌, ap, subst, ◌<◌, ◌≤◌, ◌-◌}
+use Rattle.std.proofs.Common.{length, cond, Option, Some, None, IfSome, option_and_then, option_map, arith}
 use Rattle.std.specs.Prelude.{◌&&◌, ◌||◌, ◌==◌, nat_le, nat_lt, if◌then◌else◌}
 use Rattle.std.specs.Char.{is_ascii_digit}
 use Rattle.std.proofs.lemmas.Bool.{ltb-true}
 use Rattle.headers_structured.specs.Bytes.{after_run, before, begins_key, begins_token, is_in, is_printable}
-use Rattle.headers_structured.specs.Items.{Reading, Step, after_all, after_argument, after_colon, after_inner, after_item}
-use Rattle.headers_structured.specs.Items.{after_key, after_parameter, after_parameters, after_string, bare_item}
-use Rattle.headers_structured.specs.Items.{boolean, bounded, decimal, going, inner_by, inner_step, inside, integer, number}
-use Rattle.headers_structured.specs.Items.{number_by, parameter_step, rest_of, string, unsigned}
+use Rattle.headers_structured.specs.Items.{Reading, Step, after_all, after_argument, after_colon, after_inner}
+use Rattle.headers_structured.specs.Items.{after_item, after_key, after_parameter, after_parameters, after_string}
+use Rattle.headers_structured.specs.Items.{bare_item, boolean, bounded, decimal, going, inner_by, inner_step, inside}
+use Rattle.headers_structured.specs.Items.{integer, number, number_by, parameter_step, rest_of, string, unsigned}
 use Rattle.headers_structured.specs.Items.Step.{Ends, Fails, Goes}
 use Rattle.headers_structured.specs.Items.ValueParts.{Text}
 use Rattle.headers_structured.specs.declared.bytes.Class.{Class}
@@ -175,8 +175,8 @@ item-shorter (b ∷ s) reading e = let h = item-within b s reading e in omega (a
 argument-within : (s : List ℕ) → Within (length s) (after_argument s)
 argument-within [] = within-some 0 [] (omega arith)
 argument-within (b ∷ s) =
-    within-cond (length (b ∷ s)) (b == 61) _ _ (λ r e. let h = within-rest (length s) (bare_item s) (item-shorter s) r e in
-    omega (arith, h))
+    within-cond (length (b ∷ s)) (b == 61) _ _
+    (λ r e. let h = within-rest (length s) (bare_item s) (item-shorter s) r e in omega (arith, h))
     (within-some (length (b ∷ s)) (b ∷ s) (omega arith))
 
 pub parameter-within : (s : List ℕ) → Within (length s) (after_parameter s)

@@ -1,6 +1,6 @@
 -- What is repeated doesn't depend on how often it might be, as long as each step takes a byte.
-use Rattle.std.proofs.Common.{◌≡◌, ℕ, zero, suc, List, [], ◌∷◌, refl, sym, ◌∙◌, ap, ◌<◌, ◌≤◌, length, Option, Some, None}
-use Rattle.std.proofs.Common.{arith}
+use Rattle.std.proofs.Common.{◌≡◌, ℕ, zero, suc, List, [], ◌∷◌, refl, sym, ◌∙◌, ap, ◌<◌, ◌≤◌, length, Option, Some}
+use Rattle.std.proofs.Common.{None, arith}
 use Rattle.headers_structured.specs.Items.{Step, after_all, led, repeated}
 use Rattle.headers_structured.specs.Items.Step.{Ends, Fails, Goes}
 

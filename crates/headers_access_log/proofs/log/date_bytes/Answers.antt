@@ -8,4 +8,5 @@ pub returns : goal.returns
 returns c =
     let d = c.in-Ok.date in
     let valid : IsValid d.parts = (d.civil, d.time, d.right_day) in
-    c.to_bytes.ensures ∙ sym (ap fixdate (sym (c.in-Ok.ensures.value ∙ c.unix_secs.ensures.value)) ∙ fixdate-is d.parts valid)
+    c.to_bytes.ensures
+    ∙ sym (ap fixdate (sym (c.in-Ok.ensures.value ∙ c.unix_secs.ensures.value)) ∙ fixdate-is d.parts valid)

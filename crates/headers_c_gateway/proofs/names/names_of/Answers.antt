@@ -30,7 +30,8 @@ returns-in_err-read_name c =
     let failure = c.in_err-read_name.field-0.0 in
     let error = err_from_is_err_and answer.result answer.ensures.1 in
     let is : answer.result ≡ Err failure = cc (error.1, error.2) in
-    let failed = subst (λ (name : List ℕ). IsNameOf name (Err failure)) c.as_bytes.ensures.value c.in_err-read_name.ensures in
+    let failed =
+    subst (λ (name : List ℕ). IsNameOf name (Err failure)) c.as_bytes.ensures.value c.in_err-read_name.ensures in
     subst (ReadsNames (lines_of c.args.lines.now)) (sym is)
     (ReadsNames-fails c.args.lines.now c.loop-line.line-index c.line-item.result c.loop-line-test.true c.line-item.is
     failure failed)

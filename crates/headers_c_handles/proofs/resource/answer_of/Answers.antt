@@ -29,7 +29,8 @@ returns c section holds =
             authority = c.in_ok-authority.authority;
             is_authority = c.in_ok-authority.ensures;
             authority_is =
-                lent (λ (it : FieldValue). it.bytes) c.as_ref-host.result c.in_ok-authority.authority c.as_ref-host.ensures.value;
+                lent (λ (it : FieldValue). it.bytes) c.as_ref-host.result c.in_ok-authority.authority
+                c.as_ref-host.ensures.value;
             content = c.content_of.ensures;
             fields = c.args.fields.now;
             holds = holds;

@@ -29,6 +29,7 @@ returns-in_err-answered c =
       | inl request ↦ inr request
       | inr memory ↦
           inl (inr (inl (subst
-          (λ (reason : Failure). IsBoundaryOf (boundary_text c.args.resource.now.boundary.now) (Err reason)) (sym memory)
+          (λ (reason : Failure). IsBoundaryOf (boundary_text c.args.resource.now.boundary.now) (Err reason))
+          (sym memory)
           c.in_ok-resource.ensures.boundary.0)))
     ])

@@ -9,5 +9,5 @@ returns c site hops now target request reply h =
       serves = c.lookups_serve_what_calls_justify.ensures;
       justifies = c.calls_justify_what_is_stored.ensures;
     } in
-    tells c.other_fields_change_nothing.ensures c.head_is_answered_as_get.ensures c.vary_is_sound.ensures c.members_alone_select.ensures law site hops now
-    target request reply h
+    tells c.other_fields_change_nothing.ensures c.head_is_answered_as_get.ensures c.vary_is_sound.ensures
+    c.members_alone_select.ensures law site hops now target request reply h

@@ -34,7 +34,8 @@ returns-in_err-found-clause-cut g c reading writing connect =
     let failure = c.in_err-found.field-0.0 in
     let cuts = as_client (λ x. (failure ≡ Writer) × CutsInterim c.args.proxy.now c.args.request.now x
     c.loop-count.server c.loop-count.input.items c.next_response.new.input.items
-    (g.R.Read.remaining c.loop-count.reader) (g.R.Read.remaining c.next_response.new.reader) (g.W.Write.contents c.loop-count.writer)
+    (g.R.Read.remaining c.loop-count.reader) (g.R.Read.remaining c.next_response.new.reader)
+    (g.W.Write.contents c.loop-count.writer)
     (g.W.Write.contents c.next_response.new.writer)) c.loop-count.client c.args.client.now i.0 reading writing connect
     c.in_err-found.ensures.cut in
     fails_as r.result y.1 y.2 (CutsResponse c.args.proxy.now c.args.request.now c.args.client.now c.args.server.now

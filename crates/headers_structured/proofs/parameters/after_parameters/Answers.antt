@@ -6,7 +6,8 @@ use Rattle.headers_structured.proofs.parameters.after_parameters.Goals as goal
 
 pub returns-in-Ends : goal.returns-in-Ends
 returns-in-Ends c =
-    sym (c.loop-after.invariant ∙ all-ends parameter_step c.loop-after.rest.now c.in-Ends.after.now (sym c.in-Ends.ensures))
+    sym (c.loop-after.invariant
+    ∙ all-ends parameter_step c.loop-after.rest.now c.in-Ends.after.now (sym c.in-Ends.ensures))
 
 pub returns-in-Fails : goal.returns-in-Fails
 returns-in-Fails c =

@@ -23,4 +23,5 @@ returns-in-Some c =
     ∙ after_last-at c.args.byte c.args.text.now n (omega (arith, h.0.high)) h.0.after (λ _. rw one h.1)
 
 pub returns-in-None : goal.returns-in-None
-returns-in-None c = after_last-at c.args.byte c.args.text.now 0 (omega arith) c.in-None.ensures (λ l. absurd (omega (arith, l)))
+returns-in-None c =
+    after_last-at c.args.byte c.args.text.now 0 (omega arith) c.in-None.ensures (λ l. absurd (omega (arith, l)))

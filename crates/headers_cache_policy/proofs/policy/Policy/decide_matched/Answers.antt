@@ -19,6 +19,7 @@ returns c =
           (subst (λ (by : Governing). Answers c.args.self.now.kind
           (counted c.args.self.now.immutable (directed (lines_at c.args.request.now)) by.directives
           (record { lifetime = c.unwrap_or.result; age = c.current_age.result }))
-          by.directives (record { lifetime = c.unwrap_or.result; age = c.current_age.result }) c.decide_by_directives.result)
+          by.directives (record { lifetime = c.unwrap_or.result; age = c.current_age.result })
+          c.decide_by_directives.result)
           c.read_governing-by.ensures c.decide_by_directives.ensures);
     }
