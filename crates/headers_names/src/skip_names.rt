@@ -56,10 +56,15 @@ impl<'a, T: ListItem> ItemsRead<'a, T> {
             return None;
         }
         while let Some(item) = self.items.next() {
-            let read = T::from_item(self.alloc, item);
-            if let Some(value) = &read {
-                self.has_failed = value.is_err();
-                return read;
+            // A value and an error are returned apart, since a value is copied once more where their
+            // paths meet: an iteration over methods then takes 1.16 times as long.
+            match T::from_item(self.alloc, item) {
+                Some(Ok(value)) => return Some(Ok(value)),
+                Some(Err(error)) => {
+                    self.has_failed = true;
+                    return Some(Err(error));
+                }
+                None => {}
             }
         }
         None

@@ -8,18 +8,18 @@ returns-in-Ok c =
     sym (method_of-kept _ _ _ c.as_bytes.ensures.value c.in-Ok.ensures.ok
     (λ m. let e = c.in-Ok.ensures.invalid.1 m in absurd (cc e)))
 
-pub returns-in-Err-Invalid : goal.returns-in-Err-Invalid
-returns-in-Err-Invalid c = sym (method_of-refused _ _ c.as_bytes.ensures.value
-    (c.in-Err-Invalid.ensures.invalid.0 (cc)))
+pub returns-in-Invalid : goal.returns-in-Invalid
+returns-in-Invalid c = sym (method_of-refused _ _ c.as_bytes.ensures.value
+    (c.in-Err.ensures.invalid.0 (cc)))
 
-pub returns-in-Err-OutOfMemory : goal.returns-in-Err-OutOfMemory
-returns-in-Err-OutOfMemory c =
+pub returns-in-OutOfMemory : goal.returns-in-OutOfMemory
+returns-in-OutOfMemory c =
     let bytes = c.as_bytes.result.now in
-    let kept : ¬ (¬ (IsToken bytes)) = λ m. let e = c.in-Err-OutOfMemory.ensures.invalid.1 m in
-    absurd (cc (e, c.in-Err-OutOfMemory.field-0-is)) in (
+    let kept : ¬ (¬ (IsToken bytes)) = λ m. let e = c.in-Err.ensures.invalid.1 m in
+    absurd (cc (e, c.in-OutOfMemory.is)) in (
       bytes,
       sym (method_of-kept _ _ _ c.as_bytes.ensures.value refl kept),
       above _ _
-          (λ short. let ok = c.in-Err-OutOfMemory.ensures.no_memory_needed (IsToken-kept bytes kept) short in
+          (λ short. let ok = c.in-Err.ensures.no_memory_needed (IsToken-kept bytes kept) short in
           absurd (cc ok)),
     )
