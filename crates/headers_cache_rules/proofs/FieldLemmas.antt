@@ -12,18 +12,6 @@ use Rattle.headers_fields.specs.Scan.{Member}
 use Rattle.headers_gateway.specs.HopByHop.{is_hop_by_hop}
 use Rattle.headers_cache_rules.specs.Storing.{removals}
 
--- maps that have the same field lines under each name still have them after the same fields are set
-pub set_all-alike : (m n : LineMap) (fields : List Field) → ((name : List ℕ) → m name ≡ n name) → (name : List ℕ)
-    → set_all m fields name ≡ set_all n fields name
-set_all-alike m n [] same name = same name
-set_all-alike m n (field ∷ fields) same name =
-    set_all-alike (set m field) (set n field) fields
-    (λ other. by other (bytes_eq field.0 other)) name
-  where
-    by : (other : List ℕ) (b : Bool) → (if b then field.1 else m other) ≡ (if b then field.1 else n other)
-    by other true = refl
-    by other false = same other
-
 -- setting one list of fields after another
 pub set_all-append : (m : LineMap) (fields more : List Field)
     → set_all m (fields ++ more) ≡ set_all (set_all m fields) more

@@ -1,32 +1,33 @@
 -- What fields leave of a stored response that another one validates.
-use Rattle.std.proofs.Common.{◌≡◌, ◌≢◌, ◌∙◌, ℕ, Bool, true, false, List, [], ◌∷◌, ap}
-use Rattle.std.specs.Prelude.{codes}
+use Rattle.std.proofs.Common.{◌≡◌, ◌≢◌, ◌∙◌, ℕ, Bool, true, false, List, ◌++◌, ap}
 use Rattle.std.specs.Bool.{MatchBool}
+use Rattle.std.proofs.lemmas.List.{map-append}
 use Rattle.http_header.specs.FieldValue.{FieldValue}
 use Rattle.http_header.specs.HeaderMap.{Entries, IsHeaderMap}
-use Rattle.headers.specs.LineMap.{Field, LineMap, lines_at, set_all}
+use Rattle.headers.specs.LineMap.{Field, LineMap, field_of, fields_of, lines_at, set_all}
+use Rattle.headers.specs.declared.Encoded.{Encoded}
 use Rattle.headers.specs.Lines.{Line}
 use Rattle.headers.specs.Typed.{HasLine}
 use Rattle.headers_cache_policy.proofs.FresheningLemmas.{freshens}
 use Rattle.headers_cache_policy.specs.Freshening.{freshening_fields}
-use Rattle.headers_cache_rules.specs.Freshening.{IsFreshened, IsRenewed, SaysAsBefore, aged_anew}
-use Rattle.headers_cache_rules.specs.Storing.{date_lines}
+use Rattle.headers_cache_rules.specs.Freshening.{IsFreshened, IsRenewed, SaysAsBefore, aged_anew, aging_fields}
 use Rattle.headers_cache_rules.specs.Stored.{fields_of_stored}
 use Rattle.headers_cache_rules.specs.declared.freshening.Exchange.{Exchange}
 use Rattle.headers_cache_rules.specs.declared.stored.StoredResponse.{StoredResponse}
-use Rattle.headers_cache_rules.proofs.FieldLemmas.{set_all-alike}
 
--- the fields of a stored response after those that say how old it is, and then others
-pub set_twice : (received : ℕ) (old middle new : LineMap) (first later : List Field)
-    → first ≡ (codes "date", date_lines received) ∷ (codes "age", []) ∷ []
-    → ((name : List ℕ) → middle name ≡ set_all old first name)
-    → ((name : List ℕ) → new name ≡ set_all middle later name)
+-- the fields that say how old a response is, and others after them
+pub aging_first : (received : ℕ) (aging later all : List Encoded) → fields_of aging ≡ aging_fields received
+    → all ≡ aging ++ later → fields_of all ≡ aging_fields received ++ fields_of later
+aging_first received aging later all is appended =
+    ap fields_of appended ∙ map-append field_of aging later
+    ∙ ap (λ (first : List Field). first ++ fields_of later) is
+
+-- what they leave of a stored response
+pub set_renewing : (received : ℕ) (old new : LineMap) (all later : List Field)
+    → all ≡ aging_fields received ++ later → ((name : List ℕ) → new name ≡ set_all old all name)
     → (name : List ℕ) → new name ≡ set_all (aged_anew received old) later name
-set_twice received old middle new first later is one two name =
-    two name ∙ set_all-alike middle (aged_anew received old) later aged name
-  where
-    aged : (other : List ℕ) → middle other ≡ aged_anew received old other
-    aged other = one other ∙ ap (λ (fields : List Field). set_all old fields other) is
+set_renewing received old new all later is set name =
+    set name ∙ ap (λ (fields : List Field). set_all old fields name) is
 
 -- so the fields of a validating response freshen it
 pub freshened_by : (old new : StoredResponse) (update : Entries FieldValue) (fields : List Field) (exchange : Exchange)

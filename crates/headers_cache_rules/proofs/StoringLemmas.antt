@@ -5,7 +5,7 @@ use Rattle.std.specs.List.{list_any}
 use Rattle.std.specs.Option.{option_map_or, option_or}
 use Rattle.std.specs.Prelude.{◌||◌, Option, bytes_eq, codes, if◌then◌else◌}
 use Rattle.std.proofs.lemmas.Bool.{both_ways, cases_Bool, false_from_ne_true, or_parts}
-use Rattle.std.proofs.lemmas.List.{map-append}
+use Rattle.std.proofs.lemmas.List.{append-nil, map-append}
 use Rattle.std.proofs.lemmas.List.Folds.{list_any_at}
 use Rattle.std.proofs.lemmas.Slice.Eq.{bytes_eq-Decides}
 use Rattle.http_header.specs.FieldValue.{FieldValue}
@@ -21,7 +21,8 @@ use Rattle.headers_cache_policy.specs.declared.Directives.{Directives}
 use Rattle.headers_cache_policy.specs.declared.Governing.{Governing}
 use Rattle.headers_gateway.specs.HopByHop.{connection_options, is_hop_by_hop, is_named}
 use Rattle.headers_cache_rules.specs.Storing.{HasFairOptions, IsAsStored, IsHopByHop, LacksDate, date_lines}
-use Rattle.headers_cache_rules.specs.Storing.{is_lost, or_date, removals, reuse_names}
+use Rattle.headers_cache_rules.specs.Storing.{is_absent, is_lost, lacks_date, or_date, removals, reuse_names}
+use Rattle.headers_cache_rules.specs.Storing.{storing_fields}
 use Rattle.headers_cache_rules.proofs.FieldLemmas.{set_all-append, without_all}
 
 -- names that aren't equal are told apart
@@ -91,6 +92,37 @@ module _ (received : ℕ) (m : Entries FieldValue) where
         date = λ not. rw is (stays (codes "date") not ∙ sym (some_date received _ (λ none. has (inl none))));
         date_of_connection = λ hop. absurd (has (inr hop));
       }
+
+-- what the test says of a response
+lacks_date-true : (response : LineMap) → LacksDate response → lacks_date response ≡ true
+lacks_date-true response (inl none) = rw none refl
+lacks_date-true response (inr hop) = by (is_absent (response (codes "date"))) hop
+  where
+    by : (absent : Bool) → IsHopByHop response (codes "date")
+        → (absent || is_hop_by_hop true (connection_options response) (codes "date")) ≡ true
+    by true is = refl
+    by false is = is
+
+lacks_date-false : (response : LineMap) → ¬ (LacksDate response) → lacks_date response ≡ false
+lacks_date-false response has =
+    by (response (codes "date")) (λ none. has (inl none)) (false_from_ne_true _ (λ hop. has (inr hop)))
+  where
+    by : (lines : List Line) → lines ≢ []
+        → is_hop_by_hop true (connection_options response) (codes "date") ≡ false
+        → (is_absent lines || is_hop_by_hop true (connection_options response) (codes "date")) ≡ false
+    by [] some not = absurd (some refl)
+    by (line ∷ lines) some not = not
+
+-- the fields of a response that lacks a Date, and of one that has one
+pub listed_dated : (received : ℕ) (m : Entries FieldValue) (fields : List Field) → LacksDate (lines_at m)
+    → fields ≡ removals (connection_options (lines_at m)) (keys m) ++ (codes "date", date_lines received) ∷ []
+    → fields ≡ storing_fields received m
+listed_dated received m fields lacks is = rw (lacks_date-true (lines_at m) lacks) is
+
+pub listed_undated : (received : ℕ) (m : Entries FieldValue) (fields : List Field) → ¬ (LacksDate (lines_at m))
+    → fields ≡ removals (connection_options (lines_at m)) (keys m) → fields ≡ storing_fields received m
+listed_undated received m fields has is =
+    rw (lacks_date-false (lines_at m) has) (is ∙ sym (append-nil (removals (connection_options (lines_at m)) (keys m))))
 
 -- the fields of a list with a Date after it
 pub dated_fields : (done all : List Encoded) (date : Encoded) (fields : List Field) (second : ℕ)

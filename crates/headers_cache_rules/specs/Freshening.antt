@@ -1,9 +1,11 @@
 -- What a response that validates a stored one makes of it (RFC 9111, sections 3.2, 4.3.4 and 4.3.5).
-use Rattle.std.specs.Prelude.{◌≡◌, ℕ, List, [], bytes_eq, codes, if◌then◌else◌}
-use Rattle.headers.specs.LineMap.{LineMap}
+use Rattle.std.specs.Prelude.{◌≡◌, ℕ, List, [], ◌∷◌, ◌++◌, bytes_eq, codes, if◌then◌else◌}
+use Rattle.http_header.specs.FieldValue.{FieldValue}
+use Rattle.http_header.specs.HeaderMap.{Entries}
+use Rattle.headers.specs.LineMap.{Field, LineMap}
 use Rattle.headers.specs.Lines.{Line}
 use Rattle.headers.specs.Typed.{HasLine}
-use Rattle.headers_cache_policy.specs.Freshening.{freshened}
+use Rattle.headers_cache_policy.specs.Freshening.{freshened, freshening_fields}
 use Rattle.headers_cache_policy.specs.Policies.{MayStoreUnder, Policy}
 use Rattle.headers_cache_policy.specs.Requests.{Request}
 use Rattle.headers_cache_policy.specs.Updating.{IsUpdated}
@@ -24,6 +26,15 @@ abbrev pub aged_anew : ℕ → LineMap → LineMap
 aged_anew received stored name =
     if bytes_eq (codes "age") name then [] else (if bytes_eq (codes "date") name then date_lines received else
     stored name)
+
+-- the fields that make it so: Date is the time of receipt, and Age is removed
+abbrev pub aging_fields : ℕ → List Field
+aging_fields received = (codes "date", date_lines received) ∷ (codes "age", []) ∷ []
+
+-- the fields that are set in a stored response that another one validates: those, and then what it takes over of the
+-- other one's fields
+abbrev pub renewing_fields : ℕ → Entries FieldValue → List Field
+renewing_fields received update = aging_fields received ++ freshening_fields update
 
 -- A stored response that another one validates: its request, its status and its content are as before, it is as old as
 -- that exchange, and it has these field lines.

@@ -1,11 +1,11 @@
 -- Which responses are stored, and which of their field lines (RFC 9111, sections 3, 3.1 and 3.3).
-use Rattle.std.specs.Prelude.{◌≡◌, ◌≢◌, ◌⊎◌, ℕ, Bool, true, false, ◌||◌, List, [], ◌∷◌, map, filter, nat_lt, codes}
-use Rattle.std.specs.Prelude.{bytes_eq, if◌then◌else◌}
+use Rattle.std.specs.Prelude.{◌≡◌, ◌≢◌, ◌⊎◌, ℕ, Bool, true, false, ◌||◌, List, [], ◌∷◌, ◌++◌, map, filter, nat_lt}
+use Rattle.std.specs.Prelude.{bytes_eq, codes, if◌then◌else◌}
 use Rattle.std.specs.List.{list_any}
 use Rattle.http_header.specs.FieldValue.{FieldValue}
 use Rattle.http_header.specs.HeaderMap.{Entries, keys}
 use Rattle.headers.specs.Date.{fixdate}
-use Rattle.headers.specs.LineMap.{Field, LineMap}
+use Rattle.headers.specs.LineMap.{Field, LineMap, lines_at}
 use Rattle.headers.specs.Lines.{Line}
 use Rattle.headers_fields.specs.Scan.{Member}
 use Rattle.headers_gateway.specs.HopByHop.{are_options, connection_options, is_hop_by_hop, is_named}
@@ -89,6 +89,23 @@ removals options names = map (λ name. (name, [])) (filter (is_hop_by_hop true o
 -- a response lacks an end-to-end Date
 abbrev pub LacksDate : LineMap → Type 0
 LacksDate response = (response (codes "date") ≡ []) ⊎ IsHopByHop response (codes "date")
+
+-- there are no field lines
+abbrev pub is_absent : List Line → Bool
+is_absent [] = true
+is_absent (line ∷ lines) = false
+
+-- the test for that
+abbrev pub lacks_date : LineMap → Bool
+lacks_date response =
+    is_absent (response (codes "date")) || is_hop_by_hop true (connection_options response) (codes "date")
+
+-- The fields that turn what came into what is stored: those that are hop-by-hop are removed, and a Date of that second
+-- is set if the response lacks one.
+abbrev pub storing_fields : ℕ → Entries FieldValue → List Field
+storing_fields received response =
+    removals (connection_options (lines_at response)) (keys response)
+    ++ (if lacks_date (lines_at response) then (codes "date", date_lines received) ∷ [] else [])
 
 -- something is changed before the response is stored: some field of it is hop-by-hop, or it lacks a Date
 abbrev pub IsChanged : Entries FieldValue → LineMap → Type 0

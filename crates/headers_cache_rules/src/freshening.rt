@@ -1,14 +1,14 @@
 //! Updates of a stored response by a validating one.
-ghost use Rattle.std.specs.Prelude.{◌≡◌, ◌∷◌, [], IfOk, OnErr, codes};
+ghost use Rattle.std.specs.Prelude.{◌≡◌, ◌++◌, IfOk, IsErrOf, OnErr};
 ghost use Rattle.std.specs.Bool.{MatchBool};
 ghost use Rattle.headers.specs.LineMap.{fields_of, lines_at, set_all};
 ghost use Rattle.headers.specs.Lines.{lines_of};
 ghost use Rattle.headers_cache_policy.specs.Policies.{MayStoreUnder, policy_of};
 ghost use Rattle.headers_cache_policy.specs.Requests.{request_of};
 ghost use Rattle.headers_cache_policy.specs.Updating.{IsUpdated};
+ghost use Rattle.headers_cache_rules.specs.Fields.{IsTooSmallFor};
 ghost use Rattle.headers_cache_rules.specs.Freshening.{IsFreshenedAs, IsHeadOf, IsRenewed, IsReusable, SaysAsBefore};
-ghost use Rattle.headers_cache_rules.specs.Freshening.{aged_anew};
-ghost use Rattle.headers_cache_rules.specs.Storing.{date_lines};
+ghost use Rattle.headers_cache_rules.specs.Freshening.{aged_anew, aging_fields, renewing_fields};
 ghost use Rattle.headers_cache_rules.specs.Stored.{fields_of_stored, request_of_stored};
 
 use crate::fields::set_fields;
@@ -51,7 +51,8 @@ pub enum Freshened {
 /// Date was made when it came, and the stored Age goes. The age counts from the exchange.
 ///
 /// The stored response is taken, so after an error there is nothing to serve. An error needs a 304
-/// that is about it.
+/// that is about it. It is `InsertError::Full` only if the map of the stored response has no room for
+/// the fields.
 pub fn freshen(
     alloc: Global,
     stored: StoredResponse,
@@ -63,6 +64,8 @@ pub fn freshen(
     ensures freshened { IfOk result
         (IsFreshenedAs (policy_of policy.now) stored (request_of request.now) (lines_at update.now) exchange) }
     ensures memory { OnErr result (IsUpdated (fields_of_stored stored) (lines_at update.now)) }
+    ensures full { IsErrOf result InsertError.Full
+        → IsTooSmallFor stored.response (renewing_fields exchange.received update.now) }
 {
     // It ensures that the map is valid.
     let _names = update.keys_len();
@@ -81,15 +84,18 @@ pub fn freshen(
 fn updated(
     alloc: Global,
     stored: StoredResponse,
-    fields: Vec<Encoded>,
+    mut fields: Vec<Encoded>,
     exchange: Exchange,
 ) -> Result<StoredResponse, InsertError>
-    ensures { IfOk result (IsRenewed stored
+    ensures renewed { IfOk result (IsRenewed stored
         (set_all (aged_anew exchange.received (fields_of_stored stored)) (fields_of fields.items)) exchange) }
+    ensures full { IsErrOf result InsertError.Full
+        → IsTooSmallFor stored.response (aging_fields exchange.received ++ fields_of fields.items) }
 {
+    let mut all = age_fields(alloc, exchange.received)?;
+    all.append(&mut fields)?;
     let mut fresh = stored;
-    set_fields(&mut fresh.response, age_fields(alloc, exchange.received)?)?;
-    set_fields(&mut fresh.response, fields)?;
+    set_fields(&mut fresh.response, all)?;
     fresh.requested = exchange.requested;
     fresh.received = exchange.received;
     Ok(fresh)
@@ -97,8 +103,7 @@ fn updated(
 
 // The fields that say how old a response is: Date is the time of receipt, and Age is removed.
 fn age_fields(alloc: Global, received: u64) -> Result<Vec<Encoded>, AllocError>
-    ensures { IfOk result (λ fields. fields_of fields.items
-        ≡ (codes "date", date_lines received) ∷ (codes "age", []) ∷ []) }
+    ensures { IfOk result (λ fields. fields_of fields.items ≡ aging_fields received) }
 {
     let date = date_field(alloc, received)?;
     let age = Encoded {

@@ -10,7 +10,7 @@ ghost use Rattle.headers_gateway.specs.HopByHop.{connection_options, is_hop_by_h
 ghost use Rattle.headers_cache_policy.specs.Policies.{policy_of};
 ghost use Rattle.headers_cache_policy.specs.Requests.{request_of};
 ghost use Rattle.headers_cache_rules.specs.Storing.{HasFairOptions, IsAsStored, IsChanged, IsStored, LacksDate};
-ghost use Rattle.headers_cache_rules.specs.Storing.{date_lines, is_lost, removals, reuse_names};
+ghost use Rattle.headers_cache_rules.specs.Storing.{date_lines, is_lost, removals, reuse_names, storing_fields};
 
 use headers::{Date, Encoded, HeaderMap, HeaderName, HeaderValue, encoding};
 use headers_cache_policy::{Policy, RequestHead};
@@ -113,6 +113,7 @@ pub fn storing_fields(
 ) -> Result<Vec<Encoded>, AllocError>
     ensures fields { IfOk result (λ fields. IsAsStored received (lines_at response.now)
         (set_all (lines_at response.now) (fields_of fields.items))) }
+    ensures listed { IfOk result (λ fields. fields_of fields.items ≡ storing_fields received response.now) }
     ensures memory { OnErr result (IsChanged response.now (lines_at response.now)) }
 {
     let mut fields = hop_by_hop_fields(alloc, response)?;

@@ -1,11 +1,13 @@
-use Rattle.std.proofs.Common.{refl}
+use Rattle.std.proofs.Common.{Err, ap, refl, subst}
 use Rattle.headers.specs.LineMap.{fields_of, lines_at}
+use Rattle.headers_cache_rules.specs.Fields.{IsTooSmallFor}
 use Rattle.headers_cache_rules.specs.Stored.{fields_of_stored}
-use Rattle.headers_cache_rules.proofs.FresheningLemmas.{set_twice}
+use Rattle.headers_cache_rules.proofs.FresheningLemmas.{aging_first, set_renewing}
+use Rattle.headers_cache_rules.proofs.FullLemmas.{passed_full}
 use Rattle.headers_cache_rules.proofs.freshening.updated.Goals as goal
 
-pub returns : goal.returns
-returns c =
+pub returns-clause-renewed : goal.returns-clause-renewed
+returns-clause-renewed c =
     record {
       method = refl;
       request = refl;
@@ -13,7 +15,17 @@ returns c =
       content = refl;
       requested = refl;
       received = refl;
-      fields = set_twice c.args.exchange.received (fields_of_stored c.args.stored) (lines_at c.set_fields.new.map)
-          (lines_at c.set_fields-2.new.map) (fields_of c.in_ok-age_fields.field-0.items) (fields_of c.args.fields.items)
-          c.in_ok-age_fields.ensures c.in_ok-set_fields.ensures.ok c.in_ok-set_fields-2.ensures.ok;
+      fields = set_renewing c.args.exchange.received (fields_of_stored c.args.stored) (lines_at c.set_fields.new.map)
+          (fields_of c.append.new.self.items) (fields_of c.args.fields.items)
+          (aging_first c.args.exchange.received c.in_ok-all.all.items c.args.fields.items c.append.new.self.items
+          c.in_ok-all.ensures c.in_ok-append.ensures.items) c.in_ok-set_fields.ensures.ok;
     }
+
+pub returns-in_err-set_fields-clause-full : goal.returns-in_err-set_fields-clause-full
+returns-in_err-set_fields-clause-full c = λ full.
+    subst (IsTooSmallFor c.args.stored.response)
+    (aging_first c.args.exchange.received c.in_ok-all.all.items c.args.fields.items c.append.new.self.items
+    c.in_ok-all.ensures c.in_ok-append.ensures.items)
+    (c.in_err-set_fields.ensures.full
+    (ap Err (passed_full c.from_residual-in_err-set_fields.result c.in_err-set_fields.field-0.0
+    c.from_residual-in_err-set_fields.ensures.1 full)))
