@@ -1,11 +1,15 @@
 -- What a validating response leaves.
-use Rattle.std.proofs.Common.{◌≡◌, ℕ, ◌<◌, List, [], ◌∷◌, ◌++◌, Some, None, refl, length, get_or, remove, sym, ap}
-use Rattle.std.proofs.Common.{subst, ◌∙◌}
+use Rattle.std.proofs.Common.{◌≡◌, ℕ, suc, ◌<◌, List, [], ◌∷◌, ◌++◌, Some, None, refl, length, get_or, remove, sym, ap}
+use Rattle.std.proofs.Common.{drop, subst, take, ◌∙◌}
+use Rattle.std.proofs.lemmas.List.Elements.{All-append, All-contains, All-contains_itself, All-drop, All-take}
+use Rattle.std.proofs.lemmas.List.Elements.{Contains-get_or}
 use Rattle.std.proofs.lemmas.Option.{get_or_from_slice_get, slice_get_within}
-use Rattle.headers.specs.LineMap.{LineMap}
+use Rattle.std.specs.List.{Contains}
+use Rattle.headers.specs.LineMap.{Field, LineMap}
 use Rattle.headers_cache_policy.specs.Requests.{Request}
 use Rattle.headers_cache_policy.specs.Updating.{IsUpdated}
 use Rattle.headers_cache_policy.specs.Policies.{Policy}
+use Rattle.headers_cache_rules.specs.Fields.{IsTooSmallFor}
 use Rattle.headers_cache_rules.specs.Freshening.{IsFreshened, IsFreshenedAs, IsReusable}
 use Rattle.headers_cache_rules.specs.Identifying.{IsUpdatedAnswer}
 use Rattle.headers_cache_rules.specs.Stored.{fields_of_stored}
@@ -15,7 +19,7 @@ use Rattle.headers_cache_rules.specs.declared.stored.StoredResponse.{StoredRespo
 use Rattle.headers_cache.specs.Changes.{IsLetGo, IsRefreshed, IsRefreshedByHead, IsRefreshedTo, IsRestored}
 use Rattle.headers_cache.specs.Changes.{IsUnrefreshed}
 use Rattle.headers_cache.specs.Contents.{Contents, responses_at, with_target, without}
-use Rattle.headers_cache.specs.Updates.{AreLeft, Becomes}
+use Rattle.headers_cache.specs.Updates.{AreLeft, Becomes, IsOneTooSmallFor}
 use Rattle.headers_cache.specs.declared.updating.By.TheVariants.{NotModified, Head}
 use Rattle.headers_cache.specs.declared.freshening.Refreshed.{Refreshed}
 use Rattle.headers_cache.specs.declared.freshening.Refreshed.TheVariants.{Absent, Unchanged, Stored, Once}
@@ -24,6 +28,31 @@ use Rattle.headers_cache.specs.declared.freshening.Refreshed.TheVariants.{Absent
 pub within : (request : Request) (update : LineMap) (all : List StoredResponse) (place : ℕ)
     → IsUpdatedAnswer request update all (Some place) → place < length all
 within request update all place answers = slice_get_within all place answers.1.response answers.1.at
+
+-- the response at the place is too small, or one of the others
+module _ (all taken : List StoredResponse) (place : ℕ) (fields : List Field) (is_taken : taken ≡ all) where
+  pub one_too_small : (one : StoredResponse) → place < length all → one ≡ get_or taken place one
+      → IsTooSmallFor one.response fields → IsOneTooSmallFor all fields
+  one_too_small one inside at small =
+      record {
+        stored = one;
+        among = subst (Contains all) (sym (at ∙ ap (λ l. get_or l place one) is_taken))
+            (Contains-get_or all place one inside);
+        small = small;
+      }
+
+  pub other_too_small : (rest : List StoredResponse) → rest ≡ remove taken place → IsOneTooSmallFor rest fields
+      → IsOneTooSmallFor all fields
+  other_too_small rest is_rest some =
+      let itself = All-contains_itself all in
+      record {
+        stored = some.stored;
+        among = All-contains (Contains all) (remove all place) some.stored
+            (All-append (Contains all) (take place all) (drop (suc place) all)
+            (All-take (Contains all) place all itself) (All-drop (Contains all) (suc place) all itself))
+            (subst (λ l. Contains l some.stored) (is_rest ∙ ap (λ l. remove l place) is_taken) some.among);
+        small = some.small;
+      }
 
 -- the names are those of the code
 module _ (policy own : Policy) (target : List ℕ) (request : Request) (update : LineMap) (exchange : Exchange) (old new

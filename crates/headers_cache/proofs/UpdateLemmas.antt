@@ -3,17 +3,20 @@ use Rattle.std.proofs.Common.{◌≡◌, ℕ, ◌+◌, ◌<◌, ◌≤◌, List,
 use Rattle.std.proofs.Common.{subst, arith, append_assoc, inl, inr, remove, get_or, option_to_list, length-append, ◌∙◌}
 use Rattle.std.proofs.lemmas.List.{append-nil}
 use Rattle.std.proofs.lemmas.List.Edits.{length-remove}
+use Rattle.std.proofs.lemmas.List.Elements.{All-head}
 use Rattle.std.proofs.lemmas.List.Sums.{sum_by-append, sum_by-cons}
-use Rattle.headers.specs.LineMap.{LineMap}
+use Rattle.std.specs.List.{All, Contains}
+use Rattle.headers.specs.LineMap.{Field, LineMap}
 use Rattle.headers_cache_policy.specs.Requests.{Request}
 use Rattle.headers_cache_policy.specs.Policies.{Policy}
+use Rattle.headers_cache_rules.specs.Fields.{IsTooSmallFor}
 use Rattle.headers_cache_rules.specs.Freshening.{IsFreshened, IsFreshenedAs}
 use Rattle.headers_cache_rules.specs.declared.freshening.Exchange.{Exchange}
 use Rattle.headers_cache_rules.specs.declared.freshening.Freshened.TheVariants as outcomes
 use Rattle.headers_cache_rules.specs.declared.stored.StoredResponse.{StoredResponse}
 use Rattle.headers_cache.specs.Contents.{Contents, bytes_of, size_of}
 use Rattle.headers_cache.specs.Room.{HasRoom}
-use Rattle.headers_cache.specs.Updates.{AreLeft, Becomes, BecomesUpdated}
+use Rattle.headers_cache.specs.Updates.{AreLeft, Becomes, BecomesUpdated, IsOneTooSmallFor}
 use Rattle.headers_cache.specs.declared.limits.Limits.{Limits}
 use Rattle.headers_cache.specs.declared.updating.By.{By}
 use Rattle.headers_cache.specs.declared.updating.By.TheVariants.{NotModified, Head}
@@ -36,6 +39,17 @@ module _ (B : StoredResponse → Option StoredResponse → Type 0) (all : List S
   pub continues-end : (left others : List StoredResponse) → others ≡ [] → Continues left others → AreLeft B all left
   continues-end left others none before =
       subst (AreLeft B all) (append-nil left) (before [] (subst (λ l. AreLeft B l []) (sym none) refl))
+
+-- the next of the responses is too small
+pub next_too_small : (all these others : List StoredResponse) (one : StoredResponse) (fields : List Field)
+    → these ≡ one ∷ others → All (Contains all) these → IsTooSmallFor one.response fields
+    → IsOneTooSmallFor all fields
+next_too_small all these others one fields split among small =
+    record {
+      stored = one;
+      among = All-head (Contains all) one others (subst (All (Contains all)) split among);
+      small = small;
+    }
 
 -- ---- sizes
 

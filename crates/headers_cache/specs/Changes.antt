@@ -4,11 +4,12 @@ use Rattle.std.specs.Prelude.{remove}
 use Rattle.headers.specs.LineMap.{LineMap}
 use Rattle.headers_cache_policy.specs.Requests.{Request}
 use Rattle.headers_cache_policy.specs.Policies.{Policy}
+use Rattle.headers_cache_rules.specs.Fields.{IsTooSmallFor}
 use Rattle.headers_cache_rules.specs.Freshening.{IsFreshened, IsReusable}
 use Rattle.headers_cache_rules.specs.Identifying.{IsIdentified}
 use Rattle.headers_cache_rules.specs.Selection.{IsCandidate, IsMostRecent, IsSelected, IsSought}
 use Rattle.headers_cache_rules.specs.Stored.{fields_of_stored, request_of_stored}
-use Rattle.headers_cache_rules.specs.Storing.{IsAsStored, IsStored}
+use Rattle.headers_cache_rules.specs.Storing.{IsAsStored, IsStored, storing_fields}
 use Rattle.headers_cache_rules.specs.declared.freshening.Exchange.{Exchange}
 use Rattle.headers_cache_rules.specs.declared.storing.Reception.{Reception}
 use Rattle.headers_cache_rules.specs.declared.stored.StoredResponse.{StoredResponse}
@@ -35,6 +36,10 @@ pub record IsStoredAs (came stored : StoredResponse) : Type 0 where
   pub requested : stored.requested ≡ came.requested
   pub received : stored.received ≡ came.received
   pub fields : IsAsStored came.received (fields_of_stored came) (fields_of_stored stored)
+
+-- the map of the response as it came is too small for the fields that are changed before it is stored
+abbrev pub IsTooSmallToStore : StoredResponse → Type 0
+IsTooSmallToStore came = IsTooSmallFor came.response (storing_fields came.received came.response)
 
 -- a cache of this policy stores the response
 abbrev pub IsToStore : Policy → StoredResponse → Reception → Type 0

@@ -1,9 +1,11 @@
 -- What a response that validates stored ones makes of them (RFC 9111, sections 4.3.4 and 4.3.5).
 use Rattle.std.specs.Prelude.{◌≡◌, ◌⊎◌, List, [], ◌++◌, ◌∷◌, Option, Some, None, codes, option_to_list}
-use Rattle.headers.specs.LineMap.{LineMap}
+use Rattle.std.specs.List.{Contains}
+use Rattle.headers.specs.LineMap.{Field, LineMap}
 use Rattle.headers_cache_policy.specs.Requests.{Request}
 use Rattle.headers_cache_policy.specs.Updating.{HasStrongTag}
 use Rattle.headers_cache_policy.specs.Policies.{Policy}
+use Rattle.headers_cache_rules.specs.Fields.{IsTooSmallFor}
 use Rattle.headers_cache_rules.specs.Freshening.{IsFreshened, IsHeadOf, IsReusable}
 use Rattle.headers_cache_rules.specs.Selection.{IsCandidate, IsSought}
 use Rattle.headers_cache_rules.specs.Stored.{fields_of_stored}
@@ -19,6 +21,12 @@ AreLeft Becomes [] new = new ≡ []
 AreLeft Becomes (one ∷ old) new =
     (fate : Option StoredResponse) × (rest : List StoredResponse) × Becomes one fate × AreLeft Becomes old rest
     × (new ≡ option_to_list fate ++ rest)
+
+-- the map of one of the responses is too small for these fields
+pub record IsOneTooSmallFor (responses : List StoredResponse) (fields : List Field) : Type 0 where
+  pub stored : StoredResponse
+  pub among : Contains responses stored
+  pub small : IsTooSmallFor stored.response fields
 
 -- A 304 to the request also updates a stored response that isn't the answer: it might have been the answer, and it has
 -- the strong validator of the 304 (section 4.3.4).

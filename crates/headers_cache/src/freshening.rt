@@ -1,7 +1,8 @@
 //! Updates of stored responses by a validating response.
-ghost use Rattle.std.specs.Prelude.{◌≡◌, ◌<◌, IfOk, OnErr, OnOk, length};
+ghost use Rattle.std.specs.Prelude.{◌≡◌, ◌<◌, IfOk, IsErrOf, OnErr, OnOk, length};
 ghost use Rattle.headers.specs.LineMap.{lines_at};
 ghost use Rattle.headers_cache_policy.specs.Requests.{request_of};
+ghost use Rattle.headers_cache_rules.specs.Freshening.{renewing_fields};
 ghost use Rattle.headers_cache_rules.specs.Identifying.{IsIdentified};
 ghost use Rattle.headers_cache_rules.specs.Selection.{IsSomewhere};
 ghost use Rattle.headers_cache.specs.Changes.{IsRefreshed, IsRefreshedByHead, IsUnrefreshed};
@@ -9,6 +10,7 @@ ghost use Rattle.headers_cache.specs.Contents.{responses_at, without};
 ghost use Rattle.headers_cache.specs.History.Call.{Described, Validated};
 ghost use Rattle.headers_cache.specs.History.{Step};
 ghost use Rattle.headers_cache.specs.Kept.{contents_of, policy_of_store};
+ghost use Rattle.headers_cache.specs.Updates.{IsOneTooSmallFor};
 
 use crate::store::Store;
 use crate::updating::{By, left_of};
@@ -50,8 +52,9 @@ impl Store {
     /// The others that it names are updated as well. Those that may no longer be reused are
     /// removed.
     ///
-    /// Fails only if an allocation fails, or if the fields of the 304 don't fit into a map; both
-    /// need a stored response that it updates. Then nothing is stored under the target.
+    /// Fails only if an allocation fails, or with `InsertError::Full` if the map of a response that is
+    /// stored under the target has no room for the fields. Both need a stored response that the 304
+    /// updates. Then nothing is stored under the target.
     pub fn freshen(
         &mut self,
         alloc: Global,
@@ -66,6 +69,9 @@ impl Store {
         ensures err { OnErr result (contents_of self.new ≡ without target.now (contents_of self.old)) }
         ensures memory { OnErr result (IsSomewhere (IsIdentified (request_of request.now) (lines_at update.now)
             (responses_at target.now (contents_of self.old)))) }
+        ensures full { IsErrOf result InsertError.Full
+            → IsOneTooSmallFor (responses_at target.now (contents_of self.old))
+            (renewing_fields exchange.received update.now) }
         ensures step { Step (policy_of_store self.old) self.old.limits (Validated target.now (request_of request.now)
             (lines_at update.now) exchange) (contents_of self.old) (contents_of self.new) }
         ensures policy { policy_of_store self.new ≡ policy_of_store self.old }
@@ -98,8 +104,9 @@ impl Store {
     /// `headers_cache_rules` says that the 200 is about it. If it isn't, or if its new fields
     /// forbid the reuse, the stored response is removed.
     ///
-    /// Fails only if an allocation fails, or if the fields of the 200 don't fit into a map; both
-    /// need a stored response of the target. Then nothing is stored under the target.
+    /// Fails only if an allocation fails, or with `InsertError::Full` if the map of a response that is
+    /// stored under the target has no room for the fields. Both need a stored response of the target.
+    /// Then nothing is stored under the target.
     pub fn freshen_by_head(
         &mut self,
         alloc: Global,
@@ -112,6 +119,9 @@ impl Store {
             (lines_at head.now) exchange (contents_of self.old) (contents_of self.new)) }
         ensures err { OnErr result (contents_of self.new ≡ without target.now (contents_of self.old)) }
         ensures memory { OnErr result (0 < length (responses_at target.now (contents_of self.old))) }
+        ensures full { IsErrOf result InsertError.Full
+            → IsOneTooSmallFor (responses_at target.now (contents_of self.old))
+            (renewing_fields exchange.received head.now) }
         ensures step { Step (policy_of_store self.old) self.old.limits (Described target.now (request_of request.now)
             (lines_at head.now) exchange) (contents_of self.old) (contents_of self.new) }
         ensures policy { policy_of_store self.new ≡ policy_of_store self.old }

@@ -1,8 +1,10 @@
 //! What is stored.
-ghost use Rattle.std.specs.Prelude.{◌≡◌, ◌≢◌, ◌⊎◌, ◌+◌, ◌<◌, ◌≤◌, ◌^◌, IfOk, OnOk, OnErr, true, false, length};
+ghost use Rattle.std.specs.Prelude.{◌≡◌, ◌≢◌, ◌⊎◌, ◌+◌, ◌<◌, ◌≤◌, ◌^◌, IfOk, IsErrOf, OnOk, OnErr, true, false};
+ghost use Rattle.std.specs.Prelude.{length};
 ghost use Rattle.std.specs.Bool.{MatchBool};
 ghost use Rattle.headers_cache_policy.specs.Requests.{request_of};
 ghost use Rattle.headers_cache.specs.Changes.{FitsAlone, IsFront, IsInserted, IsRest, IsStoredAs, IsToStore, IsTrimmed};
+ghost use Rattle.headers_cache.specs.Changes.{IsTooSmallToStore};
 ghost use Rattle.headers_cache.specs.Contents.{bytes_of, size_of, without};
 ghost use Rattle.headers_cache.specs.History.Call.{Arrived};
 ghost use Rattle.headers_cache.specs.History.{Step};
@@ -21,7 +23,8 @@ use std::alloc::{AllocError, Global};
 
 // The response as it is stored.
 fn as_stored(alloc: Global, came: StoredResponse) -> Result<StoredResponse, InsertError>
-    ensures { IfOk result (IsStoredAs came) }
+    ensures stored { IfOk result (IsStoredAs came) }
+    ensures full { IsErrOf result InsertError.Full → IsTooSmallToStore came }
 {
     let fields = storing_fields(alloc, &came.response, came.received)?;
     let mut stored = came;
@@ -81,8 +84,9 @@ impl Store {
     /// the same method. If there is too little room, older responses of its target are removed
     /// first, and then the targets that weren't used for the longest time.
     ///
-    /// Fails only if an allocation fails, or if the fields don't fit into a map; both need a
-    /// response that is to be stored. Then nothing is stored that wasn't stored before.
+    /// Fails only if an allocation fails, or with `InsertError::Full` if the map of the response has
+    /// no room for the fields that change; both need a response that is to be stored. Then nothing is
+    /// stored that wasn't stored before.
     pub fn store(
         &mut self,
         alloc: Global,
@@ -102,6 +106,7 @@ impl Store {
             ⊎ IsFront (without target.now (contents_of self.old)) (contents_of self.new)) }
         ensures memory { OnErr result
             (IsToStore (policy_of_store self.old) came reception × FitsAlone self.old.limits 1 (size_of came)) }
+        ensures full { IsErrOf result InsertError.Full → IsTooSmallToStore came }
         ensures step { Step (policy_of_store self.old) self.old.limits (Arrived target.now came reception)
             (contents_of self.old)
             (contents_of self.new) }

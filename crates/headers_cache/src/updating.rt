@@ -1,13 +1,16 @@
 //! What a response that validates stored ones makes of them.
-ghost use Rattle.std.specs.Prelude.{◌≡◌, ◌<◌, ◌≤◌, ◌++◌, IfOk, OnErr, OnOk, length, option_to_list};
+ghost use Rattle.std.specs.Prelude.{◌≡◌, ◌<◌, ◌≤◌, ◌++◌, IfOk, IsErrOf, OnErr, OnOk, length, option_to_list};
 ghost use Rattle.std.specs.Bool.{MatchBool};
 ghost use Rattle.headers.specs.LineMap.{lines_at};
 ghost use Rattle.headers_cache_policy.specs.Policies.{policy_of};
 ghost use Rattle.headers_cache_policy.specs.Requests.{request_of};
 ghost use Rattle.headers_cache_policy.specs.Updating.{IsUpdated};
+ghost use Rattle.headers_cache_rules.specs.Fields.{IsTooSmallFor};
+ghost use Rattle.headers_cache_rules.specs.Freshening.{renewing_fields};
 ghost use Rattle.headers_cache_rules.specs.Stored.{fields_of_stored};
 ghost use Rattle.headers_cache.specs.Contents.{bytes_of};
-ghost use Rattle.headers_cache.specs.Updates.{AreLeft, Becomes, BecomesUpdated, IsGetFor, IsUpdatedToo};
+ghost use Rattle.headers_cache.specs.Updates.{AreLeft, Becomes, BecomesUpdated, IsGetFor, IsOneTooSmallFor};
+ghost use Rattle.headers_cache.specs.Updates.{IsUpdatedToo};
 
 use headers::{HeaderMap, InsertError};
 use headers_cache_policy::{Policy, RequestHead, has_strong_tag, is_updated, matches};
@@ -52,8 +55,10 @@ fn updated(
     policy: &Policy<'_>,
 ) -> Result<Option<StoredResponse>, InsertError>
     requires { IsUpdated (fields_of_stored stored) (lines_at update.now) }
-    ensures { IfOk result (BecomesUpdated (policy_of policy.now) (request_of request.now)
+    ensures updated { IfOk result (BecomesUpdated (policy_of policy.now) (request_of request.now)
         (lines_at update.now) exchange stored) }
+    ensures full { IsErrOf result InsertError.Full
+        → IsTooSmallFor stored.response (renewing_fields exchange.received update.now) }
 {
     match freshen(alloc, stored, request, update, exchange, policy)? {
         Freshened::Stored(fresh) => Ok(Some(fresh)),
@@ -72,8 +77,10 @@ fn become_of(
     exchange: Exchange,
     policy: &Policy<'_>,
 ) -> Result<Option<StoredResponse>, InsertError>
-    ensures { IfOk result (Becomes (policy_of policy.now) (request_of request.now)
+    ensures becomes { IfOk result (Becomes (policy_of policy.now) (request_of request.now)
         (lines_at update.now) exchange stored by) }
+    ensures full { IsErrOf result InsertError.Full
+        → IsTooSmallFor stored.response (renewing_fields exchange.received update.now) }
 {
     match by {
         By::NotModified => {
@@ -121,6 +128,8 @@ pub(crate) fn left_of(
     ensures fewer { IfOk result (λ left. length left.items ≤ length responses.items) }
     ensures lighter { IfOk result (λ left. bytes_of left.items ≤ bytes_of responses.items) }
     ensures memory { OnErr result (0 < length responses.items) }
+    ensures full { IsErrOf result InsertError.Full
+        → IsOneTooSmallFor responses.items (renewing_fields exchange.received update.now) }
 {
     let mut left = Vec::new(alloc);
     let mut all = responses.into_iter();

@@ -1,4 +1,5 @@
 use Rattle.std.proofs.Common.{◌≤◌, ◌+◌, length}
+use Rattle.std.specs.List.{All, Contains}
 use Rattle.std.specs.Vec.Iter.{into_iter_items}
 use Rattle.headers.specs.LineMap.{lines_at}
 use Rattle.headers_cache_policy.specs.Policies.{policy_of}
@@ -16,6 +17,7 @@ invariant-loop-stored l =
           (lines_at l.fn.update) l.fn.exchange old l.fn.by)
           l.fn.responses.items l.left.items (into_iter_items l.all);
       fewer : length l.left.items + length (into_iter_items l.all) ≤ length l.fn.responses.items;
+      among : All (Contains l.fn.responses.items) (into_iter_items l.all);
       lighter : bytes_of l.left.items + bytes_of (into_iter_items l.all) ≤ bytes_of l.fn.responses.items;
     }
 

@@ -6,8 +6,8 @@ use Rattle.headers_cache_rules.specs.Freshening.{IsFreshenedAs}
 use Rattle.headers_cache.proofs.UpdateLemmas.{becomes-none}
 use Rattle.headers_cache.proofs.updating.updated.Goals as goal
 
-pub returns-in-Once : goal.returns-in-Once
-returns-in-Once c =
+pub returns-in-Once-clause-updated : goal.returns-in-Once-clause-updated
+returns-in-Once-clause-updated c =
     becomes-none (policy_of c.args.policy.now) (request_of c.args.request.now)
     (lines_at c.args.update.now) c.args.exchange c.args.stored
     c.in-Once.field-0

@@ -1,15 +1,17 @@
-use Rattle.std.proofs.Common.{length, sym, ap, subst, arith, Some, None, inl, ◌∙◌}
+use Rattle.std.proofs.Common.{length, sym, ap, subst, arith, Err, Some, None, inl, ◌∙◌}
 use Rattle.headers.specs.LineMap.{lines_at}
 use Rattle.headers_cache_policy.specs.Policies.{policy_of}
 use Rattle.headers_cache_policy.specs.Requests.{request_of}
-use Rattle.headers_cache_rules.specs.Freshening.{IsFreshenedAs}
+use Rattle.headers_cache_rules.proofs.FullLemmas.{passed_full}
+use Rattle.headers_cache_rules.specs.Freshening.{IsFreshenedAs, renewing_fields}
 use Rattle.headers_cache_rules.specs.Identifying.{IsUpdatedAnswer}
 use Rattle.headers_cache.specs.Changes.{IsUnrefreshed}
 use Rattle.headers_cache.specs.Contents.{IsAbsent, responses_at}
 use Rattle.headers_cache.specs.Kept.{contents_of, policy_of_store}
 use Rattle.headers_cache.specs.declared.freshening.Refreshed.TheVariants as answer
 use Rattle.headers_cache.proofs.EntryLemmas.{IsAbsent-without}
-use Rattle.headers_cache.proofs.RefreshLemmas.{let_go, none_refreshed, not_unchanged, restored, within}
+use Rattle.headers_cache.proofs.RefreshLemmas.{let_go, none_refreshed, not_unchanged, one_too_small, other_too_small}
+use Rattle.headers_cache.proofs.RefreshLemmas.{restored, within}
 use Rattle.headers_cache.proofs.store.Store.freshen.Goals as goal
 
 pub returns-in_default-clause-ok : goal.returns-in_default-clause-ok
@@ -107,3 +109,25 @@ returns-in-Unchanged-clause-ok c = absurd (not_unchanged (policy_of_store c.args
     c.remove-stored.ensures.items c.in_ok-left.ensures.left
     (subst (IsFreshenedAs (policy_of c.policy-policy.result) c.remove-stored.result (request_of c.args.request.now)
     (lines_at c.args.update.now) c.args.exchange) c.in-Unchanged.is c.in_ok-fresh.ensures.freshened))
+
+pub returns-in_err-left-clause-full : goal.returns-in_err-left-clause-full
+returns-in_err-left-clause-full c = λ full.
+    other_too_small (responses_at c.args.target.now (contents_of c.args.self.now)) c.take_out-responses.result.items
+    c.in-Some.place (renewing_fields c.args.exchange.received c.args.update.now) c.take_out-responses.ensures.taken
+    c.remove-stored.new.self.items c.remove-stored.ensures.items
+    (c.in_err-left.ensures.full
+    (ap Err (passed_full c.from_residual.result c.in_err-left.field-0.0 c.from_residual.ensures.1 full)))
+
+pub returns-in_err-fresh-clause-full : goal.returns-in_err-fresh-clause-full
+returns-in_err-fresh-clause-full c = λ full.
+    one_too_small (responses_at c.args.target.now (contents_of c.args.self.now)) c.take_out-responses.result.items
+    c.in-Some.place (renewing_fields c.args.exchange.received c.args.update.now) c.take_out-responses.ensures.taken
+    c.remove-stored.result
+    (within (request_of c.args.request.now) (lines_at c.args.update.now)
+    (responses_at c.args.target.now (contents_of c.args.self.now)) c.in-Some.place
+    (subst (λ l. IsUpdatedAnswer (request_of c.args.request.now) (lines_at c.args.update.now) l (Some c.in-Some.place))
+    c.responses.ensures c.in-Some.ensures))
+    c.remove-stored.ensures.value
+    (c.in_err-fresh.ensures.full
+    (ap Err (passed_full c.from_residual-in_err-fresh.result c.in_err-fresh.field-0.0
+    c.from_residual-in_err-fresh.ensures.1 full)))

@@ -5,7 +5,7 @@ pub returns-in-Ok-clause-stored : goal.returns-in-Ok-clause-stored
 returns-in-Ok-clause-stored c = λ _. (
   c.in_ok-stored.stored,
   c.if-not-is_stored.ensures,
-  c.in_ok-stored.ensures,
+  c.in_ok-stored.ensures.stored,
   c.in-Ok.ensures.ok,
 )
 
