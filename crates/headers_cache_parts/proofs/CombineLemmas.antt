@@ -1,18 +1,19 @@
 -- What updated fields and joined bytes make of a stored part.
-use Rattle.std.proofs.Common.{◌≡◌, ◌∙◌, ℕ, List, refl, ap, subst}
+use Rattle.std.proofs.Common.{◌≡◌, ◌∙◌, ℕ, List, inr, refl, ap, subst}
 use Rattle.http_header.specs.FieldValue.{FieldValue}
 use Rattle.http_header.specs.HeaderMap.{Entries}
 use Rattle.headers.specs.LineMap.{Field, LineMap, lines_at}
 use Rattle.headers_cache_policy.specs.Freshening.{freshened}
 use Rattle.headers_cache_policy.specs.Policies.{Policy}
 use Rattle.headers_cache_policy.specs.Requests.{Request}
+use Rattle.headers_cache_rules.specs.Fields.{IsTooSmallFor}
 use Rattle.headers_cache_rules.specs.Freshening.{IsFreshened, IsReusable, aged_anew}
 use Rattle.headers_cache_rules.specs.Stored.{fields_of_stored, request_of_stored}
 use Rattle.headers_cache_rules.specs.declared.freshening.Exchange.{Exchange}
 use Rattle.headers_cache_rules.specs.declared.storing.Reception.{Reception}
 use Rattle.headers_cache_rules.specs.declared.stored.StoredResponse.{StoredResponse}
 use Rattle.headers_cache_parts.specs.Combining.{AreCombinable, IsCombination, IsCombinedAs, IsExtended, IsHeadOfStored}
-use Rattle.headers_cache_parts.specs.Combining.{exchange_of}
+use Rattle.headers_cache_parts.specs.Combining.{IsTooSmallToCombine, exchange_of}
 use Rattle.headers_cache_parts.specs.Extents.{extent_fields, joined, joint}
 use Rattle.headers_cache_parts.specs.declared.combining.Combined.TheVariants.{Stored, Once}
 use Rattle.headers_cache_parts.specs.declared.extent.Extent.{Extent}
@@ -44,6 +45,24 @@ freshened-whole stored head fresh update exchange is by =
       fields = λ name. by.fields name ∙ ap (λ (r : Entries FieldValue). freshened (aged_anew exchange.received (lines_at
           r)) update name) is.response;
     }
+
+-- the map of the updated part is too small for the fields of the combination
+pub fresh_too_small : (stored came head fresh : StoredResponse) (reception : Reception) (own other : Extent)
+    (exchange : Exchange) (changes : List Field) → AreCombinable stored came reception own other
+    → IsHeadOfStored stored head → exchange ≡ exchange_of came → changes ≡ extent_fields (joint own other)
+    → IsFreshened head (fields_of_stored came) exchange fresh → IsTooSmallFor fresh.response changes
+    → IsTooSmallToCombine stored came reception
+fresh_too_small stored came head fresh reception own other exchange changes may is_head is_exchange is_changes by
+    small =
+    inr (
+      own,
+      other,
+      with_content_of stored fresh,
+      may,
+      freshened-whole stored head fresh (fields_of_stored came) (exchange_of came) is_head
+          (subst (λ (x : Exchange). IsFreshened head (fields_of_stored came) x fresh) is_exchange by),
+      subst (λ (cs : List Field). IsTooSmallFor fresh.response cs) is_changes small,
+    )
 
 module _ (policy : Policy) (stored came head fresh combined : StoredResponse) (reception : Reception)
     (own other : Extent) (request : Request) (exchange : Exchange) (bytes : List ℕ) (changes : List Field)

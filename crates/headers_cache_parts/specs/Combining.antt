@@ -1,9 +1,10 @@
 -- How a received part and a stored one are combined (RFC 9111, section 3.4; RFC 9110, section 15.3.7.3).
-use Rattle.std.specs.Prelude.{◌≡◌, ℕ, List, Some, IsSomeAnd, length}
+use Rattle.std.specs.Prelude.{◌≡◌, ◌⊎◌, ℕ, List, Some, IsSomeAnd, length}
 use Rattle.headers.specs.LineMap.{Field, set_all}
 use Rattle.headers_cache_policy.specs.Policies.{Policy}
 use Rattle.headers_cache_policy.specs.Updating.{IsUpdated}
-use Rattle.headers_cache_rules.specs.Freshening.{IsFreshened, IsReusable}
+use Rattle.headers_cache_rules.specs.Fields.{IsTooSmallFor}
+use Rattle.headers_cache_rules.specs.Freshening.{IsFreshened, IsReusable, renewing_fields}
 use Rattle.headers_cache_rules.specs.Stored.{fields_of_stored, request_of_stored}
 use Rattle.headers_cache_rules.specs.declared.freshening.Exchange.{Exchange}
 use Rattle.headers_cache_rules.specs.declared.storing.Reception.{Reception}
@@ -69,6 +70,15 @@ pub record IsCombination (stored came : StoredResponse) (own other : Extent) (fr
     pub freshened : IsFreshened stored (fields_of_stored came) (exchange_of came) fresh
     pub extended : IsExtended fresh (joined own stored.content.items other came.content.items)
         (extent_fields (joint own other)) combined
+
+-- A map is too small for the combination: that of the stored part for the fields of the new one, or with these for the
+-- fields that say which part the combination is.
+abbrev pub IsTooSmallToCombine : StoredResponse → StoredResponse → Reception → Type 0
+IsTooSmallToCombine stored came reception =
+    IsTooSmallFor stored.response (renewing_fields came.received came.response)
+    ⊎ ((own : Extent) × (other : Extent) × (fresh : StoredResponse) × AreCombinable stored came reception own other
+    × IsFreshened stored (fields_of_stored came) (exchange_of came) fresh
+    × IsTooSmallFor fresh.response (extent_fields (joint own other)))
 
 module _ (policy : Policy) (stored came : StoredResponse) (reception : Reception) where
   -- They are combined so. The updated fields allow the reuse, or forbid it.

@@ -1,10 +1,11 @@
 //! How a received part and a stored one are combined.
-ghost use Rattle.std.specs.Prelude.{◌≡◌, ◌<◌, ◌≤◌, IfOk, IfSome, OnErr, MatchOption};
+ghost use Rattle.std.specs.Prelude.{◌≡◌, ◌<◌, ◌≤◌, IfOk, IfSome, IsErrOf, OnErr, MatchOption};
 ghost use Rattle.std.specs.Bool.{MatchBool};
 ghost use Rattle.headers.specs.LineMap.{fields_of};
 ghost use Rattle.headers_cache_policy.specs.Policies.{policy_of};
+ghost use Rattle.headers_cache_rules.specs.Fields.{IsTooSmallFor};
 ghost use Rattle.headers_cache_parts.specs.Combining.{AreCombinable, HaveSameTag, Holds, IsCombinedAs, IsExtended};
-ghost use Rattle.headers_cache_parts.specs.Combining.{IsHeadOfStored, Suit, exchange_of};
+ghost use Rattle.headers_cache_parts.specs.Combining.{IsHeadOfStored, IsTooSmallToCombine, Suit, exchange_of};
 ghost use Rattle.headers_cache_parts.specs.Extents.{joined};
 
 use crate::extent::{Extent, extent_in, strong_tag};
@@ -142,7 +143,8 @@ fn extended(
     content: Vec<u8>,
     fields: Vec<Encoded>,
 ) -> Result<StoredResponse, InsertError>
-    ensures { IfOk result (IsExtended fresh content.items (fields_of fields.items)) }
+    ensures extended { IfOk result (IsExtended fresh content.items (fields_of fields.items)) }
+    ensures full { IsErrOf result InsertError.Full → IsTooSmallFor fresh.response (fields_of fields.items) }
 {
     let mut whole = fresh;
     set_fields(&mut whole.response, fields)?;
@@ -157,8 +159,9 @@ fn extended(
 ///
 /// Where both have a byte, that of the new one is taken. The stored part is copied.
 ///
-/// Fails if it runs out of memory, or the fields don't fit into a map, which needs two parts that are
-/// combined.
+/// Fails only if an allocation fails, or with `InsertError::Full` if a map has no room for the fields:
+/// that of the stored part for those of the new one, or with these for those that say which part the
+/// combination is. Both need two parts that may be combined.
 pub fn combine(
     alloc: Global,
     stored: &StoredResponse,
@@ -169,6 +172,7 @@ pub fn combine(
     ensures combined { IfOk result (IsCombinedAs (policy_of policy.now) stored.now came.now reception) }
     ensures memory { OnErr result
         ((own : Extent) × (other : Extent) × AreCombinable stored.now came.now reception own other) }
+    ensures full { IsErrOf result InsertError.Full → IsTooSmallToCombine stored.now came.now reception }
 {
     let Some((own, other)) = combinable(alloc, stored, came, reception) else {
         return Ok(Combined::Apart);

@@ -1,5 +1,7 @@
 //! How a part is stored.
-ghost use Rattle.std.specs.Prelude.{◌<◌, IfOk};
+ghost use Rattle.std.specs.Prelude.{◌≡◌, ◌<◌, IfOk, IsErrOf};
+ghost use Rattle.headers_cache_rules.specs.Fields.{IsTooSmallFor};
+ghost use Rattle.headers_cache_parts.specs.Extents.{extent_fields};
 ghost use Rattle.headers_cache_parts.specs.Received.{IsRecorded};
 
 use crate::extent::Extent;
@@ -11,14 +13,16 @@ use std::alloc::Global;
 /// A part as it is stored: as a 200 that isn't complete (RFC 9111, section 3.3). Its Content-Range says
 /// which part it is, and its Content-Length how long the whole is.
 ///
-/// Fails if it runs out of memory, or the fields don't fit into a map.
+/// Fails only if an allocation fails, or with `InsertError::Full` if the map of the response has no
+/// room for these fields.
 pub fn record(
     alloc: Global,
     came: StoredResponse,
     extent: Extent,
 ) -> Result<StoredResponse, InsertError>
     requires { extent.last < extent.len }
-    ensures { IfOk result (IsRecorded came extent) }
+    ensures recorded { IfOk result (IsRecorded came extent) }
+    ensures full { IsErrOf result InsertError.Full → IsTooSmallFor came.response (extent_fields extent) }
 {
     let fields = extent.fields(alloc)?;
     let mut part = came;
