@@ -1,6 +1,6 @@
 -- What the calls of a store of parts return and leave.
 use Rattle.std.proofs.Common.{◌≡◌, ◌∙◌, ◌⊎◌, ℕ, Bool, true, false, List, Some, Result, Ok, Err, IfOk, OnErr}
-use Rattle.std.proofs.Common.{refl, sym, subst, arith, inl, inr, get_or, slice_get}
+use Rattle.std.proofs.Common.{refl, sym, subst, inl, inr, get_or, slice_get}
 use Rattle.std.specs.Bool.{MatchBool}
 use Rattle.std.proofs.lemmas.Option.{get_or_from_slice_get, same_Some}
 use Rattle.headers.specs.LineMap.{Field}

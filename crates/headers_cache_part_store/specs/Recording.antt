@@ -1,16 +1,18 @@
 -- What a store of parts makes of a received response (RFC 9111, sections 3.3 and 3.4).
 use Rattle.std.specs.Prelude.{◌≡◌, ◌⊎◌, ℕ, List, Option, Some, None, codes}
 use Rattle.headers.specs.Typed.{HasLine}
-use Rattle.headers_cache.specs.Changes.{FitsAlone, IsInserted, IsStoredAs, IsToStore}
+use Rattle.headers_cache.specs.Changes.{FitsAlone, IsInserted, IsStoredAs, IsToStore, IsTooSmallToStore}
 use Rattle.headers_cache.specs.Contents.{Contents, responses_at, size_of, without}
 use Rattle.headers_cache.specs.declared.limits.Limits.{Limits}
-use Rattle.headers_cache_parts.specs.Combining.{AreCombinable, HaveSameTag, IsCombinedAs}
+use Rattle.headers_cache_parts.specs.Combining.{AreCombinable, HaveSameTag, IsCombinedAs, IsTooSmallToCombine}
+use Rattle.headers_cache_parts.specs.Extents.{extent_fields}
 use Rattle.headers_cache_parts.specs.Received.{IsPart, IsRecorded, IsSelfContained}
 use Rattle.headers_cache_parts.specs.declared.combining.Combined.{Combined}
 use Rattle.headers_cache_parts.specs.declared.combining.Combined.TheVariants as combined
 use Rattle.headers_cache_parts.specs.declared.extent.Extent.{Extent}
 use Rattle.headers_cache_policy.specs.Policies.{Policy}
 use Rattle.headers_cache_policy.specs.Requests.{Request}
+use Rattle.headers_cache_rules.specs.Fields.{IsTooSmallFor}
 use Rattle.headers_cache_rules.specs.Selection.{IsCandidate, IsMostRecent, IsSelected}
 use Rattle.headers_cache_rules.specs.Stored.{fields_of_stored, request_of_stored}
 use Rattle.headers_cache_rules.specs.declared.storing.Reception.{Reception}
@@ -30,6 +32,18 @@ abbrev pub IsCombinable : List StoredResponse → StoredResponse → Reception �
 IsCombinable parts came reception =
     (stored : StoredResponse) × IsSelectedPart (request_of_stored came) parts (Some stored)
     × ((own : Extent) × (other : Extent) × AreCombinable stored came reception own other)
+
+-- a map is too small for the combination of the received part and the one that its request selects
+abbrev pub IsTooSmallToMerge : List StoredResponse → StoredResponse → Reception → Type 0
+IsTooSmallToMerge parts came reception =
+    (stored : StoredResponse) × IsSelectedPart (request_of_stored came) parts (Some stored)
+    × IsTooSmallToCombine stored came reception
+
+-- a map is too small for the received part: for the fields that say which part it is, or with these as it is stored
+abbrev pub IsTooSmallToTake : StoredResponse → Extent → Type 0
+IsTooSmallToTake came extent =
+    IsTooSmallFor came.response (extent_fields extent)
+    ⊎ ((part : StoredResponse) × IsRecorded came extent part × IsTooSmallToStore part)
 
 -- ---- a response that isn't stored
 
@@ -96,6 +110,15 @@ module _ (policy : Policy) (parts : List StoredResponse) (came : StoredResponse)
     pub extent : Extent
     pub part : IsPart policy came reception extent
     pub used : IsSelfContained came ⊎ IsCombinable parts came reception
+
+  -- A map is too small for the fields of a part: of the combination, of the combination as it is stored, or of the
+  -- received part, which isn't combined.
+  abbrev pub IsTooSmallToRecord : Type 0
+  IsTooSmallToRecord =
+      IsTooSmallToMerge parts came reception
+      ⊎ ((part : StoredResponse) × IsMerged (combined.Stored part) × IsTooSmallToStore part)
+      ⊎ ((extent : Extent) × IsPart policy came reception extent × IsMerged combined.Apart
+      × IsTooSmallToTake came extent)
 
 module _ (policy : Policy) (limits : Limits) (key : List ℕ) (old : Contents) where
   -- A taken part is stored, as the ordinary store stores a response; or it is the whole, and is returned; or it may not

@@ -1,7 +1,7 @@
 //! What is stored of a received response.
-ghost use Rattle.std.specs.Prelude.{◌≡◌, ◌⊎◌, ◌<◌, IfOk, MatchOption, None, OnErr, Some};
+ghost use Rattle.std.specs.Prelude.{◌≡◌, ◌⊎◌, ◌<◌, IfOk, IsErrOf, MatchOption, None, OnErr, Some};
 ghost use Rattle.std.specs.Bool.{MatchBool};
-ghost use Rattle.headers_cache.specs.Changes.{IsFront};
+ghost use Rattle.headers_cache.specs.Changes.{IsFront, IsTooSmallToStore};
 ghost use Rattle.headers_cache.specs.Contents.{responses_at, without};
 ghost use Rattle.headers_cache_parts.specs.Received.{IsSelfContained};
 ghost use Rattle.headers_cache_rules.specs.Stored.{request_of_stored};
@@ -10,7 +10,8 @@ ghost use Rattle.headers_cache_part_store.specs.History.{Step};
 ghost use Rattle.headers_cache_part_store.specs.Kept.{limits_of_parts, parts_of, policy_of_parts};
 ghost use Rattle.headers_cache_part_store.specs.Recording.{Changes, IsCombinable, IsContent, IsCurrent, IsKeptAs};
 ghost use Rattle.headers_cache_part_store.specs.Recording.{IsLeft, IsMerged, IsRecordedAs, IsSelectedPart};
-ghost use Rattle.headers_cache_part_store.specs.Recording.{IsSuperseded, IsTakenAlone, NeedsMemory};
+ghost use Rattle.headers_cache_part_store.specs.Recording.{IsSuperseded, IsTakenAlone, IsTooSmallToMerge};
+ghost use Rattle.headers_cache_part_store.specs.Recording.{IsTooSmallToRecord, IsTooSmallToTake, NeedsMemory};
 
 use crate::store::PartStore;
 use headers::InsertError;
@@ -63,9 +64,10 @@ impl PartStore {
     /// does a 200 or 206 that isn't stored and hasn't the strong validator of the stored part: the
     /// representation has changed.
     ///
-    /// Fails only if an allocation fails, or if the fields don't fit into a map. Both need a part that may
-    /// be combined with the selected one, or be stored by itself. Then the store is as before; or nothing
-    /// is stored under the key, and maybe under keys that weren't used for the longest time.
+    /// Fails only if an allocation fails, or with `InsertError::Full` if the map of a part has no room for
+    /// its fields. Both need a part that may be combined with the selected one, or be stored by itself.
+    /// Then the store is as before; or nothing is stored under the key, and maybe under keys that weren't
+    /// used for the longest time.
     pub fn record(
         &mut self,
         alloc: Global,
@@ -79,6 +81,8 @@ impl PartStore {
             ⊎ IsFront (without key.now (parts_of self.old)) (parts_of self.new)) }
         ensures memory { OnErr result (NeedsMemory (policy_of_parts self.old)
             (responses_at key.now (parts_of self.old)) came reception) }
+        ensures full { IsErrOf result InsertError.Full → IsTooSmallToRecord (policy_of_parts self.old)
+            (responses_at key.now (parts_of self.old)) came reception }
         ensures step { Step (policy_of_parts self.old) (limits_of_parts self.old) (Received key.now came reception)
             (parts_of self.old) (parts_of self.new) }
         ensures policy { policy_of_parts self.new ≡ policy_of_parts self.old }
@@ -112,6 +116,7 @@ impl PartStore {
         ensures err { OnErr result ((parts_of self.new ≡ parts_of self.old)
             ⊎ IsFront (without key.now (parts_of self.old)) (parts_of self.new)) }
         ensures memory { OnErr result (IsSelfContained came) }
+        ensures full { IsErrOf result InsertError.Full → IsTooSmallToTake came extent }
         ensures policy { policy_of_parts self.new ≡ policy_of_parts self.old }
         ensures limits { limits_of_parts self.new ≡ limits_of_parts self.old }
     {
@@ -169,6 +174,8 @@ impl PartStore {
         ensures merged { IfOk result (IsMerged (policy_of_parts self.now) (responses_at key.now (parts_of self.now))
             came.now reception) }
         ensures memory { OnErr result (IsCombinable (responses_at key.now (parts_of self.now)) came.now reception) }
+        ensures full { IsErrOf result InsertError.Full
+            → IsTooSmallToMerge (responses_at key.now (parts_of self.now)) came.now reception }
     {
         match self.selected(key, came) {
             Some(stored) => combine(alloc, stored, came, reception, &self.store.policy()),
@@ -187,6 +194,7 @@ impl PartStore {
             (parts_of self.old) part (parts_of self.new)) }
         ensures err { OnErr result ((parts_of self.new ≡ parts_of self.old)
             ⊎ IsFront (without key.now (parts_of self.old)) (parts_of self.new)) }
+        ensures full { IsErrOf result InsertError.Full → IsTooSmallToStore part }
         ensures policy { policy_of_parts self.new ≡ policy_of_parts self.old }
         ensures limits { limits_of_parts self.new ≡ limits_of_parts self.old }
     {

@@ -18,3 +18,6 @@ returns-in-Some-clause-merged c =
 pub returns-in-Some-clause-memory : goal.returns-in-Some-clause-memory
 returns-in-Some-clause-memory c =
     on_err_weaker c.combine.result (λ may. (c.in-Some.stored.now, c.in-Some.ensures, may)) c.combine.ensures.memory
+
+pub returns-in-Some-clause-full : goal.returns-in-Some-clause-full
+returns-in-Some-clause-full c = λ full. (c.in-Some.stored.now, c.in-Some.ensures, c.combine.ensures.full full)

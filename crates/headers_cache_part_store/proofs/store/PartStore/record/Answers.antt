@@ -100,3 +100,27 @@ returns-in-Once-clause-recorded c = (
       c.in-Once.is c.in_ok-merged.ensures.merged,
   c.remove.ensures.contents,
 )
+
+pub returns-in-Apart-clause-full : goal.returns-in-Apart-clause-full
+returns-in-Apart-clause-full c = λ full.
+    inr (inr (
+      c.in-Some.extent,
+      subst (λ (p : Policy). IsPart p c.args.came c.args.reception c.in-Some.extent) c.policy.ensures
+          c.in-Some.ensures.value,
+      subst
+          (λ (r : Combined). IsMerged (policy_of_parts c.args.self.now)
+          (responses_at c.args.key.now (parts_of c.args.self.now)) c.args.came c.args.reception r)
+          c.in-Apart.is c.in_ok-merged.ensures.merged,
+      c.take.ensures.full full,
+    ))
+
+pub returns-in-Stored-clause-full : goal.returns-in-Stored-clause-full
+returns-in-Stored-clause-full c = λ full.
+    inr (inl (
+      c.in-Stored.part,
+      subst
+          (λ (r : Combined). IsMerged (policy_of_parts c.args.self.now)
+          (responses_at c.args.key.now (parts_of c.args.self.now)) c.args.came c.args.reception r)
+          c.in-Stored.is c.in_ok-merged.ensures.merged,
+      c.keep.ensures.full full,
+    ))

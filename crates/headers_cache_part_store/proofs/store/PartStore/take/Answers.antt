@@ -11,9 +11,13 @@ pub returns-clause-taken : goal.returns-clause-taken
 returns-clause-taken c =
     let alone = rw c.get_all.ensures.value at c.if-has_line.ensures.present in
     IfOk-weaker c.keep.result _ _
-    (λ recorded kept. inr (alone, (c.in_ok-part.part, c.in_ok-part.ensures, kept)))
+    (λ recorded kept. inr (alone, (c.in_ok-part.part, c.in_ok-part.ensures.recorded, kept)))
     c.keep.ensures.kept
 
 pub returns-clause-memory : goal.returns-clause-memory
 returns-clause-memory c =
     OnErr-from c.keep.result (rw c.get_all.ensures.value at c.if-has_line.ensures.present)
+
+pub returns-clause-full : goal.returns-clause-full
+returns-clause-full c = λ full.
+    inr (c.in_ok-part.part, c.in_ok-part.ensures.recorded, c.keep.ensures.full full)
