@@ -995,14 +995,16 @@ uint8_t typed_headers_cache_answer(struct typed_headers_cache *cache,
  * Stores the response to a request, if a cache may (RFC 9111, section 3): `*stored` is 1 if it did, 0 if not. If there
  * is too little room, older responses of its target go first, and then the targets that weren't used for the longest
  * time. If there is no memory, some of these may be gone, and nothing is stored that wasn't before. Memory: the
- * content isn't empty, or the response may be stored.
+ * content isn't empty, or the response may be stored. Too large also if the map of the response has no room for the
+ * fields that change before it is stored.
  */
 uint8_t typed_headers_cache_store(struct typed_headers_cache *cache, const struct typed_headers_cache_request *request,
                                   const struct typed_headers_cache_response *response, uint8_t *stored);
 
 /*
  * Updates stored responses by a 304 to a request, with this section (RFC 9111, section 4.3.4). If there is no memory to
- * update them, nothing is stored under the target. Memory: the 304 is about a stored response.
+ * update them, nothing is stored under the target. Memory: the 304 is about a stored response. Too large also if the map
+ * of one that is stored under the target has no room for the fields of the 304: then nothing is stored there.
  */
 uint8_t typed_headers_cache_freshen(struct typed_headers_cache *cache,
                                     const struct typed_headers_cache_request *request, const uint8_t *section,
@@ -1012,7 +1014,8 @@ uint8_t typed_headers_cache_freshen(struct typed_headers_cache *cache,
 /*
  * Updates stored responses to GET by a 200 to a HEAD, with this section, and removes those that it isn't about (RFC
  * 9111, section 4.3.5). If there is no memory for that, nothing is stored under the target. Memory: something is
- * stored under the target.
+ * stored under the target. Too large also if the map of a response there has no room for the fields of the 200: then
+ * nothing is stored there.
  */
 uint8_t typed_headers_cache_freshen_by_head(struct typed_headers_cache *cache,
                                             const struct typed_headers_cache_request *request,

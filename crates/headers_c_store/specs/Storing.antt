@@ -8,7 +8,7 @@ use Rattle.headers_section.specs.Section.{Holds}
 use Rattle.headers_cache_rules.specs.declared.storing.Reception.{Reception}
 use Rattle.headers_cache_rules.specs.declared.storing.Reception.TheVariants.{Complete, Incomplete}
 use Rattle.headers_cache_rules.specs.declared.stored.StoredResponse.{StoredResponse}
-use Rattle.headers_cache.specs.Changes.{FitsAlone, IsFront, IsInserted, IsStoredAs, IsToStore}
+use Rattle.headers_cache.specs.Changes.{FitsAlone, IsFront, IsInserted, IsStoredAs, IsToStore, IsTooSmallToStore}
 use Rattle.headers_cache.specs.Contents.{size_of, without}
 use Rattle.headers_cache.specs.Kept.{contents_of, policy_of_store}
 use Rattle.headers_c_decisions.specs.StatusCodes.{IsStatusOf}
@@ -21,9 +21,9 @@ use Rattle.headers_c_store.specs.declared.held.Held.{Held}
 use Rattle.headers_c_store.specs.declared.reading.CacheRequest.{CacheRequest}
 use Rattle.headers_c_store.specs.declared.storing.CacheResponse.{CacheResponse}
 
--- A store fails only if it runs out of memory, or if fields don't fit into a map.
-abbrev pub IsStoreFailure : Failure → Type 0
-IsStoreFailure failure = (failure ≡ Memory) ⊎ (failure ≡ TooLarge)
+-- A store fails only if it runs out of memory, or if a map has no room for the fields that are set in it.
+abbrev pub IsStoreFailure : Type 0 → Failure → Type 0
+IsStoreFailure LacksRoom failure = (failure ≡ Memory) ⊎ ((failure ≡ TooLarge) × LacksRoom)
 
 abbrev pub reception_of : Bool → Reception
 reception_of true = Complete
@@ -90,8 +90,8 @@ module _ (request : CacheRequest) (response : CacheResponse) where
           ⊎ (¬ (FitsAlone old.store.limits 1 (size_of came)))
       pub contents : contents_of new.store ≡ contents_of old.store
 
-    -- It would be stored, but there is too little memory, or its fields don't fit into a map. Then nothing is stored
-    -- that wasn't stored before.
+    -- It would be stored, but there is too little memory, or its map has no room for the fields that change. Then
+    -- nothing is stored that wasn't stored before.
     pub record IsGivenUp (failure : Failure) : Type 0 where
       pub came : StoredResponse
       pub storable : IsStorable came
@@ -99,7 +99,7 @@ module _ (request : CacheRequest) (response : CacheResponse) where
           ⊎ IsFront (without request.target.now (contents_of old.store)) (contents_of new.store)
       pub settings : KeepsSettings old new
       pub once : new.once ≡ old.once
-      pub failure_is : IsStoreFailure failure
+      pub failure_is : IsStoreFailure (IsTooSmallToStore came) failure
 
     -- the answer is whether it is stored, or a failure
     abbrev pub StoresResponse : Result Bool Failure → Type 0

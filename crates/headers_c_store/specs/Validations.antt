@@ -4,6 +4,7 @@ use Rattle.http_header.specs.FieldValue.{FieldValue}
 use Rattle.http_header.specs.HeaderMap.{Entries}
 use Rattle.headers.specs.LineMap.{lines_at}
 use Rattle.headers_section.specs.Section.{Holds}
+use Rattle.headers_cache_rules.specs.Freshening.{renewing_fields}
 use Rattle.headers_cache_rules.specs.Identifying.{IsIdentified}
 use Rattle.headers_cache_rules.specs.Selection.{IsSomewhere}
 use Rattle.headers_cache_rules.specs.declared.freshening.Exchange.{Exchange}
@@ -11,6 +12,7 @@ use Rattle.headers_cache_rules.specs.declared.stored.StoredResponse.{StoredRespo
 use Rattle.headers_cache.specs.Changes.{IsRefreshed, IsRefreshedByHead}
 use Rattle.headers_cache.specs.Contents.{responses_at, without}
 use Rattle.headers_cache.specs.Kept.{contents_of, policy_of_store}
+use Rattle.headers_cache.specs.Updates.{IsOneTooSmallFor}
 use Rattle.headers_cache.specs.declared.freshening.Refreshed.{Refreshed}
 use Rattle.headers_cache.specs.declared.freshening.Refreshed.TheVariants as refreshed
 use Rattle.headers_c_parts.specs.SectionMap.{IsMapOf}
@@ -41,12 +43,14 @@ module _ (request : CacheRequest) (section : List ℕ) (exchange : Exchange) (ol
   abbrev pub target : List ℕ
   target = request.target.now
 
-  -- what is under the target is gone: memory runs out, or the fields don't fit into a map
-  pub record IsGone (failure : Failure) : Type 0 where
+  -- what is under the target is gone: memory runs out, or the map of one of its responses has no room for the fields of
+  -- the update
+  pub record IsGone (update : Entries FieldValue) (failure : Failure) : Type 0 where
     pub contents : contents_of new.store ≡ without target (contents_of old.store)
     pub settings : KeepsSettings old new
     pub once : new.once ≡ old.once
-    pub failure_is : IsStoreFailure failure
+    pub failure_is : IsStoreFailure (IsOneTooSmallFor (responses_at target (contents_of old.store))
+        (renewing_fields exchange.received update)) failure
 
   -- the failure of parsing the request or the section of the response
   abbrev pub FailsUpdate : Failure → Type 0
@@ -73,7 +77,7 @@ module _ (request : CacheRequest) (section : List ℕ) (exchange : Exchange) (ol
     pub is_update : Holds section update
     pub identified : IsSomewhere (IsIdentified (asked_by request fields) (lines_at update)
         (responses_at target (contents_of old.store)))
-    pub gone : IsGone failure
+    pub gone : IsGone update failure
 
   abbrev pub Freshens : Result FreshenedFacts Failure → Type 0
   Freshens (Ok facts) = IsFreshenedBy facts
@@ -92,8 +96,10 @@ module _ (request : CacheRequest) (section : List ℕ) (exchange : Exchange) (ol
 
   -- something is stored under the target, and updating it fails
   pub record FailsHead (failure : Failure) : Type 0 where
+    pub head : Entries FieldValue
+    pub is_head : Holds section head
     pub some : 0 < length (responses_at target (contents_of old.store))
-    pub gone : IsGone failure
+    pub gone : IsGone head failure
 
   abbrev pub FreshensByHead : Result (Unit {0}) Failure → Type 0
   FreshensByHead (Ok one) = IsFreshenedByHead

@@ -33,7 +33,8 @@ pub struct CacheResponse<'a> {
 
 // What an error of the store is to a caller.
 pub(crate) fn failure_of(error: InsertError) -> Failure
-    ensures { IsStoreFailure result }
+    ensures cause { IsStoreFailure (error ≡ InsertError.Full) result }
+    ensures full { error ≡ InsertError.Full → result ≡ Failure.TooLarge }
 {
     match error {
         InsertError::Memory => Failure::Memory,

@@ -1,6 +1,6 @@
 //! A cache before other servers: which requests it answers from its store, and which responses it stores.
-ghost use Rattle.std.specs.Prelude.{◌≡◌, ◌==◌, ◌∷◌, [], ◌++◌, ◌⊎◌, ℕ, List, IfOk, OnErr, MatchOption, codes, not};
-ghost use Rattle.std.specs.Prelude.{string_bytes};
+ghost use Rattle.std.specs.Prelude.{◌≡◌, ◌==◌, ◌∷◌, [], ◌++◌, ◌⊎◌, ℕ, List, IfOk, IsErrOf, OnErr, MatchOption, codes};
+ghost use Rattle.std.specs.Prelude.{not, string_bytes};
 ghost use Rattle.std.specs.Bool.{MatchBool};
 ghost use Rattle.std.specs.List.{list_all};
 ghost use Rattle.headers.specs.LineMap.{lines_at};
@@ -8,6 +8,8 @@ ghost use Rattle.headers.specs.Lines.{Line};
 ghost use Rattle.headers_cache.specs.Contents.{used};
 ghost use Rattle.headers_cache.specs.Kept.{contents_of, policy_of_store};
 ghost use Rattle.headers_cache_policy.specs.Requests.{IsGetOrHead};
+ghost use Rattle.headers_cache_rules.specs.Fields.{IsTooSmallFor};
+ghost use Rattle.headers_cache_rules.specs.Storing.{storing_fields};
 ghost use Rattle.headers_chain.specs.Caches.{IsBareRead, IsPlain, key_of};
 ghost use Rattle.headers_chain.specs.Serving.{HasBareHost, IsAction, IsActionOf, IsPending, IsTaken, has_special};
 ghost use Rattle.headers_chain.specs.Serving.{is_there, reply_of};
@@ -240,8 +242,8 @@ pub fn answer_from_store(
 /// Stores the response to a plain request that was sent on, if it may be stored (RFC 9111, section 3). Returns
 /// whether it was stored. `now` is what the clock shows.
 ///
-/// Fails only if it runs out of memory, or the fields don't fit into a map. Then nothing is stored that
-/// wasn't stored before.
+/// Fails only if an allocation fails, or with `InsertError::Full` if the map of the response has no room
+/// for the fields that change before it is stored. Then nothing is stored that wasn't stored before.
 pub fn take_response(
     alloc: Global,
     store: &mut Store,
@@ -254,6 +256,8 @@ pub fn take_response(
         → IsPending target request requested pending
         → IsTaken (policy_of_store store.old) store.old.limits target request requested (reply_of received)
         reception now result (contents_of store.old) (contents_of store.new) }
+    ensures full { IsErrOf result InsertError.Full
+        → IsTooSmallFor received.fields (storing_fields now received.fields) }
     ensures policy { policy_of_store store.new ≡ policy_of_store store.old }
     ensures limits { store.new.limits ≡ store.old.limits }
 {

@@ -1,7 +1,10 @@
-use Rattle.std.proofs.Common.{rules, ℕ, List, subst}
+use Rattle.std.proofs.Common.{rules, inl, inr, ℕ, List, ap, subst, Err}
 use Rattle.headers.specs.LineMap.{lines_at}
 use Rattle.headers_cache.specs.Changes.{IsRefreshed}
+use Rattle.headers_cache.specs.Contents.{responses_at}
 use Rattle.headers_cache.specs.Kept.{contents_of, policy_of_store}
+use Rattle.headers_cache.specs.Updates.{IsOneTooSmallFor}
+use Rattle.headers_cache_rules.specs.Freshening.{renewing_fields}
 use Rattle.headers_c_store.specs.Reading.{asked_by}
 use Rattle.headers_c_store.proofs.validating.freshen_in.Goals as goal
 
@@ -28,3 +31,30 @@ returns-in-Ok c =
       once = search rules;
       settings = search rules;
     }
+
+pub returns : goal.returns
+returns c =
+    inr
+    (record {
+      fields = c.in_ok-fields.fields;
+      is_request = search rules;
+      update = c.in_ok-update.update;
+      is_update = search rules;
+      identified = search rules;
+      gone = record {
+        contents = search rules;
+        settings = search rules;
+        once = search rules;
+        failure_is = elim c.failure_of.ensures.cause [
+          | inl memory ↦ inl memory
+          | inr large ↦
+              inr (
+                large.0,
+                subst
+                    (λ (target : List ℕ). IsOneTooSmallFor (responses_at target (contents_of c.args.held.now.store))
+                    (renewing_fields c.args.exchange.received c.in_ok-update.update))
+                    c.in_ok-target.ensures.0 (c.in-Err.ensures.full (ap Err large.1)),
+              )
+        ];
+      };
+    })
