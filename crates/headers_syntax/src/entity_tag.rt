@@ -28,7 +28,7 @@ impl<'a> Model for EntityTagRef<'a> {
 fn is_tag_byte(byte: u8) -> bool
     ensures { result ≡ is_tag_byte byte }
 {
-    byte == 0x21 || (byte >= 0x23 && byte <= 0x7e) || byte >= 0x80
+    byte > 0x20 && byte != 0x22 && byte != 0x7f
 }
 
 // What is between the quotes, if the bytes begin and end with one.
