@@ -72,8 +72,7 @@ fn line_of_listed_methods(alloc: Global, methods: Vec<Method>) -> Result<HeaderV
     ensures { IfOk result (λ line. IsListOf method_of methods.items line.bytes) }
 {
     let header = AccessControlAllowMethods::from_iter(alloc, methods.into_iter())?;
-    let line = line_of(alloc, &header)?;
-    Ok(line)
+    line_of(alloc, &header)
 }
 
 // A star, with `authorization` or without, or the names.
@@ -106,8 +105,7 @@ fn line_of_listed_names(alloc: Global, names: Vec<HeaderName>) -> Result<HeaderV
     ensures { IfOk result (λ line. IsListOf name_of names.items line.bytes) }
 {
     let header = AccessControlAllowHeaders::from_iter(alloc, names.into_iter())?;
-    let line = line_of(alloc, &header)?;
-    Ok(line)
+    line_of(alloc, &header)
 }
 
 pub(crate) fn line_of_age(
