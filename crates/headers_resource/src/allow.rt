@@ -43,6 +43,5 @@ pub(crate) fn allow_field(alloc: Global, rules: &[MethodRule]) -> Result<Encoded
 {
     let methods = methods_of(alloc, rules)?;
     let header = Allow::from_iter(alloc, methods.into_iter())?;
-    let field = encoding(alloc, &header)?;
-    Ok(field)
+    encoding(alloc, &header)
 }

@@ -139,8 +139,7 @@ fn admitted(
 {
     let place = selected(resource, request.fields);
     let representation = at_place(&resource.representations, place);
-    let given = going_on(alloc, resource, request, present, place, representation)?;
-    Ok(given)
+    going_on(alloc, resource, request, present, place, representation)
 }
 
 fn is_admitted(reason: Reason) -> bool
@@ -160,11 +159,9 @@ fn given_by(
         given.sends (fields_of given.fields.items)) }
 {
     if is_admitted(reason) {
-        let given = admitted(alloc, resource, request, present)?;
-        return Ok(given);
+        return admitted(alloc, resource, request, present);
     }
-    let given = stopped(alloc, resource, request, reason)?;
-    Ok(given)
+    stopped(alloc, resource, request, reason)
 }
 
 /// Decides the answer of a resource to a request (RFC 9110, sections 7.4 to 15). The first reason

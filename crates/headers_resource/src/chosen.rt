@@ -95,10 +95,7 @@ pub(crate) fn responded(
                 content,
                 ..
             },
-        ) => {
-            let response = respond(alloc, method, fields, current, present, content, boundary)?;
-            Ok(response)
-        }
+        ) => { respond(alloc, method, fields, current, present, content, boundary) }
         None => {
             let current = bare(&resource.state);
             let content = Content {
@@ -106,8 +103,7 @@ pub(crate) fn responded(
                 media_type: None,
                 ranges: None,
             };
-            let response = respond(alloc, method, fields, &current, present, &content, boundary)?;
-            Ok(response)
+            respond(alloc, method, fields, &current, present, &content, boundary)
         }
     }
 }

@@ -68,8 +68,7 @@ pub(crate) fn vary_lines(
     if !depends_on_selection(reason) {
         return Ok(Vec::new(alloc));
     }
-    let lines = selecting(alloc, &resource.negotiation)?;
-    Ok(lines)
+    selecting(alloc, &resource.negotiation)
 }
 
 // Appends a field line of Vary. A map with this name alone is never full.
@@ -121,10 +120,7 @@ pub(crate) fn shared_fields(
         (fields_of fields.items)) }
 {
     match policy {
-        Some(policy) => {
-            let fields = policy_fields(alloc, policy, request, lines)?;
-            Ok(fields)
-        }
+        Some(policy) => policy_fields(alloc, policy, request, lines),
         None => Ok(Vec::new(alloc)),
     }
 }

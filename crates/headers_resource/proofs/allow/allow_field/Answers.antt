@@ -1,12 +1,21 @@
 use Rattle.std.proofs.Common.{◌≡◌, ℕ, List, [], ◌∷◌, codes, rules, refl, ap, ◌∙◌}
-use Rattle.headers.specs.LineMap.{Field}
-use Rattle.headers.specs.ListItem.{method_of}
+use Rattle.std.specs.Prelude.{IfOk, Result, Ok, Err}
+use Rattle.headers.specs.LineMap.{field_of}
 use Rattle.headers.specs.Lines.{Line, lines_of}
+use Rattle.headers.specs.ListItem.{method_of}
 use Rattle.headers.specs.Merge.{merge}
 use Rattle.headers.specs.Places.{comma}
+use Rattle.headers.specs.declared.Encoded.{Encoded}
 use Rattle.headers_cors_policy.proofs.WrittenLemmas.{listed_values_by}
 use Rattle.headers_resource.specs.Applies.{methods}
 use Rattle.headers_resource.proofs.allow.allow_field.Goals as goal
+
+-- a field of this name with these field lines
+made : {E : Type 0} (result : Result Encoded E) (name : List ℕ) (lines other : List Line)
+    → IfOk result (λ field. field.name ≡ name) → IfOk result (λ field. lines_of field.lines.items ≡ lines)
+    → lines ≡ other → IfOk result (λ field. field_of field ≡ (name, other))
+made (Ok field) name lines other n l same = cc
+made (Err error) name lines other n l same = tt
 
 pub returns : goal.returns
 returns c =
@@ -14,7 +23,5 @@ returns c =
     c.in_ok-header.header c.into_iter.ensures.rest (search rules) c.in_ok-header.ensures refl in
     let line : c.in_ok-header.header ≡ merge comma (methods c.args.rules.now) =
     listed.bytes ∙ ap (merge comma) c.in_ok-methods.ensures in
-    let name : List ℕ → Field = λ n. (n, lines_of c.in_ok-field.field.lines.items) in
-    let under : List Line → Field = λ lines. (codes "allow", lines) in
-    ap name c.in_ok-field.ensures.name
-    ∙ ap under (c.in_ok-field.ensures.lines ∙ ap (λ (value : Line). value ∷ []) line)
+    made c.encoding.result (codes "allow") _ _ c.encoding.ensures.name c.encoding.ensures.lines
+    (ap (λ (value : Line). value ∷ []) line)

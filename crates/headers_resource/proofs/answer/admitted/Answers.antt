@@ -1,4 +1,5 @@
 use Rattle.std.proofs.Common.{◌≡◌, List, Option, ap, subst, ◌∙◌}
+use Rattle.std.proofs.lemmas.Result.{IfOk-weaker}
 use Rattle.std.specs.Prelude.{option_copied}
 use Rattle.headers.specs.LineMap.{fields_of}
 use Rattle.headers_resource.specs.Answers.{GoesOn, at_place}
@@ -10,10 +11,11 @@ pub returns : goal.returns
 returns c =
     let resource = c.args.resource.now in
     let place = c.selected-place.result in
-    let given = c.in_ok-given.given in
     let same : option_copied c.at_place-representation.result ≡ at_place resource.representations.items place =
     c.at_place-representation.ensures
     ∙ ap (λ (representations : List Representation). at_place representations place) c.deref.ensures.value in
+    IfOk-weaker c.going_on.result _ _
+    (λ given goes.
     record {
       place = place;
       selected = c.selected-place.ensures;
@@ -21,5 +23,6 @@ returns c =
           subst
           (λ (representation : Option Representation). GoesOn c.args.present resource (request_of c.args.request.now)
           place representation given.status given.sends (fields_of given.fields.items))
-          same c.in_ok-given.ensures;
-    }
+          same goes;
+    })
+    c.going_on.ensures
