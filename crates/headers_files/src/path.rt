@@ -123,8 +123,7 @@ fn below_root(alloc: Global, path: &str) -> Result<Option<String>, AllocError>
     ensures { IfOk result (λ text. IsDecoded (drop 1 path.now) (option_map string_bytes text)) }
 {
     let bytes = path.as_bytes();
-    let text = decoded(alloc, &bytes[1..])?;
-    Ok(text)
+    decoded(alloc, &bytes[1..])
 }
 
 /// The path in a store that the path of a URI names: what follows its first slash,
