@@ -40,8 +40,7 @@ pub fn answer_by_rules(
     ensures { Shares rules.now method.now request.now response.now result }
 {
     let policy = read_policy(alloc, rules)?;
-    let shared = answer_by(alloc, &policy, method, request, response, keys)?;
-    Ok(shared)
+    answer_by(alloc, &policy, method, request, response, keys)
 }
 
 // The same of a policy, which is borrowed: dropped at each `?`, it would split the goals that follow.
@@ -59,8 +58,7 @@ fn answer_by(
     let request = read_map(alloc, request, keys)?;
     let response = read_map(alloc, response, keys)?;
     let answer = policy.answer(alloc, &method, &request, &response)?;
-    let shared = show_shared(alloc, &answer)?;
-    Ok(shared)
+    Ok(show_shared(alloc, &answer)?)
 }
 
 /// What an answer says of its request, and its field lines.

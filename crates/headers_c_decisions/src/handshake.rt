@@ -76,8 +76,7 @@ pub fn answer_handshake(
     let origins = origins_of(alloc, origins)?;
     let request = read_map(alloc, section, keys)?;
     let answer = accept(alloc, &method, version, &request, own.as_slice(), &origins)?;
-    let answered = show(alloc, &answer)?;
-    Ok(answered)
+    Ok(show(alloc, &answer)?)
 }
 
 fn show(alloc: Global, answer: &Answer) -> Result<Answered, AllocError>
@@ -127,8 +126,7 @@ pub fn offer_handshake(alloc: Global, nonce: &[u8]) -> Result<Vec<u8>, Failure>
         return Err(Failure::Refused);
     };
     let fields = request(alloc, nonce)?;
-    let text = fields_text(alloc, fields.as_slice())?;
-    Ok(text)
+    Ok(fields_text(alloc, fields.as_slice())?)
 }
 
 /// Checks the response to a client that sent the fields of a section (RFC 6455, section 4.1): 0 if

@@ -63,8 +63,7 @@ pub fn respond_to(
         &content,
         &boundary,
     )?;
-    let responded = show_response(alloc, answer, is_known_by(&request))?;
-    Ok(responded)
+    Ok(show_response(alloc, answer, is_known_by(&request))?)
 }
 
 /// What an answer is, if there is one.

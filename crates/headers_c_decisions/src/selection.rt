@@ -51,8 +51,7 @@ pub fn select_ranges(
         length,
         &limits,
     )?;
-    let selected = show_selection(alloc, &selection)?;
-    Ok(selected)
+    Ok(show_selection(alloc, &selection)?)
 }
 
 /// The status of a selection, and its ranges. Out of memory only if there are parts.

@@ -27,8 +27,7 @@ pub(crate) fn request_with(
     ensures { IsFieldOf name.now lines.now result }
 {
     let values = values_of(alloc, lines)?;
-    let map = map_of(alloc, name, values)?;
-    Ok(map)
+    Ok(map_of(alloc, name, values)?)
 }
 
 /// A request that has these lines of the field of a dimension, and no others.

@@ -1,13 +1,19 @@
-use Rattle.std.proofs.Common.{◌≡◌, Err, inr, subst, sym}
-use Rattle.std.proofs.lemmas.Result.{err_from_is_err_and}
-use Rattle.headers_c_decisions.specs.Cors.{Shares}
+use Rattle.std.proofs.Common.{List, ℕ, Result, Ok, Err, inr}
+use Rattle.headers_cors_policy.specs.Policy.{Policy}
+use Rattle.headers_c_parts.specs.declared.status.Failure.{Failure}
+use Rattle.headers_c_decisions.specs.Cors.{Shares, SharesBy}
+use Rattle.headers_c_decisions.specs.Rules.{IsPolicyFor}
+use Rattle.headers_c_decisions.specs.declared.cors.Shared.{Shared}
+use Rattle.headers_c_decisions.specs.declared.rules.Rules.{Rules}
 use Rattle.headers_c_decisions.proofs.cors.answer_by_rules.Goals as goal
 
-pub returns-in_err-shared : goal.returns-in_err-shared
-returns-in_err-shared c =
-    let answer = c.from_residual-in_err-shared in
-    let failure = c.in_err-shared.field-0.0 in
-    let error = err_from_is_err_and answer.result answer.ensures.1 in
-    let is : answer.result ≡ Err failure = cc (error.1, error.2) in
-    subst (Shares c.args.rules.now c.args.method.now c.args.request.now c.args.response.now) (sym is)
-    (inr c.in_err-shared.ensures)
+Shares-from_policy : (given : Rules) (policy : Policy) (method request response : List ℕ)
+    (result : Result Shared Failure) → IsPolicyFor given policy → SharesBy policy method request response result
+    → Shares given method request response result
+Shares-from_policy given policy method request response (Ok shared) is by = (policy, is, by)
+Shares-from_policy given policy method request response (Err failure) is by = inr by
+
+pub returns : goal.returns
+returns c =
+    Shares-from_policy c.args.rules.now c.in_ok-policy.policy c.args.method.now c.args.request.now
+    c.args.response.now c.answer_by.result c.in_ok-policy.ensures c.answer_by.ensures

@@ -4,10 +4,10 @@ use Rattle.headers_c_parts.specs.declared.status.Failure.TheVariants.{Memory}
 use Rattle.headers_c_decisions.specs.Handshakes.{AnswersHandshake}
 use Rattle.headers_c_decisions.proofs.handshake.answer_handshake.Goals as goal
 
-pub returns-in_err-answered : goal.returns-in_err-answered
-returns-in_err-answered c =
+pub returns-in_err-show : goal.returns-in_err-show
+returns-in_err-show c =
     let method = c.in_ok-method.ensures in
-    let answer = c.from_residual-in_err-answered in
+    let answer = c.from_residual-in_err-show in
     let error = err_from_is_err_and answer.result answer.ensures.1 in
     let is : answer.result ≡ Err Memory = cc (error.1, error.2) in
     subst
@@ -29,7 +29,7 @@ returns-in_err-answered c =
             inr (
               c.in_ok-answer.answer,
               rw (method.1, c.as_slice.ensures.value) at c.in_ok-answer.ensures.answer,
-              c.in_err-answered.ensures.memory refl,
+              c.in_err-show.ensures.memory refl,
             );
       },
     ))))))

@@ -18,5 +18,5 @@ returns c =
       selection = c.in_ok-selection.selection;
       selects =
           rw (method.1, c.usual-limits.ensures) at c.in_ok-selection.ensures.selects;
-      shown = c.in_ok-selected.ensures.shown;
+      shown = c.in_ok-show_selection.ensures.shown;
     }
