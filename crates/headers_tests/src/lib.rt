@@ -14,6 +14,7 @@ mod map;
 mod rows;
 #[cfg(test)]
 mod schemes;
-pub mod traits;
+#[cfg(test)]
+mod traits;
 #[cfg(test)]
 mod walks;
