@@ -82,6 +82,13 @@ abbrev pub IsOutcomeAt : Gateway → HopOptions → Nodes → Protocol → Reque
 IsOutcomeAt gateway options nodes server request outcome =
     IsHopOutcome gateway (hop_of options nodes server request.authority request.fields) request outcome
 
+-- a caller is told of the gateway's outcome of a request, which arrived so
+pub record IsStepAt (gateway : Gateway) (options : HopOptions) (nodes : Nodes) (server : Protocol) (request : Request)
+    (step : RequestStep) : Type 0 where
+  pub outcome : HopOutcome
+  pub is_outcome : IsOutcomeAt gateway options nodes server request outcome
+  pub is_shown : IsShownRequest outcome step
+
 -- all is as it was handed in, and this is what the gateway does
 pub record IsPassedRequest (given : GatewayOptions) (options : HopOptions) (method : List ℕ) (version : ℕ)
     (authority input : List ℕ) (step : RequestStep) : Type 0 where

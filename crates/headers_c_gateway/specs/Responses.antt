@@ -6,7 +6,7 @@ use Rattle.http_header.specs.Token.{IsToken}
 use Rattle.headers.specs.LineMap.{lines_at}
 use Rattle.headers_section.specs.Section.{Holds}
 use Rattle.headers_gateway.specs.FieldLines.{Field, fields_of}
-use Rattle.headers_gateway.specs.Responses.{IsResponseOutcome}
+use Rattle.headers_gateway.specs.Responses.{IsResponseOutcome, Response}
 use Rattle.headers_gateway.specs.declared.gateway.Gateway.{Gateway}
 use Rattle.headers_gateway.specs.declared.protocol.Protocol.{Protocol}
 use Rattle.headers_gateway.specs.declared.response.ResponseOutcome.{ResponseOutcome}
@@ -54,6 +54,12 @@ pub record IsShownResponse (outcome : ResponseOutcome) (step : ResponseStep) : T
   pub text : step.text.items ≡ lines_text (forwarded_lines outcome)
 
 -- ---- what a gateway does
+
+-- a caller is told of the gateway's outcome of a response, which came at that second
+pub record IsStepAt (gateway : Gateway) (second : ℕ) (response : Response) (step : ResponseStep) : Type 0 where
+  pub outcome : ResponseOutcome
+  pub is_outcome : IsResponseOutcome gateway second response outcome
+  pub is_shown : IsShownResponse outcome step
 
 -- all is as it was handed in, and this is what the gateway does
 pub record IsPassedResponse (given : GatewayOptions) (status version : ℕ) (input method : List ℕ)

@@ -2,8 +2,8 @@
 ghost use Rattle.std.specs.Prelude.{◌≡◌, IfOk};
 ghost use Rattle.headers_gateway.specs.Requests.{request_of};
 ghost use Rattle.headers_c_gateway.specs.Lines.{lines_text};
-ghost use Rattle.headers_c_gateway.specs.Requests.{IsOutcomeAt, IsShownRequest, PassesRequest, rejected};
-ghost use Rattle.headers_c_gateway.specs.Requests.{request_facts, sent_lines};
+ghost use Rattle.headers_c_gateway.specs.Requests.{IsOutcomeAt, IsShownRequest, IsStepAt, PassesRequest};
+ghost use Rattle.headers_c_gateway.specs.Requests.{rejected, request_facts, sent_lines};
 
 use crate::content::{ContentFacts, content_facts, request_content};
 use crate::gateway::{GatewayOptions, read_gateway};
@@ -54,10 +54,10 @@ pub fn pass_request(
 ) -> Result<RequestStep, Failure>
     ensures { PassesRequest gateway.entry.now hop.entry.now method.now version authority.now section.now result }
 {
-    let gateway = read_gateway(alloc, gateway)?;
-    let nodes = read_nodes(alloc, hop)?;
     let server = read_protocol(hop.server_version)?;
     let protocol = read_protocol(version)?;
+    let gateway = read_gateway(alloc, gateway)?;
+    let nodes = read_nodes(alloc, hop)?;
     let method = read_method(alloc, method)?;
     let authority = optional_value(alloc, authority)?;
     let fields = read_map(alloc, section, keys)?;
@@ -67,9 +67,22 @@ pub fn pass_request(
         authority: authority.as_ref(),
         fields: &fields,
     };
-    let outcome = decide(alloc, &gateway, hop, &nodes, server, &head)?;
-    let step = show(alloc, &outcome)?;
-    Ok(step)
+    Ok(step_of(alloc, &gateway, hop, &nodes, server, &head)?)
+}
+
+// What the gateway does with a request, which arrived so.
+fn step_of(
+    alloc: Global,
+    gateway: &Gateway,
+    hop: &HopOptions<'_>,
+    nodes: &Nodes,
+    server: Protocol,
+    head: &RequestHead<'_>,
+) -> Result<RequestStep, AllocError>
+    ensures { IfOk result (IsStepAt gateway.now hop.entry.now nodes.now server (request_of head.now)) }
+{
+    let outcome = decide(alloc, gateway, hop, nodes, server, head)?;
+    show(alloc, &outcome)
 }
 
 fn decide(

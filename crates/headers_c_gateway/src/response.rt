@@ -1,7 +1,8 @@
 //! What a gateway forwards of a response.
 ghost use Rattle.std.specs.Prelude.{◌≡◌, IfOk};
+ghost use Rattle.headers_gateway.specs.Responses.{response_of};
 ghost use Rattle.headers_c_gateway.specs.Lines.{lines_text};
-ghost use Rattle.headers_c_gateway.specs.Responses.{IsShownResponse, PassesResponse, forwarded_lines};
+ghost use Rattle.headers_c_gateway.specs.Responses.{IsShownResponse, IsStepAt, PassesResponse, forwarded_lines};
 ghost use Rattle.headers_c_gateway.specs.Responses.{response_facts, without_content};
 
 use crate::content::{ContentFacts, content_facts, sent_content};
@@ -10,9 +11,10 @@ use crate::gateway::{GatewayOptions, read_gateway};
 use crate::lines::lines_text;
 use crate::protocol::read_protocol;
 use crate::reason::reason_number;
+use headers::Date;
 use headers_c_decisions::{read_method, read_status};
 use headers_c_parts::{Failure, HashKeys, read_map};
-use headers_gateway::{ResponseHead, ResponseOutcome, forward_response};
+use headers_gateway::{Gateway, ResponseHead, ResponseOutcome, forward_response};
 use std::alloc::{AllocError, Global};
 
 /// What a gateway does with a response.
@@ -53,12 +55,12 @@ pub fn pass_response(
 ) -> Result<ResponseStep, Failure>
     ensures { PassesResponse gateway.entry.now status version section.now method.now client_version received result }
 {
-    let gateway = read_gateway(alloc, gateway)?;
     let status = read_status(status)?;
     let protocol = read_protocol(version)?;
-    let method = read_method(alloc, method)?;
     let client = read_protocol(client_version)?;
     let date = read_date(received)?;
+    let gateway = read_gateway(alloc, gateway)?;
+    let method = read_method(alloc, method)?;
     let fields = read_map(alloc, section, keys)?;
     let head = ResponseHead {
         protocol,
@@ -67,9 +69,20 @@ pub fn pass_response(
         method: &method,
         client,
     };
-    let outcome = forward_response(alloc, &gateway, &head, date)?;
-    let step = show(alloc, &outcome)?;
-    Ok(step)
+    Ok(step_of(alloc, &gateway, &head, date)?)
+}
+
+// What the gateway does with a response.
+fn step_of(
+    alloc: Global,
+    gateway: &Gateway,
+    head: &ResponseHead<'_>,
+    date: Date,
+) -> Result<ResponseStep, AllocError>
+    ensures { IfOk result (IsStepAt gateway.now date (response_of head.now)) }
+{
+    let outcome = forward_response(alloc, gateway, head, date)?;
+    show(alloc, &outcome)
 }
 
 fn without_content(status: u16, action: u8, reason: u8) -> ResponseFacts

@@ -6,19 +6,9 @@ use Rattle.headers_c_gateway.proofs.RequestLemmas.{bytes_copied}
 use Rattle.headers_c_gateway.proofs.request.pass_request.Goals as goal
 
 -- the gateway's name was copied
-pub returns-in_err-outcome : goal.returns-in_err-outcome
-returns-in_err-outcome c =
-    let answer = c.from_residual-in_err-outcome in
-    let error = err_from_is_err_and answer.result answer.ensures.1 in
-    let is : answer.result ≡ Err Memory = cc (error.1, error.2) in
-    subst
-    (PassesRequest c.args.gateway.now c.args.hop.now c.args.method.now c.args.version c.args.authority.now
-    c.args.section.now)
-    (sym is) (inl (inl c.in_ok-gateway.ensures.0.0))
-
-pub returns-in_err-step : goal.returns-in_err-step
-returns-in_err-step c =
-    let answer = c.from_residual-in_err-step in
+pub returns-in_err-step_of : goal.returns-in_err-step_of
+returns-in_err-step_of c =
+    let answer = c.from_residual-in_err-step_of in
     let error = err_from_is_err_and answer.result answer.ensures.1 in
     let is : answer.result ≡ Err Memory = cc (error.1, error.2) in
     subst
@@ -29,6 +19,9 @@ returns-in_err-step c =
 pub returns : goal.returns
 returns c =
     let method = c.in_ok-method.ensures in
+    let step =
+    rw (method.1, bytes_copied c.as_ref.result c.in_ok-authority.authority c.as_ref.ensures.value) at
+    c.in_ok-step_of.ensures in
     record {
       gateway = c.in_ok-gateway.gateway;
       is_gateway = c.in_ok-gateway.ensures;
@@ -43,9 +36,7 @@ returns c =
       is_target = c.in_ok-authority.ensures;
       fields = c.in_ok-fields.fields;
       holds = c.in_ok-fields.ensures;
-      outcome = c.in_ok-outcome.outcome;
-      is_outcome =
-          rw (method.1, bytes_copied c.as_ref.result c.in_ok-authority.authority c.as_ref.ensures.value) at
-          c.in_ok-outcome.ensures;
-      is_shown = c.in_ok-step.ensures;
+      outcome = step.outcome;
+      is_outcome = step.is_outcome;
+      is_shown = step.is_shown;
     }

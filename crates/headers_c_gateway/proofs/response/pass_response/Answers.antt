@@ -5,6 +5,7 @@ returns c =
     let status = c.in_ok-status.ensures in
     let method = c.in_ok-method.ensures in
     let date = c.in_ok-date.ensures in
+    let step = rw (status.1, method.1, date.1) at c.in_ok-step_of.ensures in
     record {
       gateway = c.in_ok-gateway.gateway;
       is_gateway = c.in_ok-gateway.ensures;
@@ -17,7 +18,7 @@ returns c =
       is_date = rw date.1 at date;
       fields = c.in_ok-fields.fields;
       holds = c.in_ok-fields.ensures;
-      outcome = c.in_ok-outcome.outcome;
-      is_outcome = rw (status.1, method.1, date.1) at c.in_ok-outcome.ensures.ok;
-      is_shown = c.in_ok-step.ensures;
+      outcome = step.outcome;
+      is_outcome = step.is_outcome;
+      is_shown = step.is_shown;
     }
