@@ -38,13 +38,9 @@ impl<T: Drop> Routes<T> {
         match self.router.at(path) {
             Ok(found) => {
                 let resource = describe(found.value, &found.params)?;
-                let answer = answer_request(alloc, &resource, request, present)?;
-                Ok(answer)
+                Ok(answer_request(alloc, &resource, request, present)?)
             }
-            Err(_) => {
-                let answer = answer_request(alloc, &self.nowhere, request, present)?;
-                Ok(answer)
-            }
+            Err(_) => Ok(answer_request(alloc, &self.nowhere, request, present)?),
         }
     }
 }

@@ -1,8 +1,8 @@
 use Rattle.std.proofs.Common.{refl}
 use Rattle.headers_routes.proofs.routes.Routes.answer_at.Goals as goal
 
-pub returns-in_ok-answer-in-Ok : goal.returns-in_ok-answer-in-Ok
-returns-in_ok-answer-in-Ok g c =
+pub returns-in_ok-answer_request-in-Ok : goal.returns-in_ok-answer_request-in-Ok
+returns-in_ok-answer_request-in-Ok g c =
     rw c.in-Ok.ensures.found (
       c.in_ok-resource-in-Ok.resource,
       (
@@ -12,5 +12,5 @@ returns-in_ok-answer-in-Ok g c =
         record { pattern = refl; text = refl; names = refl; of = c.in-Ok.ensures.path },
         c.in_ok-resource-in-Ok.ensures,
       ),
-      c.in_ok-answer-in-Ok.ensures,
+      c.in_ok-answer_request-in-Ok.ensures,
     )
