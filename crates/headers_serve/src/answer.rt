@@ -78,6 +78,5 @@ pub(crate) fn decide(
         content: request.content,
         fields: request.fields,
     };
-    let answer = answer_request(alloc, resource, &whole, present)?;
-    Ok(answer)
+    answer_request(alloc, resource, &whole, present)
 }

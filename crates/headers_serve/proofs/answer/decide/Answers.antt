@@ -1,4 +1,5 @@
 use Rattle.std.proofs.Common.{inl, inr}
+use Rattle.std.proofs.lemmas.Result.{IfOk-weaker}
 use Rattle.headers_resource.specs.Requests.{head_of as as_head, request_of}
 use Rattle.headers_serve.proofs.AnswerLemmas.{FitsIn-from_answer}
 use Rattle.headers_serve.proofs.answer.decide.Goals as goal
@@ -13,9 +14,13 @@ returns-then-is_sendable-clause-fits c =
 
 pub returns-clause-answers : goal.returns-clause-answers
 returns-clause-answers c =
-    inr (c.in_ok-asked.asked, c.if-is_sendable.ensures, c.in_ok-asked.ensures, c.in_ok-answer.ensures)
+    IfOk-weaker c.answer_request-2.result _ _
+    (λ answer is. inr (c.in_ok-asked.asked, c.if-is_sendable.ensures, c.in_ok-asked.ensures, is))
+    c.answer_request-2.ensures
 
 pub returns-clause-fits : goal.returns-clause-fits
 returns-clause-fits c =
-    FitsIn-from_answer c.args.present c.args.resource.now (as_head (request_of c.args.request.now))
-    c.args.files.now c.requires c.in_ok-answer.answer c.in_ok-answer.ensures
+    IfOk-weaker c.answer_request-2.result _ _
+    (FitsIn-from_answer c.args.present c.args.resource.now (as_head (request_of c.args.request.now))
+    c.args.files.now c.requires)
+    c.answer_request-2.ensures
