@@ -43,10 +43,7 @@ pub(crate) fn authority_of(
         (option_map (λ found. found.bytes) value)) }
 {
     match request.uri().authority() {
-        Some(authority) => {
-            let value = value_of(alloc, authority.as_str())?;
-            Ok(value)
-        }
+        Some(authority) => value_of(alloc, authority.as_str()),
         None => Ok(None),
     }
 }
