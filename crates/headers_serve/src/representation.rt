@@ -40,8 +40,7 @@ fn stands_at<S: Store>(alloc: Global, store: &S, path: &str) -> Result<Entry, Al
     if !is_plain(path) {
         return Ok(Entry::Missing);
     }
-    let entry = store.find(alloc, path)?;
-    Ok(entry)
+    store.find(alloc, path)
 }
 
 // What stands beside a file in a coding.
@@ -54,8 +53,7 @@ fn find_beside<S: Store>(
     ensures { IfOk result (StandsAt (S.has store.now) (path.now ++ coding_suffix coding)) }
 {
     let text = beside(alloc, path, coding)?;
-    let entry = stands_at(alloc, store, text.as_str())?;
-    Ok(entry)
+    stands_at(alloc, store, text.as_str())
 }
 
 // Appends a representation of this media type, if this is one.
