@@ -217,8 +217,7 @@ fn value_sent(
     if is_kept(name) {
         return Ok(value);
     }
-    let made = trimmed(alloc, value)?;
-    Ok(made)
+    trimmed(alloc, value)
 }
 
 // What the types of a name and a value say of their bytes.
