@@ -1,5 +1,9 @@
+pub mod Answering
 pub mod Answers
 pub mod Combining
 pub mod Completing
 pub mod Extents
+pub mod History
+pub mod Kept
 pub mod Received
+pub mod Recording

@@ -2,7 +2,7 @@
 use crate::parts::{make_part_call, new_parts};
 use headers::{Encoded, HeaderMap};
 use headers_cache::{Limits, Lookup, Options, Refreshed, Store};
-use headers_cache_part_store::PartStore;
+use headers_cache_parts::PartStore;
 use headers_cache_policy::{Kind, RequestHead};
 use headers_cache_rules::{Exchange, Reception, StoredAnswer, StoredResponse};
 use headers_cache_targets::named_targets;

@@ -1,5 +1,0 @@
-pub mod ByteLemmas
-pub mod CallLemmas
-pub mod FieldLemmas
-pub mod HistoryLemmas
-pub mod MemoryLemmas

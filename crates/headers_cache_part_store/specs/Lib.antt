@@ -1,4 +1,0 @@
-pub mod Answering
-pub mod History
-pub mod Kept
-pub mod Recording
