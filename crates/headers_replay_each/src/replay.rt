@@ -3,11 +3,11 @@ ghost use Rattle.std.specs.Iterator.{IsFinite};
 
 use crate::everywhere::everywhere;
 use crate::hinted::{decode_hinted, harmless, lengths};
-use crate::writing::{add_with_copy, add_written, secret, written};
+use crate::writing::{add_with_copy, add_written, secret, writes, written};
 use headers::{
     Header, HeaderMap, HeaderMapExt, HeaderName, HeaderValue, Methods, Refused, decode_values,
 };
-use headers_rows::{Answer, Arguments, Failure};
+use headers_rows::{Answer, Arguments, Failure, append_lines};
 use std::alloc::{AllocError, Global};
 use std::cmp::Ordering;
 use std::fmt::Display;
@@ -64,7 +64,46 @@ pub fn show<H: Header + Getters<P>, P>(header: &H, answer: &mut Answer) -> Resul
     Ok(add_with_copy(&of_header, &of_copy, answer)?)
 }
 
-/// The same, and whether the lines read an equal header.
+/// The same of a header that was just made.
+pub fn show_made<H: Header + Getters<P>, P>(header: H, answer: &mut Answer) -> Result<(), Failure> {
+    show(&header, answer)
+}
+
+/// The same, if the header could be made.
+pub fn show_result<H: Header + Getters<P>, P, E: Into<Failure>>(
+    made: Result<H, E>,
+    answer: &mut Answer,
+) -> Result<(), Failure> {
+    match made {
+        Ok(header) => show(&header, answer),
+        Err(error) => Err(error.into()),
+    }
+}
+
+/// The lines that a header writes, what its getters give, and whether the lines read an equal header, if it
+/// could be made.
+pub fn show_back_result<H: Header + Getters<P> + PartialEq, P, E: Into<Failure>>(
+    made: Result<H, E>,
+    answer: &mut Answer,
+) -> Result<(), Failure> {
+    match made {
+        Ok(header) => show_back(&header, answer),
+        Err(error) => Err(error.into()),
+    }
+}
+
+/// Adds whether the text of a header is the line that it writes.
+pub fn show_text<H: Header + Display>(header: &H, answer: &mut Answer) -> Result<(), Failure> {
+    let text = header.to_string(answer.alloc())?;
+    say(writes(answer.alloc(), header, text.as_str())?, answer)
+}
+
+/// Adds a word.
+pub fn say(word: impl Display + Drop, answer: &mut Answer) -> Result<(), Failure> {
+    Ok(answer.word(word)?)
+}
+
+/// The lines that a header writes, what its getters give, and whether the lines read an equal header.
 pub fn show_back<H: Header + Getters<P> + PartialEq, P>(
     header: &H,
     answer: &mut Answer,
@@ -152,9 +191,7 @@ pub fn padded<H: Header + Display>(
 fn map_of_lines<H: Header>(arguments: &mut Arguments<'_>) -> Result<HeaderMap, Failure> {
     let mut map = HeaderMap::new(arguments.alloc());
     map.append("x-before", HeaderValue::from_static("1"))?;
-    for line in arguments.lines()? {
-        map.append(H::name(), line)?;
-    }
+    append_lines(&mut map, &H::name(), arguments.lines()?)?;
     map.append("x-after", HeaderValue::from_static("2"))?;
     Ok(map)
 }
@@ -205,25 +242,17 @@ fn typed_insert<H: Header>(
     answer: &mut Answer,
 ) -> Result<(), Failure> {
     let alloc = arguments.alloc();
-    let count = arguments.number()?;
-    let lines = arguments.lines()?;
-    let Ok(count) = usize::try_from(count) else {
-        return Err(Failure::NoCall);
-    };
-    if count > lines.len() {
+    let count = usize::try_from(arguments.number()?).map_err(|_| Failure::NoCall)?;
+    let mut first = arguments.lines()?;
+    if count > first.len() {
         return Err(Failure::NoCall);
     }
-    let (first, others) = lines.split_at(count);
-    let header: H = decode_values(alloc, first)?;
+    let others = first.split_off(count)?;
+    let header: H = decode_values(alloc, &first)?;
     let mut map = HeaderMap::new(alloc);
-    for line in others {
-        map.append(H::name(), line.clone()?)?;
-    }
+    append_lines(&mut map, &H::name(), others)?;
     map.typed_insert(alloc, header)?;
-    let mut kept = Vec::new(alloc);
-    for line in map.get_all(H::name()) {
-        kept.push(line)?;
-    }
+    let kept: Vec<&HeaderValue> = map.get_all(H::name()).iter().collect(alloc)?;
     Ok(answer.list(kept.as_slice())?)
 }
 

@@ -1,7 +1,9 @@
 //! Calls of the caching headers.
 use crate::Http;
-use headers::{Age, CacheControl, Expires, Pragma, Vary, equal_by_encoding};
-use headers_replay_each::{Getters, Replay, cmp, eq, hinted_names, show, show_back};
+use headers::{Age, CacheControl, Pragma, Vary, equal_by_encoding};
+use headers_replay_each::{
+    Getters, Replay, cmp, eq, hinted_names, say, show_back_result, show_made, show_result,
+};
 use headers_rows::{Answer, Arguments, Failure};
 use std::alloc::{AllocError, Global};
 use std::time::Duration;
@@ -22,11 +24,31 @@ impl Replay<Http> for Age {
         match call {
             "eq" => eq::<Age, _>(arguments, answer),
             "cmp" => cmp::<Age>(arguments, answer),
-            "from_secs" => show(&Age::from_secs(arguments.number()?), answer),
-            "from_duration" => show(&Age::from_duration(arguments.duration()?), answer),
+            "from_secs" => show_made(Age::from_secs(arguments.number()?), answer),
+            "from_duration" => show_made(Age::from_duration(arguments.duration()?), answer),
             _ => Err(Failure::NoCall),
         }
     }
+}
+
+// The value with one more setter, if there is such a one.
+fn with_setter(value: CacheControl, setter: &str, seconds: u64) -> Option<CacheControl> {
+    Some(match setter {
+        "no_cache" => value.with_no_cache(),
+        "no_store" => value.with_no_store(),
+        "no_transform" => value.with_no_transform(),
+        "only_if_cached" => value.with_only_if_cached(),
+        "public" => value.with_public(),
+        "private" => value.with_private(),
+        "immutable" => value.with_immutable(),
+        "must_revalidate" => value.with_must_revalidate(),
+        "must_understand" => value.with_must_understand(),
+        "max_age" => value.with_max_age(Duration::from_secs(seconds)),
+        "max_stale" => value.with_max_stale(Duration::from_secs(seconds)),
+        "min_fresh" => value.with_min_fresh(Duration::from_secs(seconds)),
+        "s_max_age" => value.with_s_max_age(Duration::from_secs(seconds)),
+        _ => return None,
+    })
 }
 
 // The value with the setters of the words, in their order.
@@ -34,25 +56,17 @@ fn with_setters(arguments: &mut Arguments<'_>) -> Result<CacheControl, Failure> 
     let mut value = CacheControl::new();
     for word in arguments.rest().split_whitespace() {
         let (setter, number) = word.split_once('=').unwrap_or((word, "0"));
-        let seconds = Duration::from_secs(number.parse().map_err(|_| Failure::NoCall)?);
-        value = match setter {
-            "no_cache" => value.with_no_cache(),
-            "no_store" => value.with_no_store(),
-            "no_transform" => value.with_no_transform(),
-            "only_if_cached" => value.with_only_if_cached(),
-            "public" => value.with_public(),
-            "private" => value.with_private(),
-            "immutable" => value.with_immutable(),
-            "must_revalidate" => value.with_must_revalidate(),
-            "must_understand" => value.with_must_understand(),
-            "max_age" => value.with_max_age(seconds),
-            "max_stale" => value.with_max_stale(seconds),
-            "min_fresh" => value.with_min_fresh(seconds),
-            "s_max_age" => value.with_s_max_age(seconds),
-            _ => return Err(Failure::NoCall),
-        };
+        let seconds = number.parse().map_err(|_| Failure::NoCall)?;
+        value = with_setter(value, setter, seconds).ok_or(Failure::NoCall)?;
     }
     Ok(value)
+}
+
+// Whether the values of two lines have equal encodings.
+fn are_equal(arguments: &mut Arguments<'_>, answer: &mut Answer) -> Result<(), Failure> {
+    let first: CacheControl = arguments.header()?;
+    let second: CacheControl = arguments.header()?;
+    say(equal_by_encoding(&first, &second), answer)
 }
 
 impl Getters<Http> for CacheControl {
@@ -90,33 +104,8 @@ impl Replay<Http> for CacheControl {
     fn call(call: &str, arguments: &mut Arguments<'_>, answer: &mut Answer) -> Result<(), Failure> {
         match call {
             "eq" => eq::<CacheControl, _>(arguments, answer),
-            "equal_by_encoding" => {
-                let first: CacheControl = arguments.header()?;
-                let second: CacheControl = arguments.header()?;
-                Ok(answer.word(equal_by_encoding(&first, &second))?)
-            }
-            "with" => show_back(&with_setters(arguments)?, answer),
-            _ => Err(Failure::NoCall),
-        }
-    }
-}
-
-impl Getters<Http> for Expires {
-    fn getters(&self, answer: &mut Answer) -> Result<(), Failure> {
-        Ok(answer.word(self.unix_secs())?)
-    }
-
-    fn copy(&self, _alloc: Global) -> Result<Expires, AllocError> {
-        self.clone()
-    }
-}
-
-impl Replay<Http> for Expires {
-    fn call(call: &str, arguments: &mut Arguments<'_>, answer: &mut Answer) -> Result<(), Failure> {
-        match call {
-            "eq" => eq::<Expires, _>(arguments, answer),
-            "cmp" => cmp::<Expires>(arguments, answer),
-            "from_unix_secs" => show(&Expires::from_unix_secs(arguments.date()?), answer),
+            "equal_by_encoding" => are_equal(arguments, answer),
+            "with" => show_back_result(with_setters(arguments), answer),
             _ => Err(Failure::NoCall),
         }
     }
@@ -124,7 +113,7 @@ impl Replay<Http> for Expires {
 
 impl Getters<Http> for Pragma {
     fn getters(&self, answer: &mut Answer) -> Result<(), Failure> {
-        Ok(answer.word(self.is_no_cache())?)
+        say(self.is_no_cache(), answer)
     }
 
     fn copy(&self, alloc: Global) -> Result<Pragma, AllocError> {
@@ -136,7 +125,7 @@ impl Replay<Http> for Pragma {
     fn call(call: &str, arguments: &mut Arguments<'_>, answer: &mut Answer) -> Result<(), Failure> {
         match call {
             "eq" => eq::<Pragma, _>(arguments, answer),
-            "no_cache" => show(&Pragma::no_cache(), answer),
+            "no_cache" => show_made(Pragma::no_cache(), answer),
             _ => Err(Failure::NoCall),
         }
     }
@@ -159,11 +148,11 @@ impl Replay<Http> for Vary {
         let alloc = arguments.alloc();
         match call {
             "eq" => eq::<Vary, _>(arguments, answer),
-            "any" => show(&Vary::any(), answer),
-            "from_name" => show(&Vary::from_name(alloc, arguments.name()?)?, answer),
-            "from_iter" => show(&Vary::from_iter(alloc, arguments.names()?)?, answer),
+            "any" => show_made(Vary::any(), answer),
+            "from_name" => show_result(Vary::from_name(alloc, arguments.name()?), answer),
+            "from_iter" => show_result(Vary::from_iter(alloc, arguments.names()?), answer),
             "from_hinted_iter" => {
-                show(&Vary::from_iter(alloc, hinted_names(arguments)?)?, answer)
+                show_result(Vary::from_iter(alloc, hinted_names(arguments)?), answer)
             }
             _ => Err(Failure::NoCall),
         }

@@ -1,25 +1,84 @@
 //! Calls of the headers of conditional requests.
 use crate::Http;
-use headers::{
-    ETag, IfMatch, IfModifiedSince, IfNoneMatch, IfRange, IfUnmodifiedSince, LastModified,
-};
-use headers_replay_each::{Getters, Replay, cmp, eq, show, show_back};
+use headers::{ETag, Header, IfMatch, IfNoneMatch, IfRange, LastModified};
+use headers_replay_each::{Getters, Replay, eq, say, show, show_back_result, show_made};
 use headers_rows::{Answer, Arguments, Failure};
 use std::alloc::{AllocError, Global};
+
+// A condition on the tags of a target.
+trait Condition: Header + From<ETag> + PartialEq {
+    fn any() -> Self;
+
+    fn passes(&self, tag: &ETag) -> bool;
+}
+
+impl Condition for IfMatch {
+    fn any() -> IfMatch {
+        IfMatch::any()
+    }
+
+    fn passes(&self, tag: &ETag) -> bool {
+        self.precondition_passes(tag)
+    }
+}
+
+impl Condition for IfNoneMatch {
+    fn any() -> IfNoneMatch {
+        IfNoneMatch::any()
+    }
+
+    fn passes(&self, tag: &ETag) -> bool {
+        self.precondition_passes(tag)
+    }
+}
+
+// Whether a condition on one tag passes for another.
+fn passes<C: Condition>(alloc: Global, tag: &ETag, other: &ETag) -> Result<bool, AllocError> {
+    Ok(C::from(tag.clone(alloc)?).passes(other))
+}
 
 // What two tags are to each other, by each condition.
 fn compare(arguments: &mut Arguments<'_>, answer: &mut Answer) -> Result<(), Failure> {
     let alloc = arguments.alloc();
     let first = arguments.tag()?;
     let second = arguments.tag()?;
-    answer.word(IfMatch::from(first.clone(alloc)?).precondition_passes(&second))?;
-    answer.word(IfNoneMatch::from(first.clone(alloc)?).precondition_passes(&second))?;
-    Ok(answer.word(IfRange::etag(first).is_modified(Some(&second), None))?)
+    answer.word(passes::<IfMatch>(alloc, &first, &second)?)?;
+    answer.word(passes::<IfNoneMatch>(alloc, &first, &second)?)?;
+    say(
+        IfRange::etag(first).is_modified(Some(&second), None),
+        answer,
+    )
+}
+
+// Whether the condition of the lines after a tag passes for it.
+fn call_passes<C: Condition>(
+    arguments: &mut Arguments<'_>,
+    answer: &mut Answer,
+) -> Result<(), Failure> {
+    let tag = arguments.tag()?;
+    let header: C = arguments.header_of_rest()?;
+    say(header.passes(&tag), answer)
+}
+
+// The calls of such a condition.
+fn call_condition<C: Condition + Getters<Http>>(
+    call: &str,
+    arguments: &mut Arguments<'_>,
+    answer: &mut Answer,
+) -> Result<(), Failure> {
+    match call {
+        "eq" => eq::<C, _>(arguments, answer),
+        "any" => show_made(C::any(), answer),
+        "from_etag" => show_made(C::from(arguments.tag()?), answer),
+        "any_passes" => say(C::any().passes(&arguments.tag()?), answer),
+        "precondition_passes" => call_passes::<C>(arguments, answer),
+        _ => Err(Failure::NoCall),
+    }
 }
 
 impl Getters<Http> for ETag {
     fn getters(&self, answer: &mut Answer) -> Result<(), Failure> {
-        Ok(answer.word(self.is_weak())?)
+        say(self.is_weak(), answer)
     }
 
     fn copy(&self, alloc: Global) -> Result<ETag, AllocError> {
@@ -32,7 +91,7 @@ impl Replay<Http> for ETag {
         let alloc = arguments.alloc();
         match call {
             "eq" => eq::<ETag, _>(arguments, answer),
-            "from_str" => show_back(&ETag::from_str(alloc, &arguments.text()?)?, answer),
+            "from_str" => show_back_result(ETag::from_str(alloc, &arguments.text()?), answer),
             "compare" => compare(arguments, answer),
             _ => Err(Failure::NoCall),
         }
@@ -41,7 +100,7 @@ impl Replay<Http> for ETag {
 
 impl Getters<Http> for IfMatch {
     fn getters(&self, answer: &mut Answer) -> Result<(), Failure> {
-        Ok(answer.word(self.is_any())?)
+        say(self.is_any(), answer)
     }
 
     fn copy(&self, alloc: Global) -> Result<IfMatch, AllocError> {
@@ -51,20 +110,7 @@ impl Getters<Http> for IfMatch {
 
 impl Replay<Http> for IfMatch {
     fn call(call: &str, arguments: &mut Arguments<'_>, answer: &mut Answer) -> Result<(), Failure> {
-        match call {
-            "eq" => eq::<IfMatch, _>(arguments, answer),
-            "any" => show(&IfMatch::any(), answer),
-            "from_etag" => show(&IfMatch::from(arguments.tag()?), answer),
-            "any_passes" => {
-                Ok(answer.word(IfMatch::any().precondition_passes(&arguments.tag()?))?)
-            }
-            "precondition_passes" => {
-                let tag = arguments.tag()?;
-                let header: IfMatch = arguments.header_of_rest()?;
-                Ok(answer.word(header.precondition_passes(&tag))?)
-            }
-            _ => Err(Failure::NoCall),
-        }
+        call_condition::<IfMatch>(call, arguments, answer)
     }
 }
 
@@ -76,20 +122,7 @@ impl Getters<Http> for IfNoneMatch {
 
 impl Replay<Http> for IfNoneMatch {
     fn call(call: &str, arguments: &mut Arguments<'_>, answer: &mut Answer) -> Result<(), Failure> {
-        match call {
-            "eq" => eq::<IfNoneMatch, _>(arguments, answer),
-            "any" => show(&IfNoneMatch::any(), answer),
-            "from_etag" => show(&IfNoneMatch::from(arguments.tag()?), answer),
-            "any_passes" => {
-                Ok(answer.word(IfNoneMatch::any().precondition_passes(&arguments.tag()?))?)
-            }
-            "precondition_passes" => {
-                let tag = arguments.tag()?;
-                let header: IfNoneMatch = arguments.header_of_rest()?;
-                Ok(answer.word(header.precondition_passes(&tag))?)
-            }
-            _ => Err(Failure::NoCall),
-        }
+        call_condition::<IfNoneMatch>(call, arguments, answer)
     }
 }
 
@@ -102,6 +135,15 @@ fn show_named(header: &IfRange, answer: &mut Answer) -> Result<(), Failure> {
     Ok(answer.option(header.named_date())?)
 }
 
+// Whether the target with a tag and a second is modified by the header.
+fn is_modified(arguments: &mut Arguments<'_>, answer: &mut Answer) -> Result<(), Failure> {
+    let header: IfRange = arguments.header()?;
+    let tag = arguments.optional_tag()?;
+    let date = arguments.optional_date()?;
+    let date = date.map(LastModified::from_unix_secs);
+    say(header.is_modified(tag.as_ref(), date.as_ref()), answer)
+}
+
 impl Getters<Http> for IfRange {
     fn copy(&self, alloc: Global) -> Result<IfRange, AllocError> {
         self.clone(alloc)
@@ -112,92 +154,10 @@ impl Replay<Http> for IfRange {
     fn call(call: &str, arguments: &mut Arguments<'_>, answer: &mut Answer) -> Result<(), Failure> {
         match call {
             "eq" => eq::<IfRange, _>(arguments, answer),
-            "etag" => show(&IfRange::etag(arguments.tag()?), answer),
-            "date" => show(&IfRange::date(arguments.date()?), answer),
+            "etag" => show_made(IfRange::etag(arguments.tag()?), answer),
+            "date" => show_made(IfRange::date(arguments.date()?), answer),
             "named" => show_named(&arguments.header()?, answer),
-            "is_modified" => {
-                let header: IfRange = arguments.header()?;
-                let tag = arguments.optional_tag()?;
-                let date = arguments.optional_date()?;
-                let date = date.map(LastModified::from_unix_secs);
-                Ok(answer.word(header.is_modified(tag.as_ref(), date.as_ref()))?)
-            }
-            _ => Err(Failure::NoCall),
-        }
-    }
-}
-
-impl Getters<Http> for IfModifiedSince {
-    fn getters(&self, answer: &mut Answer) -> Result<(), Failure> {
-        Ok(answer.word(self.unix_secs())?)
-    }
-
-    fn copy(&self, _alloc: Global) -> Result<IfModifiedSince, AllocError> {
-        self.clone()
-    }
-}
-
-impl Replay<Http> for IfModifiedSince {
-    fn call(call: &str, arguments: &mut Arguments<'_>, answer: &mut Answer) -> Result<(), Failure> {
-        match call {
-            "eq" => eq::<IfModifiedSince, _>(arguments, answer),
-            "cmp" => cmp::<IfModifiedSince>(arguments, answer),
-            "from_unix_secs" => show(&IfModifiedSince::from_unix_secs(arguments.date()?), answer),
-            "is_modified" => {
-                let header = IfModifiedSince::from_unix_secs(arguments.date()?);
-                Ok(answer.word(header.is_modified(arguments.number()?))?)
-            }
-            _ => Err(Failure::NoCall),
-        }
-    }
-}
-
-impl Getters<Http> for IfUnmodifiedSince {
-    fn getters(&self, answer: &mut Answer) -> Result<(), Failure> {
-        Ok(answer.word(self.unix_secs())?)
-    }
-
-    fn copy(&self, _alloc: Global) -> Result<IfUnmodifiedSince, AllocError> {
-        self.clone()
-    }
-}
-
-impl Replay<Http> for IfUnmodifiedSince {
-    fn call(call: &str, arguments: &mut Arguments<'_>, answer: &mut Answer) -> Result<(), Failure> {
-        match call {
-            "eq" => eq::<IfUnmodifiedSince, _>(arguments, answer),
-            "cmp" => cmp::<IfUnmodifiedSince>(arguments, answer),
-            "from_unix_secs" => {
-                show(
-                    &IfUnmodifiedSince::from_unix_secs(arguments.date()?),
-                    answer,
-                )
-            }
-            "precondition_passes" => {
-                let header = IfUnmodifiedSince::from_unix_secs(arguments.date()?);
-                Ok(answer.word(header.precondition_passes(arguments.number()?))?)
-            }
-            _ => Err(Failure::NoCall),
-        }
-    }
-}
-
-impl Getters<Http> for LastModified {
-    fn getters(&self, answer: &mut Answer) -> Result<(), Failure> {
-        Ok(answer.word(self.unix_secs())?)
-    }
-
-    fn copy(&self, _alloc: Global) -> Result<LastModified, AllocError> {
-        self.clone()
-    }
-}
-
-impl Replay<Http> for LastModified {
-    fn call(call: &str, arguments: &mut Arguments<'_>, answer: &mut Answer) -> Result<(), Failure> {
-        match call {
-            "eq" => eq::<LastModified, _>(arguments, answer),
-            "cmp" => cmp::<LastModified>(arguments, answer),
-            "from_unix_secs" => show(&LastModified::from_unix_secs(arguments.date()?), answer),
+            "is_modified" => is_modified(arguments, answer),
             _ => Err(Failure::NoCall),
         }
     }

@@ -1,7 +1,7 @@
 //! Calls of the headers of a connection.
 use crate::Http;
-use headers::{Connection, Expect, HeaderName, Te, TransferEncoding, Upgrade};
-use headers_replay_each::{Getters, Replay, eq, hinted_names, show};
+use headers::{Connection, Expect, Te, TransferEncoding, Upgrade};
+use headers_replay_each::{Getters, Replay, eq, hinted_names, say, show_made, show_result};
 use headers_rows::{Answer, Arguments, Failure};
 use std::alloc::{AllocError, Global};
 
@@ -11,28 +11,34 @@ impl Getters<Http> for Connection {
     }
 }
 
+fn contains(arguments: &mut Arguments<'_>, answer: &mut Answer) -> Result<(), Failure> {
+    let option = arguments.text()?;
+    let header: Connection = arguments.header_of_rest()?;
+    say(header.contains(option.as_str()), answer)
+}
+
+fn contains_name(arguments: &mut Arguments<'_>, answer: &mut Answer) -> Result<(), Failure> {
+    let option = arguments.name()?;
+    let header: Connection = arguments.header_of_rest()?;
+    say(header.contains(&option), answer)
+}
+
 impl Replay<Http> for Connection {
     fn call(call: &str, arguments: &mut Arguments<'_>, answer: &mut Answer) -> Result<(), Failure> {
         let alloc = arguments.alloc();
         match call {
-            "close" => show(&Connection::close(), answer),
-            "keep_alive" => show(&Connection::keep_alive(), answer),
-            "upgrade" => show(&Connection::upgrade(), answer),
-            "from_iter" => show(&Connection::from_iter(alloc, arguments.names()?)?, answer),
+            "close" => show_made(Connection::close(), answer),
+            "keep_alive" => show_made(Connection::keep_alive(), answer),
+            "upgrade" => show_made(Connection::upgrade(), answer),
+            "from_iter" => show_result(Connection::from_iter(alloc, arguments.names()?), answer),
             "from_hinted_iter" => {
-                let header = Connection::from_iter(alloc, hinted_names(arguments)?)?;
-                show(&header, answer)
+                show_result(
+                    Connection::from_iter(alloc, hinted_names(arguments)?),
+                    answer,
+                )
             }
-            "contains" => {
-                let option = arguments.text()?;
-                let header: Connection = arguments.header_of_rest()?;
-                Ok(answer.word(header.contains(option.as_str()))?)
-            }
-            "contains_name" => {
-                let option: HeaderName = arguments.name()?;
-                let header: Connection = arguments.header_of_rest()?;
-                Ok(answer.word(header.contains(&option))?)
-            }
+            "contains" => contains(arguments, answer),
+            "contains_name" => contains_name(arguments, answer),
             _ => Err(Failure::NoCall),
         }
     }
@@ -40,7 +46,7 @@ impl Replay<Http> for Connection {
 
 impl Getters<Http> for Expect {
     fn getters(&self, answer: &mut Answer) -> Result<(), Failure> {
-        Ok(answer.word(*self == Expect::CONTINUE)?)
+        say(*self == Expect::CONTINUE, answer)
     }
 
     fn copy(&self, _alloc: Global) -> Result<Expect, AllocError> {
@@ -52,7 +58,7 @@ impl Replay<Http> for Expect {
     fn call(call: &str, arguments: &mut Arguments<'_>, answer: &mut Answer) -> Result<(), Failure> {
         match call {
             "eq" => eq::<Expect, _>(arguments, answer),
-            "CONTINUE" => show(&Expect::CONTINUE, answer),
+            "CONTINUE" => show_made(Expect::CONTINUE, answer),
             _ => Err(Failure::NoCall),
         }
     }
@@ -68,7 +74,7 @@ impl Replay<Http> for Te {
     fn call(call: &str, arguments: &mut Arguments<'_>, answer: &mut Answer) -> Result<(), Failure> {
         match call {
             "eq" => eq::<Te, _>(arguments, answer),
-            "trailers" => show(&Te::trailers(), answer),
+            "trailers" => show_made(Te::trailers(), answer),
             _ => Err(Failure::NoCall),
         }
     }
@@ -76,7 +82,7 @@ impl Replay<Http> for Te {
 
 impl Getters<Http> for TransferEncoding {
     fn getters(&self, answer: &mut Answer) -> Result<(), Failure> {
-        Ok(answer.word(self.is_chunked())?)
+        say(self.is_chunked(), answer)
     }
 
     fn copy(&self, alloc: Global) -> Result<TransferEncoding, AllocError> {
@@ -91,7 +97,7 @@ impl Replay<Http> for TransferEncoding {
         answer: &mut Answer,
     ) -> Result<(), Failure> {
         match call {
-            "chunked" => show(&TransferEncoding::chunked(), answer),
+            "chunked" => show_made(TransferEncoding::chunked(), answer),
             _ => Err(Failure::NoCall),
         }
     }
@@ -107,7 +113,7 @@ impl Replay<Http> for Upgrade {
     fn call(call: &str, arguments: &mut Arguments<'_>, answer: &mut Answer) -> Result<(), Failure> {
         match call {
             "eq" => eq::<Upgrade, _>(arguments, answer),
-            "websocket" => show(&Upgrade::websocket(), answer),
+            "websocket" => show_made(Upgrade::websocket(), answer),
             _ => Err(Failure::NoCall),
         }
     }

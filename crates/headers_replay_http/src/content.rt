@@ -1,9 +1,8 @@
 //! Calls of the content headers, and of media types.
 use crate::Http;
-use headers::{
-    ContentDisposition, ContentEncoding, ContentLength, ContentLocation, ContentType, Mime,
-};
-use headers_replay_each::{Getters, Replay, eq, padded, show, writes};
+use headers::{ContentDisposition, ContentEncoding, ContentLength, ContentType, Mime};
+use headers_core::{NamedField, ValueHeader};
+use headers_replay_each::{Getters, Replay, eq, padded, say, show_made, show_result, writes};
 use headers_rows::{Answer, Arguments, Failure};
 use std::alloc::{AllocError, Global};
 
@@ -11,7 +10,7 @@ impl Getters<Http> for ContentDisposition {
     fn getters(&self, answer: &mut Answer) -> Result<(), Failure> {
         answer.word(self.is_inline())?;
         answer.word(self.is_attachment())?;
-        Ok(answer.word(self.is_form_data())?)
+        say(self.is_form_data(), answer)
     }
 
     fn copy(&self, alloc: Global) -> Result<ContentDisposition, AllocError> {
@@ -26,7 +25,7 @@ impl Replay<Http> for ContentDisposition {
         answer: &mut Answer,
     ) -> Result<(), Failure> {
         match call {
-            "inline" => show(&ContentDisposition::inline(), answer),
+            "inline" => show_made(ContentDisposition::inline(), answer),
             _ => Err(Failure::NoCall),
         }
     }
@@ -38,17 +37,19 @@ impl Getters<Http> for ContentEncoding {
     }
 }
 
+fn contains(arguments: &mut Arguments<'_>, answer: &mut Answer) -> Result<(), Failure> {
+    let coding = arguments.text()?;
+    let header: ContentEncoding = arguments.header_of_rest()?;
+    say(header.contains(coding.as_str()), answer)
+}
+
 impl Replay<Http> for ContentEncoding {
     fn call(call: &str, arguments: &mut Arguments<'_>, answer: &mut Answer) -> Result<(), Failure> {
         match call {
-            "gzip" => show(&ContentEncoding::gzip(), answer),
-            "brotli" => show(&ContentEncoding::brotli(), answer),
-            "zstd" => show(&ContentEncoding::zstd(), answer),
-            "contains" => {
-                let coding = arguments.text()?;
-                let header: ContentEncoding = arguments.header_of_rest()?;
-                Ok(answer.word(header.contains(coding.as_str()))?)
-            }
+            "gzip" => show_made(ContentEncoding::gzip(), answer),
+            "brotli" => show_made(ContentEncoding::brotli(), answer),
+            "zstd" => show_made(ContentEncoding::zstd(), answer),
+            "contains" => contains(arguments, answer),
             _ => Err(Failure::NoCall),
         }
     }
@@ -56,7 +57,7 @@ impl Replay<Http> for ContentEncoding {
 
 impl Getters<Http> for ContentLength {
     fn getters(&self, answer: &mut Answer) -> Result<(), Failure> {
-        Ok(answer.word(self.0)?)
+        say(self.0, answer)
     }
 
     fn copy(&self, _alloc: Global) -> Result<ContentLength, AllocError> {
@@ -68,22 +69,23 @@ impl Replay<Http> for ContentLength {
     fn call(call: &str, arguments: &mut Arguments<'_>, answer: &mut Answer) -> Result<(), Failure> {
         match call {
             "eq" => eq::<ContentLength, _>(arguments, answer),
-            "new" => show(&ContentLength(arguments.number()?), answer),
+            "new" => show_made(ContentLength(arguments.number()?), answer),
             _ => Err(Failure::NoCall),
         }
     }
 }
 
-impl Getters<Http> for ContentLocation {
-    fn copy(&self, alloc: Global) -> Result<ContentLocation, AllocError> {
+// `Location` and `ContentLocation`.
+impl<N: NamedField> Getters<Http> for ValueHeader<N> {
+    fn copy(&self, alloc: Global) -> Result<ValueHeader<N>, AllocError> {
         self.clone(alloc)
     }
 }
 
-impl Replay<Http> for ContentLocation {
+impl<N: NamedField + PartialEq> Replay<Http> for ValueHeader<N> {
     fn call(call: &str, arguments: &mut Arguments<'_>, answer: &mut Answer) -> Result<(), Failure> {
         match call {
-            "eq" => eq::<ContentLocation, _>(arguments, answer),
+            "eq" => eq::<ValueHeader<N>, _>(arguments, answer),
             _ => Err(Failure::NoCall),
         }
     }
@@ -101,6 +103,11 @@ impl Getters<Http> for ContentType {
     fn copy(&self, alloc: Global) -> Result<ContentType, AllocError> {
         self.clone(alloc)
     }
+}
+
+// The media type of the next word.
+fn read_mime(arguments: &mut Arguments<'_>) -> Result<Mime, Failure> {
+    Ok(Mime::parse(arguments.alloc(), &arguments.text()?)?)
 }
 
 // The content types that have names.
@@ -124,13 +131,10 @@ impl Replay<Http> for ContentType {
         let alloc = arguments.alloc();
         match call {
             "eq" => eq::<ContentType, _>(arguments, answer),
-            "from_str" => show(&ContentType::from_str(alloc, &arguments.text()?)?, answer),
-            "from_mime" => {
-                let mime = Mime::parse(alloc, &arguments.text()?)?;
-                show(&ContentType::from(mime), answer)
-            }
+            "from_str" => show_result(ContentType::from_str(alloc, &arguments.text()?), answer),
+            "from_mime" => show_made(ContentType::from(read_mime(arguments)?), answer),
             "padded" => padded::<ContentType>(arguments, answer),
-            _ => show(&named_type(call).ok_or(Failure::NoCall)?, answer),
+            _ => show_result(named_type(call).ok_or(Failure::NoCall), answer),
         }
     }
 }
@@ -143,7 +147,7 @@ fn show_mime(mime: &Mime, answer: &mut Answer) -> Result<(), Failure> {
 // Adds how a media type is printed: plainly, at a width of 12 to the right, and cut to 4 characters.
 fn format_mime(arguments: &mut Arguments<'_>, answer: &mut Answer) -> Result<(), Failure> {
     let alloc = arguments.alloc();
-    let mime = Mime::parse(alloc, &arguments.text()?)?;
+    let mime = read_mime(arguments)?;
     answer.bytes(format!(in alloc; "{mime}")?.as_bytes())?;
     answer.bytes(format!(in alloc; "{mime:>12}")?.as_bytes())?;
     Ok(answer.bytes(format!(in alloc; "{mime:.4}")?.as_bytes())?)
@@ -171,10 +175,9 @@ pub fn call_mime(
     arguments: &mut Arguments<'_>,
     answer: &mut Answer,
 ) -> Result<(), Failure> {
-    let alloc = arguments.alloc();
     match call {
         "formats" => format_mime(arguments, answer),
-        "parse" => show_mime(&Mime::parse(alloc, &arguments.text()?)?, answer),
+        "parse" => show_mime(&read_mime(arguments)?, answer),
         _ => show_mime(&named(call).ok_or(Failure::NoCall)?, answer),
     }
 }

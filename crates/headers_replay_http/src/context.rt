@@ -1,8 +1,9 @@
 //! Calls of the headers of context.
 use crate::Http;
-use headers::{Allow, Date, Location, Referer, RetryAfter, Server, UserAgent};
+use headers::{Allow, Referer, RetryAfter, Server, UserAgent};
 use headers_replay_each::{
-    Getters, Replay, cmp, eq, hinted_methods, padded, show, show_back, show_methods, writes,
+    Getters, Replay, cmp, eq, hinted_methods, padded, show_back_result, show_made, show_methods,
+    show_result, show_text,
 };
 use headers_rows::{Answer, Arguments, Failure};
 use std::alloc::{AllocError, Global};
@@ -22,71 +23,10 @@ impl Replay<Http> for Allow {
         let alloc = arguments.alloc();
         match call {
             "eq" => eq::<Allow, _>(arguments, answer),
-            "from_iter" => show(&Allow::from_iter(alloc, arguments.methods()?)?, answer),
+            "from_iter" => show_result(Allow::from_iter(alloc, arguments.methods()?), answer),
             "from_hinted_iter" => {
-                show(
-                    &Allow::from_iter(alloc, hinted_methods(arguments)?)?,
-                    answer,
-                )
+                show_result(Allow::from_iter(alloc, hinted_methods(arguments)?), answer)
             }
-            _ => Err(Failure::NoCall),
-        }
-    }
-}
-
-impl Getters<Http> for Date {
-    fn getters(&self, answer: &mut Answer) -> Result<(), Failure> {
-        Ok(answer.word(self.unix_secs())?)
-    }
-
-    fn copy(&self, _alloc: Global) -> Result<Date, AllocError> {
-        self.clone()
-    }
-}
-
-impl Replay<Http> for Date {
-    fn call(call: &str, arguments: &mut Arguments<'_>, answer: &mut Answer) -> Result<(), Failure> {
-        match call {
-            "eq" => eq::<Date, _>(arguments, answer),
-            "cmp" => cmp::<Date>(arguments, answer),
-            "from_unix_secs" => show(&Date::from_unix_secs(arguments.date()?), answer),
-            _ => Err(Failure::NoCall),
-        }
-    }
-}
-
-impl Getters<Http> for Location {
-    fn copy(&self, alloc: Global) -> Result<Location, AllocError> {
-        self.clone(alloc)
-    }
-}
-
-impl Replay<Http> for Location {
-    fn call(call: &str, arguments: &mut Arguments<'_>, answer: &mut Answer) -> Result<(), Failure> {
-        match call {
-            "eq" => eq::<Location, _>(arguments, answer),
-            _ => Err(Failure::NoCall),
-        }
-    }
-}
-
-impl Getters<Http> for Referer {
-    fn getters(&self, answer: &mut Answer) -> Result<(), Failure> {
-        let text = self.to_string(answer.alloc())?;
-        Ok(answer.word(writes(answer.alloc(), self, text.as_str())?)?)
-    }
-
-    fn copy(&self, alloc: Global) -> Result<Referer, AllocError> {
-        self.clone(alloc)
-    }
-}
-
-impl Replay<Http> for Referer {
-    fn call(call: &str, arguments: &mut Arguments<'_>, answer: &mut Answer) -> Result<(), Failure> {
-        let alloc = arguments.alloc();
-        match call {
-            "eq" => eq::<Referer, _>(arguments, answer),
-            "from_str" => show_back(&Referer::from_str(alloc, &arguments.text()?)?, answer),
             _ => Err(Failure::NoCall),
         }
     }
@@ -102,8 +42,29 @@ impl Replay<Http> for RetryAfter {
     fn call(call: &str, arguments: &mut Arguments<'_>, answer: &mut Answer) -> Result<(), Failure> {
         match call {
             "eq" => eq::<RetryAfter, _>(arguments, answer),
-            "delay" => show(&RetryAfter::delay(arguments.duration()?), answer),
-            "date" => show(&RetryAfter::date(arguments.date()?), answer),
+            "delay" => show_made(RetryAfter::delay(arguments.duration()?), answer),
+            "date" => show_made(RetryAfter::date(arguments.date()?), answer),
+            _ => Err(Failure::NoCall),
+        }
+    }
+}
+
+impl Getters<Http> for Referer {
+    fn getters(&self, answer: &mut Answer) -> Result<(), Failure> {
+        show_text(self, answer)
+    }
+
+    fn copy(&self, alloc: Global) -> Result<Referer, AllocError> {
+        self.clone(alloc)
+    }
+}
+
+impl Replay<Http> for Referer {
+    fn call(call: &str, arguments: &mut Arguments<'_>, answer: &mut Answer) -> Result<(), Failure> {
+        let alloc = arguments.alloc();
+        match call {
+            "eq" => eq::<Referer, _>(arguments, answer),
+            "from_str" => show_back_result(Referer::from_str(alloc, &arguments.text()?), answer),
             _ => Err(Failure::NoCall),
         }
     }
@@ -112,8 +73,7 @@ impl Replay<Http> for RetryAfter {
 impl Getters<Http> for Server {
     fn getters(&self, answer: &mut Answer) -> Result<(), Failure> {
         answer.bytes(self.as_str().as_bytes())?;
-        let text = self.to_string(answer.alloc())?;
-        Ok(answer.word(writes(answer.alloc(), self, text.as_str())?)?)
+        show_text(self, answer)
     }
 
     fn copy(&self, alloc: Global) -> Result<Server, AllocError> {
@@ -128,7 +88,7 @@ impl Replay<Http> for Server {
             "eq" => eq::<Server, _>(arguments, answer),
             "cmp" => cmp::<Server>(arguments, answer),
             "padded" => padded::<Server>(arguments, answer),
-            "from_str" => show_back(&Server::from_str(alloc, &arguments.text()?)?, answer),
+            "from_str" => show_back_result(Server::from_str(alloc, &arguments.text()?), answer),
             _ => Err(Failure::NoCall),
         }
     }
@@ -137,8 +97,7 @@ impl Replay<Http> for Server {
 impl Getters<Http> for UserAgent {
     fn getters(&self, answer: &mut Answer) -> Result<(), Failure> {
         answer.bytes(self.as_str().as_bytes())?;
-        let text = self.to_string(answer.alloc())?;
-        Ok(answer.word(writes(answer.alloc(), self, text.as_str())?)?)
+        show_text(self, answer)
     }
 
     fn copy(&self, alloc: Global) -> Result<UserAgent, AllocError> {
@@ -152,7 +111,7 @@ impl Replay<Http> for UserAgent {
         match call {
             "eq" => eq::<UserAgent, _>(arguments, answer),
             "cmp" => cmp::<UserAgent>(arguments, answer),
-            "from_str" => show_back(&UserAgent::from_str(alloc, &arguments.text()?)?, answer),
+            "from_str" => show_back_result(UserAgent::from_str(alloc, &arguments.text()?), answer),
             _ => Err(Failure::NoCall),
         }
     }

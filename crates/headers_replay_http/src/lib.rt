@@ -6,6 +6,7 @@ mod conditional;
 mod connection;
 mod content;
 mod context;
+mod dates;
 mod ranges;
 
 use crate::content::call_mime;

@@ -1,14 +1,16 @@
 //! Calls of the headers of ranges.
 use crate::Http;
 use headers::{AcceptRanges, ContentRange, Range};
-use headers_replay_each::{Getters, Replay, eq, show, show_back};
+use headers_replay_each::{
+    Getters, Replay, eq, say, show_back, show_back_result, show_made, show_result,
+};
 use headers_rows::{Answer, Arguments, Failure};
 use std::alloc::{AllocError, Global};
 
 impl Getters<Http> for AcceptRanges {
     fn getters(&self, answer: &mut Answer) -> Result<(), Failure> {
         answer.word(self.is_bytes())?;
-        Ok(answer.word(self.is_none())?)
+        say(self.is_none(), answer)
     }
 
     fn copy(&self, alloc: Global) -> Result<AcceptRanges, AllocError> {
@@ -20,8 +22,8 @@ impl Replay<Http> for AcceptRanges {
     fn call(call: &str, arguments: &mut Arguments<'_>, answer: &mut Answer) -> Result<(), Failure> {
         match call {
             "eq" => eq::<AcceptRanges, _>(arguments, answer),
-            "bytes" => show(&AcceptRanges::bytes(), answer),
-            "none" => show(&AcceptRanges::none(), answer),
+            "bytes" => show_made(AcceptRanges::bytes(), answer),
+            "none" => show_made(AcceptRanges::none(), answer),
             _ => Err(Failure::NoCall),
         }
     }
@@ -56,7 +58,7 @@ impl Replay<Http> for Range {
             "eq" => eq::<Range, _>(arguments, answer),
             "bytes" => {
                 let range = (arguments.bound()?, arguments.bound()?);
-                show(&Range::bytes(alloc, range)?, answer)
+                show_result(Range::bytes(alloc, range), answer)
             }
             "satisfiable_ranges" => satisfiable_ranges(arguments, answer),
             _ => Err(Failure::NoCall),
@@ -88,13 +90,11 @@ impl Replay<Http> for ContentRange {
             "bytes" => {
                 let range = (arguments.bound()?, arguments.bound()?);
                 let header = ContentRange::bytes(range, arguments.optional_number()?);
-                show_back(&header.map_err(|_| Failure::Refused)?, answer)
+                show_back_result(header.map_err(|_| Failure::Refused), answer)
             }
             "unsatisfied_bytes" => {
-                show_back(
-                    &ContentRange::unsatisfied_bytes(arguments.number()?),
-                    answer,
-                )
+                let length = arguments.number()?;
+                show_back(&ContentRange::unsatisfied_bytes(length), answer)
             }
             _ => Err(Failure::NoCall),
         }
