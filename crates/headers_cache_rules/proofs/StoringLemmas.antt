@@ -72,26 +72,25 @@ module _ (received : ℕ) (m : Entries FieldValue) where
   lacked (inr is) not = absurd (not is)
 
   -- a response that lacks a Date
-  pub with_date : (fields : List Field) → LacksDate given → fields ≡ removed ++ dated
-      → IsAsStored received given (set_all given fields)
-  with_date fields lacks is =
+  with_date : LacksDate given → IsAsStored received given (set_all given (removed ++ dated))
+  with_date lacks =
       record {
-        hop_by_hop = λ name hop differ. rw is (other name differ ∙ hops name hop);
-        end_to_end = λ name not differ. rw is (other name differ ∙ stays name not);
-        date = λ not. rw is (date ∙ lacked lacks not);
-        date_of_connection = λ hop. rw is date;
+        hop_by_hop = λ name hop differ. other name differ ∙ hops name hop;
+        end_to_end = λ name not differ. other name differ ∙ stays name not;
+        date = λ not. date ∙ lacked lacks not;
+        date_of_connection = λ hop. date;
       }
 
   -- a response that has one
-  pub without_date : (fields : List Field) → ¬ (LacksDate given) → fields ≡ removed
-      → IsAsStored received given (set_all given fields)
-  without_date fields has is =
-      record {
-        hop_by_hop = λ name hop differ. rw is (hops name hop);
-        end_to_end = λ name not differ. rw is (stays name not);
-        date = λ not. rw is (stays (codes "date") not ∙ sym (some_date received _ (λ none. has (inl none))));
+  without_date : ¬ (LacksDate given) → IsAsStored received given (set_all given (removed ++ []))
+  without_date has =
+      rw (append-nil removed)
+      (record {
+        hop_by_hop = λ name hop differ. hops name hop;
+        end_to_end = λ name not differ. stays name not;
+        date = λ not. stays (codes "date") not ∙ sym (some_date received _ (λ none. has (inl none)));
         date_of_connection = λ hop. absurd (has (inr hop));
-      }
+      })
 
 -- what the test says of a response
 lacks_date-true : (response : LineMap) → LacksDate response → lacks_date response ≡ true
@@ -112,6 +111,28 @@ lacks_date-false response has =
         → (is_absent lines || is_hop_by_hop true (connection_options response) (codes "date")) ≡ false
     by [] some not = absurd (some refl)
     by (line ∷ lines) some not = not
+
+lacks_date-means : (response : LineMap) → lacks_date response ≡ true → LacksDate response
+lacks_date-means response holds = by (response (codes "date")) refl holds
+  where
+    by : (lines : List Line) → response (codes "date") ≡ lines
+        → (is_absent lines || is_hop_by_hop true (connection_options response) (codes "date")) ≡ true
+        → LacksDate response
+    by [] none e = inl none
+    by (line ∷ lines) some e = inr e
+
+-- these fields turn what came into what is stored
+pub as_stored : (received : ℕ) (m : Entries FieldValue) (fields : List Field) → fields ≡ storing_fields received m
+    → IsAsStored received (lines_at m) (set_all (lines_at m) fields)
+as_stored received m fields is =
+    elim (cases_Bool (lacks_date (lines_at m))) [
+      | inl holds ↦ rw is (rw holds (with_date received m (lacks_date-means (lines_at m) holds)))
+      | inr fails ↦
+          rw is
+          (rw fails
+          (without_date received m
+          (λ lacks. both_ways (lacks_date (lines_at m)) fails (lacks_date-true (lines_at m) lacks))))
+    ]
 
 -- the fields of a response that lacks a Date, and of one that has one
 pub listed_dated : (received : ℕ) (m : Entries FieldValue) (fields : List Field) → LacksDate (lines_at m)

@@ -1,24 +1,8 @@
 use Rattle.headers.specs.LineMap.{fields_of}
-use Rattle.headers_cache_rules.proofs.StoringLemmas.{dated_fields, listed_dated, listed_undated, with_date}
-use Rattle.headers_cache_rules.proofs.StoringLemmas.{without_date}
+use Rattle.headers_cache_rules.proofs.StoringLemmas.{as_stored, dated_fields, listed_dated, listed_undated}
 use Rattle.headers_cache_rules.proofs.storing.storing_fields.Goals as goal
 use Rattle.headers_cache_rules.proofs.storing.storing_fields.Goals.{else-lacks_date}
 use Rattle.headers_cache_rules.proofs.storing.storing_fields.Goals.{then-lacks_date+in_ok-date+in_ok-push}
-
-pub returns-clause-fields : goal.returns-clause-fields
-returns-clause-fields c =
-    elim c.if-lacks_date.branch [
-      | then-lacks_date+in_ok-date+in_ok-push w ↦
-          rw w.fields-is
-          (with_date c.args.received c.args.response.now (fields_of w.push.new.self.items)
-          (rw w.if-lacks_date.true at c.lacks_date.ensures)
-          (dated_fields c.in_ok-fields.fields.items w.push.new.self.items w.in_ok-date.date _ c.args.received
-          w.in_ok-push.ensures.items c.in_ok-fields.ensures.fields w.in_ok-date.ensures))
-      | else-lacks_date w ↦
-          rw w.fields-is
-          (without_date c.args.received c.args.response.now (fields_of c.in_ok-fields.fields.items)
-          (rw w.if-lacks_date.false at c.lacks_date.ensures) c.in_ok-fields.ensures.fields)
-    ]
 
 pub returns-clause-listed : goal.returns-clause-listed
 returns-clause-listed c =
@@ -34,3 +18,6 @@ returns-clause-listed c =
           (listed_undated c.args.received c.args.response.now (fields_of c.in_ok-fields.fields.items)
           (rw w.if-lacks_date.false at c.lacks_date.ensures) c.in_ok-fields.ensures.fields)
     ]
+
+pub returns-clause-fields : goal.returns-clause-fields
+returns-clause-fields c = as_stored c.args.received c.args.response.now _ (returns-clause-listed c)
