@@ -119,13 +119,7 @@ pub fn perform(
             notes.remove(id)?;
             Ok(only(alloc, StatusCode::NO_CONTENT))
         }
-        Target::Note(_) => {
-            let done = take(alloc, notes, target, content)?;
-            Ok(done)
-        }
-        Target::Notes | Target::Nowhere => {
-            let done = take(alloc, notes, target, content)?;
-            Ok(done)
-        }
+        Target::Note(_) => take(alloc, notes, target, content),
+        Target::Notes | Target::Nowhere => take(alloc, notes, target, content),
     }
 }

@@ -77,8 +77,7 @@ fn answer_by(
     ensures { IfOk result (IsAnswerBy resource.now request.now) }
 {
     let head = asked(request);
-    let answer = answer_request(alloc, resource, &head, 0)?;
-    Ok(answer)
+    answer_request(alloc, resource, &head, 0)
 }
 
 impl Service {

@@ -35,8 +35,8 @@ abbrev pub OnHeld : {X V : Type 0} → (X → Result V Failure → Type 0) → O
 OnHeld P None answer = answer ≡ Err Absent
 OnHeld P (Some value) answer = P value answer
 
--- A closed handle is opened with a value of which P holds, or stays closed for a failure of which P holds; `Refused`
--- also if it was open, and then it stays as it was.
+-- A closed handle is opened with a value for which P holds, or stays closed and P holds for the failure. An open handle
+-- stays as it was, and the failure is `Refused`.
 abbrev pub Opens : (Result Held Failure → Type 0) → (old new : Option Held) → Result (Unit {0}) Failure → Type 0
 Opens P None (Some new) answer = (answer ≡ Ok tt) × P (Ok new)
 Opens P None None answer = (failure : Failure) × (answer ≡ Err failure) × P (Err failure)

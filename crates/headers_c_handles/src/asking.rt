@@ -92,8 +92,7 @@ fn select_of(
         length,
         &limits,
     )?;
-    let selected = show_selection(alloc, &selection)?;
-    Ok(selected)
+    Ok(show_selection(alloc, &selection)?)
 }
 
 fn select_in(
@@ -159,8 +158,7 @@ fn respond_of(
         &content,
         &boundary,
     )?;
-    let responded = show_response(alloc, answer, headers_preconditions::is_known_by(fields))?;
-    Ok(responded)
+    Ok(show_response(alloc, answer, headers_preconditions::is_known_by(fields))?)
 }
 
 fn respond_in(

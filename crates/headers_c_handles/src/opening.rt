@@ -17,8 +17,7 @@ fn new_section(alloc: Global, section: &[u8], keys: &HashKeys) -> Result<Box<Hel
     ensures failure { IfErr result (λ failure. IsSectionHeld section.now (Err failure)) }
 {
     let fields = read_map(alloc, section, keys)?;
-    let held = Box::new(alloc, Held::Section(fields))?;
-    Ok(held)
+    Ok(Box::new(alloc, Held::Section(fields))?)
 }
 
 fn new_policy(alloc: Global, rules: &Rules<'_>) -> Result<Box<Held>, Failure>
@@ -26,8 +25,7 @@ fn new_policy(alloc: Global, rules: &Rules<'_>) -> Result<Box<Held>, Failure>
     ensures failure { IfErr result (λ failure. IsPolicyHeld rules.entry.now (Err failure)) }
 {
     let policy = read_policy(alloc, rules)?;
-    let held = Box::new(alloc, Held::Policy(policy))?;
-    Ok(held)
+    Ok(Box::new(alloc, Held::Policy(policy))?)
 }
 
 fn new_resource(
@@ -42,8 +40,7 @@ fn new_resource(
         IsResourceHeld parts.entry.now representations.now rules.entry.now (Err failure)) }
 {
     let resource = read_resource(alloc, parts, representations, rules)?;
-    let held = Box::new(alloc, Held::Resource(resource))?;
-    Ok(held)
+    Ok(Box::new(alloc, Held::Resource(resource))?)
 }
 
 /// Opens a closed handle with the fields of a section. Names of fields come from outside: so the keys

@@ -24,8 +24,7 @@ fn answer_of(
     let method = read_method(alloc, method)?;
     let response = read_map(alloc, response, keys)?;
     let answer = policy.answer(alloc, &method, fields, &response)?;
-    let shared = show_shared(alloc, &answer)?;
-    Ok(shared)
+    Ok(show_shared(alloc, &answer)?)
 }
 
 fn answer_in(

@@ -36,8 +36,7 @@ fn answer_of(
         fields,
     };
     let answer = answer_request(alloc, resource, &request, parts.present)?;
-    let answered = show_answer(alloc, &answer)?;
-    Ok(answered)
+    Ok(show_answer(alloc, &answer)?)
 }
 
 fn answer_in(

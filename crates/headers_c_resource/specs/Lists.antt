@@ -30,7 +30,7 @@ filled_at lines place = filled (slice_get lines place)
 abbrev pub is_named : Line → List Line → Bool
 is_named name lines = list_any (λ line. bytes_eq line name) lines
 
--- one value for each place below the count, of which P holds
+-- one value for each place below the count, and P holds for it
 pub record IsEachAt {X : Type 0} (P : ℕ → X → Type 0) (count : ℕ) (values : List X) : Type 0 where
   pub count_is : length values ≡ count
   pub each : (place : ℕ) (value : X) → slice_get values place ≡ Some value → P place value

@@ -67,7 +67,7 @@ abbrev pub IsValidatorsAnswer : List Line → ℕ → RepresentationParts → Re
 IsValidatorsAnswer etags place parts (Ok validators) = AreValidators etags place parts validators
 IsValidatorsAnswer etags place parts (Err failure) = FailsAtValidators etags place parts failure
 
--- the representation of which this is said, at this place
+-- the representation that these lines and numbers describe, at this place
 pub record IsRepresentation (lines : RepresentationLines) (place : ℕ) (parts : RepresentationParts)
     (representation : Representation) : Type 0 where
   pub coding : option_line representation.coding ≡ filled_at lines.codings place

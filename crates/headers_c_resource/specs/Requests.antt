@@ -15,7 +15,7 @@ use Rattle.headers_c_resource.specs.declared.request.RequestParts.{RequestParts}
 
 -- ---- the version
 
--- that of a number: 10, 11, 20 and 30 are versions, of which the later ones count as HTTP/1.1
+-- that of a number: 10, 11, 20 and 30 are versions, and those after 11 count as HTTP/1.1
 abbrev pub protocol_of : ℕ → Option Protocol
 protocol_of version =
     if version == 10 then Some Http10

@@ -65,8 +65,7 @@ fn answer_by(
         fields: &fields,
     };
     let answer = answer_request(alloc, resource, &request, parts.present)?;
-    let answered = show_answer(alloc, &answer)?;
-    Ok(answered)
+    Ok(show_answer(alloc, &answer)?)
 }
 
 /// What an answer is, the ranges that it sends, and its field lines.

@@ -111,6 +111,5 @@ pub(crate) fn read_rules(
         accept: read_list(alloc, parts.accept, methods.len())?,
         accept_encoding: read_list(alloc, parts.accept_encoding, methods.len())?,
     };
-    let rules = rules_by(alloc, &methods, &lists)?;
-    Ok(rules)
+    rules_by(alloc, &methods, &lists)
 }

@@ -134,6 +134,5 @@ pub(crate) fn read_representations(
         codings: read_list(alloc, parts.codings, count)?,
         etags: read_list(alloc, parts.etags, count)?,
     };
-    let representations = representations_by(alloc, &lists, numbers)?;
-    Ok(representations)
+    representations_by(alloc, &lists, numbers)
 }

@@ -18,7 +18,7 @@ pub struct AnswerFacts {
     pub place: usize,
     /// The status, or 0 if the server performs the method.
     pub status: u16,
-    /// Why it is this answer: 0 if nothing stands in the way of the method, else the place of the
+    /// Why it is this answer: 0 if nothing prevents the method, else the place of the
     /// reason among those that may, from 1.
     pub reason: u8,
     /// What is sent: 0 for nothing of the resource, 1 for a list of its representations, 2 for all of

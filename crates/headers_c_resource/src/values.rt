@@ -6,7 +6,7 @@ use headers_c_decisions::optional_value;
 use headers_c_parts::Failure;
 use std::alloc::Global;
 
-/// The field line of these bytes, of which there is one.
+/// The field line of these bytes. Rejected if they are empty, or no field line.
 pub(crate) fn read_filled(alloc: Global, text: &[u8]) -> Result<HeaderValue, Failure>
     ensures { IsFilledValue text.now result }
 {

@@ -30,7 +30,7 @@ module _ (request : CacheRequest) (place now : ℕ) (ranges : Bool) (held : Held
         (answer : StoredAnswer) × IsStoredAnswer now (asked_by request fields) stored ranges answer
         × (facts ≡ answer_facts answer))
 
-  -- the response at the place is a 200, of which ranges may be sent
+  -- the response at the place is a 200, so ranges of it may be sent
   abbrev pub IsOkAt : Type 0
   IsOkAt = IsSomeAnd (response_in held request.target.now place) (λ stored. stored.status ≡ 200)
 

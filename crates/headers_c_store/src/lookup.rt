@@ -164,8 +164,7 @@ fn lookup_in(
     let lookup = held
         .store
         .lookup_guessing(alloc, target, &asked, now, guess)?;
-    let looked = show_lookup(alloc, held.store.responses(target), now, &lookup)?;
-    Ok(looked)
+    Ok(show_lookup(alloc, held.store.responses(target), now, &lookup)?)
 }
 
 /// What a cache does with a request (RFC 9111, section 4), and the field lines that this takes: of the

@@ -17,5 +17,5 @@ returns c input holds =
       selection = c.in_ok-selection.selection;
       selects =
           rw (method.1, c.usual-limits.ensures) at c.in_ok-selection.ensures.selects;
-      shown = c.in_ok-selected.ensures.shown;
+      shown = c.in_ok-show_selection.ensures.shown;
     }

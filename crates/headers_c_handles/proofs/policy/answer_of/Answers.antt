@@ -11,5 +11,5 @@ returns c request holds =
       is_told = c.in_ok-response.ensures;
       answer = c.in_ok-answer.answer;
       is_answer = rw method.1 at c.in_ok-answer.ensures;
-      is_shown = c.in_ok-shared.ensures;
+      is_shown = c.in_ok-show_shared.ensures;
     }

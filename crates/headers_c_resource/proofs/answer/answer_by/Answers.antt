@@ -37,5 +37,5 @@ returns c =
           };
       answer = c.in_ok-answer.answer;
       is_answer = c.in_ok-answer.ensures;
-      is_shown = c.in_ok-answered.ensures;
+      is_shown = c.in_ok-show_answer.ensures;
     }

@@ -27,8 +27,8 @@ returns c =
       touched = search rules;
     }
 
-pub returns-in_err-looked : goal.returns-in_err-looked
-returns-in_err-looked c =
+pub returns-in_err-show_lookup : goal.returns-in_err-show_lookup
+returns-in_err-show_lookup c =
     let fields = c.in_ok-fields.fields in
     let contents = contents_of c.lookup_guessing.new.self in
     let has =
