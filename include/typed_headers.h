@@ -719,7 +719,7 @@ struct typed_headers_resource {
     struct typed_headers_text codings;
     /* The entity tag of each, with its quotes. Nothing said: none. */
     struct typed_headers_text etags;
-    /* What stands between several parts, as `typed_headers_respond` takes it. Empty: THIS_STRING_SEPARATES. */
+    /* The boundary between several parts, as `typed_headers_respond` takes it. Empty: THIS_STRING_SEPARATES. */
     struct typed_headers_text boundary;
     /* The greatest length of content that is taken, if `has_limit`. */
     uint64_t limit;

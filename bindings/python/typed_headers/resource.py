@@ -210,7 +210,7 @@ class Resource:
     by_coding: bool = False
     #: Whether a read is answered by 406 if no representation is acceptable. If not, it gets the first.
     is_strict: bool = False
-    #: What stands between several parts: 1 to 70 letters, digits, or ', +, -, ., _. No range that is sent may hold it.
+    #: The boundary between several parts: 1 to 70 letters, digits, or ', +, -, ., _. No range that is sent may hold it.
     boundary: str = "THIS_STRING_SEPARATES"
     #: Whether content must have a length.
     needs_length: bool = False

@@ -143,9 +143,9 @@ class ETag:
     (True, False)
     """
 
-    #: What stands between the quotes.
+    #: The text between the quotes.
     opaque: str
-    #: Whether `W/` stands before it.
+    #: Whether it begins with `W/`.
     weak: bool = False
 
     def __post_init__(self) -> None:

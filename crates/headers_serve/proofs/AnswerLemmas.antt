@@ -61,7 +61,7 @@ IsPlanOf present resource asked representation plan =
     IsPlan present asked.method asked.fields (target_of resource.state representation)
     (divisible_len (content_of representation)) (limits_of (content_of representation)) plan
 
--- what is sent goes by a plan for the representation at its place, if it goes by a plan
+-- if a plan decides what is sent, it is one for the representation at its place
 abbrev pub IsPlannedIn : ℕ → Resource → Asked → Sends → Type 0
 IsPlannedIn present resource asked Nothing = ⊤
 IsPlannedIn present resource asked Alternatives = ⊤
@@ -103,7 +103,7 @@ module _ (present : ℕ) (resource : Resource) (asked : Asked) where
   given false reason status sent fields h =
       subst (IsPlannedIn present resource asked) (sym h.sends) (stopped reason)
 
-  -- what an answer sends of a representation goes by the plan of the preconditions and Range for it
+  -- the plan of the preconditions and Range decides what an answer sends of a representation
   pub planned_in : (answer : Answer) → IsAnswer present resource asked answer
       → IsPlannedIn present resource asked answer.sends
   planned_in answer h = given (is_admitted answer.reason) answer.reason answer.status answer.sends h.own h.gives

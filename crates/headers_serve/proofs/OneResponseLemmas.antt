@@ -165,7 +165,7 @@ asked_once request a b h k =
 -- ---- the answer
 
 module _ (present : ℕ) (resource : Resource) (asked : Asked) where
-  -- what goes by what is sent, and of several parts by their list alone, is the same for two that say the same
+  -- what depends on what is sent, and for several parts on their list alone, is the same for two that say the same
   by_sends : {X : Type 0} (of : Sends → X) (several : Option ℕ → List Part → X)
       → ((place : Option ℕ) (parts : _) → of (Planned place (Multiple parts)) ≡ several place parts.items)
       → (a b : Sends) → AreSent a b → IsPlannedIn present resource asked a → IsPlannedIn present resource asked b
@@ -269,7 +269,7 @@ module _ (present : ℕ) (site : Resource) (f g : Found) (alike : AreAlike f g) 
 
 -- ---- the response
 
--- the pieces that are sent, of which several parts go by their list
+-- the pieces that are sent: those of several parts depend on their list
 abbrev several_in : List ℕ → Option File → List Part → List Piece
 several_in divider None parts = []
 several_in divider (Some file) parts = multipart divider file parts

@@ -1,4 +1,4 @@
--- What goes by a plan is the same for two plans of one request.
+-- What depends on a plan is the same for two plans of one request.
 use Rattle.std.proofs.Common.{◌≡◌, ℕ, ◌<◌, List, [], ◌∷◌, Some, length, refl, sym, ap, ◌∙◌, arith}
 use Rattle.std.specs.Prelude.{if◌then◌else◌, ◌==◌}
 use Rattle.headers.specs.LineMap.{LineMap}
@@ -11,7 +11,7 @@ use Rattle.headers_preconditions.specs.declared.plan.Plan.TheVariants.{NotModifi
 use Rattle.headers_preconditions.specs.declared.plan.Plan.TheVariants.{Unsatisfiable}
 use Rattle.headers_preconditions.specs.declared.resource.Resource.{Resource}
 
--- what goes by a plan, from its parts if it sends some of them: `several` is what goes by two or more
+-- what depends on a plan, from its parts if it sends some of them: `several` depends on two or more
 abbrev by_parts : {X : Type 0} → (Plan → X) → (List Part → X) → List Part → X
 by_parts of_plan several [] = of_plan Full
 by_parts of_plan several (part ∷ []) = of_plan (Single part)
@@ -45,7 +45,7 @@ module _ (present : ℕ) (method : List ℕ) (request : LineMap) (resource : Res
   goes_by_status of_plan several same_parts Failed h = refl
   goes_by_status of_plan several same_parts Unsatisfiable h = refl
 
-  -- what goes by a plan, and of several parts by their list alone, is the same for two such plans
+  -- what depends on a plan, and for several parts on their list alone, is the same for two such plans
   pub same_by_plan : {X : Type 0} (of_plan : Plan → X) (several : List Part → X)
       → ((parts : _) → of_plan (Multiple parts) ≡ several parts.items) → (p q : Plan)
       → IsPlan present method request resource len limits p → IsPlan present method request resource len limits q

@@ -43,7 +43,7 @@ reads_at_most (Kept kept) start old new (Ok count) reads = (
 reads_at_most (Kept kept) start old new (Err error) reads = absurd reads
 reads_at_most (Opened opened) start old new result reads = reads
 
--- it stands in the file at that place
+-- it occurs in the file at that place
 pub reads_give : {E : Type 0} (source : Source) (start : ℕ) (old new : List ℕ) (result : Result ℕ E)
     → Reads source start old new result → IfOk result (λ count. gives_at source start (take count new))
 reads_give (Kept kept) start old new (Ok count) reads =

@@ -1,7 +1,7 @@
 -- A file has one list of contents.
 use Rattle.std.proofs.Common.{◌≡◌, ℕ, Bool, true, false, List, [], ◌∷◌, ◌++◌, refl, sym, ap, ◌∙◌, inl, inr}
 use Rattle.headers_files.specs.Codings.{coding_suffix}
-use Rattle.headers_serve.specs.Representations.{AreContents, AreOffers, StandsAt, offered, represented}
+use Rattle.headers_serve.specs.Representations.{AreContents, AreOffers, HasEntryAt, offered, represented}
 use Rattle.headers_files.specs.declared.coding.Coding.TheVariants.{Identity, Brotli, Gzip}
 use Rattle.headers_serve.specs.declared.file.Entry.{Entry}
 use Rattle.headers_serve.specs.declared.file.File.{File}
@@ -10,7 +10,7 @@ module _ (look : List ℕ → Entry) where
   abbrev Has : List ℕ → Entry → Type 0
   Has path entry = entry ≡ look path
 
-  stands_once : (path : List ℕ) (e f : Entry) → StandsAt Has path e → StandsAt Has path f → e ≡ f
+  stands_once : (path : List ℕ) (e f : Entry) → HasEntryAt Has path e → HasEntryAt Has path f → e ≡ f
   stands_once path e f x y =
       elim x [
         | inl h ↦ elim y [ inl k ↦ h.1 ∙ sym k.1 | inr k ↦ let no = h.0 in let yes = k.0 in absurd (cc (no, yes)) ]

@@ -93,7 +93,7 @@ all_of source = Range (record { start = 0; len = len_of source }) ∷ []
 
 -- ---- the plan
 
--- the plan goes by what a whole file does
+-- the plan is that of a whole file
 record IsWholePlan (own : File) (plan : Plan) : Type 0 where
   one : is_several plan ≡ false
   pieces : (divider : List ℕ) → pieces_sent divider own plan ≡ all_of own.source
@@ -366,7 +366,7 @@ found_entry negotiates look request named entry found names stands x =
 
 module _ (now : Option ℕ) (left : ℕ) (site : Site) (divider : List ℕ) (look : List ℕ → Entry)
     (request : Request (List ℕ)) (response : Response) (source : Option Source) (asked : Asked) where
-  -- all of the first content is sent, of which there is one
+  -- all of the first content is sent, and it exists
   get_has_all : IsSite divider site.resource → Asks request asked
       → has_host asked.protocol (asked.fields (codes "host")) ≡ true → is_misdirected site.resource asked ≡ false
       → has_known_expectation (asked.fields (codes "expect")) ≡ true → (head_of request).method ≡ get

@@ -69,7 +69,7 @@ abbrev pub file_at : List File → Option ℕ → Option File
 file_at files None = None
 file_at files (Some place) = slice_get files place
 
--- the file of which an answer sends something
+-- the file that an answer sends, or sends parts of
 abbrev pub file_sent : List File → Sends → Option File
 file_sent files Nothing = None
 file_sent files Alternatives = None
@@ -84,12 +84,12 @@ tag_in (Some file) = tag_of file.source
 abbrev pub tag_sent : List File → Sends → Option FieldValue
 tag_sent files sends = tag_in (file_sent files sends)
 
--- the bytes are known to stand in the file, if there is one
+-- the bytes are known to occur in the file, if there is one
 abbrev pub IsHeldBy : List ℕ → Option File → Type 0
 IsHeldBy bytes None = ⊥
 IsHeldBy bytes (Some file) = IsKnownToHold file.source bytes
 
--- No part of the answer is known to hold what stands between the parts (RFC 2046, section 5.1.1).
+-- No part of the answer is known to hold the boundary of the parts (RFC 2046, section 5.1.1).
 abbrev pub IsSendable : List ℕ → List File → Sends → Type 0
 IsSendable divider files sends = sends_several sends ≡ true → ¬ (IsHeldBy divider (file_sent files sends))
 
@@ -160,7 +160,7 @@ status_for absent NotFound status = absent
 status_for absent reason (Some status) = status
 status_for absent reason None = 200
 
--- the parts of a plan lie in the file of which they are sent
+-- the parts of a plan lie in the file that they are parts of
 abbrev pub FitsOf : Option File → Plan → Type 0
 FitsOf None plan = ⊤
 FitsOf (Some file) plan = Fits (len_of file.source) plan

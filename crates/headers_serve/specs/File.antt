@@ -61,8 +61,8 @@ validators_of present file = record {
 abbrev pub current_of : ℕ → File → Resource
 current_of present file = Current (validators_of present file)
 
--- Which ranges of a content are sent. A coding would be that of several parts and what stands between them (section
--- 8.4), so of a content in a coding there is one part at most.
+-- Which ranges of a content are sent. A coding would be that of several parts and their boundaries together (section
+-- 8.4), so of a content in a coding there is at most one part.
 abbrev pub limits_of : Coding → RangeLimits
 limits_of coding =
     if is_encoded coding then record { gap = usual_limits.gap; head = usual_limits.head; parts = 1 } else usual_limits

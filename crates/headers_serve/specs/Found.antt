@@ -65,7 +65,7 @@ FindsEntry negotiates has uri named (Listed listing) found =
 FindsEntry negotiates has uri named (Readable file) found =
     (found.state ≡ state.Current) × (found.status ≡ 404) × AreContents negotiates has named file found.files.items
 
--- what the path of a URI leads to in a store: what stands at the path that it names, or nothing if it names none
+-- what the path of a URI leads to in a store: the entry at the path that it names, or nothing if it names none
 abbrev pub LeadsTo : Bool → (List ℕ → Entry → Type 0) → Uri → Found → Type 0
 LeadsTo negotiates has uri found =
     ((named : List ℕ) × Names (uri_path uri) (Some named)

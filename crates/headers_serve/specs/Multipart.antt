@@ -18,7 +18,7 @@ header_line name line = name ++ codes ": " ++ line ++ codes "\r\n"
 abbrev pub header_text : List ℕ → List Line → List ℕ
 header_text name lines = flat_map (header_line name) lines
 
--- the boundary that stands before a part
+-- the boundary before a part
 unfoldable pub opening : List ℕ → List ℕ
 opening boundary = codes "--" ++ boundary ++ codes "\r\n"
 
@@ -28,11 +28,11 @@ part_fields file part =
     header_line (codes "content-type") file.media_type.bytes
     ++ header_line (codes "content-range") (content_text (part_range (len_of file.source) part))
 
--- what stands before a part's bytes: the boundary, the header lines, and an empty line
+-- what comes before a part's bytes: the boundary, the header lines, and an empty line
 unfoldable pub part_head : List ℕ → File → Part → List ℕ
 part_head boundary file part = opening boundary ++ part_fields file part ++ codes "\r\n"
 
--- one part: what stands before its bytes, its bytes, and a line's end
+-- one part: what comes before its bytes, its bytes, and a line's end
 abbrev pub part_pieces : List ℕ → File → Part → List Piece
 part_pieces boundary file part =
     Literal (part_head boundary file part) ∷ Range (part_extent part) ∷ Literal (codes "\r\n") ∷ []

@@ -25,11 +25,11 @@ part_extent part = record { start = part.first; len = part.last + 1 - part.first
 abbrev pub part_range : ℕ → Part → ContentBytes
 part_range len part = record { range = Some (part.first, part.last); length = Some len }
 
--- the bytes stand somewhere in the content
+-- the bytes occur somewhere in the content
 abbrev pub Occurs : List ℕ → List ℕ → Type 0
 Occurs bytes content = (k : ℕ) × OccursAt content bytes k
 
--- the bytes are known to stand in a file; an open one isn't searched
+-- the bytes are known to occur in a file; an open one isn't searched
 abbrev pub IsKnownToHold : Source → List ℕ → Type 0
 IsKnownToHold (Kept kept) bytes = Occurs bytes kept.content
 IsKnownToHold (Opened opened) bytes = ⊥

@@ -24,21 +24,20 @@ offered media_type coding (Listed listing) = []
 offered media_type coding (Readable stored) = represented media_type coding stored ∷ []
 
 -- what a store has at a path; at one that isn't plain it has nothing
-abbrev pub StandsAt : (List ℕ → Entry → Type 0) → List ℕ → Entry → Type 0
-StandsAt has path entry =
+abbrev pub HasEntryAt : (List ℕ → Entry → Type 0) → List ℕ → Entry → Type 0
+HasEntryAt has path entry =
     ((is_plain path ≡ true) × has path entry) ⊎ ((is_plain path ≡ false) × (entry ≡ Missing))
 
--- The representations of the file at a path of a store, the most wanted first: its own, and what stands beside it in a
--- coding.
+-- The representations of the file at a path of a store, the most wanted first: its own, and its precompressed copies.
 pub record AreOffers (has : List ℕ → Entry → Type 0) (path : List ℕ) (file : File) (offers : List File) : Type 0 where
   pub brotli : Entry
   pub gzip : Entry
-  pub has_brotli : StandsAt has (path ++ coding_suffix Brotli) brotli
-  pub has_gzip : StandsAt has (path ++ coding_suffix Gzip) gzip
+  pub has_brotli : HasEntryAt has (path ++ coding_suffix Brotli) brotli
+  pub has_gzip : HasEntryAt has (path ++ coding_suffix Gzip) gzip
   pub are : offers ≡ (represented file.media_type Identity file ∷ offered file.media_type Brotli brotli)
       ++ offered file.media_type Gzip gzip
 
--- the contents of the file at a path: its own, and what stands beside it in a coding, if codings are negotiated
+-- the contents of the file at a path: its own, and its precompressed copies if codings are negotiated
 abbrev pub AreContents : Bool → (List ℕ → Entry → Type 0) → List ℕ → File → List File → Type 0
 AreContents false has path file files = files ≡ file ∷ []
 AreContents true has path file files = AreOffers has path file files

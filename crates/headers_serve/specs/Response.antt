@@ -1,4 +1,4 @@
--- What stands in a response. It is the plan by which `headers_exchange` sends it.
+-- The content of a response. It is the plan by which `headers_exchange` sends it.
 use Rattle.std.specs.Prelude.{◌≡◌, ℕ, ◌==◌, Bool, true, ◌&&◌, ◌||◌, List, [], ◌∷◌, ◌++◌, bytes_eq, codes, find}
 use Rattle.std.specs.Prelude.{flat_map, if◌then◌else◌, map, reverse, Option, Some, None}
 use Rattle.std.specs.List.{list_any, starts_with}

@@ -10,7 +10,8 @@ pub record IsRead (rule : MethodRule) : Type 0 where
   pub is_free : rule.needs_condition ≡ false
 
 -- The resource is read, and has OPTIONS as each resource (RFC 9110, section 9.3.7). A client that accepts none of its
--- representations gets the first (section 12.4.1), and codings alone may be negotiated. The text stands between parts.
+-- representations gets the first (section 12.4.1), and codings alone may be negotiated. The text is the boundary of
+-- several parts.
 pub record IsSite (divider : List ℕ) (resource : Resource) : Type 0 where
   pub rule : MethodRule
   pub rules : resource.rules.items ≡ rule ∷ []

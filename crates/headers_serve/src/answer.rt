@@ -20,7 +20,7 @@ fn occurs(bytes: &[u8], content: &[u8]) -> bool
     memmem::find(content, bytes).is_some()
 }
 
-// Whether the bytes are known to stand in a file.
+// Whether the bytes are known to occur in a file.
 fn is_known_to_hold(source: &Source, bytes: &[u8]) -> bool
     ensures { MatchBool result (IsKnownToHold source.now bytes.now) (¬ (IsKnownToHold source.now bytes.now)) }
 {
@@ -40,7 +40,7 @@ fn is_held_by(file: Option<&File>, bytes: &[u8]) -> bool
     }
 }
 
-// Whether an answer sends no parts, or parts of a file that isn't known to hold what stands between them.
+// Whether an answer sends no parts, or parts of a file that isn't known to hold their boundary.
 fn is_sendable(sends: &Sends, files: &[File], divider: &str) -> bool
     ensures { MatchBool result (IsSendable divider.now files.now sends.now)
         (¬ (IsSendable divider.now files.now sends.now)) }

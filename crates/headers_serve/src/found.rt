@@ -24,7 +24,7 @@ pub(crate) struct Found {
     pub(crate) state: State,
     /// What a read is answered by if there is nothing to send.
     pub(crate) status: StatusCode,
-    /// Its contents, of which the client gets one.
+    /// Its contents. The client gets one of them.
     pub(crate) files: Vec<File>,
 }
 
@@ -106,14 +106,8 @@ fn found_by<S: Store>(
         Entry::Missing => Ok(absent(alloc, StatusCode::NOT_FOUND)),
         Entry::Forbidden => Ok(absent(alloc, StatusCode::FORBIDDEN)),
         Entry::Unavailable => Ok(absent(alloc, StatusCode::SERVICE_UNAVAILABLE)),
-        Entry::Folder => {
-            let found = folder_at(alloc, path_of(request), query_of(request))?;
-            Ok(found)
-        }
-        Entry::Listed(listing) => {
-            let found = listed_at(alloc, path_of(request), listing)?;
-            Ok(found)
-        }
+        Entry::Folder => folder_at(alloc, path_of(request), query_of(request)),
+        Entry::Listed(listing) => listed_at(alloc, path_of(request), listing),
         Entry::Readable(file) => {
             let files = contents_of(alloc, store, negotiates, named, file)?;
             Ok(Found {
@@ -138,8 +132,7 @@ pub(crate) fn look_up<S: Store>(
         Some(named) => {
             let path = named.as_str();
             let entry = store.find(alloc, path)?;
-            let found = found_by(alloc, store, negotiates, request, path, entry)?;
-            Ok(found)
+            found_by(alloc, store, negotiates, request, path, entry)
         }
         None => Ok(absent(alloc, StatusCode::NOT_FOUND)),
     }

@@ -65,7 +65,7 @@ fn push_fields(alloc: Global, part: Part, file: &File, text: &mut Vec<u8>) -> Re
     push_header(alloc, text, &part.content_range(len))
 }
 
-// What stands before a part's bytes.
+// What comes before a part's bytes: the boundary, the header lines, and an empty line.
 #[tactic(auto, unfolding(crate::specs::Multipart::part_head))]
 fn head_of_part(
     alloc: Global,

@@ -3,7 +3,7 @@ ghost use Rattle.std.specs.Prelude.{◌≡◌, ◌++◌, ◌∷◌, IfOk, OnOk, 
 ghost use Rattle.headers_files.specs.Codings.{coding_suffix};
 ghost use Rattle.headers_serve.specs.File.{coding_value, content_of, current_of, is_settled, limits_of};
 ghost use Rattle.headers_serve.specs.File.{representation_of, tag_of};
-ghost use Rattle.headers_serve.specs.Representations.{AreContents, AreOffers, StandsAt, offered, represented};
+ghost use Rattle.headers_serve.specs.Representations.{AreContents, AreOffers, HasEntryAt, offered, represented};
 
 use crate::file::{Entry, File};
 use crate::source::Source;
@@ -24,7 +24,7 @@ fn represented(media_type: &HeaderValue, coding: Coding, stored: File) -> Result
     Ok(made)
 }
 
-// The path of what stands beside a file in a coding.
+// The path of the precompressed copy of a file in a coding.
 fn beside(alloc: Global, path: &str, coding: Coding) -> Result<String, AllocError>
     ensures { IfOk result (λ text. string_bytes text ≡ path.now ++ coding_suffix coding) }
 {
@@ -33,9 +33,9 @@ fn beside(alloc: Global, path: &str, coding: Coding) -> Result<String, AllocErro
     Ok(text)
 }
 
-// What stands at a path that may not be plain.
-fn stands_at<S: Store>(alloc: Global, store: &S, path: &str) -> Result<Entry, AllocError>
-    ensures { IfOk result (StandsAt (S.has store.now) path.now) }
+// The entry at a path that may not be plain.
+fn entry_at<S: Store>(alloc: Global, store: &S, path: &str) -> Result<Entry, AllocError>
+    ensures { IfOk result (HasEntryAt (S.has store.now) path.now) }
 {
     if !is_plain(path) {
         return Ok(Entry::Missing);
@@ -43,17 +43,17 @@ fn stands_at<S: Store>(alloc: Global, store: &S, path: &str) -> Result<Entry, Al
     store.find(alloc, path)
 }
 
-// What stands beside a file in a coding.
+// The precompressed copy of a file in a coding.
 fn find_beside<S: Store>(
     alloc: Global,
     store: &S,
     path: &str,
     coding: Coding,
 ) -> Result<Entry, AllocError>
-    ensures { IfOk result (StandsAt (S.has store.now) (path.now ++ coding_suffix coding)) }
+    ensures { IfOk result (HasEntryAt (S.has store.now) (path.now ++ coding_suffix coding)) }
 {
     let text = beside(alloc, path, coding)?;
-    stands_at(alloc, store, text.as_str())
+    entry_at(alloc, store, text.as_str())
 }
 
 // Appends a representation of this media type, if this is one.
@@ -107,12 +107,10 @@ fn offers_of<S: Store>(
 {
     let brotli = find_beside(alloc, store, path, Coding::Brotli)?;
     let gzip = find_beside(alloc, store, path, Coding::Gzip)?;
-    let offers = offers_with(alloc, file, brotli, gzip)?;
-    Ok(offers)
+    offers_with(alloc, file, brotli, gzip)
 }
 
-/// The contents of the file at a path: its own, and what stands beside it in a coding, if codings are
-/// negotiated.
+/// The contents of the file at a path: its own, and its precompressed copies if codings are negotiated.
 pub(crate) fn contents_of<S: Store>(
     alloc: Global,
     store: &S,
@@ -123,8 +121,7 @@ pub(crate) fn contents_of<S: Store>(
     ensures { IfOk result (λ files. AreContents negotiates (S.has store.now) path.now file files.items) }
 {
     if negotiates {
-        let offers = offers_of(alloc, store, path, file)?;
-        return Ok(offers);
+        return offers_of(alloc, store, path, file);
     }
     Ok(vec![in alloc; file]?)
 }

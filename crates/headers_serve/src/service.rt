@@ -96,7 +96,7 @@ fn put_content(
     }
 }
 
-// What the type of its tag says of the file of which an answer sends something.
+// What the type of its tag says of the file that an answer sends, or sends parts of.
 fn show_tag(files: &[File], sends: &Sends)
     ensures { is_bare_tag (tag_sent files.now sends.now) ≡ true }
 {

@@ -11,8 +11,8 @@ use headers_resource::Resource;
 use http::StatusCode;
 use std::alloc::Global;
 
-/// What stands between several parts of a file. Take digits that nobody can foresee, so that no file
-/// can be made to hold them.
+/// The boundary between the parts of a `multipart/byteranges` response (RFC 9110, section 14.6). Take
+/// digits that nobody can foresee, so that no file can be made to hold them.
 #[derive(Debug, Drop)]
 pub struct Divider {
     pub(crate) text: String,
@@ -45,14 +45,14 @@ pub struct Page {
 pub struct Settings {
     /// What Cache-Control says of the answers that a cache may use again: 200, 206 and 304.
     pub cache_control: Option<HeaderValue>,
-    /// Whether a client may get what stands beside a file in a coding, by Accept-Encoding.
+    /// Whether a client may get the precompressed copy of a file, by its Accept-Encoding.
     pub negotiates: bool,
     /// The hosts that are served, in any case and at any port. If there are none, all are. A request for
     /// another one is answered by 421 (RFC 9110, section 15.5.20).
     pub hosts: Vec<HeaderValue>,
     /// What answers say to requests from other origins, if they say anything.
     pub cors: Option<CorsPolicy>,
-    /// What stands between several parts.
+    /// The boundary between several parts.
     pub divider: Divider,
     /// The site's own pages. Of several for one status the first is sent, and for a status without one a
     /// page that names it.
@@ -64,7 +64,7 @@ pub struct Settings {
 pub struct Site {
     /// What Cache-Control says of the answers that a cache may use again: 200, 206 and 304.
     pub cache_control: Option<HeaderValue>,
-    /// The text that stands between several parts.
+    /// The boundary between several parts.
     pub divider: String,
     /// The site's own pages.
     pub pages: Vec<Page>,

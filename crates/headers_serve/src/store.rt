@@ -18,7 +18,7 @@ pub trait Store {
     // What the clock of the store may tell.
     ghost tells: { Self → Option ℕ → Type 0 };
 
-    /// What stands at a path. The error is for memory alone. The path is plain: no name in it is empty or
+    /// The entry at a path. The error is for memory alone. The path is plain: no name in it is empty or
     /// begins with a dot, but for `.well-known` as the first, and none holds a NUL or a backslash. So it
     /// stays below the root of the store.
     fn find(&self, alloc: Global, path: &str) -> Result<Entry, AllocError>

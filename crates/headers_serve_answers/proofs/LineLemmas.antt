@@ -90,7 +90,7 @@ module _ (name : List ℕ) where
       ∙ sent-skip has_policy fields [] e
       ∙ none_sent has_policy
 
-  -- ---- fields of which one has the name
+  -- ---- fields one of which has the name
 
   -- the fields have these field lines under the name, by one field
   pub record HasOne (lines : List Line) (fields : List Field) : Type 0 where

@@ -12,7 +12,7 @@ use Rattle.headers_files.specs.declared.coding.Coding.TheVariants.{Identity, Bro
 use Rattle.headers_files.specs.declared.listing.Listing.{Listing}
 use Rattle.headers_resource.specs.declared.resource.State.{State}
 use Rattle.headers_serve.specs.Found.{FindsEntry, FindsFolder, FindsListing, IsAbsent, LeadsTo}
-use Rattle.headers_serve.specs.Representations.{AreContents, StandsAt, offered, represented}
+use Rattle.headers_serve.specs.Representations.{AreContents, HasEntryAt, offered, represented}
 use Rattle.headers_serve.specs.declared.file.Entry.{Entry}
 use Rattle.headers_serve.specs.declared.file.Entry.TheVariants.{Missing, Forbidden, Unavailable}
 use Rattle.headers_serve.specs.declared.file.Entry.TheVariants.{Folder, Listed, Readable}
@@ -79,7 +79,7 @@ offered_similar m n coding e f same (inr two) =
 
 module _ (look other : List ℕ → Entry) where
   stands_similar : (path : List ℕ) (e f : Entry) → AreSimilar (look path) (other path)
-      → StandsAt (has_at look) path e → StandsAt (has_at other) path f → AreSimilar e f
+      → HasEntryAt (has_at look) path e → HasEntryAt (has_at other) path f → AreSimilar e f
   stands_similar path e f similar x y =
       elim x [
         | inl h ↦

@@ -9,7 +9,7 @@ use Rattle.headers_serve.specs.Answer.{IsAnswerAt}
 use Rattle.headers_files.specs.Codings.{coding_suffix}
 use Rattle.headers_serve.specs.Found.{FindsEntry, LeadsTo}
 use Rattle.headers_files.specs.Path.{Names}
-use Rattle.headers_serve.specs.Representations.{AreContents, StandsAt}
+use Rattle.headers_serve.specs.Representations.{AreContents, HasEntryAt}
 use Rattle.headers_files.specs.declared.coding.Coding.{Coding}
 use Rattle.headers_files.specs.declared.coding.Coding.TheVariants.{Brotli, Gzip}
 use Rattle.headers_serve.specs.declared.file.Entry.{Entry}
@@ -21,8 +21,8 @@ use Rattle.headers_serve.specs.declared.source.Source.{Source}
 use Rattle.headers_serve_answers.specs.Stores.{HaveAlike, has_at}
 
 module _ (look other : List ℕ → Entry) where
-  stands : (path : List ℕ) (entry : Entry) → look path ≡ other path → StandsAt (has_at look) path entry
-      → StandsAt (has_at other) path entry
+  stands : (path : List ℕ) (entry : Entry) → look path ≡ other path → HasEntryAt (has_at look) path entry
+      → HasEntryAt (has_at other) path entry
   stands path entry same x = elim x [ inl h ↦ inl (h.0, h.1 ∙ same) | inr h ↦ inr h ]
 
   contents : (negotiates : Bool) (named : List ℕ) (file : File) (files : List File)

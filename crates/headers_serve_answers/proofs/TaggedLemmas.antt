@@ -191,7 +191,7 @@ admitted_is : (reason : Reason) → is_admitted reason ≡ true → reason ≡ A
 admitted_is Admitted e = refl
 admitted_is reason e = absurd (cc e)
 
--- if nothing stands in the way, that decides
+-- if nothing else decides, that does
 only_admitted : (test : Reason → Bool) (reason : Reason) → IsFirst test Admitted → IsFirst test reason
     → reason ≡ Admitted
 only_admitted test Admitted first is = refl

@@ -1,4 +1,4 @@
--- Fields of which none says where the message ends, or one, by the content's length.
+-- Fields none of which says where the message ends, or one of which does, by the content's length.
 use Rattle.std.proofs.Common.{◌≡◌, ℕ, ◌^◌, ◌<◌, Bool, true, false, not, ◌&&◌, ◌||◌, cond, eqb, List, [], ◌∷◌, ◌++◌}
 use Rattle.std.proofs.Common.{append-nil, append_assoc, ap, codes, inl, inr, length, refl, reverse, subst, sym}
 use Rattle.std.proofs.Common.{◌∙◌}
@@ -225,7 +225,7 @@ headers_valid (h ∷ hs) lines tidy =
     and_from (is_header (trimmed_line h)) (list_all is_header (trimmed_lines hs)) (header_of h l.0 t.0)
     (headers_valid hs l.1 t.1)
 
--- ---- field lines of which one states the length
+-- ---- field lines one of which states the length
 
 pub record TellsLength (n : ℕ) (hs : List Header) : Type 0 where
   pub before : List Header
@@ -265,7 +265,7 @@ tells_before n true hs ys t q = record {
   last = quiet_append t.after ys t.last q;
 }
 
--- ---- fields of which one states the length
+-- ---- fields one of which states the length
 
 pub record SetsLength (n : ℕ) (fields : List Field) : Type 0 where
   pub before : List Field

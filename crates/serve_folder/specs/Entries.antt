@@ -1,4 +1,4 @@
--- What stands where the system gives an error.
+-- The entry of a path for which the system gives an error.
 use Rattle.std.specs.Prelude.{Bool, true, false, Result, Ok, Err, alloc_error}
 use Rattle.std.specs.declared.alloc.AllocError.{AllocError}
 use Rattle.std.specs.declared.io.ErrorKind.{ErrorKind}

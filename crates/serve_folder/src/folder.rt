@@ -52,7 +52,7 @@ fn seconds_of(time: SystemTime) -> Option<u64> {
     Some(time.duration_since(UNIX_EPOCH).ok()?.as_secs())
 }
 
-// What stands where the system gives this error, or the error of memory.
+// The entry of a path for which the system gives this error, or the error of memory.
 fn entry_of(error: &io::Error) -> Result<Entry, AllocError>
     ensures entry { result ≡ entry_for (error_kind error.now) }
     ensures listed { (p : List ℕ) → IfOk result (ListsOwn p) }
@@ -180,7 +180,7 @@ impl Folder<'_> {
         }))
     }
 
-    // What stands at a path below the root. It is no listing.
+    // The entry at a path below the root. It is no listing.
     fn entry_at(&self, alloc: Global, path: &str) -> Result<Entry, AllocError>
         ensures { (p : List ℕ) → IfOk result (ListsOwn p) }
     {
@@ -209,7 +209,7 @@ impl Folder<'_> {
         }
     }
 
-    // The entry at a path, or the listing that stands in for an index that isn't there.
+    // The entry at a path, or the listing in place of an index that isn't there.
     fn or_listing(&self, alloc: Global, path: &str, entry: Entry) -> Result<Entry, AllocError>
         requires { ListsOwn path.now entry }
         ensures listed { IfOk result (ListsOwn path.now) }
@@ -221,7 +221,7 @@ impl Folder<'_> {
         Ok(entry)
     }
 
-    // What stands at a path of the system, which has this name below the root.
+    // The entry at a path of the system, which has this name below the root.
     fn entry(&self, path: &str, name: &str) -> io::Result<Entry>
         ensures { (p : List ℕ) → IfOk result (ListsOwn p) }
     {

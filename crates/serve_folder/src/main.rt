@@ -41,7 +41,7 @@ fn folder_at(rt: &HostRuntime, path: &str) -> Result<Option<PathBuf>, AllocError
     }
 }
 
-// A value, or `None` if the text can't stand in a header.
+// A value, or `None` if no field value can have the text.
 fn valid<T: Drop>(made: Result<T, HeaderValueError>) -> Result<Option<T>, AllocError> {
     match made {
         Ok(value) => Ok(Some(value)),
@@ -116,7 +116,7 @@ fn pages_of(rt: &HostRuntime, matches: &ArgMatches<'_>) -> io::Result<Vec<Page>>
 // says which.
 fn settings_of(rt: &HostRuntime, matches: &ArgMatches<'_>) -> anyhow::Result<Option<Settings>> {
     let Some(cache_control) = valid(cache_control_of(rt.alloc(), matches))? else {
-        eprintln!(rt; "error: the value of '--cache-control' can't stand in a header")?;
+        eprintln!(rt; "error: '--cache-control' has a byte that no field value can have")?;
         return Ok(None);
     };
     let cors = match cors_of(rt.alloc(), matches) {
@@ -128,7 +128,7 @@ fn settings_of(rt: &HostRuntime, matches: &ArgMatches<'_>) -> anyhow::Result<Opt
         }
     };
     let Some(hosts) = valid(hosts_of(rt.alloc(), matches))? else {
-        eprintln!(rt; "error: the value of '--host' can't stand in a header")?;
+        eprintln!(rt; "error: '--host' has a byte that no field value can have")?;
         return Ok(None);
     };
     let pages = match pages_of(rt, matches) {

@@ -60,7 +60,7 @@ fn with_last_options<'a>(alloc: Global, command: Command<'a>) -> Result<Command<
         alloc,
         command,
         "precompressed",
-        "Serve what stands beside a file as .br or .gz, to clients that take it",
+        "Serve the precompressed copies FILE.br and FILE.gz to clients that accept them",
     )?;
     let command = with_number(
         alloc,

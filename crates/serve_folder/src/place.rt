@@ -5,8 +5,8 @@ ghost use Rattle.std.specs.Path.{PathStartsWith, path_buf_bytes, path_components
 use std::path::PathBuf;
 use std::{fs, io};
 
-/// A path with every link resolved, which begins with that of a root and has no `..`. So it names what
-/// stands in the root, or the root. Files are opened only at such paths.
+/// A path with every link resolved, which begins with that of a root and has no `..`. So it names
+/// something in the root, or the root. Files are opened only at such paths.
 #[derive(Drop)]
 pub struct Place<'a> {
     root: &'a str,
