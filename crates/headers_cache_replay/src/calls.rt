@@ -39,13 +39,18 @@ fn new_store(alloc: Global, keys: RandomState, limits: &str) -> Result<Store, Fa
     Ok(Store::with_options(alloc, kind, options, limits, keys)?)
 }
 
+/// The next word, as a kind of cache.
+pub fn kind(arguments: &mut Arguments<'_>) -> Result<Kind, Failure> {
+    match arguments.word()? {
+        "shared" => Ok(Kind::Shared),
+        "private" => Ok(Kind::Private),
+        _ => Err(Failure::NoCall),
+    }
+}
+
 /// The next four words, as whom a cache serves, and its limits.
 pub fn read_limits(arguments: &mut Arguments<'_>) -> Result<(Kind, Limits), Failure> {
-    let kind = match arguments.word()? {
-        "shared" => Kind::Shared,
-        "private" => Kind::Private,
-        _ => return Err(Failure::NoCall),
-    };
+    let kind = kind(arguments)?;
     let limits = Limits {
         variants: size(arguments)?,
         responses: size(arguments)?,

@@ -1,7 +1,8 @@
 //! Histories: calls of one cache, in order, with the answers that are wanted.
 use crate::calls::{Caches, make, new_caches};
+use crate::decisions::Decisions;
 use anyhow::{Context, Result, anyhow};
-use headers_rows::{Answer, Arguments, Failure, Tally};
+use headers_rows::{Answer, Arguments, Failure, Tally, replay_rows};
 use std::alloc::{AllocError, Global};
 use std::fs::File;
 use std::hash::RandomState;
@@ -177,7 +178,13 @@ fn replay_text<W: Write>(
     Ok(())
 }
 
-// Plays the histories of a file, whose name is given.
+// Whether the first call of a text is in a history.
+fn has_histories(text: &str) -> bool {
+    let first = text.lines().find(|line| !is_aside(line));
+    first.is_some_and(|line| line.starts_with("cache "))
+}
+
+// Makes the calls of a file, whose name is given.
 fn replay_file<R: Read + Drop, W: Write>(
     alloc: Global,
     keys: RandomState,
@@ -187,13 +194,16 @@ fn replay_file<R: Read + Drop, W: Write>(
     writer: &mut W,
 ) -> Result<()> {
     let input = io::read_to_string(alloc, reader)?;
+    if !has_histories(input.as_str()) {
+        return replay_rows::<Decisions, _, _>(alloc, file, input.as_bytes(), tally, writer);
+    }
     let before = tally.rows;
     replay_text(alloc, keys, file, input.as_str(), tally, writer)?;
     tally.add_file(file, tally.rows.saturating_sub(before))?;
     Ok(())
 }
 
-/// Plays the histories of the files that the program's arguments name. Prints the calls that are
+/// Makes the calls of the files that the program's arguments name. Prints the calls that are
 /// answered otherwise than is wanted, and then the counts. The exit code is 0 exactly if there are
 /// none.
 pub fn replay_files<R: Env + Files + Print + AllocGlobal + RandomSource>(

@@ -1,12 +1,14 @@
-//! Plays the histories in the files that it is given: calls of the stores of one cache, in order. Prints
-//! the calls that are answered otherwise than is wanted.
+//! Makes the calls in the files that it is given, and prints those that are answered otherwise than is wanted. A file
+//! has single decisions of the cache policy (`decisions.rt`), or it begins with a history: calls of the stores of one
+//! cache, in order (`histories.rt`).
 //!
-//! A history begins with `cache KIND VARIANTS RESPONSES BYTES`, which makes the stores: `shared` or
-//! `private`, and the limits of each. Each line after it that begins with two spaces is a call and its answer.
-//! `histories.rt` reads them, and `calls.rt` and `parts.rt` say what each call has and answers.
+//! A history begins with `cache KIND VARIANTS RESPONSES BYTES`, which makes the stores: `shared` or `private`, and the
+//! limits of each. Each line after it that begins with two spaces is a call and its answer. `calls.rt` and `parts.rt`
+//! say what each call has and answers.
 #![tactic(auto)]
 
 mod calls;
+mod decisions;
 mod histories;
 mod parts;
 

@@ -83,7 +83,7 @@ def by_program(cases: list[generate.Case], comparison: Comparison) -> None:
         calls.append(" ".join(["matches", *rows.map_words(stored), "(/)", *rows.map_words(request), "(/)", *words]))
         matches = permitted(lambda: model.vary_matches(stored, request, response))
         wanted.append(("matches", matches, lambda it: it == "true"))
-    answers = rows.answers(products.program("headers_cache_policy"), calls)
+    answers = rows.answers(products.program("headers_cache"), calls)
     for call, (name, expected, read), answer in zip(calls, wanted, answers):
         comparison.add(name, expected, read(answer), lambda: call)
 

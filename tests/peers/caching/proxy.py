@@ -25,7 +25,7 @@ from common.fields import Fields, section
 
 headers = products.library()
 Decision = headers.Decision
-PROGRAM = products.program("headers_cache_policy")
+PROGRAM = products.program("headers_cache")
 # Fields of one connection, which aren't stored (RFC 9111, section 3.1).
 HOP = {"connection", "keep-alive", "proxy-connection", "te", "transfer-encoding", "upgrade", "proxy-authenticate",
        "proxy-authentication-info", "proxy-authorization"}

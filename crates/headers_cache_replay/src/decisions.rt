@@ -1,4 +1,5 @@
-//! The calls of the cache policy.
+//! The decisions of the cache policy.
+use crate::calls::{kind, method, status};
 use headers::{HeaderName, set_all};
 use headers_cache_policy::{
     Freshness, Kind, Policy, RequestHead, Times, current_age, decide, decide_by, decide_unstored,
@@ -6,16 +7,7 @@ use headers_cache_policy::{
 };
 use headers_rows::{Answer, Arguments, Calls, Failure};
 use headers_structured::{Value, read_entry};
-use http::{Method, StatusCode};
-
-// The next word, as a kind of cache.
-fn kind(arguments: &mut Arguments<'_>) -> Result<Kind, Failure> {
-    match arguments.word()? {
-        "shared" => Ok(Kind::Shared),
-        "private" => Ok(Kind::Private),
-        _ => Err(Failure::NoCall),
-    }
-}
+use http::Method;
 
 // A policy with options.
 #[derive(Drop)]
@@ -54,17 +46,6 @@ fn read_options(arguments: &mut Arguments<'_>) -> Result<Options, Failure> {
         }
     }
     Ok(options)
-}
-
-// The next word, as a status.
-fn status(arguments: &mut Arguments<'_>) -> Result<StatusCode, Failure> {
-    let code = u16::try_from(arguments.number()?).map_err(|_| Failure::NoCall)?;
-    StatusCode::from_u16(code).map_err(|_| Failure::NoCall)
-}
-
-// The next word, as a method.
-fn method(arguments: &mut Arguments<'_>) -> Result<Method, Failure> {
-    Ok(Method::from_bytes(arguments.alloc(), &arguments.bytes()?)?)
 }
 
 // The next three words, as the times of a request and of its response, and the present.
@@ -276,10 +257,10 @@ fn call_dictionary(arguments: &mut Arguments<'_>, answer: &mut Answer) -> Result
     Ok(())
 }
 
-/// Makes the calls of the cache policy.
-pub struct CachePolicy;
+/// The decisions of the cache policy.
+pub struct Decisions;
 
-impl Calls for CachePolicy {
+impl Calls for Decisions {
     fn make(name: &str, arguments: &mut Arguments<'_>, answer: &mut Answer) -> Result<(), Failure> {
         match name {
             "may_store" => call_may_store(arguments, answer),
