@@ -1,4 +1,4 @@
-# Installs packages of Debian. tests/peers/run and tests/gateway/run source this file.
+# Installs packages of Debian. Tests source this file.
 
 is_installed() {
     dpkg-query -W -f '${db:Status-Status}' "$1" 2>/dev/null | grep -q '^installed$'
@@ -20,7 +20,7 @@ install_missing() {
     [ -e "$rules" ] || { printf '#!/bin/sh\nexit 101\n' >"$rules" && chmod +x "$rules" && made=yes; }
     for package in "${missing[@]}"; do
         DEBIAN_FRONTEND=noninteractive apt-get install -y -q --no-install-recommends "$package" >/dev/null 2>&1 ||
-            echo "run: $package can't be had" >&2
+            echo "run: $package isn't available" >&2
     done
     [ -z "$made" ] || rm -f -- "$rules"
 }
