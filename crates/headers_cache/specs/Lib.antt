@@ -3,6 +3,8 @@ pub mod Contents
 pub mod History
 pub mod Kept
 pub mod Lookups
+pub mod Named
+pub mod Parts
 pub mod Room
 pub mod Served
 pub mod Updates

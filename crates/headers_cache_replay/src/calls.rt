@@ -1,11 +1,10 @@
 //! The calls of a store.
 use crate::parts::{make_part_call, new_parts};
 use headers::{Encoded, HeaderMap};
-use headers_cache::{Limits, Lookup, Options, Refreshed, Store};
-use headers_cache_parts::PartStore;
+use headers_cache::parts::PartStore;
+use headers_cache::{Limits, Lookup, Options, Refreshed, Store, named_targets};
 use headers_cache_policy::{Kind, RequestHead};
 use headers_cache_rules::{Exchange, Reception, StoredAnswer, StoredResponse};
-use headers_cache_targets::named_targets;
 use headers_rows::{Answer, Arguments, Failure};
 use http::{Method, StatusCode};
 use std::alloc::{AllocError, Global};

@@ -2,8 +2,8 @@
 use crate::calls::{
     Asked, add_fields, add_stored, method, read_came, read_limits, read_options, status,
 };
+use headers_cache::parts::{PartAnswer, PartLookup, PartStore, Recorded};
 use headers_cache::{Options, Store};
-use headers_cache_parts::{PartAnswer, PartLookup, PartStore, Recorded};
 use headers_cache_rules::{Reception, StoredResponse};
 use headers_rows::{Answer, Arguments, Failure};
 use std::alloc::Global;
