@@ -10,7 +10,7 @@ install_missing() {
     for package; do
         is_installed "$package" || missing+=("$package")
     done
-    [ ${#missing[@]} -gt 0 ] || return
+    [ ${#missing[@]} -gt 0 ] || return 0
     if ! command -v apt-get >/dev/null || [ "$(id -u)" != 0 ]; then
         echo "run: not installed, as only root may: ${missing[*]}" >&2
         return
