@@ -1,22 +1,22 @@
 //! A cache: a store of responses behind a handle.
 ghost use Rattle.std.specs.Prelude.{◌≡◌, None};
 ghost use Rattle.headers_c_parts.specs.Endings.{Gives, TellsAndWrites};
-ghost use Rattle.headers_c_store.specs.Answers.{AnswersClient};
-ghost use Rattle.headers_c_store.specs.Handles.{OnOpen, Opens, OpensWith, Reads};
-ghost use Rattle.headers_c_store.specs.Lookups.{LooksUp};
-ghost use Rattle.headers_c_store.specs.Removals.{InvalidatesTarget, Removes};
-ghost use Rattle.headers_c_store.specs.Shown.{CopiesContent, ShowsStored};
-ghost use Rattle.headers_c_store.specs.Storing.{StoresResponse};
-ghost use Rattle.headers_c_store.specs.Validations.{Freshens, FreshensByHead};
+ghost use Rattle.headers_c_handles.specs.Cache.Answers.{AnswersClient};
+ghost use Rattle.headers_c_handles.specs.Cache.Handles.{OnOpen, Opens, OpensWith, Reads};
+ghost use Rattle.headers_c_handles.specs.Cache.Lookups.{LooksUp};
+ghost use Rattle.headers_c_handles.specs.Cache.Removals.{InvalidatesTarget, Removes};
+ghost use Rattle.headers_c_handles.specs.Cache.Shown.{CopiesContent, ShowsStored};
+ghost use Rattle.headers_c_handles.specs.Cache.Storing.{StoresResponse};
+ghost use Rattle.headers_c_handles.specs.Cache.Validations.{Freshens, FreshensByHead};
 ghost use Rattle.headers_c.specs.CacheStore.{Ends, TellsFlag, ended};
 
 use headers_c_decisions::flag_of;
-use headers_c_parts::{DONE, Failure, HashKeys, copy_into};
-use headers_c_store::{
+use headers_c_handles::cache::{
     AnswerFacts, Cache, CacheExtensions, CacheOptions, CacheRequest, CacheResponse, FreshenedFacts,
     LookupFacts, StoredFacts, answer, close, copy_content, freshen, freshen_by_head, invalidate,
     look_up, open, open_with, remove, show, store,
 };
+use headers_c_parts::{DONE, Failure, HashKeys, copy_into};
 use headers_cache_rules::Exchange;
 use std::alloc::Global;
 

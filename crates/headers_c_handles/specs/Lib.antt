@@ -1,3 +1,4 @@
+pub mod Cache
 pub mod Handles
 pub mod Ownership
 pub mod Policies

@@ -1,7 +1,8 @@
-//! Sections, policies and resources for C, behind handles: each is parsed once.
+//! Sections, policies, resources and caches for C, behind handles: each is parsed once.
 #![tactic(auto)]
 
 mod asking;
+pub mod cache;
 mod field;
 mod handle;
 mod held;

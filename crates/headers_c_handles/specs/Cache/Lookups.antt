@@ -1,0 +1,104 @@
+-- What a cache does with a request, by what a caller hands in.
+use Rattle.std.specs.Prelude.{◌≡◌, ◌⊎◌, ℕ, List, [], slice_get, Option, Some, None, unwrap_or, Result, Ok, Err}
+use Rattle.std.specs.Option.{option_map_or}
+use Rattle.http_header.specs.FieldValue.{FieldValue}
+use Rattle.http_header.specs.HeaderMap.{Entries}
+use Rattle.headers.specs.LineMap.{fields_of}
+use Rattle.headers_cache_rules.specs.declared.stored.StoredResponse.{StoredResponse}
+use Rattle.headers_cache.specs.Contents.{responses_at, used}
+use Rattle.headers_cache.specs.Kept.{contents_of, policy_of_store}
+use Rattle.headers_cache.specs.Lookups.{HasFields, IsAnswer}
+use Rattle.headers_cache.specs.declared.lookup.Lookup.{Lookup}
+use Rattle.headers_cache.specs.declared.lookup.Lookup.TheVariants.{Serve, ServeAndRevalidate, Validate, ValidateOrServe}
+use Rattle.headers_cache.specs.declared.lookup.Lookup.TheVariants.{Unavailable, Forward}
+use Rattle.headers_c_decisions.specs.FieldLines.{fields_text}
+use Rattle.headers_c_parts.specs.declared.status.Failure.{Failure}
+use Rattle.headers_c_parts.specs.declared.status.Failure.TheVariants.{Memory}
+use Rattle.headers_c_handles.specs.Cache.Handles.{KeepsSettings}
+use Rattle.headers_c_handles.specs.Cache.Reading.{FailsRequest, IsRequest, asked_by}
+use Rattle.headers_c_handles.specs.Cache.Shown.{no_facts, served_text, stored_facts}
+use Rattle.headers_c_handles.specs.declared.cache.held.Held.{Held}
+use Rattle.headers_c_handles.specs.declared.cache.lookup.LookedUp.{LookedUp}
+use Rattle.headers_c_handles.specs.declared.cache.lookup.LookupFacts.{LookupFacts}
+use Rattle.headers_c_handles.specs.declared.cache.reading.CacheRequest.{CacheRequest}
+use Rattle.headers_c_handles.specs.declared.cache.shown.StoredFacts.{StoredFacts}
+
+-- the number of what is done, as of a decision: a response that is served stale has that of one that is fresh
+abbrev pub action_of : Lookup → ℕ
+action_of (Serve place age) = 0
+action_of (ServeAndRevalidate place age) = 1
+action_of (Validate place fields) = 3
+action_of (ValidateOrServe place fields) = 4
+action_of Unavailable = 5
+action_of Forward = 6
+
+-- the place of the stored response, if there is one
+abbrev pub place_of : Lookup → Option ℕ
+place_of (Serve place age) = Some place
+place_of (ServeAndRevalidate place age) = Some place
+place_of (Validate place fields) = Some place
+place_of (ValidateOrServe place fields) = Some place
+place_of Unavailable = None
+place_of Forward = None
+
+module _ (responses : List StoredResponse) (now : ℕ) where
+  -- what is told of the response at a place: there is one at the place of an answer
+  abbrev pub facts_at : ℕ → StoredFacts
+  facts_at place = option_map_or (λ stored. stored_facts stored now) (slice_get responses place) no_facts
+
+  abbrev pub text_at : ℕ → List ℕ
+  text_at place = option_map_or (λ stored. served_text stored now) (slice_get responses place) []
+
+  -- the number of what is done, and the place and the facts of the stored response, if there is one
+  abbrev pub lookup_facts : Lookup → LookupFacts
+  lookup_facts lookup =
+      record {
+        stored = option_map_or facts_at (place_of lookup) no_facts;
+        place = unwrap_or (place_of lookup) 0;
+        action = action_of lookup;
+      }
+
+  -- the field lines of the response that is served, or those by which the origin is asked
+  abbrev pub lookup_text : Lookup → List ℕ
+  lookup_text (Serve place age) = text_at place
+  lookup_text (ServeAndRevalidate place age) = text_at place
+  lookup_text (Validate place fields) = fields_text (fields_of fields.items)
+  lookup_text (ValidateOrServe place fields) = fields_text (fields_of fields.items)
+  lookup_text Unavailable = []
+  lookup_text Forward = []
+
+  pub record IsShownLookup (lookup : Lookup) (looked : LookedUp) : Type 0 where
+    pub facts : looked.facts ≡ lookup_facts lookup
+    pub text : looked.text.items ≡ lookup_text lookup
+
+module _ (request : CacheRequest) (now guess : ℕ) (old new : Held) where
+  -- the target becomes the most recently used
+  pub record IsTouched : Type 0 where
+    pub contents : contents_of new.store ≡ used request.target.now (contents_of old.store)
+    pub settings : KeepsSettings old new
+    pub once : new.once ≡ old.once
+
+  -- the responses that are stored under the target
+  abbrev pub responses : List StoredResponse
+  responses = responses_at request.target.now (contents_of new.store)
+
+  -- what the store does with the request
+  pub record IsLookedUp (looked : LookedUp) : Type 0 where
+    pub fields : Entries FieldValue
+    pub is_request : IsRequest request fields
+    pub lookup : Lookup
+    pub answers : IsAnswer (policy_of_store old.store) guess (asked_by request fields) now responses lookup
+    pub shown : IsShownLookup responses now lookup looked
+    pub touched : IsTouched
+
+  -- a stored response is selected, and the answer isn't 504: then it has fields, which take memory
+  pub record FailsLookup : Type 0 where
+    pub fields : Entries FieldValue
+    pub is_request : IsRequest request fields
+    pub has_fields : HasFields (policy_of_store old.store) guess (asked_by request fields) now responses
+    pub touched : IsTouched
+
+  -- the answer is that, or the failure of parsing the request, or of allocating what is told
+  abbrev pub LooksUp : Result LookedUp Failure → Type 0
+  LooksUp (Ok looked) = IsLookedUp looked
+  LooksUp (Err failure) = (FailsRequest request failure × (new ≡ old)) ⊎ ((failure ≡ Memory) × FailsLookup)
