@@ -1,3 +1,4 @@
+pub mod Dating
 pub mod Decisions
 pub mod Freshening
 pub mod Policies

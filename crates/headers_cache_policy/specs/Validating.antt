@@ -32,20 +32,20 @@ sent_date line second =
     if nat_le unix_epoch second && nat_lt (second - unix_epoch) 253_402_300_800 then fixdate (second - unix_epoch)
     else line
 
-abbrev pub date_lines : ℕ → LineMap → List Line
-date_lines received response =
+abbrev pub since_lines : ℕ → LineMap → List Line
+since_lines received response =
     lines_of_option (λ (dated : Line × ℕ). sent_date dated.0 dated.1) (dated_line received response)
 
 -- The fields by which a request validates a response: If-None-Match has its entity tag, and If-Modified-Since the
 -- date of its Last-Modified. A validator that the response doesn't have isn't sent, nor is the request's own field.
 abbrev pub validation_fields : ℕ → LineMap → List Field
 validation_fields received response =
-    (codes "if-none-match", tag_lines response) ∷ (codes "if-modified-since", date_lines received response) ∷ []
+    (codes "if-none-match", tag_lines response) ∷ (codes "if-modified-since", since_lines received response) ∷ []
 
 -- the request with these two fields in place of its own, and its other fields
 pub record IsConditional (received : ℕ) (request response validated : LineMap) : Type 0 where
   pub tag : validated (codes "if-none-match") ≡ tag_lines response
-  pub date : validated (codes "if-modified-since") ≡ date_lines received response
+  pub date : validated (codes "if-modified-since") ≡ since_lines received response
   pub others : (name : List ℕ) → codes "if-none-match" ≢ name → codes "if-modified-since" ≢ name
       → validated name ≡ request name
 

@@ -3,9 +3,10 @@
 //! As options it follows RFC 8246 and RFC 9213.
 //!
 //! Fields are parsed by the grammar of the RFCs, and what is malformed makes each answer stricter.
-//! Only `validation_fields` and `freshening_fields` allocate.
+//! Only `validation_fields`, `freshening_fields` and `date_field` allocate.
 #![tactic(auto)]
 
+mod dating;
 mod decision;
 mod fields;
 mod freshening;
@@ -18,6 +19,7 @@ mod updating;
 mod validating;
 mod vary;
 
+pub use crate::dating::{END_OF_DATES, date_field};
 pub use crate::decision::{Decision, Freshness, decide, decide_by, decide_unstored};
 pub use crate::freshening::freshening_fields;
 pub use crate::freshness::{heuristic_lifetime, lifetime};

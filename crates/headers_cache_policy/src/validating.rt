@@ -2,9 +2,10 @@
 ghost use Rattle.std.specs.Prelude.{◌≡◌, ◌∷◌, [], IfOk, codes, option_map};
 ghost use Rattle.headers.specs.LineMap.{field_of, fields_of, lines_at};
 ghost use Rattle.headers.specs.Lines.{lines_of};
-ghost use Rattle.headers_cache_policy.specs.Validating.{IsCanonical, date_lines, dated_line, sent_date};
+ghost use Rattle.headers_cache_policy.specs.Validating.{IsCanonical, dated_line, sent_date, since_lines};
 ghost use Rattle.headers_cache_policy.specs.Validating.{tag_lines, validation_fields};
 
+use crate::dating::END_OF_DATES;
 use headers::{
     ETag, Encoded, Header, HeaderMap, HeaderValue, IfModifiedSince, Refused, canonical, encoding,
     trim,
@@ -13,9 +14,6 @@ use headers_dates::{Timestamp, read_date};
 use headers_fields::only_value;
 use http_header::{IF_MODIFIED_SINCE, IF_NONE_MATCH, LAST_MODIFIED};
 use std::alloc::{AllocError, Global};
-
-// The first second of the year 10000, since 1970.
-const END_OF_DATES: u64 = 253_402_300_800;
 
 /// Returns the fields that make a request validate a stored response (RFC 9111, section 4.3.1), for
 /// `set_all` on the request's own. If-None-Match has the entity tag of the response,
@@ -34,7 +32,7 @@ pub fn validation_fields(
         fields_of fields.items ≡ validation_fields received (lines_at response.now)) }
 {
     let by_tag = tag_field(alloc, response)?;
-    let by_date = date_field(alloc, response, received)?;
+    let by_date = since_field(alloc, response, received)?;
     Ok(vec![in alloc; by_tag, by_date]?)
 }
 
@@ -48,9 +46,9 @@ fn tag_field(alloc: Global, response: &HeaderMap) -> Result<Encoded, AllocError>
     })
 }
 
-fn date_field(alloc: Global, response: &HeaderMap, received: u64) -> Result<Encoded, AllocError>
+fn since_field(alloc: Global, response: &HeaderMap, received: u64) -> Result<Encoded, AllocError>
     ensures { IfOk result (λ field.
-        field_of field ≡ (codes "if-modified-since", date_lines received (lines_at response.now))) }
+        field_of field ≡ (codes "if-modified-since", since_lines received (lines_at response.now))) }
 {
     match dated_line(response, received) {
         Some((line, date)) => sent_date(alloc, line, date),

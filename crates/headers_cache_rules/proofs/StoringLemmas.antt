@@ -14,13 +14,14 @@ use Rattle.headers.specs.LineMap.{Field, LineMap, field_of, fields_of, lines_at,
 use Rattle.headers.specs.declared.Encoded.{Encoded}
 use Rattle.headers.specs.Lines.{Line}
 use Rattle.headers_fields.specs.Members.{field_members}
+use Rattle.headers_cache_policy.specs.Dating.{date_lines}
 use Rattle.headers_cache_policy.specs.Directives.{directed_by_members}
 use Rattle.headers_cache_policy.specs.Freshness.{by_itself}
 use Rattle.headers_cache_policy.specs.Targets.{governing, told, told_by}
 use Rattle.headers_cache_policy.specs.declared.Directives.{Directives}
 use Rattle.headers_cache_policy.specs.declared.Governing.{Governing}
 use Rattle.headers_gateway.specs.HopByHop.{connection_options, is_hop_by_hop, is_named}
-use Rattle.headers_cache_rules.specs.Storing.{HasFairOptions, IsAsStored, IsHopByHop, LacksDate, date_lines}
+use Rattle.headers_cache_rules.specs.Storing.{HasFairOptions, IsAsStored, IsHopByHop, LacksDate}
 use Rattle.headers_cache_rules.specs.Storing.{is_absent, is_lost, lacks_date, or_date, removals, reuse_names}
 use Rattle.headers_cache_rules.specs.Storing.{storing_fields}
 use Rattle.headers_cache_rules.proofs.FieldLemmas.{set_all-append, without_all}

@@ -5,12 +5,13 @@ use Rattle.http_header.specs.HeaderMap.{Entries}
 use Rattle.headers.specs.LineMap.{Field, LineMap}
 use Rattle.headers.specs.Lines.{Line}
 use Rattle.headers.specs.Typed.{HasLine}
+use Rattle.headers_cache_policy.specs.Dating.{date_lines}
 use Rattle.headers_cache_policy.specs.Freshening.{freshened, freshening_fields}
 use Rattle.headers_cache_policy.specs.Policies.{MayStoreUnder, Policy}
 use Rattle.headers_cache_policy.specs.Requests.{Request}
 use Rattle.headers_cache_policy.specs.Updating.{IsUpdated}
 use Rattle.headers_cache_rules.specs.Selection.{IsCandidate}
-use Rattle.headers_cache_rules.specs.Storing.{HasFairOptions, date_lines}
+use Rattle.headers_cache_rules.specs.Storing.{HasFairOptions}
 use Rattle.headers_cache_rules.specs.Stored.{fields_of_stored, request_of_stored}
 use Rattle.headers_cache_rules.specs.declared.freshening.Exchange.{Exchange}
 use Rattle.headers_cache_rules.specs.declared.freshening.Freshened.{Freshened}

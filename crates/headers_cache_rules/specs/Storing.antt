@@ -1,14 +1,14 @@
 -- Which responses are stored, and which of their field lines (RFC 9111, sections 3, 3.1 and 3.3).
-use Rattle.std.specs.Prelude.{◌≡◌, ◌≢◌, ◌⊎◌, ℕ, Bool, true, false, ◌||◌, List, [], ◌∷◌, ◌++◌, map, filter, nat_lt}
+use Rattle.std.specs.Prelude.{◌≡◌, ◌≢◌, ◌⊎◌, ℕ, Bool, true, false, ◌||◌, List, [], ◌∷◌, ◌++◌, map, filter}
 use Rattle.std.specs.Prelude.{bytes_eq, codes, if◌then◌else◌}
 use Rattle.std.specs.List.{list_any}
 use Rattle.http_header.specs.FieldValue.{FieldValue}
 use Rattle.http_header.specs.HeaderMap.{Entries, keys}
-use Rattle.headers.specs.Date.{fixdate}
 use Rattle.headers.specs.LineMap.{Field, LineMap, lines_at}
 use Rattle.headers.specs.Lines.{Line}
 use Rattle.headers_fields.specs.Scan.{Member}
 use Rattle.headers_gateway.specs.HopByHop.{are_options, connection_options, is_hop_by_hop, is_named}
+use Rattle.headers_cache_policy.specs.Dating.{date_lines}
 use Rattle.headers_cache_policy.specs.Policies.{MayStoreUnder, Policy}
 use Rattle.headers_cache_policy.specs.Requests.{Request}
 use Rattle.headers_cache_rules.specs.declared.storing.Reception.{Reception}
@@ -62,10 +62,6 @@ pub record IsStored (policy : Policy) (request : Request) (status : ℕ) (respon
 -- the field is of one connection or of a proxy (section 3.1; RFC 9110, section 7.6.1)
 abbrev pub IsHopByHop : LineMap → List ℕ → Type 0
 IsHopByHop message name = is_hop_by_hop true (connection_options message) name ≡ true
-
--- the field lines of a Date of that second (RFC 9110, section 6.6.1); a date after the year 9999 can't be written
-abbrev pub date_lines : ℕ → List Line
-date_lines second = if nat_lt second 253_402_300_800 then fixdate second ∷ [] else []
 
 -- these field lines, or if there are none a Date of that second
 abbrev pub or_date : ℕ → List Line → List Line

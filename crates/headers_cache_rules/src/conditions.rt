@@ -10,9 +10,8 @@ ghost use Rattle.headers_cache_rules.specs.Conditions.{divisible, one_part};
 ghost use Rattle.headers_cache_rules.specs.Conditions.{modified_second, unix_second};
 
 use crate::stored::StoredResponse;
-use crate::storing::END_OF_DATES;
 use headers::{ETag, HeaderMap, HeaderMapExt, LastModified, Refused};
-use headers_cache_policy::{RequestHead, date};
+use headers_cache_policy::{END_OF_DATES, RequestHead, date};
 use headers_dates::Timestamp;
 use headers_fields::has_line;
 use headers_preconditions::{

@@ -14,9 +14,9 @@ ghost use Rattle.headers_cache_rules.specs.Stored.{fields_of_stored, request_of_
 use crate::fields::set_fields;
 use crate::selection::is_sought;
 use crate::stored::StoredResponse;
-use crate::storing::{date_field, has_fair_options};
+use crate::storing::has_fair_options;
 use headers::{Encoded, HeaderMap, HeaderValue, InsertError};
-use headers_cache_policy::{Policy, RequestHead, freshening_fields, is_updated};
+use headers_cache_policy::{Policy, RequestHead, date_field, freshening_fields, is_updated};
 use headers_fields::has_line;
 use http_header::{AGE, CONTENT_LENGTH, GetAll, LAST_MODIFIED};
 use std::alloc::{AllocError, Global};

@@ -1,5 +1,5 @@
 //! What a cache stores of a response.
-ghost use Rattle.std.specs.Prelude.{◌≡◌, ◌∷◌, ◌++◌, [], IfOk, OnErr, OnOk, codes, true};
+ghost use Rattle.std.specs.Prelude.{◌≡◌, ◌∷◌, ◌++◌, [], IfOk, OnErr, OnOk, true};
 ghost use Rattle.std.specs.Bool.{MatchBool};
 ghost use Rattle.std.specs.List.{list_any};
 ghost use Rattle.http_header.specs.HeaderMap.{keys};
@@ -10,18 +10,15 @@ ghost use Rattle.headers_gateway.specs.HopByHop.{connection_options, is_hop_by_h
 ghost use Rattle.headers_cache_policy.specs.Policies.{policy_of};
 ghost use Rattle.headers_cache_policy.specs.Requests.{request_of};
 ghost use Rattle.headers_cache_rules.specs.Storing.{HasFairOptions, IsAsStored, IsChanged, IsStored, LacksDate};
-ghost use Rattle.headers_cache_rules.specs.Storing.{date_lines, is_lost, removals, reuse_names, storing_fields};
+ghost use Rattle.headers_cache_rules.specs.Storing.{is_lost, removals, reuse_names, storing_fields};
 
-use headers::{Date, Encoded, HeaderMap, HeaderName, HeaderValue, encoding};
-use headers_cache_policy::{Policy, RequestHead};
+use headers::{Encoded, HeaderMap, HeaderName, HeaderValue};
+use headers_cache_policy::{Policy, RequestHead, date_field};
 use headers_fields::{are_tokens, contains_token};
 use headers_gateway::is_hop_by_hop;
 use http::StatusCode;
 use http_header::{CONNECTION, DATE, GetAll};
 use std::alloc::{AllocError, Global};
-
-/// The first second of the year 10000, since 1970.
-pub(crate) const END_OF_DATES: u64 = 253_402_300_800;
 
 /// Whether all of a message came (RFC 9112, section 8).
 #[derive(Clone, Copy, Debug, PartialEq, Eq)]
@@ -167,17 +164,4 @@ fn lacks_date(response: &HeaderMap) -> bool
     ensures { MatchBool result (LacksDate (lines_at response.now)) (¬ (LacksDate (lines_at response.now))) }
 {
     response.get_all(DATE).iter().next().is_none() || is_of_connection(response, &DATE)
-}
-
-/// Date of this second. Without field lines if it is after the year 9999, which can't be written.
-pub(crate) fn date_field(alloc: Global, second: u64) -> Result<Encoded, AllocError>
-    ensures { IfOk result (λ field. field_of field ≡ (codes "date", date_lines second)) }
-{
-    if second < END_OF_DATES {
-        return encoding(alloc, &Date::from_unix_secs(second));
-    }
-    Ok(Encoded {
-        name: DATE,
-        lines: Vec::new(alloc),
-    })
 }
