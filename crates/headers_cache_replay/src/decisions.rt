@@ -1,5 +1,6 @@
-//! The decisions of the cache policy.
+//! Single decisions: of the cache policy, and of conditional requests.
 use crate::calls::{kind, method, status};
+use crate::conditional::make_conditional_call;
 use headers::{HeaderName, set_all};
 use headers_cache_policy::{
     Freshness, Kind, Policy, RequestHead, Times, current_age, decide, decide_by, decide_unstored,
@@ -257,7 +258,7 @@ fn call_dictionary(arguments: &mut Arguments<'_>, answer: &mut Answer) -> Result
     Ok(())
 }
 
-/// The decisions of the cache policy.
+/// The decisions of the cache policy, and of conditional requests.
 pub struct Decisions;
 
 impl Calls for Decisions {
@@ -277,7 +278,7 @@ impl Calls for Decisions {
             "lifetimes_under" => call_lifetimes_under(arguments, answer),
             "decide_under" => call_decide_under(arguments, answer),
             "dictionary" => call_dictionary(arguments, answer),
-            _ => Err(Failure::NoCall),
+            _ => make_conditional_call(name, arguments, answer),
         }
     }
 }

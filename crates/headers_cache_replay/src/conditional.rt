@@ -1,6 +1,4 @@
-//! The calls of rows.
-//!
-//! A row names a method, the fields of a request, and a resource: `missing`, or an entity tag, the
+//! The decisions of conditional requests. A call has a method, the fields of a request, and a resource: `missing`, or an entity tag, the
 //! second of its last modification, and `strong` or `weak` for that date. A tag or a second that it
 //! doesn't have is `(none)`. Unless the row says it, the time is the start of 2026.
 use headers::{HeaderMap, HeaderValue, LastModified, set_all};
@@ -8,14 +6,11 @@ use headers_preconditions::{
     Boundary, Content, Part, Precondition, RangeLimits, Resource, Response, Selection, Validators,
     evaluate, respond, select,
 };
-use headers_rows::{Answer, Arguments, Calls, Failure};
+use headers_rows::{Answer, Arguments, Failure};
 use http::Method;
 
-/// The time of rows that don't say it: the start of 2026.
+/// The time of calls that don't say it: the start of 2026.
 const PRESENT: u64 = 1_767_225_600;
-
-/// The calls of `headers_preconditions`.
-pub struct Decisions;
 
 // A method and the fields of a request.
 fn read_request(arguments: &mut Arguments<'_>) -> Result<(Method, HeaderMap), Failure> {
@@ -169,17 +164,20 @@ fn call_boundary(arguments: &mut Arguments<'_>, answer: &mut Answer) -> Result<(
     answer.line(boundary.content_type())
 }
 
-impl Calls for Decisions {
-    fn make(name: &str, arguments: &mut Arguments<'_>, answer: &mut Answer) -> Result<(), Failure> {
-        match name {
-            "evaluate" => call_evaluate(arguments, PRESENT, answer),
-            "evaluate_at" => call_evaluate_at(arguments, answer),
-            "select" => call_select(arguments, &RangeLimits::usual(), answer),
-            "select_within" => call_select_within(arguments, answer),
-            "respond" => call_respond(arguments, Some(RangeLimits::usual()), answer),
-            "respond_whole" => call_respond(arguments, None, answer),
-            "boundary" => call_boundary(arguments, answer),
-            _ => Err(Failure::NoCall),
-        }
+/// Makes a call of `headers_preconditions`, and adds its answer.
+pub fn make_conditional_call(
+    name: &str,
+    arguments: &mut Arguments<'_>,
+    answer: &mut Answer,
+) -> Result<(), Failure> {
+    match name {
+        "evaluate" => call_evaluate(arguments, PRESENT, answer),
+        "evaluate_at" => call_evaluate_at(arguments, answer),
+        "select" => call_select(arguments, &RangeLimits::usual(), answer),
+        "select_within" => call_select_within(arguments, answer),
+        "respond" => call_respond(arguments, Some(RangeLimits::usual()), answer),
+        "respond_whole" => call_respond(arguments, None, answer),
+        "boundary" => call_boundary(arguments, answer),
+        _ => Err(Failure::NoCall),
     }
 }
