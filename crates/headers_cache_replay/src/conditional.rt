@@ -1,6 +1,8 @@
-//! The decisions of conditional requests. A call has a method, the fields of a request, and a resource: `missing`, or an entity tag, the
-//! second of its last modification, and `strong` or `weak` for that date. A tag or a second that it
-//! doesn't have is `(none)`. Unless the row says it, the time is the start of 2026.
+//! The decisions of conditional requests.
+//!
+//! A call has a method, the fields of a request, and a resource: `missing`, or an entity tag, the second of its last
+//! modification, and `strong` or `weak` for that date. A tag or a second that it doesn't have is `(none)`. Unless the
+//! call says it, the time is the start of 2026.
 use headers::{HeaderMap, HeaderValue, LastModified, set_all};
 use headers_preconditions::{
     Boundary, Content, Part, Precondition, RangeLimits, Resource, Response, Selection, Validators,
