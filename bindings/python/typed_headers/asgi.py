@@ -190,6 +190,10 @@ class Cors:
         await self.application(scope, receive, add)
 
 
+#: How many bytes of the content of a GET or HEAD are kept, to be given again.
+_MOST_GIVEN = 64 * 1024
+
+
 class Cached:
     """A shared cache (RFC 9111) in front of an application.
 
@@ -226,12 +230,17 @@ class Cached:
             return
         turn = Turn(self.rules, scope["method"], _uri(scope), request)
         step: Optional[Step] = turn.start()
-        given = _Given(receive)
+        given = _Given(receive, scope["method"])
         while isinstance(step, Ask):
+            if not given.rewind():
+                # The application would get a request without its content.
+                turn.end()
+                step = Reply(502, [("content-length", "0")], b"")
+                break
             step = await self._asked(turn, step, scope, given, send)
         if isinstance(step, Reply):
             await _reply(send, turn.method, step)
-            ask = turn.revalidate() if turn.revalidates else None
+            ask = turn.revalidate() if turn.revalidates and given.rewind() else None
             if ask is not None:
                 await self._asked(turn, ask, scope, given, None)
 
@@ -240,7 +249,6 @@ class Cached:
     ) -> Optional[Step]:
         """Asks the application, and returns what is done then, if its response isn't passed on."""
         passing = _Passing(turn, send)
-        given.rewind()
         try:
             await self.application(_asking(scope, ask), given, passing)
         except Exception:
@@ -254,20 +262,34 @@ class Cached:
 
 
 class _Given:
-    """The messages of a request, which are given again if the application is asked again."""
+    """The messages of a request. If the application is asked again, they are given again.
 
-    def __init__(self, receive: Receive) -> None:
-        self.receive, self.place = receive, 0
+    Only a GET or HEAD is asked again, so no content of another request is kept, and of these at most `_MOST_GIVEN`
+    bytes.
+    """
+
+    def __init__(self, receive: Receive, method: str) -> None:
+        self.receive, self.place, self.is_whole = receive, 0, True
+        self.left = _MOST_GIVEN if method in ("GET", "HEAD") else 0
         self.messages: List[Message] = []
 
-    def rewind(self) -> None:
+    def rewind(self) -> bool:
+        """Begins again, and returns whether all that was given can be given again."""
         self.place = 0
+        return self.is_whole
 
     async def __call__(self) -> Message:
-        if self.place == len(self.messages):
-            self.messages.append(await self.receive())
-        self.place += 1
-        return self.messages[self.place - 1]
+        if self.place < len(self.messages):
+            self.place += 1
+            return self.messages[self.place - 1]
+        message = await self.receive()
+        self.left -= len(message.get("body", b""))
+        if self.is_whole and self.left >= 0:
+            self.messages.append(message)
+            self.place += 1
+        else:
+            self.is_whole, self.messages, self.place = False, [], 0
+        return message
 
 
 class _Passing:

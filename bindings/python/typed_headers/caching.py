@@ -5,9 +5,10 @@ A shared cache serves several users, as a proxy does; a private one serves a sin
 
 import threading
 import time
+from contextlib import contextmanager
 from dataclasses import dataclass
 from enum import IntEnum
-from typing import Any, Callable, Optional, Sequence, Tuple, TypeVar
+from typing import Any, Callable, Iterator, Optional, Sequence, Tuple, TypeVar
 
 from . import _library
 from ._library import Text, Time
@@ -282,7 +283,8 @@ class Cache:
 
     A request is a method, a target and its fields. The target is its URI, as a text that is made the same way each
     time. A time is that of a single clock; the present, if it isn't given. Limits are responses under one target,
-    responses in all, and bytes of content in all. A cache may be used by several threads.
+    responses in all, and bytes of content in all. A cache may be used by several threads, which hold it (`held`) for
+    calls that belong together.
 
     With `immutable`, a fresh response with that directive isn't validated for `max-age` of a request (RFC 8246).
     `targets` are the names of targeted fields, as `CDN-Cache-Control`, the most applicable first: the first one that a
@@ -321,13 +323,28 @@ class Cache:
         _library.check(status, lambda: HeaderError(f"some of these is no field name: {list(targets)}"))
         #: Whether it serves several users.
         self.shared = shared
-        self._lock, self._is_open = threading.Lock(), True
+        self._lock, self._is_open = threading.RLock(), True
 
     def __enter__(self) -> "Cache":
         return self
 
     def __exit__(self, *_: object) -> None:
         self.close()
+
+    @contextmanager
+    def held(self) -> Iterator[None]:
+        """Holds the cache for calls that belong together: those of other threads wait until the end.
+
+        A place, as that of `CacheLookup.stored`, means its response only until another call changes what is stored. So
+        hold the cache from `lookup` or `freshen` to the last call with that place.
+
+        >>> cache = Cache(shared=True)
+        >>> with cache.held():
+        ...     found = cache.lookup("GET", "/a", {}, now=1000)
+        ...     content = None if found.stored is None else cache.content("/a", found.stored.place)
+        """
+        with self._lock:
+            yield
 
     def close(self) -> None:
         """Gives the memory of the cache back. Every other call then raises `ValueError`."""

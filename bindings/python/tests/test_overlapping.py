@@ -1,0 +1,337 @@
+"""Requests that overlap at one cache: each client gets what is its own.
+
+By itself it makes many requests for a short time. `TYPED_HEADERS_REQUESTS=1000000` makes as many in each test of many.
+"""
+
+import asyncio
+import os
+import random
+import sys
+import threading
+import time
+import tracemalloc
+import unittest
+from typing import Any, Dict, Iterable, List, Optional, Tuple
+
+from typed_headers import Cache, asgi, wsgi
+
+USERS = ("alice", "bobby", "carol", "david", "ellen", "frank")
+REQUESTS = int(os.environ.get("TYPED_HEADERS_REQUESTS", "20000"))
+
+
+def page_of(user: str, version: int) -> bytes:
+    """A page that says whose it is in each part; its length depends on the version."""
+    return f"{user} {version} ".encode() * (5 + version % 40)
+
+
+def wrong(user: str, fields: Dict[str, str], content: bytes) -> Optional[str]:
+    """What of a response isn't of one page of this user."""
+    if fields.get("x-user") != user:
+        return f"fields of {fields.get('x-user')} for {user}"
+    if content != page_of(user, int(fields["x-version"])):
+        return f"content {content[:20]!r} with the fields of {user} {fields['x-version']}"
+    if int(fields.get("content-length", len(content))) != len(content):
+        return "another length"
+    return None
+
+
+class Pages:
+    """An application that gives each user their own page, in versions that follow one another."""
+
+    def __init__(self) -> None:
+        self.version, self.lock = 0, threading.Lock()
+
+    def answer(self, fields: Dict[str, str]) -> Tuple[int, Dict[str, str], bytes]:
+        with self.lock:
+            self.version += 1
+            version = self.version
+        chance = random.Random(version)
+        user = fields["cookie"]
+        held = fields.get("if-none-match")
+        if held is not None and held.startswith(f'"{user}-') and chance.random() < 0.7:
+            return 304, {"etag": held, "vary": "cookie", "cache-control": f"max-age={chance.choice([0, 100])}"}, b""
+        if chance.random() < 0.05:
+            return 503, {"x-user": user, "x-version": str(version)}, page_of(user, version)
+        told = {
+            "vary": "cookie",
+            "etag": f'"{user}-{version}"',
+            "x-user": user,
+            "x-version": str(version),
+            "content-type": "text/plain",
+            "cache-control": f"max-age={chance.choice([0, 100])}, stale-if-error=600",
+        }
+        if chance.random() < 0.3:
+            told["cache-control"] += ", stale-while-revalidate=600"
+        if chance.random() < 0.1:
+            told["cache-control"] = "no-store"
+        content = page_of(user, version)
+        if chance.random() < 0.5:
+            told["content-length"] = str(len(content))
+        return 200, told, content
+
+    def wsgi(self, environ: Any, start_response: Any) -> Iterable[bytes]:
+        given = {key[5:].lower().replace("_", "-"): value for key, value in environ.items() if key.startswith("HTTP_")}
+        status, fields, content = self.answer(given)
+        start_response(f"{status} X", list(fields.items()))
+        return iter([content[:7], content[7:]])
+
+    async def asgi(self, scope: Any, receive: Any, send: Any) -> None:
+        given = {bytes(name).decode(): bytes(value).decode() for name, value in scope["headers"]}
+        status, fields, content = self.answer(given)
+        await asyncio.sleep(0)
+        named = [(name.encode(), value.encode()) for name, value in fields.items()]
+        await send({"type": "http.response.start", "status": status, "headers": named})
+        await asyncio.sleep(0)
+        await send({"type": "http.response.body", "body": content[:7], "more_body": True})
+        await asyncio.sleep(0)
+        await send({"type": "http.response.body", "body": content[7:]})
+
+
+def asked(chance: random.Random) -> Tuple[str, Dict[str, str]]:
+    user, fields = chance.choice(USERS), {}
+    if chance.random() < 0.3:
+        fields["cache-control"] = "no-cache"
+    return user, {"cookie": user, **fields}
+
+
+class Many(unittest.TestCase):
+    def judge(self, found: List[str], count: int, cache: Cache) -> None:
+        cache.close()
+        self.assertEqual(found, [], f"{len(found)} wrong answers")
+        self.assertGreaterEqual(count, REQUESTS)
+
+    def test_threads(self) -> None:
+        cache = Cache(shared=True, variants=4)
+        application, found, counts = wsgi.Cached(Pages().wsgi, cache), [], [0] * 8
+        was = sys.getswitchinterval()
+        sys.setswitchinterval(0.0002)
+
+        def client(number: int) -> None:
+            chance = random.Random(number)
+            while counts[number] < -(-REQUESTS // 8):
+                counts[number] += 1
+                user, fields = asked(chance)
+                environ = {"REQUEST_METHOD": "GET", "HTTP_HOST": "a.example", "PATH_INFO": chance.choice(["/a", "/b"])}
+                environ.update({f"HTTP_{name.upper().replace('-', '_')}": value for name, value in fields.items()})
+                head: List[Any] = []
+                content = application(environ, lambda *given: head.append(given))
+                whole = b"".join(content)
+                close = getattr(content, "close", None)
+                if close is not None:
+                    close()
+                fault = wrong(user, {name.lower(): value for name, value in head[-1][1]}, whole)
+                if fault is not None:
+                    found.append(fault)
+                    return
+
+        threads = [threading.Thread(target=client, args=(number,)) for number in range(8)]
+        for it in threads:
+            it.start()
+        for it in threads:
+            it.join()
+        sys.setswitchinterval(was)
+        self.judge(found, sum(counts), cache)
+
+    def test_tasks(self) -> None:
+        cache = Cache(shared=True, variants=4)
+        application, found, counts = asgi.Cached(Pages().asgi, cache), [], [0] * 8
+
+        async def client(number: int) -> None:
+            chance = random.Random(number)
+            while counts[number] < -(-REQUESTS // 8):
+                counts[number] += 1
+                user, fields = asked(chance)
+                sent = await get(application, chance.choice(["/a", "/b"]), fields)
+                fault = wrong(user, sent[1], sent[2])
+                if fault is not None:
+                    found.append(fault)
+                    return
+
+        async def clients() -> None:
+            await asyncio.gather(*map(client, range(8)))
+
+        asyncio.run(clients())
+        self.judge(found, sum(counts), cache)
+
+
+async def get(application: Any, path: str, fields: Dict[str, str], **more: Any) -> Tuple[int, Dict[str, str], bytes]:
+    sent: List[Any] = []
+
+    async def receive() -> Any:
+        await asyncio.sleep(0)
+        return {"type": "http.request", "body": b"", "more_body": False}
+
+    async def send(message: Any) -> None:
+        sent.append(message)
+
+    named = [(b"host", b"a.example"), *((name.encode(), value.encode()) for name, value in fields.items())]
+    scope = {"type": "http", "method": "GET", "path": path, "query_string": b"", "headers": named, "scheme": "http"}
+    await application({**scope, **more}, receive, send)
+    told = {bytes(name).decode().lower(): bytes(value).decode() for name, value in sent[0]["headers"]}
+    return sent[0]["status"], told, b"".join(it.get("body", b"") for it in sent[1:])
+
+
+class Waiting(unittest.TestCase):
+    """While a client waits for the application, what is stored changes."""
+
+    def late(self, second: int) -> Tuple[int, bytes]:
+        """What Alice gets after a 503, if her second request is answered with this status in the meantime."""
+        now, waits, goes = [1000], asyncio.Event(), asyncio.Event()
+        stated = [(b"cache-control", b"max-age=10, stale-if-error=600"), (b"vary", b"cookie")]
+
+        async def application(scope: Any, receive: Any, send: Any) -> None:
+            fields = {bytes(name).decode(): bytes(value) for name, value in scope["headers"]}
+            user = fields["cookie"]
+            status = second if fields.get("if-none-match") == b'"' + user + b'"' else 200
+            if "x-slow" in fields:
+                waits.set()
+                await goes.wait()
+                status = 503
+            head = [] if status == 503 else [*stated, (b"etag", b'"' + user + b'"')]
+            await send({"type": "http.response.start", "status": status, "headers": head})
+            await send({"type": "http.response.body", "body": b"page of " + user if status == 200 else b""})
+
+        async def run() -> Tuple[int, bytes]:
+            cached = asgi.Cached(application, Cache(shared=True), clock=lambda: now[0])
+            for user in ("alice", "bob"):
+                await get(cached, "/", {"cookie": user})
+            now[0] = 1100
+            first = asyncio.create_task(get(cached, "/", {"cookie": "alice", "x-slow": "1"}))
+            await waits.wait()
+            await get(cached, "/", {"cookie": "alice"})
+            goes.set()
+            status, _, content = await first
+            return status, content
+
+        return asyncio.run(run())
+
+    def test_a_304_came_in_the_meantime(self) -> None:
+        self.assertEqual(self.late(304), (200, b"page of alice"))
+
+    def test_a_200_came_in_the_meantime(self) -> None:
+        self.assertEqual(self.late(200), (200, b"page of alice"))
+
+    def test_an_error_that_comes_too_late_is_passed_on(self) -> None:
+        now, fails = [1000], [0]
+
+        def application(environ: Any, start_response: Any) -> Iterable[bytes]:
+            if fails[0]:
+                now[0] += fails[0]
+                start_response("503 X", [("Content-Length", "0")])
+                return [b""]
+            fields = [("Cache-Control", "max-age=10, stale-if-error=20"), ("ETag", '"1"')]
+            start_response("200 X", fields)
+            return [b"hello"]
+
+        cached = wsgi.Cached(application, Cache(shared=True), clock=lambda: now[0])
+
+        def ask() -> str:
+            head: List[Any] = []
+            environ = {"REQUEST_METHOD": "GET", "HTTP_HOST": "a.example", "PATH_INFO": "/"}
+            b"".join(cached(environ, lambda *given: head.append(given)))
+            return str(head[-1][0])[:3]
+
+        self.assertEqual(ask(), "200")
+        now[0], fails[0] = 1025, 1
+        self.assertEqual(ask(), "200")
+        fails[0] = 75
+        self.assertEqual(ask(), "503")
+
+
+class Changing(unittest.TestCase):
+    def test_what_a_put_outdates_is_not_stored(self) -> None:
+        """A PUT begins between the end of a response and the call that stores it."""
+        state, threads = ["old"], []
+
+        def application(environ: Any, start_response: Any) -> Iterable[bytes]:
+            if environ["REQUEST_METHOD"] == "PUT":
+                state[0] = "new"
+                start_response("204 X", [])
+                return []
+            start_response("200 X", [("Cache-Control", "max-age=600")])
+            return [state[0].encode()]
+
+        cache = Cache(shared=True)
+        cached = wsgi.Cached(application, cache)
+
+        def ask(method: str) -> bytes:
+            environ = {"REQUEST_METHOD": method, "HTTP_HOST": "a.example", "PATH_INFO": "/"}
+            content = cached(environ, lambda *given: None)
+            whole = b"".join(content)
+            close = getattr(content, "close", None)
+            if close is not None:
+                close()
+            return whole
+
+        real = cache.store
+
+        def store(*given: Any, **more: Any) -> bool:
+            cache.store = real  # type: ignore[method-assign]
+            thread = threading.Thread(target=ask, args=("PUT",))
+            threads.append(thread)
+            thread.start()
+            thread.join(0.2)
+            return real(*given, **more)
+
+        cache.store = store  # type: ignore[method-assign]
+        self.assertEqual(ask("GET"), b"old")
+        threads[0].join()
+        self.assertEqual(ask("GET"), b"new")
+
+    def test_a_fragment_names_no_other_target(self) -> None:
+        count = [0]
+
+        def application(environ: Any, start_response: Any) -> Iterable[bytes]:
+            if environ["REQUEST_METHOD"] == "POST":
+                start_response("201 X", [("Location", "/made#part")])
+                return []
+            count[0] += 1
+            start_response("200 X", [("Cache-Control", "max-age=600")])
+            return [b"content"]
+
+        cached = wsgi.Cached(application, Cache(shared=True))
+        for method, path in (("GET", "/made"), ("POST", "/"), ("GET", "/made")):
+            b"".join(cached({"REQUEST_METHOD": method, "HTTP_HOST": "a.example", "PATH_INFO": path}, lambda *_: None))
+        self.assertEqual(count[0], 2)
+
+
+class Content(unittest.TestCase):
+    def upload(self, method: str, pieces: int) -> Tuple[int, int]:
+        """The status, and the most bytes that were held while the content was passed on."""
+        left, piece = [pieces], bytes(64 * 1024)
+
+        async def receive() -> Any:
+            left[0] -= 1
+            return {"type": "http.request", "body": bytes(piece), "more_body": left[0] > 0}
+
+        sent: List[Any] = []
+
+        async def send(message: Any) -> None:
+            sent.append(message)
+
+        async def application(scope: Any, receive: Any, send: Any) -> None:
+            while (await receive())["more_body"]:
+                pass
+            await send({"type": "http.response.start", "status": 204, "headers": []})
+            await send({"type": "http.response.body", "body": b""})
+
+        scope = {"type": "http", "method": method, "path": "/", "query_string": b"", "scheme": "http"}
+        cached = asgi.Cached(application, Cache(shared=True))
+        tracemalloc.start()
+        asyncio.run(cached({**scope, "headers": [(b"host", b"a.example")]}, receive, send))
+        most = tracemalloc.get_traced_memory()[1]
+        tracemalloc.stop()
+        return sent[0]["status"], most
+
+    def test_content_of_a_request_is_not_kept(self) -> None:
+        for method in ("POST", "GET"):
+            with self.subTest(method):
+                status, most = self.upload(method, 256)
+                self.assertEqual(status, 204)
+                self.assertLess(most, 2 * 1024 * 1024)
+
+
+if __name__ == "__main__":
+    began = time.time()
+    unittest.main(exit=False)
+    print(f"{REQUESTS} requests a test, {time.time() - began:.0f} s")
