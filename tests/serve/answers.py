@@ -98,6 +98,20 @@ def faults(program, folder):
             os.chmod(f"{folder}/plain", 0o644)
 
 
+def rejections(program, folder):
+    """The rest of a content that is too long is read, and dropped (RFC 9112, section 9.6)."""
+    for length, fields, rest in ((10_000_000, b"", 0), (20_000_000, b"", 20_000_000 - (16 << 20)),
+                                 (10_000_000, b"Expect: 100-continue\r\n", None)):
+        head = b"PUT / HTTP/1.1\r\nHost: a\r\n" + fields + b"Content-Length: %d\r\n\r\n" % length
+        with tempfile.TemporaryFile() as file:
+            file.write(head + bytes(length) + b"more")
+            file.seek(0)
+            done = subprocess.run([program, folder], stdin=file, capture_output=True)
+            left = len(head) + length - file.tell()
+        is_read = left >= 9_000_000 if rest is None else rest - 65_536 <= left <= rest
+        expect(done.stdout.startswith(b"HTTP/1.1 413 ") and is_read, f"{left} of {length} bytes are left")
+
+
 def options(program, folder):
     """Values of options: what is no field value is told before a request is read."""
     _, fields, _ = Server(program, folder, "--cache-control", " max-age=60 ").answer("GET", "/hello.txt")
@@ -179,7 +193,7 @@ def little_is_read(program, folder):
 
 def main():
     program, folder = sys.argv[1:]
-    for run in (faults, options, pages, dates, heads, little_is_read):
+    for run in (faults, rejections, options, pages, dates, heads, little_is_read):
         run(program, folder)
     sys.exit(0 if is_right() else 1)
 

@@ -21,9 +21,10 @@ use Rattle.http_server.specs.declared.state.State.{State}
 use Rattle.http_server.specs.declared.state.State.TheVariants.{Open, Closing, Upgraded, Aborted}
 use Rattle.http_server.specs.declared.state.Reason.TheVariants.{Asked, EndOfInput, Refused}
 use Rattle.http_server.specs.declared.state.Refusal.{Refusal}
+use Rattle.http_server.specs.declared.state.Refusal.TheVariants.{BodyTooLarge}
 use Rattle.http_server.specs.Exchange.{Call, ExpectsContinue, IsInterim, Serves, continue_text}
-use Rattle.http_server.specs.History.{History, IsServed, after_read, after_sent, new_history}
-use Rattle.http_server.specs.Machine.{Core, HasHead, Holds, IsPlaced}
+use Rattle.http_server.specs.History.{History, IsServed, Stands, after_read, after_sent, new_history}
+use Rattle.http_server.specs.Machine.{Core, HasHead, Holds, HoldsAt, IsPlaced}
 use Rattle.http_server.specs.Refusal.{refusal_text}
 use Rattle.http_server.proofs.KnownLemmas.{Appends-then, Consumes-then}
 use Rattle.http_server.proofs.MachineLemmas.{running, served}
@@ -32,7 +33,7 @@ use Rattle.headers_exchange.specs.declared.machine.Machine.{Machine}
 use Rattle.headers_exchange.specs.declared.plan.Plan.{Plan}
 use Rattle.headers_exchange.specs.Connection.{Exchanged, HasEnded, IsClosing, IsSentLiterally, Turns, past_after}
 use Rattle.headers_exchange.specs.Literal.{IsLater, IsLiteral, SendsCalls}
-use Rattle.headers_exchange.specs.Machine.{Account, Begins, Ends, GoesOn, HandsOut, HasAnswered, HasAborted}
+use Rattle.headers_exchange.specs.Machine.{Account, Begins, Drops, Empties, Ends, GoesOn, HandsOut, HasAnswered, HasAborted}
 use Rattle.headers_exchange.specs.Machine.{HasPlanned, IsLaid}
 use Rattle.headers_exchange.specs.Machine.{IsSending, Keeps, Opens, PutsNothing, PutsRefusal, Refuses, account}
 use Rattle.headers_exchange.specs.Machine.{new_past}
@@ -93,6 +94,28 @@ core_by old new p q h x same = λ i. record {
   head = if x.has_head i then Some (head_of (x.request i)) else None;
   body = x.body i;
 }
+
+-- ---- a content that was rejected for its length is dropped
+
+served_emptied : (config : Config) (h : History) → h.state ≡ Closing (Refused BodyTooLarge) → IsServed config h
+    → IsServed config (record h { unread = [] })
+served_emptied config h is x = record {
+  answered = x.answered;
+  text = x.text;
+  rest = x.rest;
+  serves = x.serves;
+  interim = x.interim;
+  is_interim = x.is_interim;
+  stands =
+      subst (λ s. Stands s config (record h { unread = [] }) x.answered x.text x.interim x.rest) (sym is)
+      (subst (λ s. Stands s config h x.answered x.text x.interim x.rest) is x.stands);
+}
+
+emptied : (k : Core) → k.history.state ≡ Closing (Refused BodyTooLarge) → Holds k
+    → Holds (with_history k (record (k.history) { unread = [] }))
+emptied k is x =
+    subst (λ s. HoldsAt s (with_history k (record (k.history) { unread = [] }))) (sym is)
+    (served_emptied k.config k.history is (subst (λ s. HoldsAt s k) is x))
 
 -- ---- a step of sending
 
@@ -808,6 +831,41 @@ module _ {H : Type 0} (plans : Plans H) (gives : H → Gives) where
             (x.input ∙ ap (λ (t : List ℕ). old.input.items ++ t) none ∙ append-nil old.input.items)
             (append-nil p.sent) x.output)
 
+    pub turns_empty : {old new : Machine} (h : H) → old.is_sending ≡ false → old.state ≡ Closing (Refused BodyTooLarge)
+        → Empties old new → StaysKnown remaining left → StaysKnown contents grown → TurnsTo old h new h
+    turns_empty {old} {new} h is why x read written = record {
+      config = x.rest.config;
+      received = [];
+      sent = [];
+      consumes = Consumes-none remaining left read;
+      appends = Appends-none contents grown written;
+      runs = λ first p y.
+          let z = waiting first h old p is y in
+          let q = past_after p [] [] p.calls in
+          let bare : History = record (history_of old p) { unread = [] } in
+          let accounted : account new q ≡ account old p = λ i. record {
+            config = x.rest.config i;
+            state = x.rest.state i;
+            received = append-nil p.received i;
+            calls = p.calls;
+            output = append-nil p.sent i ++ x.output i;
+            has_head = x.rest.has_head i;
+          } in
+          let cored : core new q ≡ with_history (core old p) bare = core_by old new p q bare x.rest
+          (history_by new q x.rest.state (append-nil p.received) x.ended x.input (append-nil p.sent) x.output) in (
+            p.calls,
+            waited first h new q (x.rest.is_sending ∙ is) (
+              (
+                z.0.0,
+                z.0.1,
+                λ going. z.0.2 (λ aborted. going (x.rest.state ∙ aborted)),
+                subst (IsLaid plans gives first z.0.0) (sym accounted) z.0.3,
+              ),
+              subst Holds (sym cored) (emptied (core old p) why z.1),
+            ),
+          );
+    }
+
   -- one turn after another
   pub turns_then : (r s t u v w : Option (List ℕ)) {a b c : Machine} {f g h : H} → Turns plans gives r s u v a f b g
       → Turns plans gives s t v w b g c h → Turns plans gives r t u w a f c h
@@ -851,6 +909,38 @@ module _ {H : Type 0} (plans : Plans H) (gives : H → Gives) where
       turns_then remaining remaining left contents grown grown
       (turns_step remaining remaining contents grown step (stays_known remaining) flushed)
       (turns_read remaining left grown grown now bytes is taken read (stays_known grown))
+
+  -- or flushes, and drops what was read of a rejected content
+  pub turns_then_drop : {remaining left contents grown : Option (List ℕ)} {old mid new : Machine} {before now : H}
+      → Leads plans gives old before mid now → StaysKnown contents grown → (bytes : List ℕ)
+      → Drops mid new bytes → Consumes remaining left bytes
+      → Turns plans gives remaining left contents grown old before new now
+  turns_then_drop {remaining} {left} {contents} {grown} {old} {mid} {new} {before} {now} step flushed bytes drops read =
+      turns_then remaining remaining left contents grown grown
+      (turns_step remaining remaining contents grown step (stays_known remaining) flushed) (dropped drops)
+    where
+      dropped : Drops mid new bytes → Turns plans gives remaining left grown grown mid now new now
+      dropped drops = elim drops [
+        | inl nothing ↦
+            subst (λ m. Turns plans gives remaining left grown grown mid now m now) (sym nothing.0)
+            (turns_nothing (subst (Consumes remaining left) nothing.1 read))
+        | inr some ↦
+            turns_then remaining remaining left grown grown grown
+            (turns_empty remaining remaining grown grown now some.is_sending some.state some.empties
+            (stays_known remaining) (stays_known grown))
+            (turns_read remaining left grown grown now bytes (some.empties.rest.is_sending ∙ some.is_sending) some.takes
+            read (stays_known grown))
+      ]
+        where
+          turns_nothing : Consumes remaining left [] → Turns plans gives remaining left grown grown mid now mid now
+          turns_nothing none = record {
+            config = refl;
+            received = [];
+            sent = [];
+            consumes = none;
+            appends = Appends-none grown grown (stays_known grown);
+            runs = λ first p y. (p.calls, subst (λ q. Runs plans gives first mid now q) (same_past remaining left grown grown p p.calls) y);
+          }
 
   -- ---- turns since the beginning
 

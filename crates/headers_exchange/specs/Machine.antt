@@ -13,6 +13,7 @@ use Rattle.http_server.specs.declared.state.State.{State}
 use Rattle.http_server.specs.declared.state.State.TheVariants.{Open, Closing, Aborted}
 use Rattle.http_server.specs.declared.state.Reason.TheVariants.{Asked, EndOfInput, Refused}
 use Rattle.http_server.specs.declared.state.Refusal.{Refusal}
+use Rattle.http_server.specs.declared.state.Refusal.TheVariants.{BodyTooLarge}
 use Rattle.http_server.specs.Encoding.{answering}
 use Rattle.http_server.specs.Exchange.{Call, Chain, ExpectsContinue, IsInterim, ReadsCall, Serves, continue_text}
 use Rattle.http_server.specs.History.{History, output}
@@ -326,3 +327,22 @@ pub record TakesIn (old new : Machine) (bytes : List ℕ) : Type 0 where
   pub output : new.output.items ≡ old.output.items
   pub input : new.input.items ≡ old.input.items ++ bytes
   pub ended : ((old.ended ≡ false) × (new.ended ≡ (length bytes == 0))) ⊎ ((new.ended ≡ old.ended) × (bytes ≡ []))
+
+-- what was read and isn't used was dropped
+pub record Empties (old new : Machine) : Type 0 where
+  pub rest : KeepsState old new
+  pub ended : new.ended ≡ old.ended
+  pub output : new.output.items ≡ old.output.items
+  pub input : new.input.items ≡ []
+
+-- What was read of a content that was rejected for its length was dropped, and then these bytes were read.
+pub record DropsContent (old new : Machine) (bytes : List ℕ) : Type 0 where
+  pub state : old.state ≡ Closing (Refused BodyTooLarge)
+  pub is_sending : old.is_sending ≡ false
+  pub between : Machine
+  pub empties : Empties old between
+  pub takes : TakesIn between new bytes
+
+-- so it is, or nothing was read and dropped
+abbrev pub Drops : Machine → Machine → List ℕ → Type 0
+Drops old new bytes = ((new ≡ old) × (bytes ≡ [])) ⊎ DropsContent old new bytes

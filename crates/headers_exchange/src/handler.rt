@@ -7,7 +7,7 @@ ghost use Rattle.headers_exchange.specs.Plan.{IsBlank};
 
 use crate::Plan;
 use bytes::Bytes;
-use http::Request;
+use http::{Request, StatusCode};
 use std::alloc::AllocError;
 use std::io;
 
@@ -32,4 +32,7 @@ pub trait Handler {
     fn read(&self, start: u64, buffer: &mut [u8]) -> io::Result<usize>
         ensures bound { ReadsAtMost result buffer.new }
         ensures bytes { IfOk result (λ count. gives self.now start (take count buffer.new)) };
+
+    /// Is told the status by which the connection rejects what came, before that is sent, as for a log.
+    fn note_rejection(&self, _status: StatusCode) {}
 }

@@ -1,15 +1,18 @@
 //! The steps of a connection, without input and output.
-ghost use Rattle.std.specs.Prelude.{◌≡◌, ◌≢◌, ℕ, false, ◌+◌, ◌<◌, ◌≤◌, ◌↔◌, [], ◌∷◌, ◌++◌, List, length};
+ghost use Rattle.std.specs.Prelude.{◌≡◌, ◌≢◌, ℕ, false, true, ◌+◌, ◌<◌, ◌≤◌, ◌↔◌, [], ◌∷◌, ◌++◌, List, length};
 ghost use Rattle.std.specs.Prelude.{take, drop, IfOk, IfSome, OnErr, OnOk, IsTrue, IsFalse};
-ghost use Rattle.std.specs.Io.KnownBytes.{Appends, Consumes, Keeps as StaysKnown};
+ghost use Rattle.std.specs.Io.KnownBytes.{Appends, Consumes, IsAtEnd, Keeps as StaysKnown};
 ghost use Rattle.httparse.specs.Spans.{IsRequestWithin};
 ghost use Rattle.http.specs.Request.{head_of, body_of, with_body};
 ghost use Rattle.http1.specs.Framing.{method_kind};
 ghost use Rattle.http1.specs.Server as http1;
+ghost use Rattle.http_server.specs.declared.state.State.TheVariants.{Closing};
+ghost use Rattle.http_server.specs.declared.state.Reason.TheVariants.{Refused};
+ghost use Rattle.http_server.specs.declared.state.Refusal.TheVariants.{BodyTooLarge};
 ghost use Rattle.http_server.specs.Machine.{Holds, IsStarved, HasHead, HasPiece, HasRequest, MayRefuse, MayAbort};
 ghost use Rattle.headers_exchange.specs.Machine.{core, Past, Keeps, KeepsRest, Puts, SendsOn, SendsRange};
 ghost use Rattle.headers_exchange.specs.Machine.{Finishes, HasPlanned, HandsOut, Leads, Runs, Starts, TakesIn};
-ghost use Rattle.headers_exchange.specs.Machine.{GoesOn, IsLaid, Opens, Refuses, account};
+ghost use Rattle.headers_exchange.specs.Machine.{Drops, GoesOn, IsLaid, Opens, Refuses, account};
 ghost use Rattle.headers_exchange.specs.Pieces.{rest_of};
 
 use crate::encode::encode;
@@ -35,6 +38,9 @@ const CONTINUE: &[u8] = b"HTTP/1.1 100 Continue\r\n\r\n";
 
 /// So many bytes of a range are read at a time.
 const PIECE_LEN: usize = 64 * 1024;
+
+/// At most so many bytes of a content that is rejected for its length are read and dropped.
+const MAX_DROPPED: u64 = 16 * 1024 * 1024;
 
 /// What a connection has read and has to write.
 #[derive(Drop)]
@@ -62,6 +68,8 @@ pub(crate) struct Machine {
     pub(crate) tail: BytesMut,
     /// Room for the bytes of a range.
     pub(crate) buffer: Vec<u8>,
+    /// How many bytes of a rejected content were dropped.
+    pub(crate) dropped: u64,
 }
 
 impl Machine {
@@ -103,14 +111,17 @@ impl Machine {
             left: VecDeque::new(alloc),
             tail: BytesMut::new(alloc),
             buffer,
+            dropped: 0,
         })
     }
 
-    /// Reads once, unless the input has ended. Reading no byte says that it has.
+    /// Reads once, unless the input has ended. Reading no byte says that it has; a read that fails doesn't.
     pub(crate) fn read_from<R: Read>(&mut self, reader: &mut R) -> io::Result<()>
         ensures ok { OnOk result ((bytes : List ℕ) × TakesIn self.old self.new bytes
             × Consumes (R.remaining reader.old) (R.remaining reader.new) bytes) }
-        ensures err { OnErr result (TakesIn self.old self.new []
+        ensures end { OnOk result (self.old.ended ≡ false → self.new.ended ≡ true
+            → IsAtEnd (R.remaining reader.new)) }
+        ensures err { OnErr result (TakesIn self.old self.new [] × (self.new.ended ≡ self.old.ended)
             × StaysKnown (R.remaining reader.old) (R.remaining reader.new)) }
     {
         if self.ended {
@@ -120,6 +131,44 @@ impl Machine {
         let count = self.input.read_from(reader)?;
         self.ended = count == 0;
         Ok(())
+    }
+
+    // How many bytes of a content that was rejected for its length are still to be read and dropped. A client that
+    // waits for `100 Continue` sends none.
+    fn unwanted(&self) -> u64
+        ensures { 0 < result → (self.now.state ≡ Closing (Refused BodyTooLarge)) × (self.now.is_sending ≡ false) }
+    {
+        let is_too_large = matches!(
+            self.state,
+            State::Closing(Reason::Refused(Refusal::BodyTooLarge))
+        );
+        if !is_too_large || self.is_sending || self.ended || self.server.expects_continue() {
+            return 0;
+        }
+        match self.server.unread_size() {
+            BodySize::Known(len) => len
+                .min(MAX_DROPPED)
+                .saturating_sub(self.dropped)
+                .saturating_sub(self.input.len() as u64),
+            _ => 0,
+        }
+    }
+
+    /// Drops what was read of a content that was rejected for its length, and reads once more. Returns
+    /// false if there is no more to read. A client that still sends could lose the response otherwise.
+    pub(crate) fn drop_content<R: Read>(&mut self, reader: &mut R) -> bool
+        ensures { (bytes : List ℕ) × Drops self.old self.new bytes
+            × Consumes (R.remaining reader.old) (R.remaining reader.new) bytes }
+    {
+        if self.unwanted() == 0 {
+            return false;
+        }
+        self.dropped = self.dropped.saturating_add(self.input.len() as u64);
+        self.input.clear();
+        match self.read_from(reader) {
+            Ok(()) => true,
+            Err(_) => false,
+        }
     }
 
     /// Writes once.

@@ -2,10 +2,12 @@
 ghost use Rattle.std.specs.Prelude.{◌≡◌, ◌≢◌, ℕ, List, [], length, is_ok, IfOk, OnOk, IsTrue};
 ghost use Rattle.std.specs.Io.KnownBytes.{Appends, Consumes};
 ghost use Rattle.headers_exchange.specs.Connection.{Exchanged, IsClosing, Turns};
+ghost use Rattle.headers_exchange.specs.Machine.{Leads};
 
 use crate::handler::Handler;
 use crate::machine::Machine;
-use http_server::{Config, MAX_HEADERS, State};
+use crate::refusal::refusal_code;
+use http_server::{Config, MAX_HEADERS, Reason, State};
 use httparse::spans::{EMPTY_HEADER_SPAN, HeaderSpan};
 use std::alloc::Global;
 use std::hash::RandomState;
@@ -43,6 +45,28 @@ pub fn serve_exchanges<H: Handler, R: Read, W: Write>(
     Err(ErrorKind::TimedOut.into())
 }
 
+// Takes a step that needs no input and no output, and tells the handler of a rejection. Returns whether there
+// may be another one.
+fn step<H: Handler>(machine: &mut Machine, handler: &mut H, spans: &mut [HeaderSpan]) -> bool
+    requires { length spans.old ≡ MAX_HEADERS }
+    ensures { Leads H.plans H.gives machine.old handler.old machine.new handler.new }
+{
+    let was_open = machine.is_open();
+    let goes_on = machine.step(handler, spans);
+    if was_open {
+        note(handler, machine.state);
+    }
+    goes_on
+}
+
+fn note<H: Handler>(handler: &H, state: State) {
+    if let State::Closing(Reason::Refused(why)) = state
+        && let Some(status) = refusal_code(why)
+    {
+        handler.note_rejection(status);
+    }
+}
+
 // Takes a step, or writes or reads once. Returns whether the connection is done.
 fn turn<H: Handler, R: Read, W: Write>(
     machine: &mut Machine,
@@ -57,7 +81,7 @@ fn turn<H: Handler, R: Read, W: Write>(
     ensures done { IfOk result (λ done. IsTrue done → machine.new.output.items ≡ []) }
     ensures spans { length spans.new ≡ length spans.old }
 {
-    if machine.step(handler, spans) {
+    if step(machine, handler, spans) {
         return Ok(false);
     }
     if !machine.output.is_empty() {
@@ -69,7 +93,7 @@ fn turn<H: Handler, R: Read, W: Write>(
     // The peer may be waiting for what a buffered writer holds.
     writer.flush()?;
     if !machine.is_open() {
-        return Ok(true);
+        return Ok(!machine.drop_content(reader));
     }
     if !machine.is_sending {
         machine.read_from(reader)?;
