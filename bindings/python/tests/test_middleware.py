@@ -300,6 +300,17 @@ class OfWsgi(unittest.TestCase):
 
 
 class OfAsgi(unittest.TestCase):
+    def test_as_starlette_makes_middleware(self) -> None:
+        """`Starlette.add_middleware(cls, **options)` calls `cls(app=app, **options)`."""
+        app = asgi_application(0, FIELDS)
+        classes: Tuple[Tuple[Any, Dict[str, Any]], ...] = (
+            (asgi.ConditionalRequests, {"tags": True}),
+            (asgi.Cors, {"policy": CorsPolicy("*")}),
+        )
+        for made, options in classes:
+            for middleware in (made(app=app, **options), made(app, **options)):
+                self.assertEqual(by_asgi(middleware, "GET", {}).content, CONTENT)
+
     def test_content_that_only_the_server_sees(self) -> None:
         seen = []
 

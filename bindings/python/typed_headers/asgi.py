@@ -80,8 +80,9 @@ class ConditionalRequests:
     `typed_headers.evaluate`.
     """
 
-    def __init__(self, application: Application, *, tags: bool = False, strong_dates: bool = False) -> None:
-        self.application, self.tags, self.strong_dates = application, tags, strong_dates
+    def __init__(self, app: Application, *, tags: bool = False, strong_dates: bool = False) -> None:
+        # (Starlette names the application `app` where it makes a middleware.)
+        self.application, self.tags, self.strong_dates = app, tags, strong_dates
 
     async def __call__(self, scope: Scope, receive: Receive, send: Send) -> None:
         if scope["type"] != "http" or scope["method"] not in ("GET", "HEAD"):
@@ -161,8 +162,8 @@ class Cors:
     and a browser lets no script read the response.
     """
 
-    def __init__(self, application: Application, policy: CorsPolicy) -> None:
-        self.application, self.policy = application, policy
+    def __init__(self, app: Application, policy: CorsPolicy) -> None:
+        self.application, self.policy = app, policy
 
     async def __call__(self, scope: Scope, receive: Receive, send: Send) -> None:
         if scope["type"] != "http":
