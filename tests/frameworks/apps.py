@@ -32,6 +32,8 @@ class Framework:
     own: Callable[[], Any] | None = None
     own_name: str = ""
     kinds: tuple[str, ...] = ("strong", "weak", "none", "nodate", "bare")
+    # The middleware is put over that too. (Django's gives an entity tag to GET alone, so HEAD is answered by another.)
+    is_wrapped: bool = False
     # Leaves conditions to the middleware.
     plain: Callable[[], Any] | None = None
     # Answers other origins by itself.
@@ -278,13 +280,13 @@ def __getattr__(name: str) -> Any:
 
 
 FRAMEWORKS = [
-    Framework("werkzeug", False, werkzeug_own, "`Response.make_conditional`", plain=werkzeug_plain,
+    Framework("werkzeug", False, werkzeug_own, "`Response.make_conditional`", is_wrapped=True, plain=werkzeug_plain,
               served=werkzeug_served),
-    Framework("flask", False, flask_own, "`send_file`", ("strong", "none", "nodate", "bare"), flask_plain,
+    Framework("flask", False, flask_own, "`send_file`", ("strong", "none", "nodate", "bare"), True, flask_plain,
               None, "", flask_plain_cors),
     Framework("flask-cors", False, own_cors=flask_own_cors, cors_name="`CORS`"),
-    Framework("starlette", True, starlette_own, "`StaticFiles`", ("strong",), starlette_plain, starlette_own_cors,
-              "`CORSMiddleware`", starlette_of_cors),
+    Framework("starlette", True, starlette_own, "`StaticFiles`", ("strong",), True, starlette_plain,
+              starlette_own_cors, "`CORSMiddleware`", starlette_of_cors),
     Framework("django", False, django_own, "`ConditionalGetMiddleware`", plain=django_plain),
     Framework("django", True, plain=django_async_plain),
 ]

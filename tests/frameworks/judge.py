@@ -257,6 +257,11 @@ def main(count: int, seed: int) -> None:
         if framework.own is not None:
             rows.append(Row(name, framework.own_name, False, "conditions"))
             judge_conditions(rows[-1], framework, framework.own(), framework.kinds, every)
+        if framework.own is not None and framework.is_wrapped:
+            kind = asgi if framework.is_async else wsgi
+            rows.append(Row(name, f"`{kind.__name__}.ConditionalRequests` over {framework.own_name}", True, "conditions"))
+            application = kind.ConditionalRequests(framework.own())
+            judge_conditions(rows[-1], framework, application, framework.kinds, every)
         if framework.plain is not None:
             kind = asgi if framework.is_async else wsgi
             rows.append(Row(name, f"`{kind.__name__}.ConditionalRequests`", True, "conditions"))

@@ -5,6 +5,7 @@ import io
 import json
 import sys
 import tempfile
+import time
 import unittest
 from typing import Tuple
 from unittest import mock
@@ -77,6 +78,22 @@ class Reports(unittest.TestCase):
         report = inspect(BOTH, length=10)
         self.assertIs(report.precondition, Precondition.NOT_MODIFIED)
         self.assertIsNone(report.selection)
+
+    def test_fields_in_order(self) -> None:
+        report = inspect("B: 1\nA: 2\nb: 3\n")
+        self.assertEqual([(it.name, it.lines) for it in report.fields], [("b", ("1", "3")), ("a", ("2",))])
+
+    def test_twice_the_fields_take_twice_the_time(self) -> None:
+        def seconds(count: int) -> float:
+            text = "HTTP/1.1 200 OK\n" + "".join(f"X-{place}: {place}\n" for place in range(count))
+            times = []
+            for _ in range(3):
+                began = time.process_time()
+                inspect(text, received=1000)
+                times.append(time.process_time() - began)
+            return min(times)
+
+        self.assertLess(seconds(4000), 2.6 * seconds(2000))
 
     def test_byte(self) -> None:
         with self.assertRaisesRegex(HeaderError, "no head"):

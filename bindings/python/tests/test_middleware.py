@@ -196,6 +196,43 @@ class Both(unittest.TestCase):
             self.assertEqual(answer.fields["content-range"], "bytes */10000")
             self.assertEqual(set(answer.names), {"x-any", "content-length", "content-range", "accept-ranges"})
 
+    def test_the_application_sees_no_condition(self) -> None:
+        seen: List[List[str]] = []
+
+        def of_wsgi(environ: Any, start: Any) -> Any:
+            seen.append(sorted(name for name in environ if name.startswith(("HTTP_IF_", "HTTP_RANGE", "HTTP_X_"))))
+            return wsgi_application(0, FIELDS)(environ, start)
+
+        async def of_asgi(scope: Any, receive: Any, send: Any) -> None:
+            names = (name.decode().upper().replace("-", "_") for name, _ in scope["headers"])
+            seen.append(sorted(f"HTTP_{name}" for name in names if name.startswith(("IF_", "RANGE", "X_"))))
+            await asgi_application(0, FIELDS)(scope, receive, send)
+
+        asked = {
+            "If-Match": "*",
+            "If-None-Match": '"b"',
+            "If-Modified-Since": DATE,
+            "If-Unmodified-Since": DATE,
+            "If-Range": '"a"',
+            "Range": "bytes=0-4",
+            "X-Any": "b",
+        }
+        asks: Tuple[Ask, ...] = (
+            lambda *words: by_wsgi(wsgi.ConditionalRequests(of_wsgi), *words),
+            lambda *words: by_asgi(asgi.ConditionalRequests(of_asgi), *words),
+        )
+        for ask in asks:
+            for method, status in (("GET", 206), ("HEAD", 200)):
+                self.assertEqual(ask(method, asked).status, status)
+            ask("PUT", asked)
+        every = sorted(f"HTTP_{name.upper().replace('-', '_')}" for name in asked)
+        self.assertEqual(seen, [["HTTP_X_ANY"], ["HTTP_X_ANY"], every] * 2)
+
+    def test_what_the_server_gave_stays(self) -> None:
+        environ = {"REQUEST_METHOD": "GET", "HTTP_RANGE": "bytes=0-4"}
+        list(wsgi.ConditionalRequests(wsgi_application(0, FIELDS))(environ, lambda *_: print))
+        self.assertEqual(environ, {"REQUEST_METHOD": "GET", "HTTP_RANGE": "bytes=0-4"})
+
     def test_what_stays(self) -> None:
         asked = {"Range": "bytes=0-4", "If-None-Match": '"a"'}
         for method, line in (("GET", "404 Not Found"), ("GET", "201 Created"), ("POST", "200 OK"), ("PUT", "200 OK")):
@@ -300,6 +337,17 @@ class OfWsgi(unittest.TestCase):
 
 
 class OfAsgi(unittest.TestCase):
+    def test_as_starlette_makes_middleware(self) -> None:
+        """`Starlette.add_middleware(cls, **options)` calls `cls(app=app, **options)`."""
+        app = asgi_application(0, FIELDS)
+        classes: Tuple[Tuple[Any, Dict[str, Any]], ...] = (
+            (asgi.ConditionalRequests, {"tags": True}),
+            (asgi.Cors, {"policy": CorsPolicy("*")}),
+        )
+        for made, options in classes:
+            for middleware in (made(app=app, **options), made(app, **options)):
+                self.assertEqual(by_asgi(middleware, "GET", {}).content, CONTENT)
+
     def test_content_that_only_the_server_sees(self) -> None:
         seen = []
 

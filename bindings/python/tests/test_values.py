@@ -1,7 +1,10 @@
 """Values: what they take, what they print, and what they reject."""
 
+import copy
+import multiprocessing
 import pickle
 import unittest
+from concurrent.futures import ProcessPoolExecutor
 from datetime import datetime, timedelta, timezone
 from typing import Any, Callable, Tuple
 
@@ -17,6 +20,7 @@ from typed_headers import (
     Headers,
     Host,
     InvalidField,
+    InvalidSection,
     MediaType,
     Origin,
     Range,
@@ -24,6 +28,7 @@ from typed_headers import (
     RetryAfter,
     StrictTransportSecurity,
     age,
+    canonical_section,
     content_length,
     date,
     expires,
@@ -63,6 +68,24 @@ class Texts(unittest.TestCase):
             self.assertEqual((caught.exception.field, caught.exception.line, caught.exception.byte), ("age", 0, place))
         with self.assertRaisesRegex(InvalidField, "age: byte 1 of field line 1 is 0x0A"):
             age("7", "8\n")
+
+
+class Errors(unittest.TestCase):
+    def test_copies_and_other_processes(self) -> None:
+        with self.assertRaises(InvalidField) as caught:
+            age("7", "8\0")
+        error = caught.exception
+        for made in (copy.copy(error), pickle.loads(pickle.dumps(error))):
+            self.assertIs(type(made), InvalidField)
+            self.assertEqual((str(made), vars(made), made.args), (str(error), vars(error), error.args))
+        with self.assertRaises(InvalidSection) as section:
+            canonical_section("Age: 7\nno field\n")
+        again = pickle.loads(pickle.dumps(section.exception))
+        self.assertEqual((str(again), again.line), (str(section.exception), 1))
+        with ProcessPoolExecutor(1, multiprocessing.get_context("spawn")) as pool:
+            with self.assertRaisesRegex(InvalidField, "not '7 days'") as other:
+                pool.submit(age, "7 days").result()
+        self.assertEqual((other.exception.field, other.exception.lines), ("age", (b"7 days",)))
 
 
 class Numbers(unittest.TestCase):

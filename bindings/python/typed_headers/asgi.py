@@ -64,13 +64,23 @@ def _encoded(fields: Fields) -> List[Tuple[bytes, bytes]]:
     return [(name.lower().encode("latin-1"), value.encode("latin-1")) for name, value in fields]
 
 
+def _without_conditions(scope: Scope) -> Scope:
+    """The request as an application sees it that doesn't answer conditions, and whose content has to pass here."""
+    gone = {name.encode("ascii") for name in CONDITIONS}
+    fields = [(name, value) for name, value in scope["headers"] if bytes(name).lower() not in gone]
+    extensions: Dict[str, Any] = scope.get("extensions") or {}
+    kept = {name: it for name, it in extensions.items() if name not in _CONTENT_EXTENSIONS}
+    return {**scope, "headers": fields, **({"extensions": kept} if extensions else {})}
+
+
 class ConditionalRequests:
     """Answers conditional requests and requests for ranges (RFC 9110, sections 13 and 14) in place of an application.
 
-    The application answers each GET and HEAD as if it had no conditions. By the ETag and the Last-Modified of its 200,
-    the response becomes 304, 412, 206 or 416, if the request asks for that. Ranges need a content whose length is
-    known: by Content-Length, or because it is a single message. All other responses are sent as they are. A request
-    with a control byte in one of these fields is answered with 400.
+    The application gets each GET and HEAD without If-Match, If-None-Match, If-Modified-Since, If-Unmodified-Since,
+    If-Range and Range, so it answers none of them itself. By the ETag and the Last-Modified of its 200, the response
+    becomes 304, 412, 206 or 416, if the request asks for that. Ranges need a content whose length is known: by
+    Content-Length, or because it is a single message. All other responses are sent as they are. A request with a
+    control byte in one of these fields is answered with 400.
 
     With `tags`, a 200 whose content is a single message gets a strong entity tag, a digest of the content, if it has
     none. `strong_dates` says that Last-Modified is a strong validator (RFC 9110, section 8.8.2.2), so that an If-Range
@@ -80,8 +90,9 @@ class ConditionalRequests:
     `typed_headers.evaluate`.
     """
 
-    def __init__(self, application: Application, *, tags: bool = False, strong_dates: bool = False) -> None:
-        self.application, self.tags, self.strong_dates = application, tags, strong_dates
+    def __init__(self, app: Application, *, tags: bool = False, strong_dates: bool = False) -> None:
+        # (Starlette names the application `app` where it makes a middleware.)
+        self.application, self.tags, self.strong_dates = app, tags, strong_dates
 
     async def __call__(self, scope: Scope, receive: Receive, send: Send) -> None:
         if scope["type"] != "http" or scope["method"] not in ("GET", "HEAD"):
@@ -91,10 +102,8 @@ class ConditionalRequests:
         if request is None:
             await _answer(send, 400, [("content-length", "0")])
             return
-        if request.section and scope.get("extensions"):
-            extensions: Dict[str, Any] = scope["extensions"]
-            kept = {name: it for name, it in extensions.items() if name not in _CONTENT_EXTENSIONS}
-            scope = {**scope, "extensions": kept}
+        if request.section:
+            scope = _without_conditions(scope)
         await self.application(scope, receive, _Sender(self, scope["method"], request, send))
 
 
@@ -161,8 +170,8 @@ class Cors:
     and a browser lets no script read the response.
     """
 
-    def __init__(self, application: Application, policy: CorsPolicy) -> None:
-        self.application, self.policy = application, policy
+    def __init__(self, app: Application, policy: CorsPolicy) -> None:
+        self.application, self.policy = app, policy
 
     async def __call__(self, scope: Scope, receive: Receive, send: Send) -> None:
         if scope["type"] != "http":

@@ -1,6 +1,6 @@
 """What the package raises."""
 
-from typing import Optional, Sequence
+from typing import Any, Optional, Sequence, Tuple
 
 __all__ = ["HeaderError", "InvalidField", "InvalidSection", "TooLarge"]
 
@@ -41,6 +41,10 @@ class InvalidField(HeaderError):
     ) -> None:
         super().__init__(f"{field}: {reason}")
         self.field, self.lines, self.line, self.byte, self.reason = field, tuple(lines), line, byte, reason
+
+    def __reduce__(self) -> Tuple[Any, ...]:
+        # An exception is made again of its `args`, which are the message alone.
+        return type(self), (self.field, self.reason, self.lines, self.line, self.byte), self.__dict__
 
 
 class InvalidSection(HeaderError):

@@ -8,7 +8,7 @@ import re
 import time
 from dataclasses import dataclass, field
 from datetime import datetime
-from typing import Callable, List, Optional, Tuple, TypeVar
+from typing import Callable, Dict, List, Optional, Tuple, TypeVar
 
 from . import _library
 from ._library import Text, Time
@@ -119,19 +119,19 @@ _REQUEST = re.compile(rb"([!#$%&'*+.^_`|~0-9A-Za-z-]+) \S+ HTTP/\d(?:\.\d)?")
 def _head(lines: List[bytes]) -> Head:
     response, request = _RESPONSE.fullmatch(lines[0]), _REQUEST.fullmatch(lines[0])
     has_start = bool(response or request)
-    section, wrong = b"", []
+    kept, wrong = [], []
     for number, line in enumerate(lines[has_start:], 1 + has_start):
         try:
             _library.canonical_text(line + b"\n")
         except InvalidSection:
             wrong.append((number, _library.to_str(line)))
         else:
-            section += line + b"\n"
+            kept.append(line + b"\n")
     return Head(
         method=request[1].decode("ascii") if request else None,
         status=int(response[1]) if response else None if request else 200,
         start=_library.to_str(lines[0]) if has_start else "",
-        section=section,
+        section=b"".join(kept),
         wrong=tuple(wrong),
     )
 
@@ -172,9 +172,12 @@ def parse_heads(text: Text) -> Tuple[Optional[Head], Optional[Head]]:
 
 
 def _fields(headers: Headers) -> Tuple[FieldReport, ...]:
+    lines_of: Dict[str, List[str]] = {}
+    for name, value in headers:
+        lines_of.setdefault(name, []).append(value)
     found = []
-    for name in dict.fromkeys(name for name, _ in headers):
-        lines = tuple(headers.lines(name))
+    for name, given in lines_of.items():
+        lines = tuple(given)
         try:
             report = FieldReport(name, lines, name in FIELDS, tuple(canonical_field(name, *lines)))
         except InvalidField as error:

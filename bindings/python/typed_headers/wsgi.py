@@ -59,9 +59,14 @@ StartResponse = Callable[..., Write]
 Application = Callable[[Environ, StartResponse], Iterable[bytes]]
 
 
+def _key(name: str) -> str:
+    """The key of a field of the request (PEP 3333)."""
+    return f"HTTP_{name.upper().replace('-', '_')}"
+
+
 def _request(environ: Environ, names: Iterable[str]) -> Optional[Headers]:
     """These fields of the request, or `None` if a value has a byte that no field value has."""
-    keys = ((name, f"HTTP_{name.upper().replace('-', '_')}") for name in names)
+    keys = ((name, _key(name)) for name in names)
     try:
         return Headers([(name, environ[key]) for name, key in keys if key in environ])
     except HeaderError:
@@ -76,10 +81,11 @@ def _bad_request(start_response: StartResponse) -> Iterable[bytes]:
 class ConditionalRequests:
     """Answers conditional requests and requests for ranges (RFC 9110, sections 13 and 14) in place of an application.
 
-    The application answers each GET and HEAD as if it had no conditions. By the ETag and the Last-Modified of its 200,
-    the response becomes 304, 412, 206 or 416, if the request asks for that. Ranges need a content whose length is
-    known: by Content-Length, or because the application returned a list. All other responses are sent as they are. A
-    request with a control byte in one of these fields is answered with 400.
+    The application gets each GET and HEAD without If-Match, If-None-Match, If-Modified-Since, If-Unmodified-Since,
+    If-Range and Range, so it answers none of them itself. By the ETag and the Last-Modified of its 200, the response
+    becomes 304, 412, 206 or 416, if the request asks for that. Ranges need a content whose length is known: by
+    Content-Length, or because the application returned a list. All other responses are sent as they are. A request
+    with a control byte in one of these fields is answered with 400.
 
     With `tags`, a 200 whose content is a list gets a strong entity tag, a digest of the content, if it has none.
     `strong_dates` says that Last-Modified is a strong validator (RFC 9110, section 8.8.2.2), so that an If-Range with a
@@ -99,6 +105,9 @@ class ConditionalRequests:
         request = _request(environ, CONDITIONS)
         if request is None:
             return _bad_request(start_response)
+        if request.section:
+            gone = set(map(_key, CONDITIONS))
+            environ = {key: value for key, value in environ.items() if key not in gone}
         started = _Started(start_response)
         content = self.application(environ, started)
         if started.is_sent:
