@@ -80,4 +80,9 @@ def run(context: Context) -> Part:
             text = answer(FIRST_PORT + 2, source=source)
             part.want(f"X-Forwarded-For of {source}", field("x-forwarded-for", text), [source])
             part.want(f"Forwarded of {source}", field("forwarded", text), [f"for={source};proto=http"])
+    # Two gateways in a row have names of their own, and one before itself knows its own.
+    with listening(FIRST_PORT + 3, FIRST_PORT, context.work), listening(FIRST_PORT + 4, FIRST_PORT + 3, context.work):
+        part.want("through two gateways", answer(FIRST_PORT + 4)[:12], "http/1.1 200")
+    with listening(FIRST_PORT + 5, FIRST_PORT + 5, context.work):
+        part.want("through a gateway before itself", answer(FIRST_PORT + 5)[:12], "http/1.1 508")
     return part
