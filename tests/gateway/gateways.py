@@ -31,11 +31,10 @@ class Gateway:
 
 
 def ours() -> list[Gateway]:
-    """This repository's program, if it was built. socat starts one for each connection."""
+    """This repository's program, if it was built. Its script listens, and starts one for each connection."""
     if "GATE_PROGRAM" not in os.environ:
         return []
-    return [Gateway("ours", ["socat", "TCP-LISTEN:@PORT@,bind=127.0.0.1,reuseaddr,fork",
-                             f"EXEC:{os.environ['GATE']} 127.0.0.1\\:@ORIGIN@"])]
+    return [Gateway("ours", ["env", "PORT=@PORT@", os.environ["GATE"], "127.0.0.1:@ORIGIN@"])]
 
 
 LEFT_OUT = "This repository's own program was not built here, and is left out."
