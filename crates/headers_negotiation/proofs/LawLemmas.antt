@@ -1,5 +1,5 @@
 -- What the definitions say, in the words of the RFCs.
-use Rattle.std.proofs.Common.{◌≡◌, ◌∙◌, ◌⊎◌, ℕ, zero, suc, ◌≤◌, Bool, true, false, List, [], ◌∷◌, ◌++◌}
+use Rattle.std.proofs.Common.{◌≡◌, ◌∙◌, ◌⊎◌, ℕ, zero, suc, ◌<◌, ◌≤◌, Bool, true, false, List, [], ◌∷◌, ◌++◌}
 use Rattle.std.proofs.Common.{get_or, Option, Some, None, inl, inr, refl, sym, ap, subst, arith, codes, fold, rules}
 use Rattle.std.proofs.Common.{tests}
 use Rattle.std.specs.Prelude.{Any, Contains, filter_map, ◌&&◌, ◌||◌, ◌==◌, nat_le, option_and_then}
@@ -10,7 +10,8 @@ use Rattle.std.proofs.lemmas.Slice.Eq.{bytes_eq-Decides}
 use Rattle.http_header.specs.FieldValue.{FieldValue}
 use Rattle.http_header.specs.Token.{lowercase}
 use Rattle.headers_syntax.specs.AsciiCase.{SameButForCase, same_name}
-use Rattle.headers_fields.specs.Members.{members}
+use Rattle.headers_syntax.specs.Lines.{Line}
+use Rattle.headers_fields.specs.Members.{field_members, members}
 use Rattle.headers_fields.specs.Scan.{Member}
 use Rattle.headers_fields.specs.Scan.Member.{Malformed}
 use Rattle.headers_fields.specs.Values.{octets_of}
@@ -19,12 +20,13 @@ use Rattle.headers_negotiation.specs.Codings.{coding_quality, coding_says, encod
 use Rattle.headers_negotiation.specs.Codings.{member_quality, quality_of_all, quality_or, says_of, unlisted}
 use Rattle.headers_negotiation.specs.Elements.{ElementParts, bare_element_of}
 use Rattle.headers_negotiation.specs.Languages.{covers, hyphen, is_front}
-use Rattle.headers_negotiation.specs.Laws.{EachCodingIsAccepted, ExcludesIdentity, HasOneChoice, HasTwoNames}
+use Rattle.headers_negotiation.specs.Laws.{EachCodingIsAccepted, ExcludesIdentity, HasOneChoice, HasOneLookup}
+use Rattle.headers_negotiation.specs.Laws.{HasTwoNames}
 use Rattle.headers_negotiation.specs.Laws.{IdentityIsExcludedByName, IsSameParameter, IsStarOrSame, ListedComesFirst}
-use Rattle.headers_negotiation.specs.Laws.{LooksUpOne, Matches, MostSpecificDecides, RangesCover, RangesMatch}
+use Rattle.headers_negotiation.specs.Laws.{Matches, MostSpecificDecides, RangesCover, RangesMatch}
 use Rattle.headers_negotiation.specs.Laws.{TakesTheFirst}
-use Rattle.headers_negotiation.specs.Lookup.{Finds, IsDefault, IsLookedUp, LooksUpIn, accepts_any, offer_nearness}
-use Rattle.headers_negotiation.specs.Lookup.{range_weight}
+use Rattle.headers_negotiation.specs.Lookup.{Finds, IsDefault, IsLookedUp, LooksUp, LooksUpIn, accepts_any}
+use Rattle.headers_negotiation.specs.Lookup.{offer_nearness, range_weight}
 use Rattle.headers_negotiation.specs.MediaRanges.{are_had, is_star, is_star_or_same, matches}
 use Rattle.headers_negotiation.specs.Parameters.{ParameterParts, is_same_parameter, is_same_value}
 use Rattle.headers_negotiation.specs.Preferences.{IsBest, strongest}
@@ -33,6 +35,7 @@ use Rattle.headers_negotiation.specs.declared.acceptability.Quality.{Quality}
 use Rattle.headers_negotiation.specs.declared.acceptability.Quality.TheVariants.{NotAcceptable, Unlisted, Weight}
 use Rattle.headers_negotiation.specs.declared.preference.Preference.{Preference}
 use Rattle.headers_negotiation.proofs.ChoiceLemmas.{at_place, picks_one, picks_some}
+use Rattle.headers_negotiation.proofs.LookupLemmas.{no_element, range_finds_nothing, star_finds_nothing}
 use Rattle.headers_negotiation.proofs.PreferenceLemmas.{one_best, strongest_is_best}
 
 pub most_specific : MostSpecificDecides
@@ -311,11 +314,11 @@ excluding_member member p says none = by (bare_element_of member) refl says
 
 pub identity_excluded : IdentityIsExcludedByName
 unfolding coding_quality
-identity_excluded field e whole = by (strongest (coding_says (codes "identity")) field) refl e
+identity_excluded field e = by (strongest (coding_says (codes "identity")) field) refl e
   where
     by : (best : Option Preference) → strongest (coding_says (codes "identity")) field ≡ best
-        → quality_or best (unlisted field (codes "identity")) ≡ NotAcceptable → Any ExcludesIdentity field
-    by None is e = let no : Unlisted ≡ NotAcceptable = rw whole at e in absurd (cc no)
+        → quality_or best (unlisted (codes "identity")) ≡ NotAcceptable → Any ExcludesIdentity field
+    by None is e = let no : Unlisted ≡ NotAcceptable = e in absurd (cc no)
     by (Some p) is e =
         let best =
         subst (λ (o : Option Preference). IsBest (filter_map (coding_says (codes "identity")) field) o) is
@@ -394,6 +397,74 @@ module _ (field : List Member) (offers : List FieldValue) where
   looks_up_one_in a (Some b) (inr h) (inl k) = absurd (not_both b k h.0)
   looks_up_one_in a b (inr h) (inr k) = default_one a b h.1 k.1
 
-pub looks_up_one : LooksUpOne
+  default_some : (choice : Option ℕ) × IsDefault field offers choice
+  default_some = by (accepts_any field)
+    where
+      by : (any : Bool)
+          → (choice : Option ℕ) × MatchBool any (Picks (offer_nearness field None) offers choice) (choice ≡ None)
+      by true = picks_some (offer_nearness field None) offers
+      by false = (None, refl)
+
+  -- a range with a score finds an offer
+  module _ (member : Member) (e : ElementParts) (is : bare_element_of member ≡ Some e)
+      (scores : 0 < range_weight field offers member) where
+    nearest_some : (place : ℕ) × IsFirstOfGreatest (offer_nearness field (Some e.range)) offers place
+    nearest_some =
+        let nearest = picks_some (offer_nearness field (Some e.range)) offers in by nearest.0 nearest.1
+      where
+        none : range_weight field offers member ≡ 0
+            → (place : ℕ) × IsFirstOfGreatest (offer_nearness field (Some e.range)) offers place
+        none zero_weight = absurd (omega (arith, zero_weight, scores))
+
+        by : (place : Option ℕ) → Picks (offer_nearness field (Some e.range)) offers place
+            → (place : ℕ) × IsFirstOfGreatest (offer_nearness field (Some e.range)) offers place
+        by (Some place) h = (place, h)
+        by None h =
+            elim (cases_Bool (is_star e.range)) [
+              | inl star ↦ none (star_finds_nothing field offers member e is star)
+              | inr range ↦ none (range_finds_nothing field offers member e is range h)
+            ]
+
+  found_some : (index : ℕ) → IsFirstOfGreatest (range_weight field offers) field index
+      → (place : ℕ) × IsLookedUp field offers place
+  found_some index first = by (bare_element_of (get_or field index Malformed)) refl
+    where
+      by : (o : Option ElementParts) → bare_element_of (get_or field index Malformed) ≡ o
+          → (place : ℕ) × IsLookedUp field offers place
+      by None is =
+          absurd
+          (omega (arith, no_element field offers (get_or field index Malformed) is, first.positive Malformed))
+      by (Some e) is =
+          let nearest =
+          nearest_some (get_or field index Malformed) e is (first.positive Malformed) in (
+            nearest.0,
+            record {
+              index = index;
+              element = e;
+              first = first;
+              is = λ other.
+                  ap (λ (m : Member). bare_element_of m) (at_place field index other Malformed first.within) ∙ is;
+              nearest = nearest.1;
+            },
+          )
+
+  looks_up_some_in : (choice : Option ℕ) × LooksUpIn field offers choice
+  looks_up_some_in =
+      let ranges = picks_some (range_weight field offers) field in by ranges.0 ranges.1
+    where
+      by : (index : Option ℕ) → Picks (range_weight field offers) field index
+          → (choice : Option ℕ) × LooksUpIn field offers choice
+      by None picks = (default_some.0, inr (picks, default_some.1))
+      by (Some index) first = let found = found_some index first in (Some found.0, inl found.1)
+
+looks_up_some : (lines : List Line) (offers : List FieldValue) → (choice : Option ℕ) × LooksUp lines offers choice
+looks_up_some [] offers = (first_place offers, refl)
+looks_up_some (line ∷ lines) offers = looks_up_some_in (field_members true (line ∷ lines)) offers
+
+looks_up_one : (lines : List Line) (offers : List FieldValue) (a b : Option ℕ) → LooksUp lines offers a
+    → LooksUp lines offers b → a ≡ b
 looks_up_one [] offers a b h k = h ∙ sym k
 looks_up_one (line ∷ lines) offers a b h k = looks_up_one_in _ offers a b h k
+
+pub one_lookup : HasOneLookup
+one_lookup = record { some = looks_up_some; one = looks_up_one }

@@ -12,14 +12,14 @@ use Rattle.std.proofs.lemmas.Bool.{and_parts, eqb-false, leb-true}
 use Rattle.headers_fields.specs.Members.{members}
 use Rattle.headers_fields.specs.Scan.{Member}
 use Rattle.headers_fields.specs.Scan.Member.{Whole, Malformed}
-use Rattle.headers_fields.specs.Values.{ValueParts}
+use Rattle.headers_fields.specs.Values.{ValueParts, is_token}
 use Rattle.headers_fields.specs.Values.ValueParts.{TokenText, QuotedText}
 use Rattle.headers_fields.specs.Weights.{fraction, one, thousandths, weight}
 use Rattle.headers_negotiation.specs.Codings.{coding_quality, coding_says, encoding_quality, member_quality}
 use Rattle.headers_negotiation.specs.Codings.{quality_of_all, quality_or, says_of, unlisted}
-use Rattle.headers_negotiation.specs.Elements.{ElementParts, bare_element_of, element_in, has_only_parameters}
-use Rattle.headers_negotiation.specs.Elements.{if_bare, is_bare, own_parameters, parameters_of, value_of, weight_in}
-use Rattle.headers_negotiation.specs.Elements.{weight_of}
+use Rattle.headers_negotiation.specs.Elements.{ElementParts, bare, bare_element_of, element_in, element_of}
+use Rattle.headers_negotiation.specs.Elements.{excluding_nothing, has_only_parameters, parameters_of, weight_in}
+use Rattle.headers_negotiation.specs.Elements.{weight_of, weight_or_least}
 use Rattle.headers_negotiation.specs.Languages.{covers, language_says, says_of as language_says_of}
 use Rattle.headers_negotiation.specs.Laws.{IsInRange, WeightsAreInRange}
 use Rattle.headers_negotiation.specs.MediaRanges.{MediaRangeParts, if_range, is_range, is_star, matches}
@@ -108,29 +108,39 @@ value_range : (v : ValueParts) → IfSome (weight_of v) (UpTo 1000)
 value_range (TokenText text) = weight_range text
 value_range (QuotedText text) = tt
 
-weight_in_range : (parameters : List ParameterParts) → IfSome (weight_in parameters) (UpTo 1000)
-weight_in_range parameters =
-    mapped_or (UpTo 1000) (λ (p : ParameterParts). weight_of p.value) (find is_weight parameters) (Some 1000)
-    (λ p. value_range p.value) (omega arith)
+counted_range : (o : Option ℕ) → IfSome o (UpTo 1000) → weight_or_least o ≤ 1000
+counted_range None h = omega arith
+counted_range (Some n) h = h
+
+weight_in_range : (parameters : List ParameterParts) → weight_in parameters ≤ 1000
+weight_in_range parameters = by (find is_weight parameters)
+  where
+    by : (o : Option ParameterParts)
+        → option_map_or (λ (p : ParameterParts). weight_or_least (weight_of p.value)) o 1000 ≤ 1000
+    by None = omega arith
+    by (Some p) = counted_range (weight_of p.value) (value_range p.value)
 
 -- ---- elements
 
 abbrev IsUpTo1 : ElementParts → Type 0
 IsUpTo1 e = e.weight ≤ 1000
 
+excluding_nothing_range : (e : ElementParts) → IfSome (excluding_nothing e) IsUpTo1
+excluding_nothing_range e = either IsUpTo1 (e.weight == 0) None _ tt (omega arith)
+
 element_range : (text : List ℕ) → IfSome (element_in text) IsUpTo1
 unfolding element_in
 element_range text =
-    either IsUpTo1 (has_only_parameters text) _ None
-    (mapped IsUpTo1
-    (λ (weight : ℕ). record { range = value_of text; parameters = own_parameters text; weight = weight })
-    (weight_in (parameters_of text)) (weight_in_range (parameters_of text))) tt
+    either IsUpTo1 (has_only_parameters text) (Some (element_of text)) (excluding_nothing (element_of text))
+    (weight_in_range (parameters_of text)) (excluding_nothing_range (element_of text))
 
 bare_range : (member : Member) → IfSome (bare_element_of member) IsUpTo1
 bare_range Malformed = tt
 bare_range (Whole text) =
-    then_some IsUpTo1 if_bare IsUpTo1 (element_in text) (element_range text)
-    (λ e low. either IsUpTo1 (is_bare e) (Some e) None low tt)
+    then_some IsUpTo1 bare IsUpTo1 (element_in text) (element_range text)
+    (λ e low.
+    either IsUpTo1 (is_token e.range) _ None
+    (either IsUpTo1 (length e.parameters == 0) (Some e) (excluding_nothing e) low (excluding_nothing_range e)) tt)
 
 -- ---- what is said
 
@@ -211,8 +221,8 @@ preferred_range : (said : Option Preference) → IfSome said IsLow → IsInRange
 preferred_range None h = tt
 preferred_range (Some p) h = weighed_range p.quality h
 
-unlisted_range : (field : List Member) (coding : List ℕ) → IsInRange (unlisted field coding)
-unlisted_range field coding = by _
+unlisted_range : (coding : List ℕ) → IsInRange (unlisted coding)
+unlisted_range coding = by _
   where
     by : (listed : Bool) → IsInRange (if listed then Unlisted else NotAcceptable)
     by true = tt
@@ -223,8 +233,8 @@ unfolding coding_quality
 coding_quality_range field coding =
     by (strongest (coding_says coding) field) (strongest_range (coding_says coding) (coding_range coding) field)
   where
-    by : (said : Option Preference) → IfSome said IsLow → IsInRange (quality_or said (unlisted field coding))
-    by None h = unlisted_range field coding
+    by : (said : Option Preference) → IfSome said IsLow → IsInRange (quality_or said (unlisted coding))
+    by None h = unlisted_range coding
     by (Some p) h = weighed_range p.quality h
 
 member_range : (field : List Member) (member : Member) → IsInRange (member_quality field member)

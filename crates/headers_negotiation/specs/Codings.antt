@@ -1,8 +1,7 @@
 -- Content codings (RFC 9110, sections 8.4.1 and 12.5.3).
-use Rattle.std.specs.Prelude.{ℕ, Bool, true, ◌&&◌, List, [], ◌∷◌, Option, Some, None, codes, is_some, fold}
+use Rattle.std.specs.Prelude.{ℕ, Bool, true, List, [], ◌∷◌, Option, Some, None, codes, fold}
 use Rattle.std.specs.Prelude.{option_and_then}
 use Rattle.std.specs.Prelude.{if◌then◌else◌}
-use Rattle.std.specs.List.{list_all}
 use Rattle.headers_syntax.specs.AsciiCase.{same_name}
 use Rattle.headers_fields.specs.Members.{members}
 use Rattle.headers_fields.specs.Scan.{Member}
@@ -34,15 +33,9 @@ says_of coding e =
 abbrev pub coding_says : List ℕ → Member → Option Preference
 coding_says coding member = option_and_then (says_of coding) (bare_element_of member)
 
--- each member is an element of the field
-abbrev pub are_elements : List Member → Bool
-are_elements field = list_all (λ member. is_some (bare_element_of member)) field
-
--- A coding that no element matches isn't acceptable, except `identity`, if each member is an element: a malformed one
--- may exclude it.
-abbrev pub unlisted : List Member → List ℕ → Quality
-unlisted field coding =
-    if same_name coding (codes "identity") && are_elements field then Unlisted else NotAcceptable
+-- a coding that no element matches isn't acceptable, except `identity`
+abbrev pub unlisted : List ℕ → Quality
+unlisted coding = if same_name coding (codes "identity") then Unlisted else NotAcceptable
 
 abbrev pub quality_or : Option Preference → Quality → Quality
 quality_or None quality = quality
@@ -50,7 +43,7 @@ quality_or (Some p) quality = weighed p.quality
 
 -- the quality of one coding
 unfoldable pub coding_quality : List Member → List ℕ → Quality
-coding_quality field coding = quality_or (strongest (coding_says coding) field) (unlisted field coding)
+coding_quality field coding = quality_or (strongest (coding_says coding) field) (unlisted coding)
 
 -- the quality of one coding of an offer
 abbrev pub member_quality : List Member → Member → Quality

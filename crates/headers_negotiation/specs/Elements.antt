@@ -1,7 +1,7 @@
 -- An element of a field: a range, its parameters and its weight (RFC 9110, sections 5.6.6 and 12.4.2).
-use Rattle.std.specs.Prelude.{ℕ, Bool, true, false, ◌&&◌, ◌==◌, not, List, [], ◌∷◌, length, filter, filter_map, find}
+use Rattle.std.specs.Prelude.{ℕ, Bool, true, false, ◌==◌, not, List, [], ◌∷◌, length, filter, filter_map, find}
 use Rattle.std.specs.Prelude.{Option, Some, None}
-use Rattle.std.specs.Prelude.{is_some, option_and_then, option_map, if◌then◌else◌}
+use Rattle.std.specs.Prelude.{is_some, option_and_then, if◌then◌else◌}
 use Rattle.std.specs.Option.{option_map_or}
 use Rattle.std.specs.List.{list_all}
 use Rattle.headers_syntax.specs.Text.{trim}
@@ -58,9 +58,14 @@ abbrev pub weight_of : ValueParts → Option ℕ
 weight_of (TokenText text) = weight text
 weight_of (QuotedText text) = None
 
+-- in thousandths; a malformed weight counts as the least one above 0
+abbrev pub weight_or_least : Option ℕ → ℕ
+weight_or_least None = 1
+weight_or_least (Some thousandths) = thousandths
+
 -- the weight among parameters: the first one named `q`, or 1 if there is none
-abbrev pub weight_in : List ParameterParts → Option ℕ
-weight_in parameters = option_map_or (λ p. weight_of p.value) (find is_weight parameters) (Some 1000)
+abbrev pub weight_in : List ParameterParts → ℕ
+weight_in parameters = option_map_or (λ p. weight_or_least (weight_of p.value)) (find is_weight parameters) 1000
 
 -- ---- elements
 
@@ -81,24 +86,28 @@ abbrev pub element_parts : Element → ElementParts
 element_parts e =
     record { range = e.range.now; parameters = own_parameters e.text.now; weight = e.weight }
 
--- the element that a text is, if it is one: each of its parameters is well formed, and so is its weight
+-- An element with a parameter that breaks the grammar excludes nothing: it counts with the least weight above 0, or not
+-- at all if its weight is 0.
+abbrev pub excluding_nothing : ElementParts → Option ElementParts
+excluding_nothing e =
+    if e.weight == 0 then None else Some (record { range = e.range; parameters = e.parameters; weight = 1 })
+
+abbrev pub element_of : List ℕ → ElementParts
+element_of text =
+    record { range = value_of text; parameters = own_parameters text; weight = weight_in (parameters_of text) }
+
+-- the element that a text counts as, if it counts
 unfoldable pub element_in : List ℕ → Option ElementParts
 element_in text =
-    if has_only_parameters text
-    then option_map
-    (λ (weight : ℕ). record { range = value_of text; parameters = own_parameters text; weight = weight })
-    (weight_in (parameters_of text))
-    else None
+    if has_only_parameters text then Some (element_of text) else excluding_nothing (element_of text)
 
--- the element is a range and perhaps a weight, like those of Accept-Encoding and Accept-Language (sections 12.5.3 and
--- 12.5.4)
-abbrev pub is_bare : ElementParts → Bool
-is_bare e = length e.parameters == 0 && is_token e.range
+-- An element of Accept-Encoding or Accept-Language is a range and perhaps a weight (sections 12.5.3 and 12.5.4). Any
+-- other parameter breaks the grammar.
+abbrev pub bare : ElementParts → Option ElementParts
+bare e =
+    if is_token e.range then (if length e.parameters == 0 then Some e else excluding_nothing e) else None
 
-abbrev pub if_bare : ElementParts → Option ElementParts
-if_bare e = if is_bare e then Some e else None
-
--- the element without parameters that a member is, if it is one
+-- the element of Accept-Encoding or Accept-Language that a member counts as, if it counts
 abbrev pub bare_element_of : Member → Option ElementParts
-bare_element_of (Whole text) = option_and_then if_bare (element_in text)
+bare_element_of (Whole text) = option_and_then bare (element_in text)
 bare_element_of Malformed = None

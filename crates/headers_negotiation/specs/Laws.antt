@@ -10,7 +10,7 @@ use Rattle.headers_fields.specs.Members.{members}
 use Rattle.headers_fields.specs.Scan.{Member}
 use Rattle.headers_fields.specs.Values.{octets_of}
 use Rattle.headers_negotiation.specs.Choice.{Chooses, first_place}
-use Rattle.headers_negotiation.specs.Codings.{are_elements, coding_quality, encoding_quality, member_quality}
+use Rattle.headers_negotiation.specs.Codings.{coding_quality, encoding_quality, member_quality}
 use Rattle.headers_negotiation.specs.Elements.{ElementParts, bare_element_of}
 use Rattle.headers_negotiation.specs.Languages.{covers, hyphen, language_says}
 use Rattle.headers_negotiation.specs.Lookup.{LooksUp}
@@ -72,10 +72,10 @@ pub record ExcludesIdentity (member : Member) : Type 0 where
   pub weight : element.weight ≡ 0
   pub range : (element.range ≡ codes "*") ⊎ SameButForCase element.range (codes "identity")
 
--- content without a coding is acceptable unless an element excludes it, or one is malformed
+-- content without a coding is acceptable unless an element excludes it
 abbrev pub IdentityIsExcludedByName : Type 0
 IdentityIsExcludedByName = (field : List Member) → coding_quality field (codes "identity") ≡ NotAcceptable
-    → are_elements field ≡ true → Any ExcludesIdentity field
+    → Any ExcludesIdentity field
 
 -- both names of a coding have one quality
 pub record HasTwoNames : Type 0 where
@@ -102,9 +102,10 @@ abbrev pub RangesCover : Type 0
 RangesCover = (range tag : List ℕ) → (covers range tag ≡ true)
     ↔ ((lowercase tag ≡ lowercase range) ⊎ ((rest : List ℕ) × (lowercase tag ≡ lowercase range ++ hyphen ∷ rest)))
 
-abbrev pub LooksUpOne : Type 0
-LooksUpOne = (lines : List Line) (offers : List FieldValue) (a b : Option ℕ) → LooksUp lines offers a
-    → LooksUp lines offers b → a ≡ b
+pub record HasOneLookup : Type 0 where
+  pub some : (lines : List Line) (offers : List FieldValue) → (choice : Option ℕ) × LooksUp lines offers choice
+  pub one : (lines : List Line) (offers : List FieldValue) (a b : Option ℕ) → LooksUp lines offers a
+      → LooksUp lines offers b → a ≡ b
 
 -- ---- weights (RFC 9110, section 12.4.2)
 

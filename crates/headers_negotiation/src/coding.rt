@@ -1,9 +1,9 @@
 //! Content codings.
-ghost use Rattle.std.specs.Prelude.{◌≡◌, ◌&&◌, true, codes};
+ghost use Rattle.std.specs.Prelude.{◌≡◌, true, codes};
 ghost use Rattle.headers_syntax.specs.AsciiCase.{same_name};
 ghost use Rattle.headers_syntax.specs.Lines.{lines_of};
 ghost use Rattle.headers_fields.specs.Members.{field_members, member_of};
-ghost use Rattle.headers_negotiation.specs.Codings.{are_elements, coding_quality, encoding_quality, is_same_coding};
+ghost use Rattle.headers_negotiation.specs.Codings.{coding_quality, encoding_quality, is_same_coding};
 ghost use Rattle.headers_negotiation.specs.Codings.{member_quality, registered, says_of, unlisted};
 ghost use Rattle.headers_negotiation.specs.Elements.{element_parts};
 
@@ -20,8 +20,7 @@ use http_header::{ACCEPT_ENCODING, GetAll, HeaderName, HeaderValue};
 ///
 /// An element matches the coding that it names, in any case, and `*` matches each coding; `x-gzip`
 /// is `gzip` and `x-compress` is `compress` (section 8.4.1). Content with several codings has the
-/// least of their qualities. `identity` that no element matches is acceptable, if no element is
-/// malformed.
+/// least of their qualities. `identity` that no element matches is acceptable.
 #[derive(Clone, Copy, Debug)]
 pub struct AcceptEncoding;
 
@@ -80,18 +79,11 @@ impl Ranges for AcceptEncoding {
     }
 }
 
-// Whether each member of a field is an element.
-fn are_elements(field: &GetAll<'_, HeaderValue>) -> bool
-    ensures { result ≡ are_elements (field_members true (lines_of field.now)) }
-{
-    FieldMembers::new(field).all(|member| bare_element_of(member).is_some())
-}
-
 // The quality of a coding that no element matches.
-fn unlisted(field: &GetAll<'_, HeaderValue>, coding: &[u8]) -> Quality
-    ensures { result ≡ unlisted (field_members true (lines_of field.now)) coding.now }
+fn unlisted(coding: &[u8]) -> Quality
+    ensures { result ≡ unlisted coding.now }
 {
-    if coding.eq_ignore_ascii_case(b"identity") && are_elements(field) {
+    if coding.eq_ignore_ascii_case(b"identity") {
         Quality::Unlisted
     } else {
         Quality::NotAcceptable
@@ -105,7 +97,7 @@ fn coding_quality(field: &GetAll<'_, HeaderValue>, coding: &[u8]) -> Quality
 {
     match strongest::<AcceptEncoding>(field, coding) {
         Some(preference) => weighed(preference.quality),
-        None => unlisted(field, coding),
+        None => unlisted(coding),
     }
 }
 

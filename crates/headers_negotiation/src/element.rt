@@ -3,9 +3,10 @@ ghost use Rattle.std.specs.Prelude.{◌≡◌, ◌<◌, ◌^◌, length, option_
 ghost use Rattle.std.specs.List.{list_all, list_any};
 ghost use Rattle.headers_fields.specs.Members.{member_of, members_left};
 ghost use Rattle.headers_fields.specs.Values.{value_parts};
-ghost use Rattle.headers_negotiation.specs.Elements.{bare_element_of, element_in, element_parts, has_only_parameters};
-ghost use Rattle.headers_negotiation.specs.Elements.{if_bare, is_bare, is_parameter, members_after, own_parameters};
-ghost use Rattle.headers_negotiation.specs.Elements.{parameters_of, value_of, weight_in, weight_of};
+ghost use Rattle.headers_negotiation.specs.Elements.{bare, bare_element_of, element_in, element_parts};
+ghost use Rattle.headers_negotiation.specs.Elements.{excluding_nothing, has_only_parameters, is_parameter};
+ghost use Rattle.headers_negotiation.specs.Elements.{members_after, own_parameters, parameters_of, value_of};
+ghost use Rattle.headers_negotiation.specs.Elements.{weight_in, weight_of, weight_or_least};
 ghost use Rattle.headers_negotiation.specs.MediaRanges.{are_had};
 ghost use Rattle.headers_negotiation.specs.Parameters.{is_same_parameter, parameter_parts};
 
@@ -66,35 +67,60 @@ fn weight_of(value: &Value<'_>) -> Option<u16>
     }
 }
 
-// The weight among the parameters of a text: the first that is one, or 1 if none is.
-fn weight_in(text: &[u8]) -> Option<u16>
+fn weight_or_least(weight: Option<u16>) -> u16
+    ensures { result ≡ weight_or_least weight }
+{
+    match weight {
+        Some(thousandths) => thousandths,
+        None => 1,
+    }
+}
+
+// The weight among the parameters of a text, in thousandths: the first that is one, or 1 if none
+// is. A malformed one counts as the least weight above 0.
+fn weight_in(text: &[u8]) -> u16
     ensures { result ≡ weight_in (parameters_of text.now) }
 {
     for member in members_after(text) {
         if let Some(parameter) = parameter_of(member) {
             if parameter.is_weight() {
-                return weight_of(&parameter.value);
+                return weight_or_least(weight_of(&parameter.value));
             }
         }
     }
-    Some(1000)
+    1000
 }
 
-/// Parses a text as an element. `None` if a parameter or the weight is malformed.
+// What an element with a malformed parameter counts as: it excludes nothing.
+fn excluding_nothing<'a>(element: &Element<'a>) -> Option<Element<'a>>
+    ensures { option_map element_parts result ≡ excluding_nothing (element_parts element.now) }
+{
+    if element.weight == 0 {
+        None
+    } else {
+        Some(Element {
+            range: element.range,
+            text: element.text,
+            weight: 1,
+        })
+    }
+}
+
+/// Parses a text as an element. One with a malformed weight or parameter counts with the least
+/// weight above 0. `None` if a parameter is malformed and the weight is 0.
 #[tactic(auto, unfolding(crate::specs::Elements::element_in))]
 pub(crate) fn element_in(text: &[u8]) -> Option<Element<'_>>
     ensures { option_map element_parts result ≡ element_in text.now }
 {
-    if !has_only_parameters(text) {
-        return None;
-    }
-    match weight_in(text) {
-        Some(weight) => Some(Element {
-            range: value_of(text),
-            text,
-            weight,
-        }),
-        None => None,
+    let element = Element {
+        range: value_of(text),
+        text,
+        weight: weight_in(text),
+    };
+    if has_only_parameters(text) {
+        Some(element)
+    } else {
+        excluding_nothing(&element)
     }
 }
 
@@ -141,21 +167,28 @@ pub(crate) fn has_parameters_of(text: &[u8], element: &[u8]) -> bool
     true
 }
 
-// Whether an element is a range and perhaps a weight.
-fn is_bare(element: &Element<'_>) -> bool
-    ensures { result ≡ is_bare (element_parts element.now) }
+// The element of Accept-Encoding or Accept-Language that an element counts as.
+fn bare<'a>(element: &Element<'a>) -> Option<Element<'a>>
+    ensures { option_map element_parts result ≡ bare (element_parts element.now) }
 {
-    parameter_count(element.text) == 0 && is_token(element.range)
+    if !is_token(element.range) {
+        return None;
+    }
+    if parameter_count(element.text) == 0 {
+        Some(*element)
+    } else {
+        excluding_nothing(element)
+    }
 }
 
-/// Parses a member of a field as an element without parameters.
+/// Parses a member of Accept-Encoding or Accept-Language as an element.
 pub(crate) fn bare_element_of<'a>(member: Result<&'a [u8], Malformed>) -> Option<Element<'a>>
     ensures { option_map element_parts result ≡ bare_element_of (member_of member.entry) }
 {
     match member {
         Ok(text) => match element_in(text) {
-            Some(element) if is_bare(&element) => Some(element),
-            _ => None,
+            Some(element) => bare(&element),
+            None => None,
         },
         Err(Malformed) => None,
     }

@@ -1,6 +1,6 @@
 //! Theorems about the definitions alone. To cite one in a proof, call it.
 ghost use Rattle.headers_negotiation.specs.Laws.{EachCodingIsAccepted, HasOneChoice, HasTwoNames};
-ghost use Rattle.headers_negotiation.specs.Laws.{IdentityIsExcludedByName, ListedComesFirst, LooksUpOne};
+ghost use Rattle.headers_negotiation.specs.Laws.{IdentityIsExcludedByName, ListedComesFirst, HasOneLookup};
 ghost use Rattle.headers_negotiation.specs.Laws.{MostSpecificDecides, RangesCover, RangesMatch, TakesTheFirst};
 ghost use Rattle.headers_negotiation.specs.Laws.{WeightsAreInRange};
 
@@ -28,8 +28,8 @@ pub fn ranges_match()
     ensures { RangesMatch }
 {}
 
-/// Theorem: content without a coding is acceptable unless `identity;q=0` or `*;q=0` excludes it, or
-/// an element is malformed (RFC 9110, section 12.5.3).
+/// Theorem: content without a coding is acceptable unless `identity;q=0` or `*;q=0` excludes it (RFC
+/// 9110, section 12.5.3).
 pub fn identity_is_excluded_by_name()
     ensures { IdentityIsExcludedByName }
 {}
@@ -59,7 +59,7 @@ pub fn ranges_cover()
 
 /// Theorem: lookup has exactly one result (RFC 4647, section 3.4).
 pub fn request_has_one_lookup()
-    ensures { LooksUpOne }
+    ensures { HasOneLookup }
 {}
 
 /// Theorem: a quality that is a weight is 1 to 1000 thousandths (RFC 9110, section 12.4.2).

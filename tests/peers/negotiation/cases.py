@@ -3,6 +3,7 @@ past ASCII (RFC 9110, section 5.6.4)."""
 import random
 from collections.abc import Iterator
 from dataclasses import dataclass
+from itertools import chain, islice
 
 FIELDS = {"accept": "Accept", "encoding": "Accept-Encoding", "language": "Accept-Language"}
 TYPES = ["text/html", "text/plain", "text/html;level=1", "text/html;level=2", "text/plain;format=flowed",
@@ -23,6 +24,9 @@ LANGUAGES = ["en", "en-US", "en-GB", "de", "de-CH", "de-Latn-CH", "fr", "zh-Hant
 RANGES = ["en", "en-US", "en-us", "en-GB", "de", "de-CH", "de-DE", "fr", "fr-CA", "zh", "zh-Hant", "zh-Hans", "*", "EN",
           "sr", "en-GB-oed", "i-klingon", "i"]
 BAD_RANGES = ["en_US", "*-CH", "en-", "-en", "englishlanguage", "e n", "en;", "d*", "1en", "", "\xe9n"]
+# Malformed elements, beside which content without a coding stays acceptable.
+BROKEN = ["gzip;q=1.0000", "gzip, br;level=5", "gzip;q=2, *;q=0.5", "br;q=high, identity;q=0", "deflate;level=9;q=0",
+          "identity;q=2, *;q=0", "*;q=00"]
 WEIGHTS = ["", "", "", ";q=1", ";q=0.5", ";q=0", "; q=0.8", " ; q=0.3", ";q=0.001", ";q=0.9", ";q=1.0", ";q=1.000",
            ";q=0.0", ";q=0.000", ";q=0.5", ";q=0.7", ";Q=0.6", ";q=0."]
 BAD_WEIGHTS = [";q=2", ";q=1.5", ";q=-1", ";q=.5", ";q=0.0001", ";q=abc", ";q=", ";q", ';q="0.5"', ";q=0,5", ";q = 0.5",
@@ -86,4 +90,5 @@ def case(draw: random.Random) -> Case:
 
 def cases(seed: int, count: int) -> Iterator[Case]:
     draw = random.Random(seed)
-    return (case(draw) for _ in range(count))
+    broken = [Case("encoding", [line], offers) for line in BROKEN for offers in (["identity"], ["identity", "gzip"])]
+    return islice(chain(broken, (case(draw) for _ in range(count))), count)

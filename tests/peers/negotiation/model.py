@@ -15,6 +15,8 @@ MEDIA_RANGE = re.compile(rf"(\*/\*|{TOKEN}/\*|{TOKEN}/{TOKEN})(?=[ \t]*(;|$))")
 WEIGHT = rf"(?:[ \t]*;[ \t]*[qQ]=({QVALUE.pattern}))?"
 CODING = re.compile(rf"({TOKEN}){WEIGHT}")
 LANGUAGE_RANGE = re.compile(rf"([A-Za-z]{{1,8}}(?:-[A-Za-z0-9]{{1,8}})*|\*){WEIGHT}")
+# An element of Accept-Encoding that names a coding and breaks its grammar behind the name.
+BROKEN_CODING = re.compile(rf"({TOKEN})[ \t]*;[^\"]*")
 # Codings that a recipient SHOULD take for the same (sections 8.4.1.1 and 8.4.1.3).
 SAME = {"gzip": "x-gzip", "x-gzip": "gzip", "compress": "x-compress", "x-compress": "compress"}
 
@@ -109,6 +111,29 @@ def coding_qualities(lines: list[str], offers: list[str]) -> Iterator[set[int]]:
             yield {1} if offer == "identity" else {0}
 
 
+def broken_coding_qualities(lines: list[str], offers: list[str]) -> Iterator[set[int]]:
+    """The same if elements may break their grammar. Only `identity` has a rule then: it is acceptable unless
+    `identity;q=0` or `*;q=0` excludes it."""
+    whole, broken = [], set()
+    for it in elements(lines):
+        if CODING.fullmatch(it):
+            whole.append(it)
+        elif found := BROKEN_CODING.fullmatch(it):
+            broken.add(found[1].lower())
+        else:
+            raise Malformed(it)
+    for offer, own in zip(offers, coding_qualities([", ".join(whole)], offers)):
+        if not broken:
+            yield own
+        elif offer.lower() != "identity":
+            yield {0, 1, 1000}
+        elif broken & {"identity", "*"}:
+            # (an element that breaks its grammar isn't `identity;q=0`, but may count)
+            yield own | {1, 1000}
+        else:
+            yield own
+
+
 def language_qualities(lines: list[str], offers: list[str]) -> Iterator[set[int]]:
     """By basic filtering (RFC 4647, section 3.3.1), if the longest range that matches decides."""
     return (said[max(said)] if said else {0} for said in said_of_languages(lines, offers))
@@ -132,17 +157,17 @@ def said_of_languages(lines: list[str], offers: list[str]) -> Iterator[dict[int,
         yield said
 
 
-BY_FIELD = {"accept": media_qualities, "encoding": coding_qualities, "language": language_qualities}
+BY_FIELD = {"accept": media_qualities, "encoding": broken_coding_qualities, "language": language_qualities}
+LOOSE = BY_FIELD | {"encoding": coding_qualities, "language": loose_language_qualities}
 
 
 def qualities(dimension: str, lines: list[str], offers: list[str], is_loose: bool = False) -> list[set[int]] | None:
-    """Of each offer the set of its qualities, or `None` if an element breaks its grammar. With `is_loose` also by
-    readings that ours doesn't take."""
+    """Of each offer the set of its qualities, or `None` if an element breaks its grammar and the text has no rule. With
+    `is_loose` also by readings that ours doesn't take."""
     if not lines:
         return [{1000} for _ in offers]
     try:
-        call = loose_language_qualities if is_loose and dimension == "language" else BY_FIELD[dimension]
-        return list(call(lines, offers))
+        return list((LOOSE if is_loose else BY_FIELD)[dimension](lines, offers))
     except Malformed:
         return None
 
