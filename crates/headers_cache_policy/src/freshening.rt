@@ -18,6 +18,10 @@ use std::alloc::{AllocError, Global};
 /// and the response has one, or its Connection is malformed. Such a 304 updates nothing, and the
 /// request has to be sent again without conditions.
 ///
+/// The stored Date and Age are of the first response. Before these fields are set, set Date by
+/// `date_field` to the time at which the 304 came, and remove Age: else a 304 without these two
+/// leaves the response as old as before (section 4.2.3).
+///
 /// Connection, the fields that it names in the 304, other fields of a connection or for a proxy
 /// stay as they are; so do Content-Length, Content-Encoding and Content-Range, which describe the
 /// stored content.

@@ -1,7 +1,7 @@
 -- The function that reads a date reads exactly what the definition says.
 use Rattle.std.proofs.Common.{◌≡◌, ℕ, zero, suc, ◌+◌, ◌*◌, ◌%◌, ◌==◌, Bool, true, false, cond}
 use Rattle.std.proofs.Common.{List, [], ◌∷◌, ◌++◌, get_or, Option, Some, None, MatchOption, option_map, option_and_then}
-use Rattle.std.proofs.Common.{refl, sym, ap, ◌∙◌, subst, arith, inl, inr, eqb-true, eq-eqb}
+use Rattle.std.proofs.Common.{refl, sym, ap, ◌∙◌, subst, arith, inl, inr}
 use Rattle.std.proofs.lemmas.Bool.{and_parts, leb-true, ltb-true}
 use Rattle.std.proofs.lemmas.Bool.Decides.{nat_tests}
 use Rattle.std.proofs.lemmas.Option.{none-some, same_Some}
@@ -12,8 +12,8 @@ use Rattle.httpdate.proofs.OptionLemmas.{cond_some, and_then_some}
 use Rattle.httpdate.proofs.ReaderLemmas.{after_tag_sound, read_name_sound, read_name-day_name, read_tag_complete}
 use Rattle.httpdate.proofs.ReaderLemmas.{read_padded_day_digits, read_padded_day_space}
 use Rattle.headers_dates.specs.declared.date_time.DateTime.{DateTime}
-use Rattle.headers_dates.specs.Calendar.{weekday, seconds, in_year, IsDateTime, IsNear}
-use Rattle.headers_dates.specs.Date.{ShowsDate, Denotes, timestamp}
+use Rattle.headers_dates.specs.Calendar.{seconds, in_year, IsDateTime, IsNear}
+use Rattle.headers_dates.specs.Date.{ShowsDate, ShowsNamed, Denotes, timestamp}
 use Rattle.headers_dates.specs.Reader.{is_date_time, in_near_century, read_imf_fixdate, read_rfc850_date}
 use Rattle.headers_dates.specs.Reader.{read_asctime_date, read_form, date_time}
 use Rattle.headers_dates.proofs.CalendarLemmas.{short_month}
@@ -56,10 +56,6 @@ Fits_valid d h =
       second = omega arith;
     }
 
-weekday_bound : (d : DateTime) → IsInRange 1 7 (weekday d)
-unfolding weekday
-weekday_bound d = (omega arith, omega arith)
-
 -- ---- each form after the name of the day
 
 -- the rest of a day's name begins with a letter
@@ -76,50 +72,57 @@ letter zero rest h = absurd (omega arith)
 letter (suc (suc (suc (suc (suc (suc (suc (suc k)))))))) rest h = absurd (omega arith)
 
 -- a date with its form, as read after the name of its day
-module _ (now : ℕ) (d : DateTime) (valid : IsDateTime d) where
-  read_imf : read_form now (weekday d) (imf_rest d) ≡ Some d
+module _ (now named : ℕ) (d : DateTime) (is_day : IsInRange 1 7 named) (valid : IsDateTime d) where
+  read_imf : read_form now named (imf_rest d) ≡ Some d
   unfolding read_form
   read_imf = imf_complete d (Fits_valid d valid)
 
-  read_rfc850 : IsNear now d → read_form now (weekday d) (day_name_rest (weekday d) ++ rfc850_rest d) ≡ Some d
+  read_rfc850 : IsNear now d → read_form now named (day_name_rest named ++ rfc850_rest d) ≡ Some d
   unfolding read_form
   read_rfc850 near =
-      let first = letter (weekday d) (rfc850_rest d) (weekday_bound d) in
+      let first = letter named (rfc850_rest d) is_day in
       rw (
         first.0,
         first.1,
-        read_tag_complete (day_name_rest (weekday d)) (rfc850_rest d),
+        read_tag_complete (day_name_rest named) (rfc850_rest d),
         rfc850_complete d (Fits_valid d valid),
       ) (near_century_complete now d valid near)
 
   read_asctime : (day : List ℕ) → ((rest : List ℕ) → read_padded_day (day ++ rest) ≡ Some (d.day, rest))
-      → read_form now (weekday d) (asctime_rest day d) ≡ Some d
+      → read_form now named (asctime_rest day d) ≡ Some d
   unfolding read_form
   read_asctime day read = asctime_complete d (Fits_valid d valid) day read
 
 -- ---- the whole date
 
-named_complete : (now : ℕ) (text rest : List ℕ) (d : DateTime) → IsDateTime d → text ≡ day_name (weekday d) ++ rest
-    → read_form now (weekday d) rest ≡ Some d → date_time now text ≡ Some d
+named_complete : (now named : ℕ) (text rest : List ℕ) (d : DateTime) → IsInRange 1 7 named → IsDateTime d
+    → text ≡ day_name named ++ rest → read_form now named rest ≡ Some d → date_time now text ≡ Some d
 unfolding date_time
-named_complete now text rest d valid named read =
+named_complete now named text rest d is_day valid led read =
     let test = is_date_time_complete d valid in
-    let same : (weekday d == weekday d) ≡ true = eq-eqb _ _ refl in
-    rw (named, read_name-day_name (weekday d) rest (weekday_bound d), read, test, same)
+    rw (led, read_name-day_name named rest is_day, read, test)
 
 pub date_time_complete : (now : ℕ) (text : List ℕ) (d : DateTime) → IsDateTime d → ShowsDate now text d
     → date_time now text ≡ Some d
-date_time_complete now text d valid (inl e) =
-    named_complete now text _ d valid (e ∙ imf_fixdate_grouped d) (read_imf now d valid)
-date_time_complete now text d valid (inr (inl e)) =
-    named_complete now text _ d valid (e.0 ∙ rfc850_date_grouped d) (read_rfc850 now d valid e.1)
-date_time_complete now text d valid (inr (inr (inl e))) =
-    let fits = Fits_valid d valid in
-    named_complete now text _ d valid (e ∙ asctime_date_grouped (two_digits d.day) d)
-    (read_asctime now d valid (two_digits d.day) (λ rest. read_padded_day_digits d.day rest fits.day))
-date_time_complete now text d valid (inr (inr (inr e))) =
-    named_complete now text _ d valid (e.0 ∙ asctime_date_grouped (32 ∷ (48 + d.day) ∷ []) d)
-    (read_asctime now d valid (32 ∷ (48 + d.day) ∷ []) (λ rest. read_padded_day_space d.day rest e.1))
+date_time_complete now text d valid (named, is_day, shown) = by shown
+  where
+    by : ShowsNamed now named text d → date_time now text ≡ Some d
+    by (inl e) =
+        named_complete now named text _ d is_day valid (e ∙ imf_fixdate_grouped named d)
+        (read_imf now named d is_day valid)
+    by (inr (inl e)) =
+        named_complete now named text _ d is_day valid (e.0 ∙ rfc850_date_grouped named d)
+        (read_rfc850 now named d is_day valid e.1)
+    by (inr (inr (inl e))) =
+        let fits = Fits_valid d valid in
+        named_complete now named text _ d is_day valid (e ∙ asctime_date_grouped named (two_digits d.day) d)
+        (read_asctime now named d is_day valid (two_digits d.day)
+        (λ rest. read_padded_day_digits d.day rest fits.day))
+    by (inr (inr (inr e))) =
+        named_complete now named text _ d is_day valid
+        (e.0 ∙ asctime_date_grouped named (32 ∷ (48 + d.day) ∷ []) d)
+        (read_asctime now named d is_day valid (32 ∷ (48 + d.day) ∷ [])
+        (λ rest. read_padded_day_space d.day rest e.1))
 
 -- what is read where the rest begins with a space or not, and where it begins with a comma or not
 abbrev read_with_space : ℕ → ℕ → List ℕ → Bool → Option DateTime
@@ -132,38 +135,37 @@ abbrev read_with_comma : ℕ → ℕ → List ℕ → Bool → Bool → Option D
 read_with_comma now named rest comma space =
     cond comma (read_imf_fixdate rest) (read_with_space now named rest space)
 
-module _ (now : ℕ) (text rest : List ℕ) (d : DateTime) (named : text ≡ day_name (weekday d) ++ rest) where
-  whole : (shown : List ℕ) → rest ≡ shown → text ≡ day_name (weekday d) ++ shown
-  whole shown e = named ∙ ap (λ r. day_name (weekday d) ++ r) e
+module _ (now named : ℕ) (text rest : List ℕ) (d : DateTime) (led : text ≡ day_name named ++ rest) where
+  whole : (shown : List ℕ) → rest ≡ shown → text ≡ day_name named ++ shown
+  whole shown e = led ∙ ap (λ r. day_name named ++ r) e
 
-  other : (space : Bool) → read_with_space now (weekday d) rest space ≡ Some d → ShowsDate now text d
+  other : (space : Bool) → read_with_space now named rest space ≡ Some d → ShowsNamed now named text d
   other true e =
       elim (asctime_sound rest d e) [
-        | inl s ↦ inr (inr (inl (whole _ s ∙ sym (asctime_date_grouped (two_digits d.day) d))))
-        | inr s ↦ inr (inr (inr (whole _ s.0 ∙ sym (asctime_date_grouped (32 ∷ (48 + d.day) ∷ []) d), s.1)))
+        | inl s ↦ inr (inr (inl (whole _ s ∙ sym (asctime_date_grouped named (two_digits d.day) d))))
+        | inr s ↦
+            inr (inr (inr (whole _ s.0 ∙ sym (asctime_date_grouped named (32 ∷ (48 + d.day) ∷ []) d), s.1)))
       ]
   other false e =
-      let tagged = option_and_then read_rfc850_date (read_tag (day_name_rest (weekday d)) rest) in
+      let tagged = option_and_then read_rfc850_date (read_tag (day_name_rest named) rest) in
       and_then_some _ tagged _ e λ short read found.
-      after_tag_sound (day_name_rest (weekday d)) rest read_rfc850_date short read λ after long got.
+      after_tag_sound (day_name_rest named) rest read_rfc850_date short read λ after long got.
       let (small, shown) = rfc850_sound after short got in
       let (century, is, near) = near_century_sound now short d 81 19 found in
       let digits : (century * 100 + short.year) % 100 ≡ short.year % 100 = omega arith in
       let same : rfc850_rest short ≡ rfc850_rest (in_year short (century * 100 + short.year)) = rw digits in
-      let rest_is = long ∙ ap (λ r. day_name_rest (weekday d) ++ r) (shown ∙ same ∙ ap rfc850_rest (sym is)) in
-      inr (inl (whole _ rest_is ∙ sym (rfc850_date_grouped d), near))
+      let rest_is = long ∙ ap (λ r. day_name_rest named ++ r) (shown ∙ same ∙ ap rfc850_rest (sym is)) in
+      inr (inl (whole _ rest_is ∙ sym (rfc850_date_grouped named d), near))
 
-  by_comma : (comma space : Bool) → read_with_comma now (weekday d) rest comma space ≡ Some d → ShowsDate now text d
+  by_comma : (comma space : Bool) → read_with_comma now named rest comma space ≡ Some d → ShowsNamed now named text d
   by_comma false space e = other space e
   by_comma true space e =
-      inl (whole _ (imf_sound rest d e) ∙ sym (imf_fixdate_grouped d))
+      inl (whole _ (imf_sound rest d e) ∙ sym (imf_fixdate_grouped named d))
 
-form_sound : (now named : ℕ) (text rest : List ℕ) (d : DateTime) → text ≡ day_name named ++ rest → weekday d ≡ named
-    → read_form now named rest ≡ Some d → ShowsDate now text d
+form_sound : (now named : ℕ) (text rest : List ℕ) (d : DateTime) → text ≡ day_name named ++ rest
+    → read_form now named rest ≡ Some d → ShowsNamed now named text d
 unfolding read_form
-form_sound now named text rest d led right e =
-    let led_here = subst (λ n. text ≡ day_name n ++ rest) (sym right) led in
-    by_comma now text rest d led_here _ _ (subst (λ n. read_form now n rest ≡ Some d) (sym right) e)
+form_sound now named text rest d led e = by_comma now named text rest d led _ _ e
 
 pub date_time_sound : (now : ℕ) (text : List ℕ) (d : DateTime) → date_time now text ≡ Some d
     → IsDateTime d × ShowsDate now text d
@@ -172,10 +174,9 @@ date_time_sound now text d e =
     and_then_some _ (read_name day_name 7 text) _ e λ named read e₁.
     and_then_some _ (read_form now named.0 named.1) _ e₁ λ found formed e₂.
     let (test, same) = cond_some _ found d e₂ in
-    let (calendar, right) = and_parts (is_date_time found) (weekday found == named.0) test in
-    let led = (read_name_sound day_name 7 text named.1 named.0 read).1 in
+    let (is_day, led) = read_name_sound day_name 7 text named.1 named.0 read in
     subst (λ x. IsDateTime x × ShowsDate now text x) same
-    (is_date_time_sound found calendar, form_sound now named.0 text named.1 found led (eqb-true _ _ right) formed)
+    (is_date_time_sound found test, (named.0, is_day, form_sound now named.0 text named.1 found led formed))
 
 -- ---- the second that it denotes
 

@@ -13,7 +13,7 @@ use Rattle.httpdate.proofs.ReaderLemmas.{read_year_complete, read_year_sound, re
 use Rattle.httpdate.proofs.ReaderLemmas.{read_padded_day_sound}
 use Rattle.std.proofs.lemmas.Option.{same_Some}
 use Rattle.headers_dates.specs.declared.date_time.DateTime.{DateTime}
-use Rattle.headers_dates.specs.Calendar.{weekday, in_year}
+use Rattle.headers_dates.specs.Calendar.{in_year}
 use Rattle.headers_dates.specs.Reader.{read_day_and_month, read_time_in_gmt, read_imf_fixdate, read_rfc850_date}
 use Rattle.headers_dates.specs.Reader.{read_asctime_date}
 use Rattle.headers_dates.specs.Text.{imf_fixdate, rfc850_date, asctime_date}
@@ -36,19 +36,19 @@ abbrev pub asctime_rest : List ℕ → DateTime → List ℕ
 asctime_rest day d =
     32 ∷ (month_name d.month ++ 32 ∷ (day ++ 32 ∷ clock d.hour d.minute d.second (32 ∷ (four_digits d.year ++ []))))
 
-pub imf_fixdate_grouped : (d : DateTime) → imf_fixdate d ≡ day_name (weekday d) ++ imf_rest d
+pub imf_fixdate_grouped : (named : ℕ) (d : DateTime) → imf_fixdate named d ≡ day_name named ++ imf_rest d
 unfolding imf_fixdate
-imf_fixdate_grouped d = simp append_assoc
+imf_fixdate_grouped named d = simp append_assoc
 
-pub rfc850_date_grouped : (d : DateTime)
-    → rfc850_date d ≡ day_name (weekday d) ++ (day_name_rest (weekday d) ++ rfc850_rest d)
+pub rfc850_date_grouped : (named : ℕ) (d : DateTime)
+    → rfc850_date named d ≡ day_name named ++ (day_name_rest named ++ rfc850_rest d)
 unfolding rfc850_date
-rfc850_date_grouped d = simp append_assoc
+rfc850_date_grouped named d = simp append_assoc
 
-pub asctime_date_grouped : (day : List ℕ) (d : DateTime)
-    → asctime_date day d ≡ day_name (weekday d) ++ asctime_rest day d
+pub asctime_date_grouped : (named : ℕ) (day : List ℕ) (d : DateTime)
+    → asctime_date named day d ≡ day_name named ++ asctime_rest day d
 unfolding asctime_date
-asctime_date_grouped day d = simp append_assoc
+asctime_date_grouped named day d = simp append_assoc
 
 -- the numbers fit their places
 pub record Fits (d : DateTime) : Type 0 where

@@ -1,5 +1,5 @@
 -- The proleptic Gregorian calendar, counted from the start of the year 0.
-use Rattle.std.specs.Prelude.{ℕ, zero, suc, ◌+◌, ◌-◌, ◌*◌, ◌%◌, ◌<◌, ◌≤◌}
+use Rattle.std.specs.Prelude.{ℕ, zero, suc, ◌+◌, ◌-◌, ◌*◌, ◌<◌, ◌≤◌}
 use Rattle.std.specs.Int.{IsInRange}
 use Rattle.httpdate.specs.Calendar.{days_in_year, days_in_month, days_of_months}
 use Rattle.headers_dates.specs.declared.date_time.DateTime.{DateTime}
@@ -12,10 +12,6 @@ days_before_year (suc year) = days_before_year year + days_in_year year
 -- the days from 1 January of the year 0 to this day
 unfoldable pub day_number : DateTime → ℕ
 day_number d = days_before_year d.year + days_of_months d.year (d.month - 1) + (d.day - 1)
-
--- Monday is 1 and Sunday 7. The year 0 began on a Saturday.
-unfoldable pub weekday : DateTime → ℕ
-weekday d = (day_number d + 5) % 7 + 1
 
 -- The seconds from the start of the year 0, with no leap seconds counted: a second 60 is the one after second 59.
 unfoldable pub seconds : DateTime → ℕ

@@ -5,7 +5,7 @@ use Rattle.httpdate.specs.Calendar.{days_in_month}
 use Rattle.httpdate.specs.Reader.{Read, read_tag, read_two_digits, read_name, read_year, read_time, read_padded_day}
 use Rattle.httpdate.specs.Text.{comma, space, day_name, day_name_rest, month_name}
 use Rattle.headers_dates.specs.declared.date_time.DateTime.{DateTime}
-use Rattle.headers_dates.specs.Calendar.{weekday, seconds, unix_epoch, in_year}
+use Rattle.headers_dates.specs.Calendar.{seconds, unix_epoch, in_year}
 
 infixl 10 ◌>>=◌
 abbrev ◌>>=◌ : {A B : Type 0} → Option A → (A → Option B) → Option B
@@ -99,9 +99,9 @@ read_form now named text =
     else (if slice_index text 0 == space then read_asctime_date text
     else (read_tag (day_name_rest named) text >>= read_rfc850_date >>= (λ d. in_near_century now d 81 19)))
 
--- the date in one of the three formats that the text shows, if the calendar has it and the day's name is right
+-- the date in one of the three formats that the text shows, if the calendar and the clock have it
 unfoldable pub date_time : ℕ → List ℕ → Option DateTime
 date_time now text = do
   named ← read_name day_name 7 text
   d ← read_form now named.0 named.1
-  if is_date_time d && (weekday d == named.0) then Some d else None
+  if is_date_time d then Some d else None

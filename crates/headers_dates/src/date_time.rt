@@ -65,7 +65,7 @@ fn days_before_month(year: u16, month: u8) -> u32
 }
 
 impl DateTime {
-    ghost use Rattle.headers_dates.specs.Calendar.{IsDateTime, day_number, weekday, seconds, in_year};
+    ghost use Rattle.headers_dates.specs.Calendar.{IsDateTime, day_number, seconds, in_year};
     ghost use Rattle.headers_dates.specs.Reader.{in_near_century, is_near};
 
     /// Returns whether the calendar has the day, and the clock has the time. Each minute has a
@@ -91,15 +91,6 @@ impl DateTime {
         days_before_year(self.year)
             + days_before_month(self.year, self.month)
             + self.day.saturating_sub(1) as u32
-    }
-
-    /// Returns the day of the week: 1 is Monday, 7 is Sunday.
-    #[tactic(auto, unfolding(crate::specs::Calendar::weekday))]
-    pub fn weekday(&self) -> u8
-        requires { IsInRange 1 12 self.now.month }
-        ensures { result ≡ weekday self.now }
-    {
-        ((self.day_number() + 5) % 7 + 1) as u8
     }
 
     /// Returns the seconds since the start of the year 0.

@@ -184,9 +184,9 @@ fn read_form(weekday: u8, text: &[u8], now: u64) -> Option<DateTime>
     }
 }
 
-/// Parses a text as a date in one of the three formats. `None` for any other text, for a date that
-/// the calendar or the clock doesn't have, and if the day has another name. `now` is the present,
-/// in seconds since 1970.
+/// Parses a text as a date in one of the three formats. `None` for any other text, and for a date
+/// that the calendar or the clock doesn't have. The day may have the name of another day. `now` is
+/// the present, in seconds since 1970.
 #[tactic(auto, unfolding(crate::specs::Reader::date_time))]
 pub fn read_date_time(text: &[u8], now: u64) -> Option<DateTime>
     ensures value { result ≡ Dates.date_time now text.now }
@@ -194,9 +194,5 @@ pub fn read_date_time(text: &[u8], now: u64) -> Option<DateTime>
 {
     let (weekday, text) = read_day_name(text)?;
     let date = read_form(weekday, text, now)?;
-    if date.is_valid() && date.weekday() == weekday {
-        Some(date)
-    } else {
-        None
-    }
+    if date.is_valid() { Some(date) } else { None }
 }

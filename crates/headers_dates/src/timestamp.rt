@@ -93,8 +93,8 @@ impl Timestamp {
 
 /// Parses an HTTP-date to the time that it denotes (RFC 9110, section 5.6.7). `None` if the text
 /// isn't an IMF-fixdate, an RFC 850 date or an asctime date with nothing before or after it; if the
-/// calendar doesn't have the day, or the day has another name; or if the clock doesn't have the
-/// time. A second 60 is the one after second 59.
+/// calendar doesn't have the day; or if the clock doesn't have the time. The name of another day of
+/// the week doesn't change the date. A second 60 is the one after second 59.
 ///
 /// `now` is the present, in seconds since 1970. It only decides which year the two digits of an RFC
 /// 850 date mean: the last year with these digits in which the date isn't more than 50 years after

@@ -157,9 +157,10 @@ twice(G, "rfc850", "optimal", [DATE, ("Expires", "{now+3600:850}")], REUSED, cit
 twice(G, "asctime", "optimal", [DATE, ("Expires", "{now+3600:asc}")], REUSED, cites="9110 5.6.7")
 for name, form in (("lower", "lower"), ("no-zone", "nozone"), ("utc", "utc"), ("offset", "offset"), ("no-day", "noday"),
                    ("spaces", "spaces"), ("one-digit", "onedigit"), ("two-digit-year", "year2"),
-                   ("wrong-day", "wrongday"),
                    ("dashes", "dashes")):
     twice(G, f"form-{name}", "check", [DATE, ("Expires", "{now+3600:" + form + "}")], NOT_REUSED)
+# The grammar asks for the name of a day, and for no certain one.
+twice(G, "form-wrong-day", "check", [DATE, ("Expires", "{now+3600:wrongday}")], REUSED)
 twice(G, "no-date", "optimal", [("Expires", "{now+3600}")], REUSED, cites="9111 4.2.1")
 twice(G, "age", "required", [DATE, ("Expires", "{now+3600}"), ("Age", "7200")], NOT_REUSED, cites="9111 4.2.3")
 twice(G, "two-lines", "check", [DATE, ("Expires", "{now-10}"), ("Expires", "{now+3600}")], NOT_REUSED)

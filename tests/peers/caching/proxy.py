@@ -100,8 +100,9 @@ def row(*words: str) -> str:
     return rows.answers(PROGRAM, [" ".join(words)])[0]
 
 
-def freshened(stored: Fields, update: Fields) -> Fields | None:
-    """The stored fields after a 304, or `None` if that isn't about the stored response."""
+def freshened(stored: Fields, update: Fields, received: str) -> Fields | None:
+    """The stored fields after a 304 that came at this time, or `None` if that isn't about the stored response."""
+    stored = [it for it in stored if it[0] not in ("age", "date")] + [("date", received)]
     answer = row("freshening_steps", *rows.map_words(stored), "(/)", *rows.map_words(update))
     if answer == "not_updated":
         return None
@@ -197,7 +198,7 @@ class Proxy(BaseHTTPRequestHandler):
                 self.serve(on_error, request)
             return
         if fetched.status == 304 and entry is not None:
-            fields = freshened(entry.fields, fetched.fields)
+            fields = freshened(entry.fields, fetched.fields, self.date_time_string(fetched.received))
             if fields is None:
                 self.fetch([it for it in request if it[0].lower() not in CONDITIONS], answers=answers)
                 return

@@ -17,7 +17,16 @@ FORMATS = [
 
 
 class NoSuchTime(ValueError):
-    """A text of the grammar that names no time: day 30 of February, hour 24, a wrong day of the week."""
+    """A text of the grammar that names no time: day 30 of February, hour 24."""
+
+
+class WrongDay(NoSuchTime):
+    """A text of the grammar with the name of another day of the week. By the grammar it is this date all the same, in
+    seconds since 1970; some readers reject it."""
+
+    def __init__(self, text: str, seconds: int) -> None:
+        super().__init__(text)
+        self.seconds = seconds
 
 
 def year_of_two_digits(year: int, now: int) -> int:
@@ -40,15 +49,20 @@ def http_date(text: str, now: int) -> int | None:
                         tzinfo=timezone.utc)
     except ValueError:
         raise NoSuchTime(text) from None
-    if second > 60 or DAYS[time.weekday()] != found["name"][:3]:
+    if second > 60:
         raise NoSuchTime(text)
-    return int(time.timestamp()) + (second == 60)
+    seconds = int(time.timestamp()) + (second == 60)
+    if DAYS[time.weekday()] != found["name"][:3]:
+        raise WrongDay(text, seconds)
+    return seconds
 
 
 def valid_date(text: str, now: int) -> int | None:
     """The seconds since 1970 of a date, or `None` if it names no time."""
     try:
         return http_date(text, now)
+    except WrongDay as date:
+        return date.seconds
     except NoSuchTime:
         return None
 

@@ -7,7 +7,7 @@ Where a field breaks its grammar and the RFC has no rule for that, several answe
 import re
 from collections.abc import Iterable, Sequence
 
-from common.dates import NoSuchTime, http_date
+from common.dates import NoSuchTime, WrongDay, http_date
 from common.fields import Fields, members
 
 Part = tuple[int, int]
@@ -118,6 +118,8 @@ def if_range(values: list[str], etag: str | None, modified: int | None, is_date_
         return {bool(own and not tag[1] and not own[1] and tag[2] == own[2])}
     try:
         date = http_date(values[0], now)
+    except WrongDay as wrong:
+        return {False, modified == wrong.seconds and is_date_strong}
     except NoSuchTime:
         return {False}
     return {date is not None and modified == date and is_date_strong}
