@@ -703,11 +703,13 @@ struct typed_headers_resource {
     /* Those of `methods` that are performed if there is no current representation, as PUT (section 9.3.4). Any other is
        answered by 404. */
     struct typed_headers_text creating;
-    /* Those of `methods` that need a precondition (RFC 6585, section 3). */
+    /* Those of `methods` whose requests must name what they may replace: by entity tags in If-Match, or by `*` in
+       If-None-Match (RFC 6585, section 3). Any other request is answered by 428. GET and HEAD need none. */
     struct typed_headers_text guarded;
     /* The media types that each of `methods` takes, as the line of Accept that a 415 has. Nothing said: any. */
     struct typed_headers_text accept;
-    /* The codings that each of `methods` takes, as the line of Accept-Encoding that a 415 has. Nothing said: any. */
+    /* The codings that each of `methods` takes, as the line of Accept-Encoding that a 415 has. Nothing said: none, so
+       content with Content-Encoding is answered by 415. */
     struct typed_headers_text accept_encoding;
     /* Where it is, as Location has it. It counts only if it has moved, and may not be empty then. */
     struct typed_headers_text location;
@@ -768,7 +770,7 @@ struct typed_headers_resource_request {
     bool has_length;
 };
 
-/* Why a request is answered as it is: the first of these that applies. */
+/* Why a request is answered as it is: the first of these that applies, in the order of docs/RESOURCE.md. */
 enum typed_headers_resource_reason {
     /* Nothing stands in the way: the preconditions and Range decide, and then the method. */
     TYPED_HEADERS_ADMITTED = 0,
@@ -800,8 +802,11 @@ enum typed_headers_resource_reason {
     TYPED_HEADERS_UNSUPPORTED_CODING = 13,
     /* 406: no representation is acceptable. */
     TYPED_HEADERS_NOT_ACCEPTABLE = 14,
-    /* 428: the request has no precondition. */
-    TYPED_HEADERS_PRECONDITION_REQUIRED = 15
+    /* 428: the request doesn't name what it may replace. */
+    TYPED_HEADERS_PRECONDITION_REQUIRED = 15,
+    /* 400: PUT with Content-Range, and no parts are taken (RFC 9110, section 14.5). It comes after 417, and before the
+       state of the resource. */
+    TYPED_HEADERS_PARTIAL_CONTENT = 16
 };
 
 /* What an answer sends. A response to HEAD never has content. */

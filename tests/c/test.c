@@ -1449,7 +1449,7 @@ static uint8_t call_resource(const void *arguments, uint64_t *number, uint8_t *r
         call->section.length, &KEYS, &facts, call->most_parts ? sent_parts : NULL, call->most_parts, &sent_count, room,
         room_length, written);
     if (facts.status != before.status || facts.place != before.place || facts.sends != before.sends) {
-        *number = (((facts.status * 16ull + facts.reason) * 8 + facts.sends) * 2 + facts.has_place) * 8 + facts.place;
+        *number = (((facts.status * 32ull + facts.reason) * 8 + facts.sends) * 2 + facts.has_place) * 8 + facts.place;
     } else if (sent_count != NOT_WRITTEN) {
         *number = FILL;
     }
@@ -1549,7 +1549,7 @@ static void check_resource(const struct row *row) {
     static const char *const reasons[] = {"InvalidHost", "Misdirected", "UnknownMethod", "MethodNotAllowed", "Options",
                                           "UnmetExpectation", "Moved", "Gone", "NotFound", "LengthRequired",
                                           "ContentTooLarge", "UnsupportedMediaType", "UnsupportedCoding",
-                                          "NotAcceptable", "PreconditionRequired"};
+                                          "NotAcceptable", "PreconditionRequired", "PartialContent"};
     static const char *const names[] = {
         "allow", "location", "accept", "accept-patch", "accept-post", "accept-encoding", "content-encoding",
         "content-language", "etag", "last-modified", "accept-ranges", "content-range", "content-length", "content-type",
@@ -1582,7 +1582,7 @@ static void check_resource(const struct row *row) {
 
     const struct row *answer = answer_words(row);
     const bool performs = is_word(&answer->words[1], "(none)");
-    uint64_t number = (performs ? 0 : read_number(answer, 1)) * 16 + place_of(&answer->words[0], reasons, 15);
+    uint64_t number = (performs ? 0 : read_number(answer, 1)) * 32 + place_of(&answer->words[0], reasons, 16);
     i = read_sends(answer, 2, &number, &count);
     for (size_t name = 0; name < sizeof names / sizeof *names; name++) {
         char form[64];

@@ -67,8 +67,10 @@ class Reason(IntEnum):
     UNSUPPORTED_CODING = 13
     #: 406: no representation is acceptable.
     NOT_ACCEPTABLE = 14
-    #: 428: the request has no precondition.
+    #: 428: the request doesn't name what it may replace.
     PRECONDITION_REQUIRED = 15
+    #: 400: PUT with Content-Range, and no parts are taken. It comes after 417.
+    PARTIAL_CONTENT = 16
 
 
 class Sends(IntEnum):
@@ -94,11 +96,12 @@ class Method:
     name: str
     #: The media types of content that it takes, as Accept lists them. Without them it takes any.
     accept: Union[str, Sequence[str]] = ()
-    #: The codings of content that it takes, as Accept-Encoding lists them. Without them it takes any.
+    #: The codings of content that it takes, as Accept-Encoding lists them. Without them it takes none.
     accept_encoding: Union[str, Sequence[str]] = ()
     #: Whether it is performed if there is no current representation, as PUT. Any other is answered by 404.
     creates: bool = False
-    #: Whether the request must have a precondition (RFC 6585, section 3).
+    #: Whether the request must name what it may replace, by entity tags in If-Match or by `*` in If-None-Match (RFC
+    #: 6585, section 3). GET and HEAD need not.
     needs_condition: bool = False
 
 

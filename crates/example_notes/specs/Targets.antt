@@ -1,5 +1,6 @@
 -- What a path leads to.
-use Rattle.std.specs.Prelude.{◌≡◌, ℕ, ◌<◌, ◌^◌, List, Option, Some, None, codes}
+use Rattle.std.specs.Prelude.{◌≡◌, ℕ, ◌<◌, ◌^◌, Bool, true, false, not, ◌&&◌, List, [], ◌∷◌, Option, Some, None}
+use Rattle.std.specs.Prelude.{codes, nat_lt}
 use Rattle.std.specs.Str.Parse.{IsNumeral, digits_value, without_leading_plus}
 use Rattle.matchit.specs.Params.{AllText, named, walk}
 use Rattle.matchit.specs.Router.{RouteOf}
@@ -10,9 +11,16 @@ use Rattle.example_notes.specs.declared.target.Place.TheVariants as place
 use Rattle.example_notes.specs.declared.target.Target.{Target}
 use Rattle.example_notes.specs.declared.target.Target.TheVariants as target
 
--- the digits are those of the number, perhaps after a plus
+-- the first digit is 1 to 9, so there is no sign, and no zero before the number
+abbrev pub is_plain : List ℕ → Bool
+is_plain [] = false
+is_plain (digit ∷ digits) = not (nat_lt digit 49) && not (nat_lt 57 digit)
+
+-- the digits are those of the number, which is 1 or more, as the path of a note has them: one path for each number
 abbrev pub IsId : List ℕ → ℕ → Type 0
-IsId digits id = IsNumeral 10 (without_leading_plus digits) × (digits_value 10 (without_leading_plus digits) ≡ id)
+IsId digits id =
+    (is_plain digits ≡ true) × IsNumeral 10 (without_leading_plus digits)
+    × (digits_value 10 (without_leading_plus digits) ≡ id)
 
 -- a note, if the digits are those of a number of 64 bits
 abbrev pub IsNamed : Option (List ℕ) → Target → Type 0

@@ -50,6 +50,7 @@ fn plain(alloc: Global, method: Method) -> MethodRule
         takes: HeaderMap::new(alloc),
         creates: false,
         needs_condition: false,
+        takes_parts: false,
     }
 }
 
@@ -70,6 +71,7 @@ fn taking_json(
         takes,
         creates: false,
         needs_condition,
+        takes_parts: false,
     })
 }
 

@@ -1,6 +1,6 @@
 //! The target of a path.
-ghost use Rattle.std.specs.Prelude.{option_map};
-ghost use Rattle.example_notes.specs.Targets.{IsNamed, IsTarget};
+ghost use Rattle.std.specs.Prelude.{◌≡◌, option_map};
+ghost use Rattle.example_notes.specs.Targets.{IsNamed, IsTarget, is_plain};
 
 use matchit::{InsertError, Router};
 use std::alloc::Global;
@@ -33,16 +33,26 @@ pub fn router(alloc: Global) -> Result<Router<Place>, InsertError> {
     Ok(router)
 }
 
+// Whether a number begins with a digit from 1 to 9, so that a note has one path.
+fn is_plain(digits: &str) -> bool
+    ensures { result ≡ is_plain digits.now }
+{
+    match digits.as_bytes().first() {
+        Some(digit) => *digit >= b'1' && *digit <= b'9',
+        None => false,
+    }
+}
+
 // The note whose number is in a path.
 fn note_named(id: Option<&str>) -> Target
     ensures { IsNamed (option_map (λ digits. digits.now) id.entry) result }
 {
     match id {
-        Some(digits) => match digits.parse() {
+        Some(digits) if is_plain(digits) => match digits.parse() {
             Ok(id) => Target::Note(id),
             Err(_) => Target::Nowhere,
         },
-        None => Target::Nowhere,
+        _ => Target::Nowhere,
     }
 }
 

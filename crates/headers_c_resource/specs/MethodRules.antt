@@ -1,6 +1,6 @@
 -- The methods of a resource, by what a caller hands in.
 use Rattle.std.specs.Prelude.{◌≡◌, ◌⊎◌, ℕ, ◌≤◌, List, [], ◌∷◌, All, codes, length, slice_get, Option, Some, None}
-use Rattle.std.specs.Prelude.{Result, Ok, Err}
+use Rattle.std.specs.Prelude.{Result, Ok, Err, false}
 use Rattle.std.specs.Global.{Vec}
 use Rattle.http_header.specs.FieldValue.{IsFieldValue}
 use Rattle.http_header.specs.Token.{IsToken}
@@ -29,12 +29,13 @@ abbrev pub option_lines : Option Line → List Line
 option_lines None = []
 option_lines (Some line) = line ∷ []
 
--- the rule of a method that is at this place
+-- the rule of a method that is at this place; it takes no parts
 pub record IsRule (lines : RuleLines) (place : ℕ) (method : Line) (rule : MethodRule) : Type 0 where
   pub method_is : rule.method ≡ method
   pub is_method : IsToken method
   pub creates : rule.creates ≡ is_named method lines.creating
   pub needs_condition : rule.needs_condition ≡ is_named method lines.guarded
+  pub takes_parts : rule.takes_parts ≡ false
   pub accept : lines_at rule.takes (codes "accept") ≡ option_lines (filled_at lines.accept place)
   pub accept_encoding : lines_at rule.takes (codes "accept-encoding")
       ≡ option_lines (filled_at lines.accept_encoding place)

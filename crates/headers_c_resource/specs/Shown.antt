@@ -31,6 +31,7 @@ reason_number reason.UnsupportedMediaType = 12
 reason_number reason.UnsupportedCoding = 13
 reason_number reason.NotAcceptable = 14
 reason_number reason.PreconditionRequired = 15
+reason_number reason.PartialContent = 16
 
 -- what is sent of a representation: nothing, all, or parts
 abbrev pub plan_number : Plan → ℕ

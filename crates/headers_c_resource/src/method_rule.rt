@@ -78,6 +78,7 @@ fn rule_at(
         takes,
         creates: is_named(&lists.creating, line),
         needs_condition: is_named(&lists.guarded, line),
+        takes_parts: false,
     })
 }
 

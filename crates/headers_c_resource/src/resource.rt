@@ -29,12 +29,13 @@ pub struct ResourceParts<'a> {
     pub methods: &'a [u8],
     /// Those of them that are performed if there is no current representation.
     pub creating: &'a [u8],
-    /// Those of them that need a precondition (RFC 6585, section 3).
+    /// Those of them that need a precondition which names what they may replace (RFC 6585, section 3).
     pub guarded: &'a [u8],
     /// The media types that each method takes, at its place: a field line of Accept. Without a line,
     /// or if it is empty, any are taken.
     pub accept: &'a [u8],
-    /// The codings that each takes, at its place: a field line of Accept-Encoding.
+    /// The codings that each takes, at its place: a field line of Accept-Encoding. Without a line, or
+    /// if it is empty, none is taken.
     pub accept_encoding: &'a [u8],
     /// Where it is, if it has moved. Any other state ignores it.
     pub location: &'a [u8],

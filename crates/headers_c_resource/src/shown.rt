@@ -18,8 +18,7 @@ pub struct AnswerFacts {
     pub place: usize,
     /// The status, or 0 if the server performs the method.
     pub status: u16,
-    /// Why it is this answer: 0 if nothing prevents the method, else the place of the
-    /// reason among those that may, from 1.
+    /// Why it is this answer: 0 if nothing prevents the method, else the number of the reason.
     pub reason: u8,
     /// What is sent: 0 for nothing of the resource, 1 for a list of its representations, 2 for all of
     /// the representation, 3 for parts of it, 4 for what comes of the method.
@@ -48,6 +47,7 @@ fn reason_number(reason: Reason) -> u8
         Reason::UnsupportedCoding => 13,
         Reason::NotAcceptable => 14,
         Reason::PreconditionRequired => 15,
+        Reason::PartialContent => 16,
     }
 }
 

@@ -309,6 +309,7 @@ module _ (request : Request) where
         content = content;
         content_type = others (codes "content-type") refl;
         content_encoding = others (codes "content-encoding") refl;
+        content_range = λ put. others (codes "content-range") refl;
         asks =
             record {
               if_match = others (codes "if-match") refl;

@@ -29,6 +29,7 @@ use Rattle.headers_resource.specs.declared.answer.Sends.TheVariants as sends
 use Rattle.headers_resource.specs.declared.reason.Reason.{Reason}
 use Rattle.headers_resource.specs.declared.reason.Reason.TheVariants.{InvalidHost, Misdirected, UnknownMethod}
 use Rattle.headers_resource.specs.declared.reason.Reason.TheVariants.{MethodNotAllowed, Options, UnmetExpectation}
+use Rattle.headers_resource.specs.declared.reason.Reason.TheVariants.{PartialContent}
 use Rattle.headers_resource.specs.declared.reason.Reason.TheVariants.{Moved, Gone, NotFound, LengthRequired}
 use Rattle.headers_resource.specs.declared.reason.Reason.TheVariants.{ContentTooLarge, UnsupportedMediaType}
 use Rattle.headers_resource.specs.declared.reason.Reason.TheVariants.{UnsupportedCoding, NotAcceptable}
@@ -113,6 +114,7 @@ explained resource request InvalidHost = refl
 explained resource request Misdirected = refl
 explained resource request UnknownMethod = refl
 explained resource request UnmetExpectation = refl
+explained resource request PartialContent = refl
 explained resource request Gone = refl
 explained resource request NotFound = refl
 explained resource request LengthRequired = refl

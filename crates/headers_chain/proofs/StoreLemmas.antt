@@ -49,6 +49,7 @@ use Rattle.headers_fields.specs.Scan.{Member}
 use Rattle.headers_fields.specs.Scan.Member.{Whole, Malformed}
 use Rattle.headers_gateway.specs.HopByHop.{connection_options, is_hop_by_hop, is_known, is_named}
 use Rattle.headers_resource.specs.Requests.{Request}
+use Rattle.headers_cache_policy.specs.Requests.{IsGetOrHead}
 use Rattle.headers_resource.specs.Vary.{AreAlike}
 use Rattle.headers_chain.proofs.AgeLemmas.{age_of-decimal}
 use Rattle.headers_chain.proofs.ConnectionLemmas.{crosses_if}
@@ -171,6 +172,10 @@ with_method method request =
       fields = request.fields;
     }
 
+no_put : (method : List ℕ) → method ≡ codes "PUT" → IsGetOrHead method → ⊥
+no_put method put (inl get) = cc (put, get)
+no_put method put (inr head) = cc (put, head)
+
 pub plain_alike : (target : List ℕ) (r s : Request) → IsPlain target r → IsPlain target s
     → r.fields (codes "host") ≡ s.fields (codes "host") → AreAlike r (with_method r.method s)
 plain_alike target r s h k host =
@@ -183,6 +188,7 @@ plain_alike target r s h k host =
       content = h.read.content ∙ sym k.read.content;
       content_type = h.without 1 [] (omega arith) ∙ sym (k.without 1 [] (omega arith));
       content_encoding = h.without 2 [] (omega arith) ∙ sym (k.without 2 [] (omega arith));
+      content_range = λ put. absurd (no_put r.method put h.read.method);
       asks =
           record {
             if_match = h.without 4 [] (omega arith) ∙ sym (k.without 4 [] (omega arith));

@@ -160,6 +160,7 @@ module _ (varying : List Line) (r s : Request) (alike : AreAlike r s)
         content = alike.content;
         content_type = by (codes "content-type") alike.content_type;
         content_encoding = by (codes "content-encoding") alike.content_encoding;
+        content_range = λ put. by (codes "content-range") (alike.content_range put);
         asks =
             record {
               if_match = by (codes "if-match") alike.asks.if_match;
@@ -184,6 +185,7 @@ module _ (varying : List Line) (r s : Request) (alike : AreAlike r s)
         content = refl;
         content_type = by (codes "content-type") alike.content_type;
         content_encoding = by (codes "content-encoding") alike.content_encoding;
+        content_range = λ put. by (codes "content-range") (alike.content_range (alike.method ∙ put));
         asks =
             record {
               if_match = by (codes "if-match") alike.asks.if_match;

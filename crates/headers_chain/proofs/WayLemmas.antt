@@ -87,6 +87,7 @@ module _ (gateway : Gateway) (request next : Request) (sent : ForwardedRequest)
         content = passed.content;
         content_type = same_lines (codes "content-type") refl refl refl;
         content_encoding = same_lines (codes "content-encoding") refl refl refl;
+        content_range = λ put. same_lines (codes "content-range") refl refl refl;
         asks = asks_alike;
       }
 
@@ -143,6 +144,7 @@ module _ (gateway : Gateway) (request : Request) (modern : request.protocol ≡ 
         content = refl;
         content_type = crosses (codes "content-type") refl refl refl;
         content_encoding = crosses (codes "content-encoding") refl refl refl;
+        content_range = λ put. crosses (codes "content-range") refl refl refl;
         asks = asks_direct;
       }
 

@@ -26,6 +26,7 @@ use Rattle.headers_resource.specs.declared.answer.Sends.{Sends}
 use Rattle.headers_resource.specs.declared.reason.Reason.{Reason}
 use Rattle.headers_resource.specs.declared.reason.Reason.TheVariants.{InvalidHost, Misdirected, UnknownMethod}
 use Rattle.headers_resource.specs.declared.reason.Reason.TheVariants.{MethodNotAllowed, Options, UnmetExpectation}
+use Rattle.headers_resource.specs.declared.reason.Reason.TheVariants.{PartialContent}
 use Rattle.headers_resource.specs.declared.reason.Reason.TheVariants.{Moved, Gone, NotFound, LengthRequired}
 use Rattle.headers_resource.specs.declared.reason.Reason.TheVariants.{ContentTooLarge, UnsupportedMediaType}
 use Rattle.headers_resource.specs.declared.reason.Reason.TheVariants.{UnsupportedCoding, NotAcceptable}
@@ -43,6 +44,7 @@ module _ (resource : Resource) (request : Request) where
   apply_alike MethodNotAllowed = refl
   apply_alike Options = refl
   apply_alike UnmetExpectation = refl
+  apply_alike PartialContent = refl
   apply_alike Moved = refl
   apply_alike Gone = refl
   apply_alike NotFound = refl
@@ -63,6 +65,7 @@ module _ (resource : Resource) (request : Request) where
   reason_alike MethodNotAllowed = refl
   reason_alike Options = refl
   reason_alike UnmetExpectation = refl
+  reason_alike PartialContent = refl
   reason_alike Moved = refl
   reason_alike Gone = refl
   reason_alike NotFound = refl

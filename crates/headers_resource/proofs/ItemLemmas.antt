@@ -16,6 +16,7 @@ use Rattle.headers_resource.specs.declared.answer.Sends.{Sends}
 use Rattle.headers_resource.specs.declared.reason.Reason.{Reason}
 use Rattle.headers_resource.specs.declared.reason.Reason.TheVariants.{InvalidHost, Misdirected, UnknownMethod}
 use Rattle.headers_resource.specs.declared.reason.Reason.TheVariants.{MethodNotAllowed, Options, UnmetExpectation}
+use Rattle.headers_resource.specs.declared.reason.Reason.TheVariants.{PartialContent}
 use Rattle.headers_resource.specs.declared.reason.Reason.TheVariants.{Moved, Gone, NotFound, LengthRequired}
 use Rattle.headers_resource.specs.declared.reason.Reason.TheVariants.{ContentTooLarge, UnsupportedMediaType}
 use Rattle.headers_resource.specs.declared.reason.Reason.TheVariants.{UnsupportedCoding, NotAcceptable}
@@ -46,6 +47,7 @@ module _ (now : ℕ) (resource : Resource) (v w : Vec Representation) (e : v.ite
   same_test MethodNotAllowed = refl
   same_test Options = refl
   same_test UnmetExpectation = refl
+  same_test PartialContent = refl
   same_test Moved = refl
   same_test Gone = refl
   same_test NotFound = refl
@@ -64,6 +66,7 @@ module _ (now : ℕ) (resource : Resource) (v w : Vec Representation) (e : v.ite
   same_fields MethodNotAllowed = refl
   same_fields Options = refl
   same_fields UnmetExpectation = refl
+  same_fields PartialContent = refl
   same_fields Moved = refl
   same_fields Gone = refl
   same_fields NotFound = refl

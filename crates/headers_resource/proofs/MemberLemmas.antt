@@ -216,6 +216,7 @@ module _ (present : ℕ) (resource : Resource) (a : Answer) where
         content = alike.content;
         content_type = alike.content_type;
         content_encoding = alike.content_encoding;
+        content_range = alike.content_range;
         asks =
             record {
               if_match = alike.asks.if_match;

@@ -9,6 +9,7 @@ use Rattle.headers_resource.specs.Requests.{Request}
 use Rattle.headers_resource.specs.declared.reason.Reason.{Reason}
 use Rattle.headers_resource.specs.declared.reason.Reason.TheVariants.{InvalidHost, Misdirected, UnknownMethod}
 use Rattle.headers_resource.specs.declared.reason.Reason.TheVariants.{MethodNotAllowed, Options, UnmetExpectation}
+use Rattle.headers_resource.specs.declared.reason.Reason.TheVariants.{PartialContent}
 use Rattle.headers_resource.specs.declared.reason.Reason.TheVariants.{Moved, Gone, NotFound, LengthRequired}
 use Rattle.headers_resource.specs.declared.reason.Reason.TheVariants.{ContentTooLarge, UnsupportedMediaType}
 use Rattle.headers_resource.specs.declared.reason.Reason.TheVariants.{UnsupportedCoding, NotAcceptable}
@@ -36,12 +37,13 @@ of_stage n =
     else (if n == 2 then UnknownMethod ∷ []
     else (if n == 3 then MethodNotAllowed ∷ Options ∷ []
     else (if n == 4 then UnmetExpectation ∷ []
-    else (if n == 5 then Moved ∷ Gone ∷ NotFound ∷ []
-    else (if n == 6 then LengthRequired ∷ ContentTooLarge ∷ []
-    else (if n == 7 then UnsupportedMediaType ∷ []
-    else (if n == 8 then UnsupportedCoding ∷ []
-    else (if n == 9 then NotAcceptable ∷ []
-    else (if n == 10 then PreconditionRequired ∷ [] else Admitted ∷ []))))))))))
+    else (if n == 5 then PartialContent ∷ []
+    else (if n == 6 then Moved ∷ Gone ∷ NotFound ∷ []
+    else (if n == 7 then LengthRequired ∷ ContentTooLarge ∷ []
+    else (if n == 8 then UnsupportedMediaType ∷ []
+    else (if n == 9 then UnsupportedCoding ∷ []
+    else (if n == 10 then NotAcceptable ∷ []
+    else (if n == 11 then PreconditionRequired ∷ [] else Admitted ∷ [])))))))))))
 
 own : (r : Reason) → Among r (of_stage (stage r))
 own InvalidHost = inl refl
@@ -50,6 +52,7 @@ own UnknownMethod = inl refl
 own MethodNotAllowed = inl refl
 own Options = inr (inl refl)
 own UnmetExpectation = inl refl
+own PartialContent = inl refl
 own Moved = inl refl
 own Gone = inr (inl refl)
 own NotFound = inr (inr (inl refl))
@@ -87,6 +90,7 @@ module _ (p : Reason → Bool) (exclusive : AreExclusive p) where
   alike Options s h k (inl same) = absurd (exclusive.methods (holds s MethodNotAllowed same k) h)
   alike Options s h k (inr rest) = only Options s rest
   alike UnmetExpectation s h k among = only UnmetExpectation s among
+  alike PartialContent s h k among = only PartialContent s among
   alike Moved s h k (inl same) = sym same
   alike Moved s h k (inr (inl same)) = absurd (exclusive.moved_gone h (holds s Gone same k))
   alike Moved s h k (inr (inr (inl same))) = absurd (exclusive.moved_missing h (holds s NotFound same k))

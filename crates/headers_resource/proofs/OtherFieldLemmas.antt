@@ -84,6 +84,7 @@ alike_back r s h =
       content = sym h.content;
       content_type = sym h.content_type;
       content_encoding = sym h.content_encoding;
+      content_range = λ put. sym (h.content_range (h.method ∙ put));
       asks = back r.fields s.fields h.asks;
     }
 

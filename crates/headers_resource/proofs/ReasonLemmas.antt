@@ -1,11 +1,12 @@
 -- The first reason that applies.
-use Rattle.std.proofs.Common.{◌≡◌, ◌≢◌, ◌⊎◌, ◌<◌, ◌≤◌, Bool, true, false, cond, List, [], ◌∷◌, Option, Some, None}
-use Rattle.std.proofs.Common.{refl, sym, ap, subst, inl, inr, arith, lit<, lit≤}
+use Rattle.std.proofs.Common.{◌≡◌, ◌⊎◌, ◌<◌, ◌≤◌, Bool, true, false, cond, List, [], ◌∷◌, Option, Some, None}
+use Rattle.std.proofs.Common.{refl, sym, ap, subst, inl, inr, arith, lit≤}
 use Rattle.std.specs.Prelude.{find}
 use Rattle.headers_resource.specs.Reasons.{Before, IsFirst, in_order, or_admitted, stage}
 use Rattle.headers_resource.specs.declared.reason.Reason.{Reason}
 use Rattle.headers_resource.specs.declared.reason.Reason.TheVariants.{InvalidHost, Misdirected, UnknownMethod}
 use Rattle.headers_resource.specs.declared.reason.Reason.TheVariants.{MethodNotAllowed, Options, UnmetExpectation}
+use Rattle.headers_resource.specs.declared.reason.Reason.TheVariants.{PartialContent}
 use Rattle.headers_resource.specs.declared.reason.Reason.TheVariants.{Moved, Gone, NotFound, LengthRequired}
 use Rattle.headers_resource.specs.declared.reason.Reason.TheVariants.{ContentTooLarge, UnsupportedMediaType}
 use Rattle.headers_resource.specs.declared.reason.Reason.TheVariants.{UnsupportedCoding, NotAcceptable}
@@ -101,16 +102,7 @@ ordered = (
               lit≤ tt,
               (
                 lit≤ tt,
-                (
-                  lit≤ tt,
-                  (
-                    lit≤ tt,
-                    (
-                      lit≤ tt,
-                      (lit≤ tt, (lit≤ tt, (lit≤ tt, tt))),
-                    ),
-                  ),
-                ),
+                (lit≤ tt, (lit≤ tt, (lit≤ tt, (lit≤ tt, (lit≤ tt, (lit≤ tt, (lit≤ tt, tt))))))),
               ),
             ),
           ),
@@ -127,27 +119,28 @@ each UnknownMethod = inr (inr (inr (inl refl)))
 each MethodNotAllowed = inr (inr (inr (inr (inl refl))))
 each Options = inr (inr (inr (inr (inr (inl refl)))))
 each UnmetExpectation = inr (inr (inr (inr (inr (inr (inl refl))))))
-each Moved = inr (inr (inr (inr (inr (inr (inr (inl refl)))))))
-each Gone = inr (inr (inr (inr (inr (inr (inr (inr (inl refl))))))))
-each NotFound = inr (inr (inr (inr (inr (inr (inr (inr (inr (inl refl)))))))))
-each LengthRequired = inr (inr (inr (inr (inr (inr (inr (inr (inr (inr (inl refl))))))))))
-each ContentTooLarge = inr (inr (inr (inr (inr (inr (inr (inr (inr (inr (inr (inl refl)))))))))))
-each UnsupportedMediaType = inr (inr (inr (inr (inr (inr (inr (inr (inr (inr (inr (inr (inl refl))))))))))))
-each UnsupportedCoding = inr (inr (inr (inr (inr (inr (inr (inr (inr (inr (inr (inr (inr (inl refl)))))))))))))
-each NotAcceptable =
-    inr (inr (inr (inr (inr (inr (inr (inr (inr (inr (inr (inr (inr (inr (inl refl))))))))))))))
+each PartialContent = inr (inr (inr (inr (inr (inr (inr (inl refl)))))))
+each Moved = inr (inr (inr (inr (inr (inr (inr (inr (inl refl))))))))
+each Gone = inr (inr (inr (inr (inr (inr (inr (inr (inr (inl refl)))))))))
+each NotFound = inr (inr (inr (inr (inr (inr (inr (inr (inr (inr (inl refl))))))))))
+each LengthRequired = inr (inr (inr (inr (inr (inr (inr (inr (inr (inr (inr (inl refl)))))))))))
+each ContentTooLarge = inr (inr (inr (inr (inr (inr (inr (inr (inr (inr (inr (inr (inl refl))))))))))))
+each UnsupportedMediaType = inr (inr (inr (inr (inr (inr (inr (inr (inr (inr (inr (inr (inr (inl refl)))))))))))))
+each UnsupportedCoding = inr (inr (inr (inr (inr (inr (inr (inr (inr (inr (inr (inr (inr (inr (inl refl))))))))))))))
+each NotAcceptable = inr (inr (inr (inr (inr (inr (inr (inr (inr (inr (inr (inr (inr (inr (inr (inl refl)))))))))))))))
 each PreconditionRequired =
-    inr (inr (inr (inr (inr (inr (inr (inr (inr (inr (inr (inr (inr (inr (inr (inl refl)))))))))))))))
+    inr (inr (inr (inr (inr (inr (inr (inr (inr (inr (inr (inr (inr (inr (inr (inr (inl refl))))))))))))))))
 each Admitted = inl refl
 
 -- none comes after that nothing stands in the way
-last : (r : Reason) → stage r ≤ 11
+last : (r : Reason) → stage r ≤ 12
 last InvalidHost = lit≤ tt
 last Misdirected = lit≤ tt
 last UnknownMethod = lit≤ tt
 last MethodNotAllowed = lit≤ tt
 last Options = lit≤ tt
 last UnmetExpectation = lit≤ tt
+last PartialContent = lit≤ tt
 last Moved = lit≤ tt
 last Gone = lit≤ tt
 last NotFound = lit≤ tt
@@ -167,7 +160,7 @@ first_in_order p admits None e =
       is = admits;
       none_before = λ s before.
           elim (each s) [
-            | inl own ↦ let level : stage s ≡ 11 = ap stage own in absurd (omega (arith, level, before))
+            | inl own ↦ let level : stage s ≡ 12 = ap stage own in absurd (omega (arith, level, before))
             | inr among ↦ found_none p in_order (sym e) s among
           ];
     }
@@ -178,27 +171,9 @@ first_in_order p admits (Some r) e =
       none_before = λ s before.
           elim (each s) [
             | inl own ↦
-                let level : stage s ≡ 11 = ap stage own in
-                let most : stage r ≤ 11 = last r in
+                let level : stage s ≡ 12 = ap stage own in
+                let most : stage r ≤ 12 = last r in
                 absurd (omega (arith, level, most, before))
             | inr among ↦ first.none_before s among before
           ];
     }
-
-pub before_admitted : (r : Reason) → r ≢ Admitted → Before r Admitted
-before_admitted InvalidHost other = lit< tt
-before_admitted Misdirected other = lit< tt
-before_admitted UnknownMethod other = lit< tt
-before_admitted MethodNotAllowed other = lit< tt
-before_admitted Options other = lit< tt
-before_admitted UnmetExpectation other = lit< tt
-before_admitted Moved other = lit< tt
-before_admitted Gone other = lit< tt
-before_admitted NotFound other = lit< tt
-before_admitted LengthRequired other = lit< tt
-before_admitted ContentTooLarge other = lit< tt
-before_admitted UnsupportedMediaType other = lit< tt
-before_admitted UnsupportedCoding other = lit< tt
-before_admitted NotAcceptable other = lit< tt
-before_admitted PreconditionRequired other = lit< tt
-before_admitted Admitted other = absurd (other refl)

@@ -1,10 +1,11 @@
 -- What Vary tells a cache.
 use Rattle.std.proofs.Common.{◌≡◌, ◌≢◌, ℕ, ◌<◌, Bool, true, false, List, [], ◌∷◌, ◌++◌, Option, Some, None, refl}
 use Rattle.std.proofs.Common.{sym, ◌∙◌, ap, subst, inl, inr, arith, bytes_eq, lit<}
-use Rattle.std.specs.Prelude.{◌&&◌, ◌||◌, codes, if◌then◌else◌, is_some, nat_lt, length}
+use Rattle.std.specs.Prelude.{◌&&◌, ◌||◌, codes, if◌then◌else◌, is_some, nat_lt, length, not}
 use Rattle.std.proofs.lemmas.Bool.{cases_Bool}
 use Rattle.std.proofs.lemmas.Grind.{flat_map-append}
 use Rattle.std.proofs.lemmas.List.Folds.{list_any-append}
+use Rattle.std.proofs.lemmas.Slice.Eq.{bytes_eq-Decides}
 use Rattle.headers.specs.LineMap.{Field, LineMap, fields_of, set_all}
 use Rattle.headers.specs.Lines.{Line}
 use Rattle.headers_fields.specs.Directives.{is_same_token}
@@ -21,7 +22,8 @@ use Rattle.headers_resource.specs.Answers.{is_admitted, response_fields, target_
 use Rattle.headers_preconditions.specs.Fields.{keeps_encoding}
 use Rattle.headers_preconditions.specs.Responses.{IsAnswered}
 use Rattle.headers_preconditions.specs.declared.response.Response.{Response}
-use Rattle.headers_resource.specs.Applies.{applies, is_current, is_read, is_unacceptable, rule_for, takes_type}
+use Rattle.headers_resource.specs.Applies.{applies, is_current, is_present, is_read, is_unacceptable, rule_for}
+use Rattle.headers_resource.specs.Applies.{is_unsupported_part, takes_parts, takes_type}
 use Rattle.headers_resource.specs.Fields.{depends_on_selection, line_if, metadata_fields, reason_fields, selecting}
 use Rattle.headers_resource.specs.Fields.{vary_fields, vary_lines}
 use Rattle.headers_resource.specs.Reasons.{IsFirst, stage}
@@ -33,6 +35,7 @@ use Rattle.headers_resource.specs.declared.answer.Sends.{Sends}
 use Rattle.headers_resource.specs.declared.reason.Reason.{Reason}
 use Rattle.headers_resource.specs.declared.reason.Reason.TheVariants.{InvalidHost, Misdirected, UnknownMethod}
 use Rattle.headers_resource.specs.declared.reason.Reason.TheVariants.{MethodNotAllowed, Options, UnmetExpectation}
+use Rattle.headers_resource.specs.declared.reason.Reason.TheVariants.{PartialContent}
 use Rattle.headers_resource.specs.declared.reason.Reason.TheVariants.{Moved, Gone, NotFound, LengthRequired}
 use Rattle.headers_resource.specs.declared.reason.Reason.TheVariants.{ContentTooLarge, UnsupportedMediaType}
 use Rattle.headers_resource.specs.declared.reason.Reason.TheVariants.{UnsupportedCoding, NotAcceptable}
@@ -237,33 +240,32 @@ module _ (present : ℕ) (resource : Resource) (request : Request) (answer : Ans
 
 -- ---- what depends on the other fields alone
 
-abbrev fields_with : List Line → List Line → List Line → List Line → List Line → List Line → List Line → LineMap
-fields_with host expect type coding match none_match unmodified name =
+abbrev fields_with : List Line → List Line → List Line → List Line → List Line → List Line → LineMap
+fields_with host expect type coding match none_match name =
     if bytes_eq (codes "host") name then host
     else (if bytes_eq (codes "expect") name then expect
     else (if bytes_eq (codes "content-type") name then type
     else (if bytes_eq (codes "content-encoding") name then coding
     else (if bytes_eq (codes "if-match") name then match
-    else (if bytes_eq (codes "if-none-match") name then none_match
-    else (if bytes_eq (codes "if-unmodified-since") name then unmodified else []))))))
+    else (if bytes_eq (codes "if-none-match") name then none_match else [])))))
 
--- a request of what the reasons but 406 read
+-- a request of what the reasons read, but for 406 and for a part that PUT doesn't take
 built : Protocol → List ℕ → Option Line → RequestContent → List Line → List Line → List Line → List Line → List Line
-    → List Line → List Line → Request
-built protocol method authority content host expect type coding match none_match unmodified =
+    → List Line → Request
+built protocol method authority content host expect type coding match none_match =
     record {
       protocol = protocol;
       method = method;
       authority = authority;
       content = content;
-      fields = fields_with host expect type coding match none_match unmodified;
+      fields = fields_with host expect type coding match none_match;
     }
 
 abbrev read_of : Request → Request
 read_of q =
     built q.protocol q.method q.authority q.content (q.fields (codes "host")) (q.fields (codes "expect"))
     (q.fields (codes "content-type")) (q.fields (codes "content-encoding")) (q.fields (codes "if-match"))
-    (q.fields (codes "if-none-match")) (q.fields (codes "if-unmodified-since"))
+    (q.fields (codes "if-none-match"))
 
 same_read : (r s : Request) → AreAlike r s → read_of r ≡ read_of s
 same_read r s h =
@@ -278,16 +280,16 @@ same_read r s h =
       h.content_encoding,
       h.asks.if_match,
       h.asks.if_none_match,
-      h.asks.if_unmodified_since,
     )
 
-early : (reason : Reason) → depends_on_selection reason ≡ false → stage reason < 9
+early : (reason : Reason) → depends_on_selection reason ≡ false → stage reason < 10
 early InvalidHost e = lit< tt
 early Misdirected e = lit< tt
 early UnknownMethod e = lit< tt
 early MethodNotAllowed e = lit< tt
 early Options e = lit< tt
 early UnmetExpectation e = lit< tt
+early PartialContent e = lit< tt
 early Moved e = lit< tt
 early Gone e = lit< tt
 early NotFound e = lit< tt
@@ -303,10 +305,25 @@ admitted_depends : (reason : Reason) → is_admitted reason ≡ true → depends
 admitted_depends Admitted e = refl
 admitted_depends reason e = absurd (cc e)
 
-other_than : (reason : Reason) → stage reason < 9 → reason ≢ NotAcceptable
-other_than reason low e = let level : stage reason ≡ 9 = ap stage e in omega (arith, low, level)
+other_than : (reason : Reason) → stage reason < 10 → reason ≢ NotAcceptable
+other_than reason low e = let level : stage reason ≡ 10 = ap stage e in omega (arith, low, level)
 
 module _ (resource : Resource) (r s : Request) (alike : AreAlike r s) where
+  -- only of PUT does Content-Range count
+  same_part : (m : List ℕ)
+      → (m ≡ codes "PUT" → r.fields (codes "content-range") ≡ s.fields (codes "content-range"))
+      → is_unsupported_part (rule_for resource.rules.items m) m (r.fields (codes "content-range"))
+      ≡ is_unsupported_part (rule_for resource.rules.items m) m (s.fields (codes "content-range"))
+  same_part m same = by (bytes_eq m (codes "PUT")) refl
+    where
+      rest : List Line → Bool
+      rest ranges = is_present ranges && not (takes_parts (rule_for resource.rules.items m))
+
+      by : (b : Bool) → bytes_eq m (codes "PUT") ≡ b
+          → (b && rest (r.fields (codes "content-range"))) ≡ (b && rest (s.fields (codes "content-range")))
+      by true e = ap rest (same ((bytes_eq-Decides m (codes "PUT")).0 e))
+      by false e = refl
+
   same_reason : (reason : Reason) → reason ≢ NotAcceptable → applies resource r reason ≡ applies resource s reason
   unfolding built rule_for takes_type
   same_reason InvalidHost other = ap (λ (q : Request). applies resource q InvalidHost) (same_read r s alike)
@@ -315,6 +332,11 @@ module _ (resource : Resource) (r s : Request) (alike : AreAlike r s) where
   same_reason MethodNotAllowed other = ap (λ (q : Request). applies resource q MethodNotAllowed) (same_read r s alike)
   same_reason Options other = ap (λ (q : Request). applies resource q Options) (same_read r s alike)
   same_reason UnmetExpectation other = ap (λ (q : Request). applies resource q UnmetExpectation) (same_read r s alike)
+  same_reason PartialContent other =
+      same_part r.method alike.content_range
+      ∙ ap
+      (λ (m : List ℕ). is_unsupported_part (rule_for resource.rules.items m) m (s.fields (codes "content-range")))
+      alike.method
   same_reason Moved other = refl
   same_reason Gone other = refl
   same_reason NotFound other = ap (λ (q : Request). applies resource q NotFound) (same_read r s alike)
@@ -369,12 +391,12 @@ module _ (resource : Resource) (r s : Request) (alike : AreAlike r s) where
       elim (cases_Bool (depends_on_selection reason)) [
         | inl dep ↦ first_alike (applies resource r) (applies resource s) (all_reasons (select dep)) reason h
         | inr free ↦
-            let low : stage reason < 9 = early reason free in
+            let low : stage reason < 10 = early reason free in
             record {
               is = sym (same_reason reason (other_than reason low)) ∙ h.is;
               none_before = λ other before.
                   let less : stage other < stage reason = before in
-                  let lower : stage other < 9 = omega (arith, less, low) in
+                  let lower : stage other < 10 = omega (arith, less, low) in
                   sym (same_reason other (other_than other lower)) ∙ h.none_before other before;
             }
       ]

@@ -13,12 +13,14 @@ use Rattle.headers_gateway.specs.Requests.{has_host}
 use Rattle.headers_negotiation.specs.Codings.{encoding_quality}
 use Rattle.headers_negotiation.specs.MediaRanges.{media_type_says}
 use Rattle.headers_negotiation.specs.Qualities.{quality_by, quality_in, rank}
+use Rattle.headers_preconditions.specs.Tags.{is_star}
 use Rattle.headers_syntax.specs.AsciiCase.{same_name}
 use Rattle.headers_resource.specs.Representations.{are_unacceptable}
 use Rattle.headers_resource.specs.Requests.{Request}
 use Rattle.headers_resource.specs.declared.reason.Reason.{Reason}
 use Rattle.headers_resource.specs.declared.reason.Reason.TheVariants.{InvalidHost, Misdirected, UnknownMethod}
 use Rattle.headers_resource.specs.declared.reason.Reason.TheVariants.{MethodNotAllowed, Options, UnmetExpectation}
+use Rattle.headers_resource.specs.declared.reason.Reason.TheVariants.{PartialContent}
 use Rattle.headers_resource.specs.declared.reason.Reason.TheVariants.{Moved, Gone, NotFound, LengthRequired}
 use Rattle.headers_resource.specs.declared.reason.Reason.TheVariants.{ContentTooLarge, UnsupportedMediaType}
 use Rattle.headers_resource.specs.declared.reason.Reason.TheVariants.{UnsupportedCoding, NotAcceptable}
@@ -159,25 +161,43 @@ takes_type rule fields =
     (quality_in (quality_by media_type_says) (lines_at rule.takes (codes "accept"))
     (type_named (fields (codes "content-type")))))
 
--- the codings of a line are acceptable by these lines of Accept-Encoding
+abbrev pub is_present : List Line → Bool
+is_present lines = nat_lt 0 (length lines)
+
+-- The codings of a line are acceptable by these lines of Accept-Encoding. Without a line `identity` alone is, as a
+-- server that names no coding decodes none (section 8.4).
 unfoldable pub takes_codings : List Line → Line → Bool
-takes_codings accepted line = nat_lt 0 (rank (quality_in encoding_quality accepted line))
+takes_codings accepted line =
+    if is_present accepted then nat_lt 0 (rank (quality_in encoding_quality accepted line))
+    else same_name line (codes "identity")
 
 -- Each line of Content-Encoding is acceptable by Accept-Encoding as the response would have it (section 12.5.3).
 abbrev pub takes_coding : MethodRule → LineMap → Bool
 takes_coding rule fields =
     list_all (takes_codings (lines_at rule.takes (codes "accept-encoding"))) (fields (codes "content-encoding"))
 
+abbrev pub takes_parts : Option MethodRule → Bool
+takes_parts rule = option_map_or (λ r. r.takes_parts) rule false
+
+-- The method is PUT, and Content-Range says that the content is a part, where no parts are taken (section 14.5). With
+-- any other method the field is ignored (section 14.4).
+abbrev pub is_unsupported_part : Option MethodRule → List ℕ → List Line → Bool
+is_unsupported_part rule method ranges =
+    bytes_eq method (codes "PUT") && (is_present ranges && not (takes_parts rule))
+
 -- ---- conditions (RFC 6585, section 3)
 
-abbrev pub is_absent_field : List Line → Bool
-is_absent_field lines = length lines == 0
+-- The request names what it may replace: by entity tags in If-Match, the representation that has one of them; by `*` in
+-- If-None-Match, nothing. No other precondition does: `*` in If-Match is true of each representation, tags in
+-- If-None-Match of each but theirs, and within a second a date in If-Unmodified-Since is true of what the client has
+-- never seen (RFC 9110, sections 13.1 and 8.8.2.2).
+abbrev pub is_guarded : LineMap → Bool
+is_guarded fields =
+    (is_present (fields (codes "if-match")) && not (is_star (fields (codes "if-match"))))
+    || is_star (fields (codes "if-none-match"))
 
--- the request has none of the preconditions by which it can't overwrite what another client changed
-abbrev pub is_unguarded : LineMap → Bool
-is_unguarded fields =
-    is_absent_field (fields (codes "if-match")) && (is_absent_field (fields (codes "if-none-match"))
-    && is_absent_field (fields (codes "if-unmodified-since")))
+abbrev pub needs_condition : Option MethodRule → Bool
+needs_condition rule = option_map_or (λ r. r.needs_condition) rule false
 
 -- ---- reading
 
@@ -203,6 +223,7 @@ module _ (resource : Resource) (request : Request) where
   applies_by rule MethodNotAllowed = not (has_method_by rule request.method)
   applies_by rule Options = bytes_eq request.method (codes "OPTIONS")
   applies_by rule UnmetExpectation = not (has_known_expectation (request.fields (codes "expect")))
+  applies_by rule PartialContent = is_unsupported_part rule request.method (request.fields (codes "content-range"))
   applies_by rule Moved = has_moved resource.state
   applies_by rule Gone = is_gone resource.state
   applies_by rule NotFound = is_absent resource.state && not (creates rule)
@@ -214,7 +235,7 @@ module _ (resource : Resource) (request : Request) where
       has_content request.content && option_map_or (λ r. not (takes_coding r request.fields)) rule false
   applies_by rule NotAcceptable = is_unacceptable resource request
   applies_by rule PreconditionRequired =
-      option_map_or (λ r. r.needs_condition) rule false && is_unguarded request.fields
+      not (is_read request.method) && (needs_condition rule && not (is_guarded request.fields))
   applies_by rule Admitted = true
 
   abbrev pub rule : Option MethodRule

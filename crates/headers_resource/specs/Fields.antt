@@ -12,6 +12,7 @@ use Rattle.headers_resource.specs.Requests.{Request}
 use Rattle.headers_resource.specs.declared.reason.Reason.{Reason}
 use Rattle.headers_resource.specs.declared.reason.Reason.TheVariants.{InvalidHost, Misdirected, UnknownMethod}
 use Rattle.headers_resource.specs.declared.reason.Reason.TheVariants.{MethodNotAllowed, Options, UnmetExpectation}
+use Rattle.headers_resource.specs.declared.reason.Reason.TheVariants.{PartialContent}
 use Rattle.headers_resource.specs.declared.reason.Reason.TheVariants.{Moved, Gone, NotFound, LengthRequired}
 use Rattle.headers_resource.specs.declared.reason.Reason.TheVariants.{ContentTooLarge, UnsupportedMediaType}
 use Rattle.headers_resource.specs.declared.reason.Reason.TheVariants.{UnsupportedCoding, NotAcceptable}
@@ -47,6 +48,7 @@ status_of state UnknownMethod = 501
 status_of state MethodNotAllowed = 405
 status_of state Options = 204
 status_of state UnmetExpectation = 417
+status_of state PartialContent = 400
 status_of state Moved = moved_status state
 status_of state Gone = 410
 status_of state NotFound = 404
@@ -89,10 +91,16 @@ offered_fields rules =
     types_fields (codes "accept-patch") (rule_for rules (codes "PATCH"))
     ++ types_fields (codes "accept-post") (rule_for rules (codes "POST"))
 
+-- the codings that these lines of Accept-Encoding list, which without a line are `identity` alone
+abbrev pub codings_told : List Line → List Line
+codings_told [] = codes "identity" ∷ []
+codings_told (line ∷ lines) = line ∷ lines
+
 -- Accept-Encoding says which codings it takes (section 12.5.3)
 abbrev pub accept_encoding_fields : Option MethodRule → List Field
 accept_encoding_fields rule =
-    option_map_or (λ r. (codes "accept-encoding", lines_at r.takes (codes "accept-encoding")) ∷ []) rule []
+    option_map_or
+    (λ r. (codes "accept-encoding", codings_told (lines_at r.takes (codes "accept-encoding"))) ∷ []) rule []
 
 module _ (resource : Resource) (request : Request) where
   -- A 415 for a media type has no Accept-Encoding, from which a client would learn that a coding is to blame (12.5.3).
@@ -106,6 +114,7 @@ module _ (resource : Resource) (request : Request) where
   reason_fields Misdirected = []
   reason_fields UnknownMethod = []
   reason_fields UnmetExpectation = []
+  reason_fields PartialContent = []
   reason_fields Gone = []
   reason_fields NotFound = []
   reason_fields LengthRequired = []
@@ -151,6 +160,7 @@ depends_on_selection UnknownMethod = false
 depends_on_selection MethodNotAllowed = false
 depends_on_selection Options = false
 depends_on_selection UnmetExpectation = false
+depends_on_selection PartialContent = false
 depends_on_selection Moved = false
 depends_on_selection Gone = false
 depends_on_selection NotFound = false

@@ -3,6 +3,7 @@ use Rattle.std.specs.Prelude.{◌≡◌, ℕ, ◌<◌, Bool, true, false, List, 
 use Rattle.headers_resource.specs.declared.reason.Reason.{Reason}
 use Rattle.headers_resource.specs.declared.reason.Reason.TheVariants.{InvalidHost, Misdirected, UnknownMethod}
 use Rattle.headers_resource.specs.declared.reason.Reason.TheVariants.{MethodNotAllowed, Options, UnmetExpectation}
+use Rattle.headers_resource.specs.declared.reason.Reason.TheVariants.{PartialContent}
 use Rattle.headers_resource.specs.declared.reason.Reason.TheVariants.{Moved, Gone, NotFound, LengthRequired}
 use Rattle.headers_resource.specs.declared.reason.Reason.TheVariants.{ContentTooLarge, UnsupportedMediaType}
 use Rattle.headers_resource.specs.declared.reason.Reason.TheVariants.{UnsupportedCoding, NotAcceptable}
@@ -14,11 +15,12 @@ use Rattle.headers_resource.specs.declared.reason.Reason.TheVariants.{Preconditi
 -- was sent to another server is no request for the resource (RFC 9110, section 7.4).
 -- 2, 3: a method that is known is compared with those of the resource (section 9.1).
 -- 4: our choice: a method that is never performed, as OPTIONS, raises no expectation (section 10.1.1).
--- 5: our choice: a client learns where the resource is before it is asked for other content.
--- 6, 7, 8: our choice: the content's length, its type, its codings, each before the next.
--- 9: our choice: what can't be performed needs no representation.
--- 10: a precondition is asked for only if the request would otherwise go on (RFC 6585, section 3).
--- 11: preconditions are evaluated after all other checks, and before the method is performed (section 13.2.1).
+-- 5: a part is no content of the method, whatever the state of the resource (section 14.5).
+-- 6: our choice: a client learns where the resource is before it is asked for other content.
+-- 7, 8, 9: our choice: the content's length, its type, its codings, each before the next.
+-- 10: our choice: what can't be performed needs no representation.
+-- 11: a precondition is asked for only if the request would otherwise go on (RFC 6585, section 3).
+-- 12: preconditions are evaluated after all other checks, and before the method is performed (section 13.2.1).
 abbrev pub stage : Reason → ℕ
 stage InvalidHost = 0
 stage Misdirected = 1
@@ -26,16 +28,17 @@ stage UnknownMethod = 2
 stage MethodNotAllowed = 3
 stage Options = 3
 stage UnmetExpectation = 4
-stage Moved = 5
-stage Gone = 5
-stage NotFound = 5
-stage LengthRequired = 6
-stage ContentTooLarge = 6
-stage UnsupportedMediaType = 7
-stage UnsupportedCoding = 8
-stage NotAcceptable = 9
-stage PreconditionRequired = 10
-stage Admitted = 11
+stage PartialContent = 5
+stage Moved = 6
+stage Gone = 6
+stage NotFound = 6
+stage LengthRequired = 7
+stage ContentTooLarge = 7
+stage UnsupportedMediaType = 8
+stage UnsupportedCoding = 9
+stage NotAcceptable = 10
+stage PreconditionRequired = 11
+stage Admitted = 12
 
 -- one reason comes before another
 abbrev pub Before : Reason → Reason → Type 0
@@ -51,9 +54,9 @@ pub record IsFirst (applies : Reason → Bool) (reason : Reason) : Type 0 where
 -- the reasons in one order that keeps to the stages
 abbrev pub in_order : List Reason
 in_order =
-    InvalidHost ∷ Misdirected ∷ UnknownMethod ∷ MethodNotAllowed ∷ Options ∷ UnmetExpectation ∷ Moved ∷ Gone
-    ∷ NotFound ∷ LengthRequired ∷ ContentTooLarge ∷ UnsupportedMediaType ∷ UnsupportedCoding ∷ NotAcceptable
-    ∷ PreconditionRequired ∷ []
+    InvalidHost ∷ Misdirected ∷ UnknownMethod ∷ MethodNotAllowed ∷ Options ∷ UnmetExpectation ∷ PartialContent
+    ∷ Moved ∷ Gone ∷ NotFound ∷ LengthRequired ∷ ContentTooLarge ∷ UnsupportedMediaType ∷ UnsupportedCoding
+    ∷ NotAcceptable ∷ PreconditionRequired ∷ []
 
 -- the first that applies, or else that nothing stands in the way
 abbrev pub or_admitted : Option Reason → Reason

@@ -26,6 +26,7 @@ pub record AreAlike (r s : Request) : Type 0 where
   pub content : r.content ≡ s.content
   pub content_type : r.fields (codes "content-type") ≡ s.fields (codes "content-type")
   pub content_encoding : r.fields (codes "content-encoding") ≡ s.fields (codes "content-encoding")
+  pub content_range : r.method ≡ codes "PUT" → r.fields (codes "content-range") ≡ s.fields (codes "content-range")
   pub asks : AskAlike r.fields s.fields
 
 -- the fields that select a representation, and those by which a policy for requests from other origins decides, are

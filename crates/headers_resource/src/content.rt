@@ -3,14 +3,19 @@ ghost use Rattle.std.specs.Prelude.{◌≡◌, ◌&&◌, codes, false, nat_lt, n
 ghost use Rattle.std.specs.List.{list_all};
 ghost use Rattle.std.specs.Option.{option_map_or};
 ghost use Rattle.headers.specs.LineMap.{lines_at};
-ghost use Rattle.headers_resource.specs.Applies.{exceeds, has_content, is_absent_field, is_unguarded, is_unsized};
-ghost use Rattle.headers_resource.specs.Applies.{takes_coding, takes_codings, takes_type, type_named};
+ghost use Rattle.headers_preconditions.specs.Tags.{is_star};
+ghost use Rattle.headers_resource.specs.Applies.{exceeds, has_content, is_guarded, is_present, is_unsized};
+ghost use Rattle.headers_resource.specs.Applies.{is_unsupported_part, needs_condition, takes_coding, takes_codings};
+ghost use Rattle.headers_resource.specs.Applies.{takes_parts, takes_type, type_named};
 
 use crate::request::RequestContent;
 use crate::resource::MethodRule;
 use headers::{HeaderMap, HeaderName, HeaderValue};
+use headers_fields::only_value;
 use headers_negotiation::{Accept, AcceptEncoding, quality};
-use http_header::{CONTENT_ENCODING, CONTENT_TYPE, IF_MATCH, IF_NONE_MATCH, IF_UNMODIFIED_SINCE};
+use http_header::{
+    ACCEPT_ENCODING, CONTENT_ENCODING, CONTENT_RANGE, CONTENT_TYPE, IF_MATCH, IF_NONE_MATCH,
+};
 
 pub(crate) fn is_unsized(content: RequestContent) -> bool
     ensures { result ≡ is_unsized content }
@@ -58,11 +63,20 @@ fn takes_type(rule: &MethodRule, fields: &HeaderMap) -> bool
     quality::<Accept>(&rule.takes, type_named(fields)).rank() > 0
 }
 
+fn is_present(fields: &HeaderMap, name: HeaderName) -> bool
+    ensures { result ≡ is_present (lines_at fields.now name) }
+{
+    fields.get_all(name).iter().next().is_some()
+}
+
 #[tactic(auto, unfolding(crate::specs::Applies::takes_codings))]
 fn takes_codings(takes: &HeaderMap, line: &HeaderValue) -> bool
     ensures { result ≡ takes_codings (lines_at takes.now (codes "accept-encoding")) line.now.bytes }
 {
-    quality::<AcceptEncoding>(takes, line.as_bytes()).rank() > 0
+    if is_present(takes, ACCEPT_ENCODING) {
+        return quality::<AcceptEncoding>(takes, line.as_bytes()).rank() > 0;
+    }
+    line.as_bytes().eq_ignore_ascii_case(b"identity")
 }
 
 fn takes_coding(rule: &MethodRule, fields: &HeaderMap) -> bool
@@ -106,27 +120,56 @@ pub(crate) fn is_unsupported_coding(
     }
 }
 
-fn is_absent_field(fields: &HeaderMap, name: HeaderName) -> bool
-    ensures { result ≡ is_absent_field (lines_at fields.now name) }
-{
-    fields.get_all(name).iter().next().is_none()
-}
-
-fn is_unguarded(fields: &HeaderMap) -> bool
-    ensures { result ≡ is_unguarded (lines_at fields.now) }
-{
-    is_absent_field(fields, IF_MATCH)
-        && is_absent_field(fields, IF_NONE_MATCH)
-        && is_absent_field(fields, IF_UNMODIFIED_SINCE)
-}
-
-// Whether the request needs a precondition, and has none.
-pub(crate) fn lacks_condition(rule: Option<&MethodRule>, fields: &HeaderMap) -> bool
-    ensures { result ≡ (option_map_or (λ r. r.needs_condition) (option_copied rule.entry) false
-        && is_unguarded (lines_at fields.now)) }
+fn takes_parts(rule: Option<&MethodRule>) -> bool
+    ensures { result ≡ takes_parts (option_copied rule.entry) }
 {
     match rule {
-        Some(rule) => rule.needs_condition && is_unguarded(fields),
+        Some(rule) => rule.takes_parts,
         None => false,
     }
+}
+
+/// Whether a PUT has a part as its content, where this is the rule for the method, which takes none.
+pub(crate) fn is_unsupported_part(
+    rule: Option<&MethodRule>,
+    method: &str,
+    fields: &HeaderMap,
+) -> bool
+    ensures { result ≡ is_unsupported_part (option_copied rule.entry) method.now
+        (lines_at fields.now (codes "content-range")) }
+{
+    method == "PUT" && is_present(fields, CONTENT_RANGE) && !takes_parts(rule)
+}
+
+// Whether a field is `*` alone.
+fn is_star(fields: &HeaderMap, name: HeaderName) -> bool
+    ensures { result ≡ is_star (lines_at fields.now name) }
+{
+    match only_value(&fields.get_all(name)) {
+        Some(value) => value.as_bytes() == b"*".as_slice(),
+        None => false,
+    }
+}
+
+// Whether a request names what it may replace.
+fn is_guarded(fields: &HeaderMap) -> bool
+    ensures { result ≡ is_guarded (lines_at fields.now) }
+{
+    (is_present(fields, IF_MATCH) && !is_star(fields, IF_MATCH)) || is_star(fields, IF_NONE_MATCH)
+}
+
+fn needs_condition(rule: Option<&MethodRule>) -> bool
+    ensures { result ≡ needs_condition (option_copied rule.entry) }
+{
+    match rule {
+        Some(rule) => rule.needs_condition,
+        None => false,
+    }
+}
+
+/// Whether a request must name what it may replace, and doesn't.
+pub(crate) fn lacks_condition(rule: Option<&MethodRule>, fields: &HeaderMap) -> bool
+    ensures { result ≡ (needs_condition (option_copied rule.entry) && not (is_guarded (lines_at fields.now))) }
+{
+    needs_condition(rule) && !is_guarded(fields)
 }

@@ -1,5 +1,5 @@
 //! Theorems about the definitions alone. To cite one in a proof, call it.
-ghost use Rattle.std.specs.Prelude.{◌≡◌, ◌≢◌, ◌↔◌, ◌⊎◌, ◌∷◌, [], ℕ, Contains, Option, Some, codes, false};
+ghost use Rattle.std.specs.Prelude.{◌≡◌, ◌≢◌, ◌↔◌, ◌⊎◌, ◌∷◌, [], ℕ, Contains, Option, Some, codes, false, true};
 ghost use Rattle.headers.specs.LineMap.{LineMap, fields_of, set_all};
 ghost use Rattle.headers.specs.Merge.{merge};
 ghost use Rattle.headers.specs.Places.{comma};
@@ -11,17 +11,20 @@ ghost use Rattle.headers_cors_policy.specs.Rules.{AllowsCredentials, AllowsOrigi
 ghost use Rattle.headers_cors_policy.specs.Rules.{IsPolicyOf};
 ghost use Rattle.headers_cors_policy.specs.declared.rules.CorsRules.{CorsRules};
 ghost use Rattle.headers_resource.specs.Answers.{AreSame, IsAnswer, IsSelected};
-ghost use Rattle.headers_resource.specs.Applies.{applies, methods};
+ghost use Rattle.headers_resource.specs.Applies.{applies, is_read, methods, needs_condition, rule};
+ghost use Rattle.headers_resource.specs.Guards.{ReplacesNamed};
 ghost use Rattle.headers_resource.specs.Reasons.{Before, IsFirst};
 ghost use Rattle.headers_resource.specs.Requests.{Request, get_of, head_of, unconditional};
 ghost use Rattle.headers_resource.specs.Vary.{AreAlike, ChooseAlike, SelectTheSame};
+ghost use Rattle.headers_preconditions.specs.Preconditions.{IsUnconditional};
 ghost use Rattle.headers_preconditions.specs.declared.plan.Plan.{Plan};
 ghost use Rattle.headers_preconditions.specs.declared.plan.Plan.TheVariants.{Full, NotModified};
 ghost use Rattle.headers_resource.specs.declared.answer.Answer.{Answer};
-ghost use Rattle.headers_resource.specs.declared.answer.Sends.TheVariants.{Planned};
+ghost use Rattle.headers_resource.specs.declared.answer.Sends.TheVariants.{Perform, Planned};
 ghost use Rattle.headers_resource.specs.declared.reason.Reason.{Reason};
 ghost use Rattle.headers_resource.specs.declared.reason.Reason.TheVariants.{Admitted, MethodNotAllowed, Options};
-ghost use Rattle.headers_resource.specs.declared.reason.Reason.TheVariants.{UnknownMethod, UnmetExpectation};
+ghost use Rattle.headers_resource.specs.declared.reason.Reason.TheVariants.{PreconditionRequired, UnknownMethod};
+ghost use Rattle.headers_resource.specs.declared.reason.Reason.TheVariants.{UnmetExpectation};
 ghost use Rattle.headers_resource.specs.declared.resource.Resource.{Resource};
 
 /// Theorem: every request has exactly one first reason: reasons of one stage exclude each other.
@@ -70,10 +73,23 @@ pub fn preflight_passes_by_rules()
 {}
 
 /// Theorem: whatever else keeps a request from being performed decides before its preconditions do:
-/// they never turn a 404, a 405, a 406 or a redirect into a 304 or a 412 (RFC 9110, section
-/// 13.2.1).
+/// they never turn a 404, a 405, a 406 or a redirect into a 304, a 412 or a 428 (RFC 9110, section
+/// 13.2.1; RFC 6585, section 3).
 pub fn preconditions_come_last()
-    ensures { (reason : Reason) → reason ≢ Admitted → Before reason Admitted }
+    ensures { (present : ℕ) (resource : Resource) (request : Request) (a b : Answer)
+        → IsAnswer present resource request a → IsAnswer present resource (unconditional request) b
+        → b.reason ≢ Admitted → b.reason ≢ PreconditionRequired → a.reason ≡ b.reason }
+{}
+
+/// Theorem: where a method needs a condition, it is never performed on what its client doesn't
+/// name: the selected representation has a tag that If-Match lists, by strong comparison, or there
+/// is nothing to replace and If-None-Match is `*` (RFC 6585, section 3). CONNECT, OPTIONS and TRACE,
+/// whose preconditions don't count, are left out (RFC 9110, section 13.2.1).
+pub fn performed_method_replaces_what_it_names()
+    ensures { (present : ℕ) (resource : Resource) (request : Request) (answer : Answer)
+        → needs_condition (rule resource request) ≡ true → is_read request.method ≡ false
+        → ¬ (IsUnconditional request.method) → IsAnswer present resource request answer
+        → answer.sends ≡ Perform → ReplacesNamed resource request }
 {}
 
 /// Theorem: Allow lists exactly the methods that aren't answered by 405 (RFC 9110, section 10.2.1).

@@ -5,7 +5,8 @@ ghost use Rattle.headers_resource.specs.Reasons.{IsFirst};
 ghost use Rattle.headers_resource.specs.Requests.{request_of};
 
 use crate::content::{
-    exceeds, is_unsized, is_unsupported_coding, is_unsupported_type, lacks_condition,
+    exceeds, is_unsized, is_unsupported_coding, is_unsupported_part, is_unsupported_type,
+    lacks_condition,
 };
 use crate::reason::Reason;
 use crate::representation::are_unacceptable;
@@ -59,6 +60,7 @@ fn applies_by(
         Reason::MethodNotAllowed => !has_method_by(rule, method.as_str()),
         Reason::Options => is_options(method.as_str()),
         Reason::UnmetExpectation => !has_known_expectation(fields),
+        Reason::PartialContent => is_unsupported_part(rule, method.as_str(), fields),
         Reason::Moved => has_moved(&resource.state),
         Reason::Gone => is_gone(&resource.state),
         Reason::NotFound => is_missing(&resource.state, rule),
@@ -67,7 +69,9 @@ fn applies_by(
         Reason::UnsupportedMediaType => is_unsupported_type(content, rule, fields),
         Reason::UnsupportedCoding => is_unsupported_coding(content, rule, fields),
         Reason::NotAcceptable => is_unacceptable(resource, request),
-        Reason::PreconditionRequired => lacks_condition(rule, fields),
+        Reason::PreconditionRequired => {
+            !is_read(method.as_str()) && lacks_condition(rule, fields)
+        }
         Reason::Admitted => true,
     }
 }
@@ -99,6 +103,7 @@ pub(crate) fn reason_for(resource: &Resource, request: &RequestHead<'_>) -> Reas
         Reason::MethodNotAllowed,
         Reason::Options,
         Reason::UnmetExpectation,
+        Reason::PartialContent,
         Reason::Moved,
         Reason::Gone,
         Reason::NotFound,

@@ -17,6 +17,8 @@ pub enum Reason {
     Options,
     /// 417: Expect has a member other than `100-continue` (section 10.1.1).
     UnmetExpectation,
+    /// 400: PUT with Content-Range, of a resource that takes no parts (section 14.5).
+    PartialContent,
     /// 301, 307 or 308: the resource is under another URI (section 15.4).
     Moved,
     /// 410: the resource is gone (section 15.5.11).
@@ -29,11 +31,12 @@ pub enum Reason {
     ContentTooLarge,
     /// 415: the method doesn't take the media type of the content (section 15.5.16).
     UnsupportedMediaType,
-    /// 415: the method doesn't take a coding of the content (section 12.5.3).
+    /// 415: the method doesn't take a coding of the content (sections 12.5.3 and 15.5.16).
     UnsupportedCoding,
     /// 406: no representation is acceptable (section 15.5.7).
     NotAcceptable,
-    /// 428: the request has no precondition (RFC 6585, section 3).
+    /// 428: the request doesn't name what it may replace, by entity tags in If-Match or by `*` in
+    /// If-None-Match (RFC 6585, section 3).
     PreconditionRequired,
     /// Nothing keeps the method from being performed: the preconditions and Range decide.
     Admitted,
@@ -51,13 +54,14 @@ impl Reason {
             Reason::UnknownMethod => 2,
             Reason::MethodNotAllowed | Reason::Options => 3,
             Reason::UnmetExpectation => 4,
-            Reason::Moved | Reason::Gone | Reason::NotFound => 5,
-            Reason::LengthRequired | Reason::ContentTooLarge => 6,
-            Reason::UnsupportedMediaType => 7,
-            Reason::UnsupportedCoding => 8,
-            Reason::NotAcceptable => 9,
-            Reason::PreconditionRequired => 10,
-            Reason::Admitted => 11,
+            Reason::PartialContent => 5,
+            Reason::Moved | Reason::Gone | Reason::NotFound => 6,
+            Reason::LengthRequired | Reason::ContentTooLarge => 7,
+            Reason::UnsupportedMediaType => 8,
+            Reason::UnsupportedCoding => 9,
+            Reason::NotAcceptable => 10,
+            Reason::PreconditionRequired => 11,
+            Reason::Admitted => 12,
         }
     }
 }

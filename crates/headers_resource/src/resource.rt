@@ -13,16 +13,20 @@ pub struct MethodRule {
     /// a rule for HEAD or OPTIONS is ignored.
     pub method: Method,
     /// What content the method takes, as the fields that say so in a response: Accept for its media
-    /// types (section 12.5.1), and Accept-Encoding for its codings (section 12.5.3). Without the
-    /// field any is taken. The field lines of Accept are also those of Accept-Patch (RFC 5789, section
-    /// 3.1) and Accept-Post: those of a rule for PATCH should name media types, without ranges and
-    /// weights.
+    /// types (section 12.5.1), and Accept-Encoding for its codings (section 12.5.3). Without Accept any
+    /// media type is taken, and without Accept-Encoding no coding. The field lines of Accept are also
+    /// those of Accept-Patch (RFC 5789, section 3.1) and Accept-Post: those of a rule for PATCH should
+    /// name media types, without ranges and weights.
     pub takes: HeaderMap,
     /// Whether the method is performed if there is no current representation, as PUT is (section
     /// 9.3.4). Any other method then gets 404.
     pub creates: bool,
-    /// Whether the request must have a precondition (RFC 6585, section 3).
+    /// Whether the request must name what it may replace, by entity tags in If-Match or by `*` in
+    /// If-None-Match (RFC 6585, section 3). GET and HEAD replace nothing, and need none.
     pub needs_condition: bool,
+    /// Whether PUT takes a part of a representation, which Content-Range places (RFC 9110, section
+    /// 14.5). Otherwise it gets 400. Other methods ignore Content-Range.
+    pub takes_parts: bool,
 }
 
 /// Where a resource has moved, and whether the method stays (RFC 9110, section 15.4).

@@ -8,7 +8,7 @@ ghost use Rattle.headers_preconditions.specs.Fields.{is_known_by, keeps_encoding
 ghost use Rattle.headers_resource.specs.Answers.{sent_for};
 ghost use Rattle.headers_resource.specs.Applies.{rule};
 ghost use Rattle.headers_resource.specs.Fields.{accept_encoding_fields, accept_fields, allow_field, lines_of_value};
-ghost use Rattle.headers_resource.specs.Fields.{location_fields};
+ghost use Rattle.headers_resource.specs.Fields.{codings_told, location_fields};
 ghost use Rattle.headers_resource.specs.Fields.{metadata_fields, moved_status, reason_fields};
 ghost use Rattle.headers_resource.specs.Fields.{offered_fields, redirect_status, status_of, types_fields};
 ghost use Rattle.headers_resource.specs.Requests.{request_of};
@@ -56,6 +56,7 @@ pub(crate) fn status_of(state: &State, reason: Reason) -> StatusCode
         Reason::MethodNotAllowed => StatusCode::METHOD_NOT_ALLOWED,
         Reason::Options => StatusCode::NO_CONTENT,
         Reason::UnmetExpectation => StatusCode::EXPECTATION_FAILED,
+        Reason::PartialContent => StatusCode::BAD_REQUEST,
         Reason::Moved => moved_status(state),
         Reason::Gone => StatusCode::GONE,
         Reason::NotFound => StatusCode::NOT_FOUND,
@@ -173,6 +174,18 @@ fn push_offered(
     Ok(())
 }
 
+// The field lines of Accept-Encoding: those that a map has, or else `identity`.
+fn codings_told(alloc: Global, takes: &HeaderMap) -> Result<Vec<HeaderValue>, AllocError>
+    ensures { IfOk result (λ lines. lines_of lines.items
+        ≡ codings_told (lines_at takes.now (codes "accept-encoding"))) }
+{
+    let mut lines = lines_under(alloc, takes, ACCEPT_ENCODING)?;
+    if lines.is_empty() {
+        lines.push(HeaderValue::from_static("identity"))?;
+    }
+    Ok(lines)
+}
+
 fn push_accept_encoding(
     alloc: Global,
     fields: &mut Vec<Encoded>,
@@ -184,7 +197,7 @@ fn push_accept_encoding(
     let Some(rule) = rule else {
         return Ok(());
     };
-    let lines = lines_under(alloc, &rule.takes, ACCEPT_ENCODING)?;
+    let lines = codings_told(alloc, &rule.takes)?;
     Ok(fields.push(Encoded {
         name: ACCEPT_ENCODING,
         lines,

@@ -187,6 +187,7 @@ fn read_reason(arguments: &mut Arguments<'_>) -> Result<Reason, Failure> {
         "MethodNotAllowed" => Reason::MethodNotAllowed,
         "Options" => Reason::Options,
         "UnmetExpectation" => Reason::UnmetExpectation,
+        "PartialContent" => Reason::PartialContent,
         "Moved" => Reason::Moved,
         "Gone" => Reason::Gone,
         "NotFound" => Reason::NotFound,

@@ -29,6 +29,7 @@ fn rule(alloc: Global, method: Method, needs_condition: bool) -> MethodRule {
         takes: HeaderMap::new(alloc),
         creates: false,
         needs_condition,
+        takes_parts: false,
     }
 }
 
@@ -47,6 +48,7 @@ fn taking(
         takes,
         creates,
         needs_condition: false,
+        takes_parts: false,
     })
 }
 

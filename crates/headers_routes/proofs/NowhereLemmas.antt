@@ -15,6 +15,7 @@ use Rattle.headers_resource.specs.declared.answer.Sends.{Sends}
 use Rattle.headers_resource.specs.declared.reason.Reason.{Reason}
 use Rattle.headers_resource.specs.declared.reason.Reason.TheVariants.{InvalidHost, Misdirected, UnknownMethod}
 use Rattle.headers_resource.specs.declared.reason.Reason.TheVariants.{MethodNotAllowed, Options, UnmetExpectation}
+use Rattle.headers_resource.specs.declared.reason.Reason.TheVariants.{PartialContent}
 use Rattle.headers_resource.specs.declared.reason.Reason.TheVariants.{Moved, Gone, NotFound, LengthRequired}
 use Rattle.headers_resource.specs.declared.reason.Reason.TheVariants.{ContentTooLarge, UnsupportedMediaType}
 use Rattle.headers_resource.specs.declared.reason.Reason.TheVariants.{UnsupportedCoding, NotAcceptable}
@@ -99,6 +100,7 @@ module _ (resource : Resource) (request : Request) (nowhere : IsNowhere resource
   answered present MethodNotAllowed status sent own first gives = inl (lit< tt)
   answered present Options status sent own first gives = inl (lit< tt)
   answered present UnmetExpectation status sent own first gives = inl (lit< tt)
+  answered present PartialContent status sent own first gives = inl (lit< tt)
   answered present Moved status sent own first gives =
       let gone : has_moved resource.state ≡ false = ap has_moved nowhere.absent in absurd (cc (gone, first.is))
   answered present Gone status sent own first gives =

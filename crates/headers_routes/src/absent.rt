@@ -19,6 +19,7 @@ fn rule_for(alloc: Global, method: Method) -> MethodRule
         takes: HeaderMap::new(alloc),
         creates: false,
         needs_condition: false,
+        takes_parts: false,
     }
 }
 

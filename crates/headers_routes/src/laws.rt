@@ -25,7 +25,7 @@ pub fn routes_stay_distinct<T>()
 
 /// Theorem: a path without a resource gets 404, whatever the method (RFC 9110, section 15.5.5).
 /// What decides before the state of a resource comes first: an invalid host, another server's host,
-/// an unknown method, OPTIONS, and an expectation. It never gets 405.
+/// an unknown method, OPTIONS, an expectation, and a part in a PUT. It never gets 405.
 pub fn unknown_path_is_not_found()
     ensures missing { (present : ℕ) (resource : Resource) (request : Request) (answer : Answer)
         → IsNowhere resource → IsAnswer present resource request answer

@@ -29,6 +29,7 @@ use Rattle.headers_resource.specs.declared.answer.Sends.TheVariants.{Nothing, Al
 use Rattle.headers_resource.specs.declared.reason.Reason.{Reason}
 use Rattle.headers_resource.specs.declared.reason.Reason.TheVariants.{InvalidHost, Misdirected, UnknownMethod}
 use Rattle.headers_resource.specs.declared.reason.Reason.TheVariants.{MethodNotAllowed, Options, UnmetExpectation}
+use Rattle.headers_resource.specs.declared.reason.Reason.TheVariants.{PartialContent}
 use Rattle.headers_resource.specs.declared.reason.Reason.TheVariants.{Moved, Gone, NotFound, LengthRequired}
 use Rattle.headers_resource.specs.declared.reason.Reason.TheVariants.{ContentTooLarge, UnsupportedMediaType}
 use Rattle.headers_resource.specs.declared.reason.Reason.TheVariants.{UnsupportedCoding, NotAcceptable}
@@ -77,6 +78,7 @@ module _ (present : ℕ) (resource : Resource) (asked : Asked) where
   stopped MethodNotAllowed = tt
   stopped Options = tt
   stopped UnmetExpectation = tt
+  stopped PartialContent = tt
   stopped Moved = tt
   stopped Gone = tt
   stopped NotFound = tt

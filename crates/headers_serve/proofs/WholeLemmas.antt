@@ -1,7 +1,6 @@
 -- A GET that makes no condition and asks for no range gets the content.
 use Rattle.std.proofs.Common.{◌≡◌, ℕ, ◌<◌, Bool, true, false, not, ◌&&◌, List, [], ◌∷◌, length, cond}
 use Rattle.std.proofs.Common.{Option, Some, None, refl, sym, subst, ◌∙◌, ap, inl, inr, arith, lit<, map}
-use Rattle.std.specs.Option.{option_map_or}
 use Rattle.std.specs.Prelude.{bytes_eq, codes, find, is_some, nat_lt, option_map, slice_get, string_bytes}
 use Rattle.std.specs.Global.{Vec}
 use Rattle.http.specs.declared.request.Request.{Request}
@@ -38,7 +37,7 @@ use Rattle.headers_preconditions.proofs.PreconditionLemmas.{unconditional}
 use Rattle.headers_resource.specs.Answers.{GivesIf, Goes, GoesOn, IsAnswer, IsSelected, at_place, is_admitted, is_sent}
 use Rattle.headers_resource.specs.Answers.{place_of, status_sent}
 use Rattle.headers_resource.specs.Applies.{applies, exceeds, is_misdirected, is_unacceptable}
-use Rattle.headers_resource.specs.Applies.{is_unguarded, is_unsized, rule_for}
+use Rattle.headers_resource.specs.Applies.{is_unsized, rule_for}
 use Rattle.headers_resource.specs.Representations.{are_unacceptable, coding_of, joined, rank_by, score}
 use Rattle.headers_resource.specs.Requests.{Request as Asked}
 use Rattle.headers_resource.specs.declared.answer.Answer.{Answer}
@@ -47,6 +46,7 @@ use Rattle.headers_resource.specs.declared.answer.Sends.TheVariants.{Planned}
 use Rattle.headers_resource.specs.declared.reason.Reason.{Reason}
 use Rattle.headers_resource.specs.declared.reason.Reason.TheVariants.{InvalidHost, Misdirected, UnknownMethod}
 use Rattle.headers_resource.specs.declared.reason.Reason.TheVariants.{MethodNotAllowed, Options, UnmetExpectation}
+use Rattle.headers_resource.specs.declared.reason.Reason.TheVariants.{PartialContent}
 use Rattle.headers_resource.specs.declared.reason.Reason.TheVariants.{Moved, Gone, NotFound, LengthRequired}
 use Rattle.headers_resource.specs.declared.reason.Reason.TheVariants.{ContentTooLarge, UnsupportedMediaType}
 use Rattle.headers_resource.specs.declared.reason.Reason.TheVariants.{UnsupportedCoding, NotAcceptable}
@@ -219,14 +219,6 @@ module _ (site : Resource) (divider : List ℕ) (is_site : IsSite divider site) 
       (λ (strict : Bool). strict && (nat_lt 0 (length v.items)
       && are_unacceptable site.negotiation fields v.items)) is_site.lenient
 
-  free : (option_map_or (λ (r : MethodRule). r.needs_condition) (rule_for site.rules.items get) false
-      && is_unguarded fields) ≡ false
-  free =
-      ap
-      (λ (r : Option MethodRule). option_map_or (λ (x : MethodRule). x.needs_condition) r false
-      && is_unguarded fields) rule
-      ∙ ap (λ (b : Bool). b && is_unguarded fields) is_site.is_read.is_free
-
   never : (b : Bool) (reason : Reason) → b ≡ true → b ≡ false → reason ≡ Admitted
   never b reason t f = absurd (cc (t, f))
 
@@ -237,6 +229,7 @@ module _ (site : Resource) (divider : List ℕ) (is_site : IsSite divider site) 
   admitted MethodNotAllowed t = never _ MethodNotAllowed t (ap (λ (r : Option MethodRule). not (is_some r)) rule)
   admitted Options t = never _ Options t refl
   admitted UnmetExpectation t = never _ UnmetExpectation t (ap not expects)
+  admitted PartialContent t = never _ PartialContent t refl
   admitted Moved t = never _ Moved t refl
   admitted Gone t = never _ Gone t refl
   admitted NotFound t = never _ NotFound t refl
@@ -246,7 +239,7 @@ module _ (site : Resource) (divider : List ℕ) (is_site : IsSite divider site) 
   admitted UnsupportedMediaType t = never _ UnsupportedMediaType t refl
   admitted UnsupportedCoding t = never _ UnsupportedCoding t refl
   admitted NotAcceptable t = never _ NotAcceptable t acceptable
-  admitted PreconditionRequired t = never _ PreconditionRequired t free
+  admitted PreconditionRequired t = never _ PreconditionRequired t refl
   admitted Admitted t = refl
 
   -- ---- the answer

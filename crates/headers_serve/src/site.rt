@@ -34,6 +34,7 @@ impl Site {
             takes: HeaderMap::new(alloc),
             creates: false,
             needs_condition: false,
+            takes_parts: false,
         };
         let rules = vec![in alloc; get]?;
         Ok(Site {

@@ -1,7 +1,6 @@
 -- What a request that is sent again has in common with the first, at another time.
 use Rattle.std.proofs.Common.{◌≡◌, ℕ, zero, suc, ◌<◌, Bool, false, not, ◌&&◌, List, [], ◌∷◌}
 use Rattle.std.proofs.Common.{length, get_or, map, Option, Some, None, refl, sym, ap, subst, ◌∙◌, inl, inr, arith}
-use Rattle.std.proofs.Math.Bool.{and-false}
 use Rattle.std.proofs.lemmas.List.{length-map}
 use Rattle.std.proofs.lemmas.Option.{slice_get-map}
 use Rattle.std.specs.Global.{Vec}
@@ -28,13 +27,14 @@ use Rattle.headers_preconditions.specs.declared.resource.Resource.TheVariants.{C
 use Rattle.headers_preconditions.specs.declared.resource.Validators.{Validators}
 use Rattle.headers_resource.specs.Answers.{IsSelected, at_place, bare, place_in, target_of}
 use Rattle.headers_resource.specs.Applies.{applies, host_named, is_current}
-use Rattle.headers_resource.specs.Applies.{is_own, is_unacceptable, is_unguarded, rule_for}
+use Rattle.headers_resource.specs.Applies.{is_own, is_unacceptable, rule_for}
 use Rattle.headers_resource.specs.Reasons.{IsFirst}
 use Rattle.headers_resource.specs.Representations.{are_unacceptable, joined, rank_by, score}
 use Rattle.headers_resource.specs.Requests.{Request as Asked}
 use Rattle.headers_resource.specs.declared.reason.Reason.{Reason}
 use Rattle.headers_resource.specs.declared.reason.Reason.TheVariants.{InvalidHost, Misdirected, UnknownMethod}
 use Rattle.headers_resource.specs.declared.reason.Reason.TheVariants.{MethodNotAllowed, Options, UnmetExpectation}
+use Rattle.headers_resource.specs.declared.reason.Reason.TheVariants.{PartialContent}
 use Rattle.headers_resource.specs.declared.reason.Reason.TheVariants.{Moved, Gone, NotFound, LengthRequired}
 use Rattle.headers_resource.specs.declared.reason.Reason.TheVariants.{ContentTooLarge, UnsupportedMediaType}
 use Rattle.headers_resource.specs.declared.reason.Reason.TheVariants.{UnsupportedCoding, NotAcceptable}
@@ -42,7 +42,6 @@ use Rattle.headers_resource.specs.declared.reason.Reason.TheVariants.{Preconditi
 use Rattle.headers_resource.specs.declared.representation.Negotiation.{Negotiation}
 use Rattle.headers_resource.specs.declared.representation.Representation.{Representation}
 use Rattle.headers_resource.specs.declared.request.RequestContent.TheVariants.{Absent}
-use Rattle.headers_resource.specs.declared.resource.MethodRule.{MethodRule}
 use Rattle.headers_resource.specs.declared.resource.Resource.{Resource}
 use Rattle.headers_resource.specs.declared.resource.State.{State}
 use Rattle.headers_resource.specs.declared.resource.State.TheVariants as state
@@ -70,6 +69,7 @@ module _ (resource : Resource) (protocol : Protocol) (authority : Option Line) (
   head_as_get MethodNotAllowed = refl
   head_as_get Options = refl
   head_as_get UnmetExpectation = refl
+  head_as_get PartialContent = refl
   head_as_get Moved = refl
   head_as_get Gone = refl
   head_as_get NotFound = refl
@@ -243,51 +243,46 @@ module _ (site : Resource) (st : State) (v w : Vec Representation) (now later : 
       (λ (items : List Representation). is_current st && (n.is_strict
       && (nat_lt 0 (length items) && are_unacceptable n g items))) (sym theirs)
 
-  module _ (guarded : is_unguarded g ≡ false) where
-    -- what doesn't keep the first from being performed doesn't keep the second from it
-    still : (reason : Reason) → applies first (reading protocol authority get f) reason ≡ false
-        → applies second (reading protocol authority get g) reason ≡ false
-    still InvalidHost e = sym (ap (λ (ls : List Line). not (has_host protocol ls)) same.host) ∙ e
-    still Misdirected e =
-        sym
-        (ap
-        (λ (ls : List Line). option_map_or
-        (λ (hosts : Vec FieldValue). not (is_own hosts.items (host_named authority ls))) site.hosts false)
-        same.host)
-        ∙ e
-    still UnknownMethod e = e
-    still MethodNotAllowed e = e
-    still Options e = e
-    still UnmetExpectation e = sym (ap (λ (ls : List Line). not (has_known_expectation ls)) same.expect) ∙ e
-    still Moved e = e
-    still Gone e = e
-    still NotFound e = e
-    still LengthRequired e = e
-    still ContentTooLarge e = e
-    still UnsupportedMediaType e = refl
-    still UnsupportedCoding e = refl
-    still NotAcceptable e = sym unacceptable_same ∙ e
-    still PreconditionRequired e =
-        ap
-        (λ (b : Bool). option_map_or (λ (r : MethodRule). r.needs_condition) (rule_for site.rules.items get) false
-        && b) guarded
-        ∙ and-false
-        (option_map_or (λ (r : MethodRule). r.needs_condition) (rule_for site.rules.items get) false)
-    still Admitted e = e
+  -- what doesn't keep the first from being performed doesn't keep the second from it
+  still : (reason : Reason) → applies first (reading protocol authority get f) reason ≡ false
+      → applies second (reading protocol authority get g) reason ≡ false
+  still InvalidHost e = sym (ap (λ (ls : List Line). not (has_host protocol ls)) same.host) ∙ e
+  still Misdirected e =
+      sym
+      (ap
+      (λ (ls : List Line). option_map_or
+      (λ (hosts : Vec FieldValue). not (is_own hosts.items (host_named authority ls))) site.hosts false)
+      same.host)
+      ∙ e
+  still UnknownMethod e = e
+  still MethodNotAllowed e = e
+  still Options e = e
+  still UnmetExpectation e = sym (ap (λ (ls : List Line). not (has_known_expectation ls)) same.expect) ∙ e
+  still PartialContent e = refl
+  still Moved e = e
+  still Gone e = e
+  still NotFound e = e
+  still LengthRequired e = e
+  still ContentTooLarge e = e
+  still UnsupportedMediaType e = refl
+  still UnsupportedCoding e = refl
+  still NotAcceptable e = sym unacceptable_same ∙ e
+  still PreconditionRequired e = refl
+  still Admitted e = e
 
-    pub first_again : (method again : List ℕ) → IsGetOrHead method → IsGetOrHead again
-        → IsFirst (applies first (reading protocol authority method f)) Admitted
-        → IsFirst (applies second (reading protocol authority again g)) Admitted
-    first_again method again read read_again h =
-        let mine_get =
-        first_alike (applies first (reading protocol authority method f))
-        (applies first (reading protocol authority get f)) (read_as_get first protocol authority f method read)
-        Admitted h in
-        let theirs_get : IsFirst (applies second (reading protocol authority get g)) Admitted =
-        record { is = refl; none_before = λ other before. still other (mine_get.none_before other before) } in
-        first_alike (applies second (reading protocol authority get g))
-        (applies second (reading protocol authority again g))
-        (λ reason. sym (read_as_get second protocol authority g again read_again reason)) Admitted theirs_get
+  pub first_again : (method again : List ℕ) → IsGetOrHead method → IsGetOrHead again
+      → IsFirst (applies first (reading protocol authority method f)) Admitted
+      → IsFirst (applies second (reading protocol authority again g)) Admitted
+  first_again method again read read_again h =
+      let mine_get =
+      first_alike (applies first (reading protocol authority method f))
+      (applies first (reading protocol authority get f)) (read_as_get first protocol authority f method read)
+      Admitted h in
+      let theirs_get : IsFirst (applies second (reading protocol authority get g)) Admitted =
+      record { is = refl; none_before = λ other before. still other (mine_get.none_before other before) } in
+      first_alike (applies second (reading protocol authority get g))
+      (applies second (reading protocol authority again g))
+      (λ reason. sym (read_as_get second protocol authority g again read_again reason)) Admitted theirs_get
 
   -- the first place is chosen for none, if there is one
   place_is : {A : Type 0} (of : A → Representation) (s : State) (xs : List A) (choice : Option ℕ)

@@ -1,7 +1,6 @@
 -- A request that names the tag of the response before it.
-use Rattle.std.proofs.Common.{◌≡◌, ◌≢◌, ℕ, false, ◌&&◌, List, [], ◌∷◌, Option, Some, None, refl, sym, ap}
+use Rattle.std.proofs.Common.{◌≡◌, ◌≢◌, ℕ, false, List, [], ◌∷◌, Option, Some, None, refl, sym, ap}
 use Rattle.std.proofs.Common.{subst, ◌∙◌, inl, inr, arith, map}
-use Rattle.std.proofs.Math.Bool.{and-false}
 use Rattle.std.specs.Global.{Vec}
 use Rattle.std.proofs.lemmas.Slice.Eq.{bytes_eq-Decides}
 use Rattle.std.specs.Prelude.{bytes_eq, codes, is_some, option_map, string_bytes}
@@ -25,7 +24,7 @@ use Rattle.headers_preconditions.specs.declared.plan.Plan.TheVariants.{NotModifi
 use Rattle.headers_preconditions.specs.declared.precondition.Precondition.TheVariants as precondition
 use Rattle.headers_preconditions.specs.declared.resource.Resource.{Resource as Target}
 use Rattle.headers_resource.specs.Answers.{IsAnswer, IsSelected}
-use Rattle.headers_resource.specs.Applies.{applies, is_absent_field, is_unguarded}
+use Rattle.headers_resource.specs.Applies.{applies}
 use Rattle.headers_resource.specs.Reasons.{IsFirst}
 use Rattle.headers_resource.specs.Requests.{Request as Asked}
 use Rattle.headers_resource.specs.declared.answer.Answer.{Answer}
@@ -301,11 +300,11 @@ module _ (now later : Option ℕ) (left more : ℕ) (site : Site) (look other : 
   has_line : (lines : List Line) → lines ≡ tag ∷ [] → HasLine lines
   has_line lines are = subst HasLine (sym are) (omega arith)
 
-  module _ (same : AskAlike f g) (guarded : is_unguarded g ≡ false) where
+  module _ (same : AskAlike f g) where
     first_there : IsFirst (applies after asked_again) Admitted
     first_there =
         first_again site.resource st v w (clock now) (clock later) fs gs x.described.are y.described.are alike.labels
-        y.asked.protocol y.asked.authority f g same guarded first_read.0 second_read.0 first_read.1 second_read.1
+        y.asked.protocol y.asked.authority f g same first_read.0 second_read.0 first_read.1 second_read.1
         tagged.first
 
     selected_there : IsSelected after g tagged.place
@@ -465,10 +464,6 @@ module _ (now later : Option ℕ) (left more : ℕ) (site : Site) (look other : 
       by_none_match now later left more site look other first second r s a b (codes "if-none-match") tag again similar
       x y told
       (asks_the_same (codes "if-none-match") tag first second none_of_these again)
-      (ap
-      (λ (ls : List Line). is_absent_field (now_is (codes "if-match"))
-      && (is_absent_field ls && is_absent_field (now_is (codes "if-unmodified-since")))) again.condition
-      ∙ and-false (is_absent_field (now_is (codes "if-match"))))
       parse (sym (again.others (codes "if-match") (differ (codes "if-match") (codes "if-none-match") refl)))
       (again.others (codes "if-unmodified-since")
       (differ (codes "if-unmodified-since") (codes "if-none-match") refl)
@@ -479,7 +474,4 @@ module _ (now later : Option ℕ) (left more : ℕ) (site : Site) (look other : 
   not_lost parse again parts is strong =
       by_match now later left more site look other first second r s a b (codes "if-match") tag again similar x y told
       (asks_the_same (codes "if-match") tag first second match_of_these again)
-      (ap
-      (λ (ls : List Line). is_absent_field ls && (is_absent_field (now_is (codes "if-none-match"))
-      && is_absent_field (now_is (codes "if-unmodified-since")))) again.condition)
       parse again.condition parts is strong

@@ -38,6 +38,7 @@ use Rattle.headers_resource.specs.declared.answer.Sends.TheVariants.{Planned}
 use Rattle.headers_resource.specs.declared.reason.Reason.{Reason}
 use Rattle.headers_resource.specs.declared.reason.Reason.TheVariants.{InvalidHost, Misdirected, UnknownMethod}
 use Rattle.headers_resource.specs.declared.reason.Reason.TheVariants.{MethodNotAllowed, Options, UnmetExpectation}
+use Rattle.headers_resource.specs.declared.reason.Reason.TheVariants.{PartialContent}
 use Rattle.headers_resource.specs.declared.reason.Reason.TheVariants.{Moved, Gone, NotFound, LengthRequired}
 use Rattle.headers_resource.specs.declared.reason.Reason.TheVariants.{ContentTooLarge, UnsupportedMediaType}
 use Rattle.headers_resource.specs.declared.reason.Reason.TheVariants.{UnsupportedCoding, NotAcceptable}
@@ -132,6 +133,7 @@ module _ (resource : Resource) (request : Asked) where
   reason_untagged Misdirected = refl
   reason_untagged UnknownMethod = refl
   reason_untagged UnmetExpectation = refl
+  reason_untagged PartialContent = refl
   reason_untagged Gone = refl
   reason_untagged NotFound = refl
   reason_untagged LengthRequired = refl

@@ -36,6 +36,7 @@ use Rattle.headers_resource.specs.declared.answer.Sends.TheVariants.{Nothing, Al
 use Rattle.headers_resource.specs.declared.reason.Reason.{Reason}
 use Rattle.headers_resource.specs.declared.reason.Reason.TheVariants.{InvalidHost, Misdirected, UnknownMethod}
 use Rattle.headers_resource.specs.declared.reason.Reason.TheVariants.{MethodNotAllowed, Options, UnmetExpectation}
+use Rattle.headers_resource.specs.declared.reason.Reason.TheVariants.{PartialContent}
 use Rattle.headers_resource.specs.declared.reason.Reason.TheVariants.{Moved, Gone, NotFound, LengthRequired}
 use Rattle.headers_resource.specs.declared.reason.Reason.TheVariants.{ContentTooLarge, UnsupportedMediaType}
 use Rattle.headers_resource.specs.declared.reason.Reason.TheVariants.{UnsupportedCoding, NotAcceptable}
@@ -100,6 +101,7 @@ module _ (resource : Resource) (request : Asked) where
   reason_plain Misdirected = refl
   reason_plain UnknownMethod = refl
   reason_plain UnmetExpectation = refl
+  reason_plain PartialContent = refl
   reason_plain Gone = refl
   reason_plain NotFound = refl
   reason_plain LengthRequired = refl

@@ -42,6 +42,7 @@ use Rattle.headers_resource.specs.declared.answer.Sends.TheVariants.{Planned}
 use Rattle.headers_resource.specs.declared.reason.Reason.{Reason}
 use Rattle.headers_resource.specs.declared.reason.Reason.TheVariants.{InvalidHost, Misdirected, UnknownMethod}
 use Rattle.headers_resource.specs.declared.reason.Reason.TheVariants.{MethodNotAllowed, Options, UnmetExpectation}
+use Rattle.headers_resource.specs.declared.reason.Reason.TheVariants.{PartialContent}
 use Rattle.headers_resource.specs.declared.reason.Reason.TheVariants.{Moved, Gone, NotFound, LengthRequired}
 use Rattle.headers_resource.specs.declared.reason.Reason.TheVariants.{ContentTooLarge, UnsupportedMediaType}
 use Rattle.headers_resource.specs.declared.reason.Reason.TheVariants.{UnsupportedCoding, NotAcceptable}
@@ -168,6 +169,8 @@ module _ (present : ℕ) (site : Resource) (v : Vec Representation) (file : File
         absurd (omega (arith, other_code Options status 204 refl g.has_status is))
     by_reason UnmetExpectation status sent own t g is =
         absurd (omega (arith, other_code UnmetExpectation status 417 refl g.has_status is))
+    by_reason PartialContent status sent own t g is =
+        absurd (omega (arith, other_code PartialContent status 400 refl g.has_status is))
     by_reason Moved status sent own t g is = absurd (cc t)
     by_reason Gone status sent own t g is = absurd (cc t)
     by_reason NotFound status sent own t g is = absurd (omega (arith, is))

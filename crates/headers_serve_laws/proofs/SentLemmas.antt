@@ -52,6 +52,7 @@ use Rattle.headers_resource.specs.declared.answer.Sends.{Sends}
 use Rattle.headers_resource.specs.declared.reason.Reason.{Reason}
 use Rattle.headers_resource.specs.declared.reason.Reason.TheVariants.{InvalidHost, Misdirected, UnknownMethod}
 use Rattle.headers_resource.specs.declared.reason.Reason.TheVariants.{MethodNotAllowed, Options, UnmetExpectation}
+use Rattle.headers_resource.specs.declared.reason.Reason.TheVariants.{PartialContent}
 use Rattle.headers_resource.specs.declared.reason.Reason.TheVariants.{Moved, Gone, NotFound, LengthRequired}
 use Rattle.headers_resource.specs.declared.reason.Reason.TheVariants.{ContentTooLarge, UnsupportedMediaType}
 use Rattle.headers_resource.specs.declared.reason.Reason.TheVariants.{UnsupportedCoding, NotAcceptable}
@@ -543,6 +544,8 @@ module _ (present : ℕ) (resource : Resource) (own_rule : MethodRule) (alone : 
     by_reason Options status sent own t free g tagged = opts (free (inl refl)) status sent own g
     by_reason UnmetExpectation status sent own t free g tagged =
         stops UnmetExpectation status sent own 417 (ap (status_for absent UnmetExpectation) g.has_status) at_417 g
+    by_reason PartialContent status sent own t free g tagged =
+        stops PartialContent status sent own 400 (ap (status_for absent PartialContent) g.has_status) at_400 g
     by_reason Moved status sent own t free g tagged =
         stops Moved status sent own (moved_status resource.state) (ap (status_for absent Moved) g.has_status)
         (moved_explained resource.state t) g

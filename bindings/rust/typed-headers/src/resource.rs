@@ -153,13 +153,15 @@ pub enum Reason {
     UnsupportedCoding,
     /// 406: no representation is acceptable.
     NotAcceptable,
-    /// 428: the request has no precondition.
+    /// 428: the request doesn't name what it may replace.
     PreconditionRequired,
+    /// 400: PUT with Content-Range, and no parts are taken. It comes after 417.
+    PartialContent,
     /// A reason that this crate doesn't know.
     Unknown,
 }
 
-const REASONS: [Reason; 16] = [
+const REASONS: [Reason; 17] = [
     Reason::Admitted,
     Reason::InvalidHost,
     Reason::Misdirected,
@@ -176,6 +178,7 @@ const REASONS: [Reason; 16] = [
     Reason::UnsupportedCoding,
     Reason::NotAcceptable,
     Reason::PreconditionRequired,
+    Reason::PartialContent,
 ];
 
 /// What an answer sends. A response to HEAD never has content.
