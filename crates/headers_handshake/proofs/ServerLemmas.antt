@@ -141,10 +141,8 @@ module _ (method : List ℕ) (version : Version) (request : LineMap) (origins : 
   pub first_http11 : IsGet method → IsRecent version → ¬ (IsHttp11 version) → First (Faulty NotHttp11)
   first_http11 get recent fails = record { broken = fails; before = below_2 get recent }
 
-  pub first_host : IsGet method → IsRecent version → IsHttp11 version → request (codes "host") ≡ []
-      → First (Faulty NoHost)
-  first_host get recent http11 fails =
-      record { broken = rw fails (λ some. omega (arith, some)); before = below_3 get recent http11 }
+  pub first_host : IsGet method → IsRecent version → IsHttp11 version → ¬ (HasHost request) → First (Faulty NoHost)
+  first_host get recent http11 fails = record { broken = fails; before = below_3 get recent http11 }
 
   pub first_upgrade : IsGet method → IsRecent version → IsHttp11 version → HasHost request
       → ¬ (ListsWebsocket request) → First (Faulty NoUpgrade)

@@ -1,12 +1,11 @@
 -- A server's answer to an opening handshake (RFC 6455, sections 4.2.1 and 4.2.2).
-use Rattle.std.specs.Prelude.{◌≡◌, ◌⊎◌, ⊤, ℕ, List, Option, Some, codes}
+use Rattle.std.specs.Prelude.{◌≡◌, ◌⊎◌, ⊤, ℕ, List, Option, Some, IsSome, codes}
 use Rattle.http.specs.declared.version.Version.{Version}
 use Rattle.http.specs.declared.version.TheConstants.Version.{HTTP_11, HTTP_2, HTTP_3}
 use Rattle.http_header.specs.FieldValue.{FieldValue, plain_value}
 use Rattle.websocket.specs.Handshake.{IsValidKey, accept_key_of}
 use Rattle.headers.specs.LineMap.{LineMap}
 use Rattle.headers.specs.Lines.{Line, only_line}
-use Rattle.headers.specs.Typed.{HasLine}
 use Rattle.headers_handshake.specs.Extensions.{HasExtensions}
 use Rattle.headers_handshake.specs.Fields.{ListsUpgrade, ListsWebsocket}
 use Rattle.headers_handshake.specs.Origins.{AllowsOrigin}
@@ -35,9 +34,9 @@ IsRecent version = (version ≡ HTTP_11) ⊎ ((version ≡ HTTP_2) ⊎ (version 
 abbrev pub IsHttp11 : Version → Type 0
 IsHttp11 version = version ≡ HTTP_11
 
--- 2: there is a Host field
+-- 2: there is a Host field, on one line (RFC 9112, section 3.2)
 abbrev pub HasHost : LineMap → Type 0
-HasHost request = HasLine (request (codes "host"))
+HasHost request = IsSome (only_line (request (codes "host")))
 
 -- 5: the only line of Sec-WebSocket-Key is this one, and it is the base64 of sixteen bytes
 pub record HasKey (request : LineMap) (key : Line) : Type 0 where

@@ -5,8 +5,8 @@ ghost use Rattle.websocket.specs.Handshake.{accept_key_of};
 ghost use Rattle.headers.specs.LineMap.{field_of, fields_of, lines_at};
 ghost use Rattle.headers.specs.Lines.{Line};
 ghost use Rattle.headers_handshake.specs.Messages.{answer_fields, status_of, taken_lines};
-ghost use Rattle.headers_handshake.specs.Server.{Answers, HasKey, HasVersion13, IsAccepted, IsFirst, IsHttp11};
-ghost use Rattle.headers_handshake.specs.Server.{IsRecent};
+ghost use Rattle.headers_handshake.specs.Server.{Answers, HasHost, HasKey, HasVersion13, IsAccepted, IsFirst};
+ghost use Rattle.headers_handshake.specs.Server.{IsHttp11, IsRecent};
 ghost use Rattle.headers_handshake.specs.declared.server.Answer.TheVariants.{Switch, UpgradeRequired};
 
 use crate::extensions::has_extensions;
@@ -17,7 +17,7 @@ use crate::fields::{
 use crate::origins::{Origins, allows_origin};
 use crate::protocols::{offers_protocols, taken};
 use headers::{Encoded, HeaderMap, HeaderValue};
-use headers_fields::{has_line, only_value};
+use headers_fields::only_value;
 use http::{Method, StatusCode, Version};
 use http_header::{
     HOST, SEC_WEBSOCKET_ACCEPT, SEC_WEBSOCKET_EXTENSIONS, SEC_WEBSOCKET_KEY,
@@ -36,7 +36,7 @@ pub enum Fault {
     /// The version is HTTP/2 or HTTP/3, which have no status 101 (RFC 9113, section 8.6; RFC 9114,
     /// section 4.5). A WebSocket over them begins with a CONNECT (RFC 8441, RFC 9220).
     NotHttp11,
-    /// There is no Host field.
+    /// There is no Host field, or several field lines (RFC 9112, section 3.2).
     NoHost,
     /// `Upgrade` doesn't list `websocket`.
     NoUpgrade,
@@ -206,7 +206,7 @@ fn judge(
     if !is_http_11(version) {
         return Err(Refusal::Faulty(Fault::NotHttp11));
     }
-    if !has_line(&request.get_all(HOST)) {
+    if !has_host(request) {
         return Err(Refusal::Faulty(Fault::NoHost));
     }
     if !lists_websocket(request) {
@@ -244,6 +244,16 @@ fn is_http_11(version: Version) -> bool
     ensures { MatchBool result (IsHttp11 version) (¬ (IsHttp11 version)) }
 {
     version == Version::HTTP_11
+}
+
+// Whether there is a Host field on one line.
+fn has_host(request: &HeaderMap) -> bool
+    ensures { MatchBool result (HasHost (lines_at request.now)) (¬ (HasHost (lines_at request.now))) }
+{
+    match only_value(&request.get_all(HOST)) {
+        Some(_) => true,
+        None => false,
+    }
 }
 
 // What the key of the request calls for, if it has one that is a key.

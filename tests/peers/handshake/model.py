@@ -110,7 +110,7 @@ def statuses(method: bytes, version: bytes, fields: ByteFields) -> set[int]:
     offers, asked = lines_of(fields, b"sec-websocket-extensions"), lines_of(fields, b"sec-websocket-protocol")
     is_upgrade, is_connection = upgrades(fields), connects(fields)
     if not (
-        method == b"GET" and version == b"HTTP/1.1" and lines_of(fields, b"host") and True in is_upgrade
+        method == b"GET" and version == b"HTTP/1.1" and len(lines_of(fields, b"host")) == 1 and True in is_upgrade
         and True in is_connection and len(keys) == 1 and is_any_key(keys[0]) and (not offers or extensions(offers))
         and (not asked or protocols(asked))
     ):

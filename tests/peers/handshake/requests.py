@@ -49,7 +49,7 @@ def requests() -> Iterator[tuple[str, str, str, Pairs]]:
     yield "absolute form", "yes", "GET http://127.0.0.1/ HTTP/1.1", BASE
     yield "no Host", "no", LINE, put("Host")
     yield "empty Host", "-", LINE, put("Host", "")
-    yield "two lines Host", "-", LINE, put("Host", "127.0.0.1", "other.example")
+    yield "two lines Host", "no", LINE, put("Host", "127.0.0.1", "other.example")
     for values, wanted in (([], "no"), ([""], "no"), (["WebSocket"], "yes"), (["WEBSOCKET"], "yes"),
                            (["websocket, h2c"], "yes"), (["h2c, websocket"], "yes"), (["h2c", "websocket"], "yes"),
                            (["websocket", "h2c"], "yes"), (["websocket", "websocket"], "yes"), (["websockets"], "no"),

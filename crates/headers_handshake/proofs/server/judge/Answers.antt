@@ -21,8 +21,8 @@ returns-then-not-is_http_11 c =
     first_http11 c.args.method.now c.args.version (lines_at c.args.request.now) c.args.origins.now
     (search rules) (search rules) (search rules)
 
-pub returns-then-not-has_line : goal.returns-then-not-has_line
-returns-then-not-has_line c =
+pub returns-then-not-has_host : goal.returns-then-not-has_host
+returns-then-not-has_host c =
     first_host c.args.method.now c.args.version (lines_at c.args.request.now) c.args.origins.now
     (search rules) (search rules) (search rules) (search rules)
 
