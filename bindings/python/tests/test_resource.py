@@ -185,12 +185,13 @@ class Applications(unittest.TestCase):
             performed.append(environ["wsgi.input"].read(int(environ["CONTENT_LENGTH"])))
             return Result(201, [("location", "/1")], b"made")
 
-        resource = Resource([Method("POST", "text/plain", needs_condition=True)], limit=5)
+        posts, notes = Method("POST", "text/plain", needs_condition=True), [Representation(etag='"a"')]
+        resource = Resource([posts], notes, limit=5)
         application = Serves(lambda environ: Served(resource, methods={"POST": post}))
 
         def send(**named: str) -> Tuple[int, bytes]:
             environ: Dict[str, Any] = {"REQUEST_METHOD": "POST", "CONTENT_TYPE": "text/plain", "CONTENT_LENGTH": "3",
-                                       "HTTP_IF_MATCH": "*", **named}
+                                       "HTTP_IF_MATCH": '"a"', **named}
             setup_testing_defaults(environ)
             environ["wsgi.input"] = io.BytesIO(b"tea")
             start_response = mock.Mock()
@@ -198,7 +199,8 @@ class Applications(unittest.TestCase):
             return int(start_response.call_args[0][0][:3]), content
 
         for named, wanted in (({"CONTENT_TYPE": "text/html"}, 415), ({"CONTENT_LENGTH": "6"}, 413),
-                              ({"HTTP_IF_MATCH": '"b"'}, 412), ({"CONTENT_LENGTH": "x"}, 400)):
+                              ({"HTTP_IF_MATCH": '"b"'}, 412), ({"CONTENT_LENGTH": "x"}, 400),
+                              ({"HTTP_IF_MATCH": "*"}, 428)):
             self.assertEqual(send(**named)[0], wanted)
         self.assertEqual(performed, [])
         self.assertEqual((send(), performed), ((201, b"made"), [b"tea"]))
