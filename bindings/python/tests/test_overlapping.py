@@ -35,6 +35,22 @@ def wrong(user: str, fields: Dict[str, str], content: bytes) -> Optional[str]:
     return None
 
 
+def ignore(content: bytes) -> None:
+    """Takes what nobody reads."""
+
+
+class Head:
+    """Notes what a WSGI application begins its response with."""
+
+    def __init__(self) -> None:
+        self.status = ""
+        self.fields: Dict[str, str] = {}
+
+    def __call__(self, status: str, fields: Any, problem: Any = None) -> Any:
+        self.status, self.fields = status, {name.lower(): value for name, value in fields}
+        return ignore
+
+
 class Pages:
     """An application that gives each user their own page, in versions that follow one another."""
 
@@ -102,7 +118,8 @@ class Many(unittest.TestCase):
 
     def test_threads(self) -> None:
         cache = Cache(shared=True, variants=4)
-        application, found, counts = wsgi.Cached(Pages().wsgi, cache), [], [0] * 8
+        application, counts = wsgi.Cached(Pages().wsgi, cache), [0] * 8
+        found: List[str] = []
         was = sys.getswitchinterval()
         sys.setswitchinterval(0.0002)
 
@@ -113,13 +130,13 @@ class Many(unittest.TestCase):
                 user, fields = asked(chance)
                 environ = {"REQUEST_METHOD": "GET", "HTTP_HOST": "a.example", "PATH_INFO": chance.choice(["/a", "/b"])}
                 environ.update({f"HTTP_{name.upper().replace('-', '_')}": value for name, value in fields.items()})
-                head: List[Any] = []
-                content = application(environ, lambda *given: head.append(given))
+                head = Head()
+                content = application(environ, head)
                 whole = b"".join(content)
                 close = getattr(content, "close", None)
                 if close is not None:
                     close()
-                fault = wrong(user, {name.lower(): value for name, value in head[-1][1]}, whole)
+                fault = wrong(user, head.fields, whole)
                 if fault is not None:
                     found.append(fault)
                     return
@@ -134,7 +151,8 @@ class Many(unittest.TestCase):
 
     def test_tasks(self) -> None:
         cache = Cache(shared=True, variants=4)
-        application, found, counts = asgi.Cached(Pages().asgi, cache), [], [0] * 8
+        application, counts = asgi.Cached(Pages().asgi, cache), [0] * 8
+        found: List[str] = []
 
         async def client(number: int) -> None:
             chance = random.Random(number)
@@ -226,10 +244,9 @@ class Waiting(unittest.TestCase):
         cached = wsgi.Cached(application, Cache(shared=True), clock=lambda: now[0])
 
         def ask() -> str:
-            head: List[Any] = []
-            environ = {"REQUEST_METHOD": "GET", "HTTP_HOST": "a.example", "PATH_INFO": "/"}
-            b"".join(cached(environ, lambda *given: head.append(given)))
-            return str(head[-1][0])[:3]
+            head = Head()
+            b"".join(cached({"REQUEST_METHOD": "GET", "HTTP_HOST": "a.example", "PATH_INFO": "/"}, head))
+            return head.status[:3]
 
         self.assertEqual(ask(), "200")
         now[0], fails[0] = 1025, 1
@@ -256,7 +273,7 @@ class Changing(unittest.TestCase):
 
         def ask(method: str) -> bytes:
             environ = {"REQUEST_METHOD": method, "HTTP_HOST": "a.example", "PATH_INFO": "/"}
-            content = cached(environ, lambda *given: None)
+            content = cached(environ, Head())
             whole = b"".join(content)
             close = getattr(content, "close", None)
             if close is not None:
@@ -266,14 +283,14 @@ class Changing(unittest.TestCase):
         real = cache.store
 
         def store(*given: Any, **more: Any) -> bool:
-            cache.store = real  # type: ignore[method-assign]
+            cache.store = real  # type: ignore[assignment]
             thread = threading.Thread(target=ask, args=("PUT",))
             threads.append(thread)
             thread.start()
             thread.join(0.2)
             return real(*given, **more)
 
-        cache.store = store  # type: ignore[method-assign]
+        cache.store = store  # type: ignore[assignment]
         self.assertEqual(ask("GET"), b"old")
         threads[0].join()
         self.assertEqual(ask("GET"), b"new")
@@ -291,7 +308,7 @@ class Changing(unittest.TestCase):
 
         cached = wsgi.Cached(application, Cache(shared=True))
         for method, path in (("GET", "/made"), ("POST", "/"), ("GET", "/made")):
-            b"".join(cached({"REQUEST_METHOD": method, "HTTP_HOST": "a.example", "PATH_INFO": path}, lambda *_: None))
+            b"".join(cached({"REQUEST_METHOD": method, "HTTP_HOST": "a.example", "PATH_INFO": path}, Head()))
         self.assertEqual(count[0], 2)
 
 
