@@ -1,7 +1,7 @@
 -- What a cache serves from its store came from those behind it.
 use Rattle.std.proofs.Common.{◌≡◌, ◌≢◌, ◌⊎◌, ℕ, ◌+◌, ◌-◌, ◌≤◌, Bool, true, false, List, [], ◌∷◌, ◌++◌}
 use Rattle.std.proofs.Common.{refl, sym, ◌∙◌, ap, subst, inl, inr, arith}
-use Rattle.std.specs.Prelude.{slice_get, All, ◌||◌, ◌==◌, not, codes, decimal, unwrap_or, max}
+use Rattle.std.specs.Prelude.{slice_get, All, ◌||◌, ◌==◌, not, bytes_eq, codes, decimal, unwrap_or, max}
 use Rattle.std.specs.List.{list_all, list_any}
 use Rattle.std.proofs.lemmas.Bool.{and_parts, cases_Bool}
 use Rattle.std.proofs.lemmas.Bool.Decides.{nat_tests}
@@ -26,7 +26,7 @@ use Rattle.headers_cache_policy.specs.Decisions.{IsGoodEnough, MayServeOnError}
 use Rattle.headers_cache_policy.specs.declared.decision.Decision.TheVariants as decisions
 use Rattle.headers_cache_policy.specs.Age.{age_at, apparent_age}
 use Rattle.headers_cache_policy.specs.Fields.{age_of, age_value, capped}
-use Rattle.headers_cache_policy.specs.Requests.{AllowsMethod, Request as Asked}
+use Rattle.headers_cache_policy.specs.Requests.{AllowsMethod, IsGetOrHead, Request as Asked}
 use Rattle.headers_cache_policy.specs.Storing.{IsShareable}
 use Rattle.headers_cache_policy.specs.Targets.{governing}
 use Rattle.headers_cache_policy.specs.declared.Governing.{Governing}
@@ -49,7 +49,6 @@ use Rattle.headers_fields.specs.Scan.{Member}
 use Rattle.headers_fields.specs.Scan.Member.{Whole, Malformed}
 use Rattle.headers_gateway.specs.HopByHop.{connection_options, is_hop_by_hop, is_known, is_named}
 use Rattle.headers_resource.specs.Requests.{Request}
-use Rattle.headers_cache_policy.specs.Requests.{IsGetOrHead}
 use Rattle.headers_resource.specs.Vary.{AreAlike}
 use Rattle.headers_chain.proofs.AgeLemmas.{age_of-decimal}
 use Rattle.headers_chain.proofs.ConnectionLemmas.{crosses_if}
@@ -173,8 +172,10 @@ with_method method request =
     }
 
 no_put : (method : List ℕ) → method ≡ codes "PUT" → IsGetOrHead method → ⊥
-no_put method put (inl get) = cc (put, get)
-no_put method put (inr head) = cc (put, head)
+no_put method put (inl get) =
+    let no : true ≡ false = ap (λ m. bytes_eq m (codes "PUT")) (sym put ∙ get) in cc no
+no_put method put (inr head) =
+    let no : true ≡ false = ap (λ m. bytes_eq m (codes "PUT")) (sym put ∙ head) in cc no
 
 pub plain_alike : (target : List ℕ) (r s : Request) → IsPlain target r → IsPlain target s
     → r.fields (codes "host") ≡ s.fields (codes "host") → AreAlike r (with_method r.method s)
