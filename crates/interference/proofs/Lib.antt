@@ -1,0 +1,6 @@
+mod Anothers
+mod Lists
+mod Matching
+mod Own
+mod Twins
+mod TwinSteps

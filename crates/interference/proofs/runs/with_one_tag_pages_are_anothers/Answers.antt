@@ -1,0 +1,9 @@
+use Rattle.std.proofs.Common.{[], inl, refl, arith}
+use Rattle.interference.specs.Runs.{ann, bob, by_cookies, dated, one_tag}
+use Rattle.interference.proofs.Anothers.{anothers}
+use Rattle.interference.proofs.runs.with_one_tag_pages_are_anothers.Goals as goal
+
+pub returns-clause-anothers : goal.returns-clause-anothers
+returns-clause-anothers c =
+    anothers _ _ bob 0 0 (by_cookies bob 0 []) (dated 0 0 (one_tag 0 (by_cookies ann 0 [])))
+    (inl refl) (λ same. absurd (grind (arith, same)))

@@ -1,0 +1,6 @@
+mod Examples
+mod Kept
+mod Lists
+mod Steps
+mod OwnWrites
+mod Updates

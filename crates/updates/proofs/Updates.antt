@@ -1,0 +1,88 @@
+-- What follows for changes, and for what clients get.
+use Rattle.std.proofs.Common.{◌≡◌, ℕ, zero, suc, ◌<◌, true, cond, List, [], ◌∷◌, slice_get, nat_eq, Some, refl}
+use Rattle.std.proofs.Common.{ap, subst, arith, inl, inr}
+use Rattle.std.proofs.lemmas.Bool.{cond_both}
+use Rattle.std.proofs.lemmas.Option.{same_Some}
+use Rattle.std.proofs.lemmas.Slice.Eq.{bytes_eq-Decides}
+use Rattle.updates.specs.Statements.{Has, HasStrongTags, HasUniqueTags, IsGuarded, LeadsTo}
+use Rattle.updates.specs.Worlds.{Version, Received, Change, World, client_of, given, shown, versions, is_true}
+use Rattle.updates.proofs.Lists.{Has-append, Has-map}
+use Rattle.updates.proofs.Steps.{Holds, Links, shown-about}
+
+-- what has been given was in a response
+among : (client : ℕ) (received : List Received) (v : Version) → Has (given client received) v
+    → (one : Received) × Has received one × Has (shown one.response) v
+among client [] v h = absurd h
+among client (one ∷ earlier) v h =
+    elim (Has-append (cond (nat_eq (client_of one.request) client) (shown one.response) [])
+    (given client earlier) v h) [
+      | inl a ↦ cond_both (nat_eq (client_of one.request) client) (shown one.response) []
+          (λ vs. Has vs v → (other : Received) × Has (one ∷ earlier) other × Has (shown other.response) v)
+          (λ e k. (one, inl refl, k)) (λ e none. absurd none) a
+      | inr r ↦ let on = among client earlier v r in (on.0, inr on.1, on.2)
+    ]
+
+-- what has been given is a version
+pub given-version : (first : Version) (w : World) → Holds first w → (client : ℕ) (v : Version)
+    → Has (given client w.received) v → Has (versions w) v
+given-version first w holds client v h =
+    let on = among client w.received v h in (holds.received on.0 on.1).0 v (shown-about on.0.response v on.2)
+
+pub replaced-version : (w : World) (change : Change) → Has w.changes change → Has (versions w) change.replaced
+replaced-version w change h = inr (Has-map (λ c. c.replaced) w.changes change h)
+
+-- the condition of a guarded change was true
+same-tag : (first : Version) (w : World) → Holds first w → (change : Change) → Has w.changes change
+    → IsGuarded change.put → change.put.read.etag ≡ change.replaced.etag
+same-tag first w holds change has guarded =
+    (bytes_eq-Decides change.put.read.etag change.replaced.etag).0
+    (subst (λ c. is_true c change.replaced ≡ true) guarded (holds.changes change has).1)
+
+pub swaps-content : (first : Version) (w : World) → Holds first w → (change : Change) → HasStrongTags w
+    → Has w.changes change → IsGuarded change.put → change.put.read.content ≡ change.replaced.content
+swaps-content first w holds change strong has guarded =
+    strong change.put.read change.replaced
+    (given-version first w holds change.put.client change.put.read (holds.changes change has).0)
+    (replaced-version w change has) (same-tag first w holds change has guarded)
+
+pub swaps : (first : Version) (w : World) → Holds first w → (change : Change) → HasUniqueTags w → Has w.changes change
+    → IsGuarded change.put → change.put.read ≡ change.replaced
+swaps first w holds change unique has guarded =
+    unique change.put.read change.replaced
+    (given-version first w holds change.put.client change.put.read (holds.changes change has).0)
+    (replaced-version w change has) (same-tag first w holds change has guarded)
+
+-- ---- in line
+
+-- each version is replaced by a later one
+below : (first : Version) (changes : List Change) (current : Version) → Links first changes current → (j : ℕ)
+    (b : Change) → slice_get changes j ≡ Some b → b.replaced.number < current.number
+below first [] current links j b e = absurd (grind (arith, e))
+below first (change ∷ earlier) current links zero b e =
+    let number = ap (λ c. c.replaced.number) (same_Some change b e) in
+    let made = ap (λ v. v.number) links.0 in omega (arith, number, made, links.1)
+below first (change ∷ earlier) current links (suc j) b e =
+    let made = ap (λ v. v.number) links.0 in
+    let on = below first earlier change.replaced links.3 j b e in omega (arith, on, made, links.1)
+
+-- so no version is replaced twice
+pub once : (first : Version) (changes : List Change) (current : Version) → Links first changes current → (i j : ℕ)
+    (a b : Change) → slice_get changes i ≡ Some a → slice_get changes j ≡ Some b → a.replaced ≡ b.replaced → i ≡ j
+once first [] current links i j a b at other same = absurd (grind (arith, at))
+once first (change ∷ earlier) current links zero zero a b at other same = refl
+once first (change ∷ earlier) current links zero (suc j) a b at other same =
+    let on = below first earlier change.replaced links.3 j b other in
+    let one = ap (λ c. c.replaced.number) (same_Some change a at) in let two = ap (λ v. v.number) same in
+    absurd (omega (arith, on, one, two))
+once first (change ∷ earlier) current links (suc i) zero a b at other same =
+    let on = below first earlier change.replaced links.3 i a at in
+    let one = ap (λ c. c.replaced.number) (same_Some change b other) in let two = ap (λ v. v.number) same in
+    absurd (omega (arith, on, one, two))
+once first (change ∷ earlier) current links (suc i) (suc j) a b at other same =
+    ap suc (once first earlier change.replaced links.3 i j a b at other same)
+
+pub leads : (first : Version) (changes : List Change) (current : Version) → Links first changes current
+    → ((change : Change) → Has changes change → change.put.read ≡ change.replaced) → LeadsTo first changes current
+leads first [] current links each = links
+leads first (change ∷ earlier) current links each =
+    (links.0, links.2, each change (inl refl), leads first earlier change.replaced links.3 (λ c h. each c (inr h)))

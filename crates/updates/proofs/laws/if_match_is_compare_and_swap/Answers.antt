@@ -1,0 +1,21 @@
+use Rattle.updates.specs.Events.{run}
+use Rattle.updates.specs.Worlds.{start}
+use Rattle.updates.specs.Worlds.Message.{Going}
+use Rattle.updates.specs.Worlds.Request.{Puts}
+use Rattle.updates.proofs.Steps.{holds}
+use Rattle.updates.proofs.Updates.{swaps, swaps-content}
+use Rattle.updates.proofs.laws.if_match_is_compare_and_swap.Goals as goal
+
+pub returns-clause-version : goal.returns-clause-version
+returns-clause-version c first events change unique has guarded =
+    swaps first (run events (start first)) (holds first events) change unique has guarded
+
+pub returns-clause-content : goal.returns-clause-content
+returns-clause-content c first events change strong has guarded =
+    swaps-content first (run events (start first)) (holds first events) change strong has guarded
+
+pub returns-clause-read : goal.returns-clause-read
+returns-clause-read c first events change has = ((holds first events).changes change has).0
+
+pub returns-clause-sent : goal.returns-clause-sent
+returns-clause-sent c first events passed put has = (holds first events).messages (Going passed (Puts put)) has

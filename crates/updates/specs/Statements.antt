@@ -1,0 +1,119 @@
+-- What is said of a world that some events have made.
+use Rattle.std.specs.Prelude.{◌≡◌, ◌≢◌, ◌⊎◌, ℕ, ◌<◌, Bool, true, List, [], ◌∷◌, slice_get, Option, Some, None, ⊤}
+use Rattle.updates.specs.Events.{Event, happens}
+use Rattle.updates.specs.Events.Event.{Forwards, Serves, ServesTag, AnswersTag, Answers, Returns}
+use Rattle.updates.specs.Worlds.{Version, Put, Hop, Message, Change, World, client_of, versions}
+use Rattle.updates.specs.Worlds.Condition.{IfMatch}
+use Rattle.updates.specs.Worlds.Request.{Get}
+use Rattle.updates.specs.Worlds.Response.{Status200, Status204}
+use Rattle.updates.specs.Worlds.Message.{Going, Coming}
+
+-- the list has this element
+abbrev pub Has : {X : Type 0} → List X → X → Type 0
+Has [] x = ⊥
+Has (y ∷ ys) x = (y ≡ x) ⊎ Has ys x
+
+-- ---- entity tags
+
+-- Tags are strong: no two versions with different contents have the same one (RFC 9110, section 8.8.1). So is a tag
+-- that is a digest of the content.
+abbrev pub HasStrongTags : World → Type 0
+HasStrongTags world =
+    (v w : Version) → Has (versions world) v → Has (versions world) w → v.etag ≡ w.etag → v.content ≡ w.content
+
+-- No two versions have the same tag, not even with the same content. So is a tag with the number of a revision.
+abbrev pub HasUniqueTags : World → Type 0
+HasUniqueTags world = (v w : Version) → Has (versions world) v → Has (versions world) w → v.etag ≡ w.etag → v ≡ w
+
+-- ---- what a PUT replaced
+
+-- it has If-Match with the tag of the version that its client had read
+abbrev pub IsGuarded : Put → Type 0
+IsGuarded put = put.condition ≡ IfMatch put.read.etag
+
+-- The changes, the latest first, lead from the first version to this one: each of them replaced the version that the
+-- one before had made, made one with its own content, and was made of the very version that it replaced.
+abbrev pub LeadsTo : Version → List Change → Version → Type 0
+LeadsTo first [] current = current ≡ first
+LeadsTo first (change ∷ earlier) current =
+    (change.made ≡ current) × (change.made.content ≡ change.put.content) × (change.put.read ≡ change.replaced)
+    × LeadsTo first earlier change.replaced
+
+-- An update is lost: two PUTs that were made of the same version have both been performed.
+pub record LosesAnUpdate (world : World) : Type 0 where
+  pub place : ℕ
+  pub other : ℕ
+  pub change : Change
+  pub rival : Change
+  pub at_place : slice_get world.changes place ≡ Some change
+  pub at_other : slice_get world.changes other ≡ Some rival
+  pub same_base : change.put.read ≡ rival.put.read
+  pub two : place ≢ other
+
+-- ---- what a client may rely on
+
+-- A 204 is true: the origin server has had a version with the content of this PUT. It performed such a PUT, or had the
+-- content already.
+abbrev pub IsStored : World → Put → Version → Type 0
+IsStored world put version = Has (versions world) version × (version.content ≡ put.content)
+
+-- The client sent the GET when it knew to have written a version, and got one that is older.
+pub record ReadsOlder (world : World) : Type 0 where
+  pub client : ℕ
+  pub written : List Version
+  pub own : Version
+  pub version : Version
+  pub got : Has world.received (record { request = Get client written; response = Status200 version })
+  pub knew : Has written own
+  pub older : version.number < own.number
+
+-- ---- what (4) asks of gateways and caches
+
+-- where a client sends its requests, and where a gateway or a cache sends those on: to one of them, or to the origin
+-- server
+pub record Routes : Type 0 where
+  pub first : ℕ → Option ℕ
+  pub next : ℕ → Option ℕ
+
+abbrev pub next_after : Routes → ℕ → List Hop → Option ℕ
+next_after routes client [] = routes.first client
+next_after routes client (hop ∷ passed) = routes.next hop.node
+
+-- if it is a request, it comes to this place next
+abbrev pub ComesTo : Routes → Option ℕ → Option Message → Type 0
+ComesTo routes place (Some (Going passed request)) = next_after routes (client_of request) passed ≡ place
+ComesTo routes place other = ⊤
+
+-- requests go where the routes lead
+abbrev pub IsRouted : Routes → World → Event → Type 0
+IsRouted routes world (Forwards message node) = ComesTo routes (Some node) (slice_get world.messages message)
+IsRouted routes world (Serves message node which) = ComesTo routes (Some node) (slice_get world.messages message)
+IsRouted routes world (ServesTag message node which) = ComesTo routes (Some node) (slice_get world.messages message)
+IsRouted routes world (AnswersTag message) = ComesTo routes None (slice_get world.messages message)
+IsRouted routes world (Answers message etag says_applied) = ComesTo routes None (slice_get world.messages message)
+IsRouted routes world other = ⊤
+
+-- a success of an unsafe method removes what is stored (RFC 9111, section 4.4)
+abbrev pub InvalidatesOn : Bool → Option Message → Type 0
+InvalidatesOn removes (Some (Coming left request (Status204 version))) = removes ≡ true
+InvalidatesOn removes other = ⊤
+
+abbrev pub Invalidates : World → Event → Type 0
+Invalidates world (Returns message removes stores) = InvalidatesOn removes (slice_get world.messages message)
+Invalidates world other = ⊤
+
+-- A response is stored only if nothing was removed since the cache sent the request on. RFC 9111 doesn't ask for this.
+abbrev pub IsCurrentAt : World → Bool → Option Message → Type 0
+IsCurrentAt world stores (Some (Coming (hop ∷ left) request response)) =
+    stores ≡ true → hop.removals ≡ (world.nodes hop.node).removals
+IsCurrentAt world stores other = ⊤
+
+abbrev pub StoresNoneFromBefore : World → Event → Type 0
+StoresNoneFromBefore world (Returns message removes stores) =
+    IsCurrentAt world stores (slice_get world.messages message)
+StoresNoneFromBefore world other = ⊤
+
+-- each event is so in the world in which it happens
+abbrev pub Throughout : (World → Event → Type 0) → List Event → World → Type 0
+Throughout P [] world = ⊤
+Throughout P (event ∷ events) world = P world event × Throughout P events (happens world event)
