@@ -11,18 +11,18 @@ use Rattle.http_uri.specs.Uri.{uri_path}
 use Rattle.serde_json.specs.Data.{Data}
 use Rattle.serde_json.specs.Read.{read as read_text}
 use Rattle.headers.specs.LineMap.{Field, fields_of, lines_at, set_all}
-use Rattle.headers_exchange.specs.declared.piece.Piece.{Piece}
-use Rattle.headers_exchange.specs.declared.piece.Piece.TheVariants.{Literal}
-use Rattle.headers_exchange.specs.declared.plan.Plan.{Plan}
-use Rattle.headers_gateway.specs.declared.protocol.Protocol.TheVariants.{Http10, Http11}
-use Rattle.headers_preconditions.specs.declared.plan.Plan.TheVariants.{Full}
-use Rattle.headers_resource.specs.Answers.{IsAnswer}
-use Rattle.headers_resource.specs.Requests.{Request as Asked}
-use Rattle.headers_resource.specs.declared.answer.Answer.{Answer}
-use Rattle.headers_resource.specs.declared.answer.Sends.{Sends}
-use Rattle.headers_resource.specs.declared.answer.Sends.TheVariants as sends
-use Rattle.headers_resource.specs.declared.request.RequestContent.TheVariants.{Sized}
-use Rattle.headers_resource.specs.declared.resource.Resource.{Resource}
+use Rattle.server_connection.specs.declared.piece.Piece.{Piece}
+use Rattle.server_connection.specs.declared.piece.Piece.TheVariants.{Literal}
+use Rattle.server_connection.specs.declared.plan.Plan.{Plan}
+use Rattle.gateway_messages.specs.declared.protocol.Protocol.TheVariants.{Http10, Http11}
+use Rattle.decide_preconditions.specs.declared.plan.Plan.TheVariants.{Full}
+use Rattle.decide_resource.specs.Answers.{IsAnswer}
+use Rattle.decide_resource.specs.Requests.{Request as Asked}
+use Rattle.decide_resource.specs.declared.answer.Answer.{Answer}
+use Rattle.decide_resource.specs.declared.answer.Sends.{Sends}
+use Rattle.decide_resource.specs.declared.answer.Sends.TheVariants as sends
+use Rattle.decide_resource.specs.declared.request.RequestContent.TheVariants.{Sized}
+use Rattle.decide_resource.specs.declared.resource.Resource.{Resource}
 use Rattle.example_notes.specs.Notes.{Removes, Writes, list_text, note_at, path_of, tag_of}
 use Rattle.example_notes.specs.Resources.{IsResource, collection_methods, note_methods}
 use Rattle.example_notes.specs.Targets.{IsTarget}

@@ -2,11 +2,10 @@
 use Rattle.std.specs.Prelude.{◌≡◌, ℕ, Bool, true, false, List, [], ◌∷◌, Option, Some, None, codes, length, map}
 use Rattle.std.specs.Prelude.{option_map}
 use Rattle.http_header.specs.FieldValue.{plain_value}
-use Rattle.headers_preconditions.specs.declared.resource.Resource.TheVariants as current
-use Rattle.headers_resource.specs.declared.representation.Representation.{Representation}
-use Rattle.headers_resource.specs.declared.resource.Resource.{Resource}
-use Rattle.headers_resource.specs.declared.resource.State.{State}
-use Rattle.headers_resource.specs.declared.resource.State.TheVariants as state
+use Rattle.decide_resource.specs.declared.representation.Representation.{Representation}
+use Rattle.decide_resource.specs.declared.resource.Resource.{Resource}
+use Rattle.decide_resource.specs.declared.resource.State.{State}
+use Rattle.decide_resource.specs.declared.resource.State.TheVariants as state
 use Rattle.example_notes.specs.Notes.{tag_of}
 use Rattle.example_notes.specs.declared.notes.Note.{Note}
 
@@ -17,9 +16,8 @@ pub record IsJsonOf (note : Note) (representation : Representation) : Type 0 whe
   pub len : representation.content.len ≡ Some (length note.text)
   pub media_type : option_map (λ line. line.bytes) representation.content.media_type ≡ Some (codes "application/json")
   pub ranges : representation.content.ranges ≡ None
-  pub tag : representation.current
-      ≡ current.Current
-      (record { etag = Some (plain_value (tag_of note.version)); last_modified = None; is_date_strong = false })
+  pub tag : representation.validators
+      ≡ record { etag = Some (plain_value (tag_of note.version)); last_modified = None; is_date_strong = false }
 
 -- what there is of a resource with this text, or without one
 abbrev pub Represents : Option Note → State → List Representation → Type 0

@@ -11,8 +11,8 @@ mod target;
 mod text;
 
 use crate::service::new_service;
-use headers_exchange::serve_exchanges;
 use http_server::Config;
+use server_connection::serve_exchanges;
 use std::hash::RandomState;
 use std::process::ExitCode;
 

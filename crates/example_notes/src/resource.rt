@@ -5,10 +5,10 @@ ghost use Rattle.example_notes.specs.Resources.{IsJsonOf, IsResource, collection
 
 use crate::notes::Note;
 use crate::text::tag_of;
+use decide_cors::{Allowed, AllowedNames, CorsPolicy, CorsRules};
+use decide_preconditions::{Boundary, Content, Validators};
+use decide_resource::{MethodRule, Negotiation, Representation, Resource, State};
 use headers::{ETag, HeaderMap, HeaderValue, Refused};
-use headers_cors_policy::{Allowed, AllowedNames, CorsPolicy, CorsRules};
-use headers_preconditions::{Boundary, Content, Resource as Current, Validators};
-use headers_resource::{MethodRule, Negotiation, Representation, Resource, State};
 use http::Method;
 use http_header::{ACCEPT, CONTENT_TYPE, ETAG, IF_MATCH, IF_NONE_MATCH, LOCATION};
 use std::alloc::{AllocError, Global};
@@ -89,11 +89,11 @@ fn representation(alloc: Global, text: &Note) -> Result<Representation, AllocErr
             media_type: Some(HeaderValue::from_static("application/json")),
             ranges: None,
         },
-        current: Current::Current(Validators {
+        validators: Validators {
             etag: Some(etag),
             last_modified: None,
             is_date_strong: false,
-        }),
+        },
     })
 }
 

@@ -1,0 +1,7 @@
+use Rattle.std.proofs.Common.{take}
+use Rattle.std.specs.List.{AllZip}
+use Rattle.headers.specs.Lines.{lines_of}
+use Rattle.c_decisions.proofs.rules.read_each.Given as goal
+
+abbrev pub invariant-loop-line : goal.invariant-loop-line
+invariant-loop-line g l = AllZip g.T.Listed.reads (lines_of (take l.line-index l.lines)) l.values.items

@@ -1,0 +1,79 @@
+-- What a server answers a request from another origin, by what a caller hands in.
+use Rattle.std.specs.Prelude.{◌≡◌, ◌⊎◌, ℕ, List, Result, Ok, Err}
+use Rattle.http_header.specs.FieldValue.{FieldValue}
+use Rattle.http_header.specs.HeaderMap.{Entries}
+use Rattle.http_header.specs.Token.{IsToken}
+use Rattle.headers.specs.LineMap.{fields_of, lines_at}
+use Rattle.headers_section.specs.Section.{Holds}
+use Rattle.decide_cors.specs.Answer.{IsAnswer}
+use Rattle.decide_cors.specs.Policy.{Policy}
+use Rattle.decide_cors.specs.declared.kind.CorsKind.{CorsKind}
+use Rattle.decide_cors.specs.declared.kind.CorsKind.TheVariants.{Preflight, Plain, NoOrigin}
+use Rattle.decide_cors.specs.declared.policy.CorsAnswer.{CorsAnswer}
+use Rattle.c_decisions.specs.Flags.{flag_of}
+use Rattle.c_decisions.specs.FieldLines.{fields_text}
+use Rattle.c_parts.specs.Endings.{TellsAndWrites}
+use Rattle.c_decisions.specs.Methods.{IsMethodOf}
+use Rattle.c_decisions.specs.Rules.{IsPolicyAnswer, IsPolicyFor}
+use Rattle.c_parts.specs.SectionMap.{IsMapOf}
+use Rattle.c_decisions.specs.declared.cors.CorsFacts.{CorsFacts}
+use Rattle.c_decisions.specs.declared.cors.Shared.{Shared}
+use Rattle.c_decisions.specs.declared.rules.Rules.{Rules}
+use Rattle.c_parts.specs.declared.status.Failure.{Failure}
+use Rattle.c_parts.specs.declared.status.Failure.TheVariants.{Memory}
+
+abbrev pub kind_number : CorsKind → ℕ
+kind_number NoOrigin = 0
+kind_number Plain = 1
+kind_number Preflight = 2
+
+-- what an answer says of its request, and the field lines of its fields
+pub record IsShownAnswer (answer : CorsAnswer) (shared : Shared) : Type 0 where
+  pub kind : shared.facts.kind ≡ kind_number answer.kind
+  pub allowed : shared.facts.is_allowed ≡ flag_of answer.is_allowed
+  pub text : shared.text.items ≡ fields_text (fields_of answer.fields.items)
+
+-- the method and the fields of both sections are those that were handed in, and this is the policy's answer
+pub record IsSharedBy (policy : Policy) (method request response : List ℕ) (shared : Shared) : Type 0 where
+  pub is_method : IsToken method
+  pub asked : Entries FieldValue
+  pub is_asked : Holds request asked
+  pub told : Entries FieldValue
+  pub is_told : Holds response told
+  pub answer : CorsAnswer
+  pub is_answer : IsAnswer policy method (lines_at asked) (lines_at told) answer
+  pub is_shown : IsShownAnswer answer shared
+
+-- the failure is that of reading the method or a section
+abbrev pub FailsAtMessage : (method request response : List ℕ) → Failure → Type 0
+FailsAtMessage method request response failure =
+    IsMethodOf method (Err failure) ⊎ (IsMapOf request (Err failure) ⊎ IsMapOf response (Err failure))
+
+-- the method and both sections can be read: a policy's answer to them has fields, which take memory
+pub record IsMessage (method request response : List ℕ) : Type 0 where
+  pub is_method : IsToken method
+  pub asked : Entries FieldValue
+  pub is_asked : Holds request asked
+  pub told : Entries FieldValue
+  pub is_told : Holds response told
+
+-- the failure is that of reading the method or a section, or of allocating the answer
+abbrev pub FailsToShare : (method request response : List ℕ) → Failure → Type 0
+FailsToShare method request response failure =
+    FailsAtMessage method request response failure ⊎ ((failure ≡ Memory) × IsMessage method request response)
+
+-- the answer is that of the policy, or a failure
+abbrev pub SharesBy : Policy → (method request response : List ℕ) → Result Shared Failure → Type 0
+SharesBy policy method request response (Ok shared) = IsSharedBy policy method request response shared
+SharesBy policy method request response (Err failure) = FailsToShare method request response failure
+
+-- the same of the policy of the rules that were handed in
+abbrev pub Shares : Rules → (method request response : List ℕ) → Result Shared Failure → Type 0
+Shares given method request response (Ok shared) =
+    (policy : Policy) × IsPolicyFor given policy × IsSharedBy policy method request response shared
+Shares given method request response (Err failure) =
+    IsPolicyAnswer given (Err failure) ⊎ FailsToShare method request response failure
+
+abbrev pub WritesShared : (Result Shared Failure → Type 0) → (facts new_facts : CorsFacts) → (old new : List ℕ)
+    → (before written status : ℕ) → Type 0
+WritesShared = TellsAndWrites (λ (shared : Shared). shared.facts) (λ (shared : Shared). shared.text.items)

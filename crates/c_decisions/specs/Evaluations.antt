@@ -1,0 +1,39 @@
+-- What the preconditions of a request come to, by what a caller hands in.
+use Rattle.std.specs.Prelude.{◌≡◌, ◌⊎◌, ℕ, List, Result, Ok, Err}
+use Rattle.http_header.specs.FieldValue.{FieldValue}
+use Rattle.http_header.specs.HeaderMap.{Entries}
+use Rattle.http_header.specs.Token.{IsToken}
+use Rattle.headers.specs.LineMap.{lines_at}
+use Rattle.headers_section.specs.Section.{Holds}
+use Rattle.decide_preconditions.specs.Preconditions.{Answers}
+use Rattle.decide_preconditions.specs.declared.precondition.Precondition.{Precondition}
+use Rattle.decide_preconditions.specs.declared.precondition.Precondition.TheVariants.{Perform, NotModified, Failed}
+use Rattle.decide_preconditions.specs.declared.resource.Resource.{Resource}
+use Rattle.c_parts.specs.SectionMap.{IsMapOf}
+use Rattle.c_decisions.specs.Methods.{IsMethodOf}
+use Rattle.c_decisions.specs.Targets.{IsResourceOf}
+use Rattle.c_decisions.specs.declared.target.Target.{Target}
+use Rattle.c_parts.specs.declared.status.Failure.{Failure}
+
+abbrev pub code_of : Precondition → ℕ
+code_of Perform = 0
+code_of NotModified = 304
+code_of Failed = 412
+
+-- the method, the target and the fields of the section are those that were handed in, and the code is that of their
+-- answer
+pub record IsEvaluated (method input etag : List ℕ) (target : Target) (code : ℕ) : Type 0 where
+  pub is_method : IsToken method
+  pub resource : Resource
+  pub is_resource : IsResourceOf etag target (Ok resource)
+  pub request : Entries FieldValue
+  pub holds : Holds input request
+  pub answer : Precondition
+  pub answers : Answers target.present (lines_at request) resource method answer
+  pub code_is : code ≡ code_of answer
+
+-- the answer is the code, or the failure of reading what was handed in
+abbrev pub Evaluates : (method input etag : List ℕ) → Target → Result ℕ Failure → Type 0
+Evaluates method input etag target (Ok code) = IsEvaluated method input etag target code
+Evaluates method input etag target (Err failure) =
+    IsMethodOf method (Err failure) ⊎ (IsResourceOf etag target (Err failure) ⊎ IsMapOf input (Err failure))

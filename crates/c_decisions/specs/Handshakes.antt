@@ -1,0 +1,167 @@
+-- Both ends of the opening handshake of a WebSocket, by what a caller hands in.
+use Rattle.std.specs.Prelude.{◌≡◌, ◌≢◌, ◌⊎◌, ℕ, true, false, List, [], length, Option, Some, None, Result, Ok, Err}
+use Rattle.std.specs.Prelude.{◌==◌, if◌then◌else◌}
+use Rattle.std.specs.Global.{Vec}
+use Rattle.http.specs.declared.version.Version.{Version}
+use Rattle.http.specs.declared.version.TheConstants.Version.{HTTP_09, HTTP_10, HTTP_11, HTTP_2, HTTP_3}
+use Rattle.http_header.specs.FieldValue.{FieldValue}
+use Rattle.http_header.specs.HeaderMap.{Entries}
+use Rattle.http_header.specs.Token.{IsToken}
+use Rattle.websocket.specs.Handshake.{base64}
+use Rattle.headers.specs.LineMap.{LineMap, lines_at}
+use Rattle.headers.specs.Lines.{Line}
+use Rattle.headers_section.specs.Section.{Holds}
+use Rattle.decide_handshake.specs.Client.{Checks}
+use Rattle.decide_handshake.specs.Messages.{answer_fields, request_fields, status_of}
+use Rattle.decide_handshake.specs.Server.{Answers, IsAccepted}
+use Rattle.decide_handshake.specs.declared.client.Checked.{Checked}
+use Rattle.decide_handshake.specs.declared.client.Checked.TheVariants.{Open, Fail}
+use Rattle.decide_handshake.specs.declared.client.Flaw.{Flaw}
+use Rattle.decide_handshake.specs.declared.client.Flaw.TheVariants as flaw
+use Rattle.decide_handshake.specs.declared.origins.Origins.{Origins}
+use Rattle.decide_handshake.specs.declared.origins.Origins.TheVariants.{Any, Listed}
+use Rattle.decide_handshake.specs.declared.server.Answer.{Answer}
+use Rattle.decide_handshake.specs.declared.server.Answer.TheVariants.{Switch, BadRequest, UpgradeRequired, Forbidden}
+use Rattle.decide_handshake.specs.declared.server.Fault.{Fault}
+use Rattle.decide_handshake.specs.declared.server.Fault.TheVariants as fault
+use Rattle.c_parts.specs.FieldText.{field_lines}
+use Rattle.c_parts.specs.SectionMap.{IsMapOf}
+use Rattle.c_parts.specs.declared.status.Failure.{Failure}
+use Rattle.c_parts.specs.declared.status.Failure.TheVariants.{Refused, Memory, Absent, TooLarge}
+use Rattle.c_decisions.specs.FieldLines.{fields_text}
+use Rattle.c_decisions.specs.Methods.{IsMethodOf}
+use Rattle.c_decisions.specs.Star.{is_any}
+use Rattle.c_decisions.specs.StatusCodes.{IsStatusOf}
+use Rattle.c_decisions.specs.Texts.{AreValuesOf, FailsAt}
+use Rattle.c_decisions.specs.declared.handshake.Answered.{Answered}
+
+-- ---- the server's end
+
+-- the version that a number says, as 11 says HTTP/1.1
+abbrev pub version_of : ℕ → Option Version
+version_of number =
+    if number == 9 then Some HTTP_09
+    else (if number == 10 then Some HTTP_10
+    else (if number == 11 then Some HTTP_11
+    else (if number == 20 then Some HTTP_2 else (if number == 30 then Some HTTP_3 else None))))
+
+abbrev pub IsVersionOf : ℕ → Result Version Failure → Type 0
+IsVersionOf number (Ok version) = version_of number ≡ Some version
+IsVersionOf number (Err failure) = (failure ≡ Refused) × (version_of number ≡ None)
+
+-- the origins of a text: any if its only line is a star, else those of the lines
+abbrev pub AreOriginsOf : List ℕ → Result Origins Failure → Type 0
+AreOriginsOf text (Ok Any) = is_any (field_lines text) ≡ true
+AreOriginsOf text (Ok (Listed origins)) = (is_any (field_lines text) ≡ false) × AreValuesOf text origins.items
+AreOriginsOf text (Err failure) = FailsAt text failure
+
+-- the place of each rule in the list of typed_headers.h
+abbrev pub fault_number : Fault → ℕ
+fault_number fault.NotGet = 1
+fault_number fault.OldHttp = 2
+fault_number fault.NotHttp11 = 3
+fault_number fault.NoHost = 4
+fault_number fault.NoUpgrade = 5
+fault_number fault.NoConnection = 6
+fault_number fault.NoKey = 7
+fault_number fault.MalformedProtocols = 8
+fault_number fault.MalformedExtensions = 9
+
+abbrev pub fault_in : Answer → ℕ
+fault_in (BadRequest fault) = fault_number fault
+fault_in (Switch accept protocol) = 0
+fault_in UpgradeRequired = 0
+fault_in Forbidden = 0
+
+-- the status of an answer, the fault, and the field lines of its fields
+pub record IsShownHandshake (answer : Answer) (shown : Answered) : Type 0 where
+  pub status : shown.facts.status ≡ status_of answer
+  pub fault : shown.facts.fault ≡ fault_in answer
+  pub text : shown.text.items ≡ fields_text (answer_fields answer)
+
+-- all is as it was handed in, and this is the server's answer
+pub record IsAnsweredHandshake (method : List ℕ) (number : ℕ) (input protocols origins : List ℕ) (shown : Answered)
+    : Type 0 where
+  pub is_method : IsToken method
+  pub version : Version
+  pub is_version : version_of number ≡ Some version
+  pub own : List FieldValue
+  pub are_own : AreValuesOf protocols own
+  pub allowed : Origins
+  pub are_allowed : AreOriginsOf origins (Ok allowed)
+  pub request : Entries FieldValue
+  pub holds : Holds input request
+  pub answer : Answer
+  pub answers : Answers method version (lines_at request) allowed own answer
+  pub is_shown : IsShownHandshake answer shown
+
+-- the handshake is accepted, or its answer has fields
+abbrev pub HasFields : List ℕ → Version → LineMap → Origins → List FieldValue → Type 0
+HasFields method version request allowed own =
+    ((key : Line) × IsAccepted method version request allowed key)
+    ⊎ ((answer : Answer) × Answers method version request allowed own answer × (answer_fields answer ≢ []))
+
+-- all is as it was handed in, and the server's answer has fields, which take memory
+pub record IsAnsweredByFields (method : List ℕ) (number : ℕ) (input protocols origins : List ℕ) : Type 0 where
+  pub is_method : IsToken method
+  pub version : Version
+  pub is_version : version_of number ≡ Some version
+  pub own : List FieldValue
+  pub are_own : AreValuesOf protocols own
+  pub allowed : Origins
+  pub are_allowed : AreOriginsOf origins (Ok allowed)
+  pub request : Entries FieldValue
+  pub holds : Holds input request
+  pub has_fields : HasFields method version (lines_at request) allowed own
+
+-- the answer is the server's, or the failure of reading what was handed in; `Memory` also if the answer has fields
+abbrev pub AnswersHandshake : List ℕ → ℕ → (input protocols origins : List ℕ) → Result Answered Failure → Type 0
+AnswersHandshake method number input protocols origins (Ok shown) =
+    IsAnsweredHandshake method number input protocols origins shown
+AnswersHandshake method number input protocols origins (Err failure) =
+    IsMethodOf method (Err failure)
+    ⊎ (IsVersionOf number (Err failure)
+    ⊎ (FailsAt protocols failure
+    ⊎ (FailsAt origins failure
+    ⊎ (IsMapOf input (Err failure)
+    ⊎ ((failure ≡ Memory) × IsAnsweredByFields method number input protocols origins)))))
+
+-- ---- the client's end
+
+-- the field lines of a handshake with this nonce; `Refused` only if it hasn't sixteen bytes
+abbrev pub Offers : List ℕ → Result (Vec ℕ) Failure → Type 0
+Offers nonce (Ok text) = (length nonce ≡ 16) × (text.items ≡ fields_text (request_fields (base64 nonce)))
+Offers nonce (Err Refused) = length nonce ≢ 16
+Offers nonce (Err Memory) = length nonce ≡ 16
+Offers nonce (Err Absent) = ⊥
+Offers nonce (Err TooLarge) = ⊥
+
+-- the place of each rule in the list of typed_headers.h
+abbrev pub flaw_number : Flaw → ℕ
+flaw_number flaw.NotSwitched = 1
+flaw_number flaw.NoUpgrade = 2
+flaw_number flaw.NoConnection = 3
+flaw_number flaw.WrongAccept = 4
+flaw_number flaw.MalformedExtensions = 5
+flaw_number flaw.UnaskedExtension = 6
+flaw_number flaw.UnaskedProtocol = 7
+
+abbrev pub checked_number : Checked → ℕ
+checked_number Open = 0
+checked_number (Fail flaw) = flaw_number flaw
+
+-- the status and the fields of both sections are those that were handed in, and this is what the client finds
+pub record IsChecked (sent : List ℕ) (status : ℕ) (response : List ℕ) (number : ℕ) : Type 0 where
+  pub asked : Entries FieldValue
+  pub is_asked : Holds sent asked
+  pub told : Entries FieldValue
+  pub is_told : Holds response told
+  pub checked : Checked
+  pub checks : Checks (lines_at asked) status (lines_at told) checked
+  pub shown : number ≡ checked_number checked
+
+abbrev pub ChecksResponse : List ℕ → ℕ → List ℕ → Result ℕ Failure → Type 0
+ChecksResponse sent status response (Ok number) =
+    IsStatusOf status (Ok status) × IsChecked sent status response number
+ChecksResponse sent status response (Err failure) =
+    IsStatusOf status (Err failure) ⊎ (IsMapOf sent (Err failure) ⊎ IsMapOf response (Err failure))

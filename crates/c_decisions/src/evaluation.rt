@@ -1,0 +1,39 @@
+//! The preconditions of a request.
+ghost use Rattle.std.specs.Prelude.{◌≡◌};
+ghost use Rattle.c_decisions.specs.Evaluations.{Evaluates, code_of};
+
+use crate::method::read_method;
+use crate::target::{Target, read_resource};
+use c_parts::{Failure, HashKeys, read_map};
+use decide_preconditions::{Precondition, evaluate};
+use std::alloc::Global;
+
+/// Evaluates the preconditions of a request (RFC 9110, section 13.2.2): 0 if the method is
+/// performed, 304 or 412.
+pub fn evaluate_request(
+    alloc: Global,
+    method: &[u8],
+    section: &[u8],
+    keys: &HashKeys,
+    etag: &[u8],
+    target: &Target,
+) -> Result<u16, Failure>
+    ensures { Evaluates method.now section.now etag.now target.now result }
+{
+    let method = read_method(alloc, method)?;
+    let resource = read_resource(alloc, etag, target)?;
+    let request = read_map(alloc, section, keys)?;
+    let answer = evaluate(&method, &request, &resource, target.present);
+    Ok(code_of(answer))
+}
+
+/// The status of an answer: 0 if the method is performed, 304 or 412.
+pub fn code_of(answer: Precondition) -> u16
+    ensures { result ≡ code_of answer }
+{
+    match answer {
+        Precondition::Perform => 0,
+        Precondition::NotModified => 304,
+        Precondition::Failed => 412,
+    }
+}

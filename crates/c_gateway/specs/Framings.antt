@@ -1,0 +1,78 @@
+-- How the content of a message is delimited (RFC 9112, section 6.3), by what a caller hands in.
+use Rattle.std.specs.Prelude.{◌≡◌, ◌≢◌, ◌⊎◌, ℕ, Bool, List, Option, Some, None, Result, Ok, Err, is_some}
+use Rattle.std.specs.Prelude.{if◌then◌else◌}
+use Rattle.http_header.specs.FieldValue.{FieldValue}
+use Rattle.http_header.specs.HeaderMap.{Entries}
+use Rattle.http_header.specs.Token.{IsToken}
+use Rattle.headers.specs.LineMap.{LineMap, lines_at}
+use Rattle.headers_section.specs.Section.{Holds}
+use Rattle.gateway_messages.specs.Framing.{RejectsFraming, States}
+use Rattle.gateway_messages.specs.Rejections.{status_of}
+use Rattle.gateway_messages.specs.Responses.{DelimitsContent, RejectsContent}
+use Rattle.gateway_messages.specs.declared.framing.Framing.{Framing}
+use Rattle.gateway_messages.specs.declared.protocol.Protocol.{Protocol}
+use Rattle.gateway_messages.specs.declared.rejection.Rejection.{Rejection}
+use Rattle.gateway_messages.specs.declared.response.Content.{Content}
+use Rattle.c_parts.specs.SectionMap.{IsMapOf}
+use Rattle.c_parts.specs.declared.status.Failure.{Failure}
+use Rattle.c_decisions.specs.Methods.{IsMethodOf}
+use Rattle.c_decisions.specs.StatusCodes.{IsStatusOf}
+use Rattle.c_gateway.specs.Contents.{content_facts, no_content, request_content}
+use Rattle.c_gateway.specs.Protocols.{IsProtocolOf}
+use Rattle.c_gateway.specs.Reasons.{reason_number}
+use Rattle.c_gateway.specs.declared.framing.FramingFacts.{FramingFacts}
+
+-- the status code of a response; 0 says that the message is a request
+abbrev pub IsCodeOf : ℕ → Result (Option ℕ) Failure → Type 0
+IsCodeOf number (Ok None) = number ≡ 0
+IsCodeOf number (Ok (Some code)) = (number ≢ 0) × IsStatusOf number (Ok code)
+IsCodeOf number (Err failure) = (number ≢ 0) × IsStatusOf number (Err failure)
+
+-- a request's content is what its fields state, or there is none
+pub record IsRequestContent (protocol : Protocol) (fields : LineMap) (content : Content) : Type 0 where
+  pub stated : Framing
+  pub states : States protocol fields stated
+  pub content_is : content ≡ request_content stated
+
+-- how the content of a message is delimited, by the method of the request, and the status if it is a response
+abbrev pub Delimits : Protocol → List ℕ → Option ℕ → LineMap → Content → Type 0
+Delimits protocol method None fields content = IsRequestContent protocol fields content
+Delimits protocol method (Some status) fields content = DelimitsContent protocol method status fields content
+
+-- why the fields are rejected
+abbrev pub RejectsMessage : Protocol → List ℕ → Option ℕ → LineMap → Rejection → Type 0
+RejectsMessage protocol method None fields rejection = RejectsFraming protocol fields rejection
+RejectsMessage protocol method (Some status) fields rejection = RejectsContent protocol method status fields rejection
+
+abbrev pub IsDelimited : Protocol → List ℕ → Option ℕ → LineMap → Result Content Rejection → Type 0
+IsDelimited protocol method code fields (Ok content) = Delimits protocol method code fields content
+IsDelimited protocol method code fields (Err rejection) = RejectsMessage protocol method code fields rejection
+
+-- the status that answers a rejected request, or takes the place of a rejected response
+abbrev pub rejection_status : Bool → Rejection → ℕ
+rejection_status is_response rejection = if is_response then 502 else status_of rejection
+
+abbrev pub framing_facts : Bool → Result Content Rejection → FramingFacts
+framing_facts is_response (Ok content) = record { content = content_facts content; status = 0; reason = 0 }
+framing_facts is_response (Err rejection) =
+    record { content = no_content; status = rejection_status is_response rejection; reason = reason_number rejection }
+
+-- all is as it was handed in, and the content is delimited so
+pub record IsFramed (method : List ℕ) (status version : ℕ) (input : List ℕ) (facts : FramingFacts) : Type 0 where
+  pub is_method : IsToken method
+  pub code : Option ℕ
+  pub is_code : IsCodeOf status (Ok code)
+  pub protocol : Protocol
+  pub is_protocol : IsProtocolOf version (Ok protocol)
+  pub fields : Entries FieldValue
+  pub holds : Holds input fields
+  pub delimited : Result Content Rejection
+  pub is_delimited : IsDelimited protocol method code (lines_at fields) delimited
+  pub facts_are : facts ≡ framing_facts (is_some code) delimited
+
+-- the answer is how the content is delimited, or the failure of reading what was handed in
+abbrev pub Frames : (method : List ℕ) → (status version : ℕ) → (input : List ℕ) → Result FramingFacts Failure → Type 0
+Frames method status version input (Ok facts) = IsFramed method status version input facts
+Frames method status version input (Err failure) =
+    IsMethodOf method (Err failure)
+    ⊎ (IsCodeOf status (Err failure) ⊎ (IsProtocolOf version (Err failure) ⊎ IsMapOf input (Err failure)))

@@ -1,0 +1,134 @@
+-- What a gateway sends of a request on its next connection, by what a caller hands in.
+use Rattle.std.specs.Prelude.{◌≡◌, ◌⊎◌, ℕ, Bool, true, false, List, [], Option, option_map, Result, Ok, Err}
+use Rattle.http_header.specs.FieldValue.{FieldValue}
+use Rattle.http_header.specs.HeaderMap.{Entries}
+use Rattle.http_header.specs.Token.{IsToken}
+use Rattle.headers.specs.LineMap.{lines_at}
+use Rattle.headers_section.specs.Section.{Holds}
+use Rattle.gateway_messages.specs.FieldLines.{Field, fields_of}
+use Rattle.gateway_messages.specs.Rejections.{status_of}
+use Rattle.gateway_messages.specs.Requests.{Request}
+use Rattle.gateway_messages.specs.declared.expectation.Expectation.{Expectation}
+use Rattle.gateway_messages.specs.declared.expectation.Expectation.TheVariants as expectation
+use Rattle.gateway_messages.specs.declared.gateway.Gateway.{Gateway}
+use Rattle.gateway_messages.specs.declared.protocol.Protocol.{Protocol}
+use Rattle.gateway_next_hop.specs.Sent.{IsHopOutcome}
+use Rattle.gateway_next_hop.specs.declared.request.HopOutcome.{HopOutcome}
+use Rattle.gateway_next_hop.specs.declared.request.HopOutcome.TheVariants.{Send, RequireLength, Respond, Reject}
+use Rattle.c_parts.specs.SectionMap.{IsMapOf}
+use Rattle.c_parts.specs.declared.status.Failure.{Failure}
+use Rattle.c_decisions.specs.Flags.{flag_of}
+use Rattle.c_decisions.specs.Methods.{IsMethodOf}
+use Rattle.c_decisions.specs.Texts.{IsOptionalValue}
+use Rattle.c_gateway.specs.Contents.{content_facts, no_content, request_content}
+use Rattle.c_gateway.specs.Gateways.{IsGatewayOf}
+use Rattle.c_gateway.specs.Hops.{AreNodesOf, hop_of}
+use Rattle.c_gateway.specs.Lines.{lines_text}
+use Rattle.c_gateway.specs.Protocols.{IsProtocolOf}
+use Rattle.c_gateway.specs.Reasons.{length_required, reason_number}
+use Rattle.c_gateway.specs.declared.gateway.GatewayOptions.{GatewayOptions}
+use Rattle.c_gateway.specs.declared.hop.HopOptions.{HopOptions}
+use Rattle.c_gateway.specs.declared.hop.Nodes.{Nodes}
+use Rattle.c_gateway.specs.declared.request.RequestFacts.{RequestFacts}
+use Rattle.c_gateway.specs.declared.request.RequestStep.{RequestStep}
+
+-- ---- what a caller is told
+
+-- the gateway itself sends the 100 (Continue)
+abbrev pub is_answered : Expectation → Bool
+is_answered expectation.Absent = false
+is_answered expectation.Forwarded = false
+is_answered expectation.Answered = true
+
+abbrev pub rejected : ℕ → ℕ → RequestFacts
+rejected status reason =
+    record { content = no_content; status = status; action = 2; reason = reason; sends_continue = 0 }
+
+abbrev pub request_facts : HopOutcome → RequestFacts
+request_facts (Send sent) =
+    record {
+      content = content_facts (request_content sent.framing);
+      status = 0;
+      action = 0;
+      reason = 0;
+      sends_continue = flag_of (is_answered sent.expectation);
+    }
+request_facts RequireLength = rejected 411 length_required
+request_facts (Respond framing) =
+    record {
+      content = content_facts (request_content framing);
+      status = 0;
+      action = 1;
+      reason = 0;
+      sends_continue = 0;
+    }
+request_facts (Reject rejection) = rejected (status_of rejection) (reason_number rejection)
+
+-- the field lines that are sent: none but of a request that is forwarded
+abbrev pub sent_lines : HopOutcome → List Field
+sent_lines (Send sent) = fields_of sent.fields.items
+sent_lines RequireLength = []
+sent_lines (Respond framing) = []
+sent_lines (Reject rejection) = []
+
+pub record IsShownRequest (outcome : HopOutcome) (step : RequestStep) : Type 0 where
+  pub facts : step.facts ≡ request_facts outcome
+  pub text : step.text.items ≡ lines_text (sent_lines outcome)
+
+-- ---- what a gateway does
+
+-- the gateway's outcome of a request, which arrived so
+abbrev pub IsOutcomeAt : Gateway → HopOptions → Nodes → Protocol → Request → HopOutcome → Type 0
+IsOutcomeAt gateway options nodes server request outcome =
+    IsHopOutcome gateway (hop_of options nodes server request.authority request.fields) request outcome
+
+-- a caller is told of the gateway's outcome of a request, which arrived so
+pub record IsStepAt (gateway : Gateway) (options : HopOptions) (nodes : Nodes) (server : Protocol) (request : Request)
+    (step : RequestStep) : Type 0 where
+  pub outcome : HopOutcome
+  pub is_outcome : IsOutcomeAt gateway options nodes server request outcome
+  pub is_shown : IsShownRequest outcome step
+
+-- all is as it was handed in, and this is what the gateway does
+pub record IsPassedRequest (given : GatewayOptions) (options : HopOptions) (method : List ℕ) (version : ℕ)
+    (authority input : List ℕ) (step : RequestStep) : Type 0 where
+  pub gateway : Gateway
+  pub is_gateway : IsGatewayOf given (Ok gateway)
+  pub nodes : Nodes
+  pub are_nodes : AreNodesOf options (Ok nodes)
+  pub server : Protocol
+  pub is_server : IsProtocolOf options.server_version (Ok server)
+  pub protocol : Protocol
+  pub is_protocol : IsProtocolOf version (Ok protocol)
+  pub is_method : IsToken method
+  pub target : Option FieldValue
+  pub is_target : IsOptionalValue authority (Ok target)
+  pub fields : Entries FieldValue
+  pub holds : Holds input fields
+  pub outcome : HopOutcome
+  pub is_outcome : IsOutcomeAt gateway options nodes server
+      (record {
+        protocol = protocol;
+        method = method;
+        authority = option_map (λ value. value.bytes) target;
+        fields = lines_at fields;
+      }) outcome
+  pub is_shown : IsShownRequest outcome step
+
+-- why something that was handed in can't be read
+abbrev pub FailsAtRequest : GatewayOptions → HopOptions → (method : List ℕ) → ℕ → (authority input : List ℕ) → Failure
+    → Type 0
+FailsAtRequest given options method version authority input failure =
+    IsGatewayOf given (Err failure)
+    ⊎ (AreNodesOf options (Err failure)
+    ⊎ (IsProtocolOf options.server_version (Err failure)
+    ⊎ (IsProtocolOf version (Err failure)
+    ⊎ (IsMethodOf method (Err failure)
+    ⊎ (IsOptionalValue authority (Err failure) ⊎ IsMapOf input (Err failure))))))
+
+abbrev pub PassesRequest : GatewayOptions → HopOptions → (method : List ℕ) → ℕ → (authority input : List ℕ)
+    → Result RequestStep Failure → Type 0
+PassesRequest given options method version authority input (Ok step) =
+    IsPassedRequest given options method version authority input step
+PassesRequest given options method version authority input (Err failure) =
+    FailsAtRequest given options method version authority input failure

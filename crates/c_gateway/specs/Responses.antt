@@ -1,0 +1,105 @@
+-- What a gateway forwards of a response, by what a caller hands in.
+use Rattle.std.specs.Prelude.{◌≡◌, ◌⊎◌, ℕ, List, [], Result, Ok, Err}
+use Rattle.http_header.specs.FieldValue.{FieldValue}
+use Rattle.http_header.specs.HeaderMap.{Entries}
+use Rattle.http_header.specs.Token.{IsToken}
+use Rattle.headers.specs.LineMap.{lines_at}
+use Rattle.headers_section.specs.Section.{Holds}
+use Rattle.gateway_messages.specs.FieldLines.{Field, fields_of}
+use Rattle.gateway_messages.specs.Responses.{IsResponseOutcome, Response}
+use Rattle.gateway_messages.specs.declared.gateway.Gateway.{Gateway}
+use Rattle.gateway_messages.specs.declared.protocol.Protocol.{Protocol}
+use Rattle.gateway_messages.specs.declared.response.ResponseOutcome.{ResponseOutcome}
+use Rattle.gateway_messages.specs.declared.response.ResponseOutcome.TheVariants.{Forward, Discard, Reject}
+use Rattle.c_parts.specs.SectionMap.{IsMapOf}
+use Rattle.c_parts.specs.declared.status.Failure.{Failure}
+use Rattle.c_decisions.specs.Methods.{IsMethodOf}
+use Rattle.c_decisions.specs.StatusCodes.{IsStatusOf}
+use Rattle.c_gateway.specs.Contents.{content_facts, no_content, sent_content}
+use Rattle.c_gateway.specs.Dates.{IsDateOf}
+use Rattle.c_gateway.specs.Gateways.{IsGatewayOf}
+use Rattle.c_gateway.specs.Lines.{lines_text}
+use Rattle.c_gateway.specs.Protocols.{IsProtocolOf}
+use Rattle.c_gateway.specs.Reasons.{reason_number}
+use Rattle.c_gateway.specs.declared.gateway.GatewayOptions.{GatewayOptions}
+use Rattle.c_gateway.specs.declared.response.ResponseFacts.{ResponseFacts}
+use Rattle.c_gateway.specs.declared.response.ResponseStep.{ResponseStep}
+
+-- ---- what a caller is told
+
+abbrev pub without_content : ℕ → ℕ → ℕ → ResponseFacts
+without_content status action reason =
+    record { received = no_content; sent = no_content; status = status; action = action; reason = reason }
+
+abbrev pub response_facts : ResponseOutcome → ResponseFacts
+response_facts (Forward sent) =
+    record {
+      received = content_facts sent.content;
+      sent = content_facts (sent_content sent.content sent.framing);
+      status = 0;
+      action = 0;
+      reason = 0;
+    }
+response_facts Discard = without_content 0 3 0
+response_facts (Reject rejection) = without_content 502 2 (reason_number rejection)
+
+-- the field lines that are sent: none but of a response that is forwarded
+abbrev pub forwarded_lines : ResponseOutcome → List Field
+forwarded_lines (Forward sent) = fields_of sent.fields.items
+forwarded_lines Discard = []
+forwarded_lines (Reject rejection) = []
+
+pub record IsShownResponse (outcome : ResponseOutcome) (step : ResponseStep) : Type 0 where
+  pub facts : step.facts ≡ response_facts outcome
+  pub text : step.text.items ≡ lines_text (forwarded_lines outcome)
+
+-- ---- what a gateway does
+
+-- a caller is told of the gateway's outcome of a response, which came at that second
+pub record IsStepAt (gateway : Gateway) (second : ℕ) (response : Response) (step : ResponseStep) : Type 0 where
+  pub outcome : ResponseOutcome
+  pub is_outcome : IsResponseOutcome gateway second response outcome
+  pub is_shown : IsShownResponse outcome step
+
+-- all is as it was handed in, and this is what the gateway does
+pub record IsPassedResponse (given : GatewayOptions) (status version : ℕ) (input method : List ℕ)
+    (client_version second : ℕ) (step : ResponseStep) : Type 0 where
+  pub gateway : Gateway
+  pub is_gateway : IsGatewayOf given (Ok gateway)
+  pub is_status : IsStatusOf status (Ok status)
+  pub protocol : Protocol
+  pub is_protocol : IsProtocolOf version (Ok protocol)
+  pub is_method : IsToken method
+  pub client : Protocol
+  pub is_client : IsProtocolOf client_version (Ok client)
+  pub is_date : IsDateOf second (Ok second)
+  pub fields : Entries FieldValue
+  pub holds : Holds input fields
+  pub outcome : ResponseOutcome
+  pub is_outcome : IsResponseOutcome gateway second
+      (record {
+        protocol = protocol;
+        status = status;
+        fields = lines_at fields;
+        method = method;
+        client = client;
+      }) outcome
+  pub is_shown : IsShownResponse outcome step
+
+-- why something that was handed in can't be read
+abbrev pub FailsAtResponse : GatewayOptions → (status version : ℕ) → (input method : List ℕ)
+    → (client_version second : ℕ) → Failure → Type 0
+FailsAtResponse given status version input method client_version second failure =
+    IsGatewayOf given (Err failure)
+    ⊎ (IsStatusOf status (Err failure)
+    ⊎ (IsProtocolOf version (Err failure)
+    ⊎ (IsMethodOf method (Err failure)
+    ⊎ (IsProtocolOf client_version (Err failure)
+    ⊎ (IsDateOf second (Err failure) ⊎ IsMapOf input (Err failure))))))
+
+abbrev pub PassesResponse : GatewayOptions → (status version : ℕ) → (input method : List ℕ)
+    → (client_version second : ℕ) → Result ResponseStep Failure → Type 0
+PassesResponse given status version input method client_version second (Ok step) =
+    IsPassedResponse given status version input method client_version second step
+PassesResponse given status version input method client_version second (Err failure) =
+    FailsAtResponse given status version input method client_version second failure

@@ -1,0 +1,43 @@
+-- Calls on a handle.
+use Rattle.std.specs.Prelude.{◌≡◌, Option, Some, None, Result, Ok, Err}
+use Rattle.http_header.specs.FieldValue.{FieldValue}
+use Rattle.http_header.specs.HeaderMap.{Entries}
+use Rattle.decide_cors.specs.Policy.{Policy}
+use Rattle.decide_resource.specs.declared.resource.Resource.{Resource}
+use Rattle.c_parts.specs.declared.status.Failure.{Failure}
+use Rattle.c_parts.specs.declared.status.Failure.TheVariants.{Refused, Absent}
+use Rattle.c_handles.specs.declared.held.Held.{Held}
+use Rattle.c_handles.specs.declared.held.Held.TheVariants as held
+
+-- the fields of the section that a handle has
+abbrev pub section_in : Option Held → Option (Entries FieldValue)
+section_in None = None
+section_in (Some (held.Section fields)) = Some fields
+section_in (Some (held.Policy policy)) = None
+section_in (Some (held.Resource resource)) = None
+
+-- the policy that a handle has
+abbrev pub policy_in : Option Held → Option Policy
+policy_in None = None
+policy_in (Some (held.Section fields)) = None
+policy_in (Some (held.Policy policy)) = Some policy
+policy_in (Some (held.Resource resource)) = None
+
+-- the resource that a handle has
+abbrev pub resource_in : Option Held → Option Resource
+resource_in None = None
+resource_in (Some (held.Section fields)) = None
+resource_in (Some (held.Policy policy)) = None
+resource_in (Some (held.Resource resource)) = Some resource
+
+-- this is said of what a handle has; without it, the answer is `Absent`
+abbrev pub OnHeld : {X V : Type 0} → (X → Result V Failure → Type 0) → Option X → Result V Failure → Type 0
+OnHeld P None answer = answer ≡ Err Absent
+OnHeld P (Some value) answer = P value answer
+
+-- A closed handle is opened with a value for which P holds, or stays closed and P holds for the failure. An open handle
+-- stays as it was, and the failure is `Refused`.
+abbrev pub Opens : (Result Held Failure → Type 0) → (old new : Option Held) → Result (Unit {0}) Failure → Type 0
+Opens P None (Some new) answer = (answer ≡ Ok tt) × P (Ok new)
+Opens P None None answer = (failure : Failure) × (answer ≡ Err failure) × P (Err failure)
+Opens P (Some old) new answer = (answer ≡ Err Refused) × (new ≡ Some old)

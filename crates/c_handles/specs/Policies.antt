@@ -1,0 +1,45 @@
+-- A policy for requests from other origins that was made, and what it answers.
+use Rattle.std.specs.Prelude.{◌≡◌, ◌⊎◌, ℕ, List, Option, Some, None, Result, Ok, Err}
+use Rattle.http_header.specs.FieldValue.{FieldValue}
+use Rattle.http_header.specs.HeaderMap.{Entries}
+use Rattle.http_header.specs.Token.{IsToken}
+use Rattle.headers_section.specs.Section.{Holds}
+use Rattle.decide_cors.specs.Policy.{Policy}
+use Rattle.c_parts.specs.SectionMap.{IsMapOf}
+use Rattle.c_parts.specs.declared.status.Failure.{Failure}
+use Rattle.c_parts.specs.declared.status.Failure.TheVariants.{Memory, Absent}
+use Rattle.c_decisions.specs.Cors.{IsSharedBy}
+use Rattle.c_decisions.specs.Methods.{IsMethodOf}
+use Rattle.c_decisions.specs.Rules.{IsPolicyAnswer}
+use Rattle.c_decisions.specs.declared.cors.Shared.{Shared}
+use Rattle.c_decisions.specs.declared.rules.Rules.{Rules}
+use Rattle.c_handles.specs.Sections.{OfEach}
+use Rattle.c_handles.specs.declared.held.Held.{Held}
+use Rattle.c_handles.specs.declared.held.Held.TheVariants as held
+
+-- the policy of the rules, or why there is none; `Memory` also for the handle
+abbrev pub IsPolicyHeld : Rules → Result Held Failure → Type 0
+IsPolicyHeld given (Ok (held.Section fields)) = ⊥
+IsPolicyHeld given (Ok (held.Policy policy)) = IsPolicyAnswer given (Ok policy)
+IsPolicyHeld given (Ok (held.Resource resource)) = ⊥
+IsPolicyHeld given (Err failure) = IsPolicyAnswer given (Err failure) ⊎ (failure ≡ Memory)
+
+-- the method and the section of the response can be read: a policy's answer to them has fields, which take memory
+pub record AreRead (method response : List ℕ) : Type 0 where
+  pub is_method : IsToken method
+  pub told : Entries FieldValue
+  pub is_told : Holds response told
+
+module _ (method response : List ℕ) where
+  -- the policy's answer to a request with these fields
+  abbrev pub SharesOf : Policy → Entries FieldValue → Result Shared Failure → Type 0
+  SharesOf policy fields (Ok shared) = OfEach fields (λ request. IsSharedBy policy method request response shared)
+  SharesOf policy fields (Err failure) =
+      IsMethodOf method (Err failure)
+      ⊎ (IsMapOf response (Err failure) ⊎ ((failure ≡ Memory) × AreRead method response))
+
+  -- the same of two handles: `Absent` if one has none
+  abbrev pub SharesBetween : Option Policy → Option (Entries FieldValue) → Result Shared Failure → Type 0
+  SharesBetween None fields answer = answer ≡ Err Absent
+  SharesBetween (Some policy) None answer = answer ≡ Err Absent
+  SharesBetween (Some policy) (Some fields) answer = SharesOf policy fields answer

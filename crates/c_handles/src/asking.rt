@@ -1,0 +1,245 @@
+//! What is asked of a section.
+ghost use Rattle.std.specs.Prelude.{◌≡◌, Some};
+ghost use Rattle.decide_negotiation.specs.Choice.{Chooses};
+ghost use Rattle.decide_negotiation.specs.Qualities.{quality_in};
+ghost use Rattle.c_handles.specs.Handles.{OnHeld, section_in};
+ghost use Rattle.c_handles.specs.Sections.{EvaluatesOf, FindsOf, RespondsOf, SelectsOf, lines_under};
+
+use crate::handle::Handle;
+use crate::held::Held;
+use c_decisions::{
+    ContentParts, Responded, Selected, Target, boundary_of, code_of, content_of, given,
+    read_method, read_resource, show_response, show_selection, values_of,
+};
+use c_parts::Failure;
+use decide_negotiation::{Dimension, negotiate};
+use decide_preconditions::{RangeLimits, Resource};
+use headers::HeaderMap;
+use std::alloc::Global;
+
+fn evaluate_of(
+    alloc: Global,
+    fields: &HeaderMap,
+    method: &[u8],
+    etag: &[u8],
+    target: &Target,
+) -> Result<u16, Failure>
+    ensures { EvaluatesOf fields.now method.now etag.now target.now result }
+{
+    let method = read_method(alloc, method)?;
+    let resource = read_resource(alloc, etag, target)?;
+    let answer = decide_preconditions::evaluate(&method, fields, &resource, target.present);
+    Ok(code_of(answer))
+}
+
+fn evaluate_in(
+    alloc: Global,
+    held: &Held,
+    method: &[u8],
+    etag: &[u8],
+    target: &Target,
+) -> Result<u16, Failure>
+    ensures { OnHeld (λ fields. EvaluatesOf fields method.now etag.now target.now) (section_in (Some held.now)) result }
+{
+    match held {
+        Held::Section(fields) => evaluate_of(alloc, fields, method, etag, target),
+        _ => Err(Failure::Absent),
+    }
+}
+
+/// Evaluates the preconditions of a request with these fields (RFC 9110, section 13.2.2): 0 if the
+/// method is performed, 304 or 412.
+pub fn evaluate(
+    alloc: Global,
+    section: &mut Handle,
+    method: &[u8],
+    etag: &[u8],
+    target: &Target,
+) -> Result<u16, Failure>
+    ensures same { section.new.held ≡ section.old.held }
+    ensures answer { OnHeld (λ fields. EvaluatesOf fields method.now etag.now target.now)
+        (section_in section.old.held) result }
+{
+    let Some(held) = section.take(alloc) else {
+        return Err(Failure::Absent);
+    };
+    let answer = evaluate_in(alloc, &held, method, etag, target);
+    section.put(held);
+    answer
+}
+
+fn select_of(
+    alloc: Global,
+    fields: &HeaderMap,
+    method: &[u8],
+    etag: &[u8],
+    target: &Target,
+    length: u64,
+) -> Result<Selected, Failure>
+    ensures { SelectsOf fields.now method.now etag.now target.now length result }
+{
+    let method = read_method(alloc, method)?;
+    let Resource::Current(current) = read_resource(alloc, etag, target)? else {
+        return Err(Failure::Absent);
+    };
+    let limits = RangeLimits::usual();
+    let selection = decide_preconditions::select(
+        alloc,
+        &method,
+        fields,
+        &current,
+        target.present,
+        length,
+        &limits,
+    )?;
+    Ok(show_selection(alloc, &selection)?)
+}
+
+fn select_in(
+    alloc: Global,
+    held: &Held,
+    method: &[u8],
+    etag: &[u8],
+    target: &Target,
+    length: u64,
+) -> Result<Selected, Failure>
+    ensures { OnHeld (λ fields. SelectsOf fields method.now etag.now target.now length)
+        (section_in (Some held.now)) result }
+{
+    match held {
+        Held::Section(fields) => select_of(alloc, fields, method, etag, target, length),
+        _ => Err(Failure::Absent),
+    }
+}
+
+/// Which part of a representation of `length` bytes a request with these fields selects (RFC 9110,
+/// sections 13.2.2 and 14.2).
+pub fn select(
+    alloc: Global,
+    section: &mut Handle,
+    method: &[u8],
+    etag: &[u8],
+    target: &Target,
+    length: u64,
+) -> Result<Selected, Failure>
+    ensures same { section.new.held ≡ section.old.held }
+    ensures answer { OnHeld (λ fields. SelectsOf fields method.now etag.now target.now length)
+        (section_in section.old.held) result }
+{
+    let Some(held) = section.take(alloc) else {
+        return Err(Failure::Absent);
+    };
+    let answer = select_in(alloc, &held, method, etag, target, length);
+    section.put(held);
+    answer
+}
+
+fn respond_of(
+    alloc: Global,
+    fields: &HeaderMap,
+    method: &[u8],
+    etag: &[u8],
+    target: &Target,
+    content: &ContentParts<'_>,
+    boundary: &[u8],
+) -> Result<Responded, Failure>
+    ensures { RespondsOf fields.now method.now etag.now target.now content.entry.now boundary.now result }
+{
+    let method = read_method(alloc, method)?;
+    let resource = read_resource(alloc, etag, target)?;
+    let content = content_of(alloc, content)?;
+    let boundary = boundary_of(alloc, boundary)?;
+    let answer = decide_preconditions::respond(
+        alloc,
+        &method,
+        fields,
+        &resource,
+        target.present,
+        &content,
+        &boundary,
+    )?;
+    Ok(show_response(alloc, answer, decide_preconditions::is_known_by(fields))?)
+}
+
+fn respond_in(
+    alloc: Global,
+    held: &Held,
+    method: &[u8],
+    etag: &[u8],
+    target: &Target,
+    content: &ContentParts<'_>,
+    boundary: &[u8],
+) -> Result<Responded, Failure>
+    ensures { OnHeld
+        (λ fields. RespondsOf fields method.now etag.now target.now content.entry.now boundary.now)
+        (section_in (Some held.now)) result }
+{
+    match held {
+        Held::Section(fields) => respond_of(alloc, fields, method, etag, target, content, boundary),
+        _ => Err(Failure::Absent),
+    }
+}
+
+/// The response to a request with these fields, for a representation (RFC 9110, sections 13.2.2 and
+/// 14.2), within the usual limits.
+pub fn respond(
+    alloc: Global,
+    section: &mut Handle,
+    method: &[u8],
+    etag: &[u8],
+    target: &Target,
+    content: &ContentParts<'_>,
+    boundary: &[u8],
+) -> Result<Responded, Failure>
+    ensures same { section.new.held ≡ section.old.held }
+    ensures answer { OnHeld
+        (λ fields. RespondsOf fields method.now etag.now target.now content.entry.now boundary.now)
+        (section_in section.old.held) result }
+{
+    let Some(held) = section.take(alloc) else {
+        return Err(Failure::Absent);
+    };
+    let answer = respond_in(alloc, &held, method, etag, target, content, boundary);
+    section.put(held);
+    answer
+}
+
+fn choose_of<D: Dimension>(
+    alloc: Global,
+    fields: &HeaderMap,
+    offers: &[u8],
+) -> Result<usize, Failure>
+    ensures { FindsOf (Chooses (quality_in D.gives (lines_under fields.now D.NAME))) offers.now result }
+{
+    let offers = values_of(alloc, offers)?;
+    given(negotiate::<D>(fields, offers.as_slice()))
+}
+
+fn choose_in<D: Dimension>(alloc: Global, held: &Held, offers: &[u8]) -> Result<usize, Failure>
+    ensures { OnHeld (λ fields. FindsOf (Chooses (quality_in D.gives (lines_under fields D.NAME))) offers.now)
+        (section_in (Some held.now)) result }
+{
+    match held {
+        Held::Section(fields) => choose_of::<D>(alloc, fields, offers),
+        _ => Err(Failure::Absent),
+    }
+}
+
+/// The place, counted from 0, of the offer that a request with these fields prefers (RFC 9110, section
+/// 12.5). The offers are one a line, the preferred one first. `Absent` if none is acceptable.
+pub fn choose<D: Dimension>(
+    alloc: Global,
+    section: &mut Handle,
+    offers: &[u8],
+) -> Result<usize, Failure>
+    ensures same { section.new.held ≡ section.old.held }
+    ensures place { OnHeld (λ fields. FindsOf (Chooses (quality_in D.gives (lines_under fields D.NAME))) offers.now)
+        (section_in section.old.held) result }
+{
+    let Some(held) = section.take(alloc) else {
+        return Err(Failure::Absent);
+    };
+    let place = choose_in::<D>(alloc, &held, offers);
+    section.put(held);
+    place
+}

@@ -1,0 +1,76 @@
+//! What a policy answers a request from another origin.
+ghost use Rattle.std.specs.Prelude.{◌≡◌, Some};
+ghost use Rattle.c_handles.specs.Handles.{policy_in, section_in};
+ghost use Rattle.c_handles.specs.Policies.{SharesBetween, SharesOf};
+
+use crate::handle::Handle;
+use crate::held::Held;
+use c_decisions::{Shared, read_method, show_shared};
+use c_parts::{Failure, HashKeys, read_map};
+use decide_cors::CorsPolicy;
+use headers::HeaderMap;
+use std::alloc::Global;
+
+fn answer_of(
+    alloc: Global,
+    policy: &CorsPolicy,
+    fields: &HeaderMap,
+    method: &[u8],
+    response: &[u8],
+    keys: &HashKeys,
+) -> Result<Shared, Failure>
+    ensures { SharesOf method.now response.now policy.now fields.now result }
+{
+    let method = read_method(alloc, method)?;
+    let response = read_map(alloc, response, keys)?;
+    let answer = policy.answer(alloc, &method, fields, &response)?;
+    Ok(show_shared(alloc, &answer)?)
+}
+
+fn answer_in(
+    alloc: Global,
+    policy: &Held,
+    request: &Held,
+    method: &[u8],
+    response: &[u8],
+    keys: &HashKeys,
+) -> Result<Shared, Failure>
+    ensures { SharesBetween method.now response.now (policy_in (Some policy.now)) (section_in (Some request.now))
+        result }
+{
+    let Held::Policy(policy) = policy else {
+        return Err(Failure::Absent);
+    };
+    let Held::Section(fields) = request else {
+        return Err(Failure::Absent);
+    };
+    answer_of(alloc, policy, fields, method, response, keys)
+}
+
+/// The answer of a policy to a cross-origin request with these fields (Fetch standard, "CORS
+/// protocol"), for a response with these.
+pub fn answer_cross_origin(
+    alloc: Global,
+    policy: &mut Handle,
+    request: &mut Handle,
+    method: &[u8],
+    response: &[u8],
+    keys: &HashKeys,
+) -> Result<Shared, Failure>
+    ensures same_policy { policy.new.held ≡ policy.old.held }
+    ensures same_request { request.new.held ≡ request.old.held }
+    ensures answer { SharesBetween method.now response.now (policy_in policy.old.held) (section_in request.old.held)
+        result }
+{
+    let Some(by) = policy.take(alloc) else {
+        return Err(Failure::Absent);
+    };
+    let Some(asked) = request.take(alloc) else {
+        policy.put(by);
+        return Err(Failure::Absent);
+    };
+    let answer = answer_in(alloc, &by, &asked, method, response, keys);
+    policy.put(by);
+    request.put(asked);
+    answer
+}

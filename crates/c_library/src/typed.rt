@@ -1,0 +1,225 @@
+//! Typed values of fields: credentials, cookies, hosts, origins, policies, ranges and lists.
+ghost use Rattle.headers.specs.ContentRange.{content_range_grammar};
+ghost use Rattle.headers.specs.HeaderLaws.{ReadsBy};
+ghost use Rattle.headers.specs.Host.{host_reads};
+ghost use Rattle.headers.specs.Origin.{origin_reads};
+ghost use Rattle.headers.specs.RetryAfter.{retry_after_grammar};
+ghost use Rattle.headers.specs.StrictTransportSecurityGrammar.{security_grammar};
+ghost use Rattle.c_parts.specs.Endings.{Gives, TellsAndWrites, Writes, done};
+ghost use Rattle.c_typed.specs.Contents.{ShowsContentRange, ShowsDisposition, reads_disposition};
+ghost use Rattle.c_typed.specs.Cookies.{FindsCookie, ShowsCookies, reads_cookies};
+ghost use Rattle.c_typed.specs.Credentials.{ShowsToken, ShowsUserPassword, basic_reads, bearer_reads};
+ghost use Rattle.c_typed.specs.Hosts.{ShowsHost, ShowsOrigin};
+ghost use Rattle.c_typed.specs.Members.{ShowsMembers, ShowsMembership, reads_list};
+ghost use Rattle.c_typed.specs.Policies.{ShowsRetryTime, ShowsSecurity};
+ghost use Rattle.c_typed.specs.Shown.{FieldShows};
+
+use crate::giving::give;
+use c_fields::ContentRangeParts;
+use c_parts::{DONE, copy_into};
+use c_typed::{
+    OriginParts, PortNumber, RetryTime, TransportSecurity, cookies_text, find_cookie, has_member,
+    members_text, read_content_range, read_disposition, read_host, read_origin, read_retry_after,
+    read_token, read_transport_security, read_user_password,
+};
+use std::alloc::Global;
+
+/// Decodes the field lines of `authorization` or of `proxy-authorization` to the user name and the
+/// password of Basic (RFC 7617, section 2).
+#[unsafe(no_mangle)]
+pub extern "C" fn typed_headers_basic(
+    alloc: Global,
+    lines: &[u8],
+    user_length: &mut usize,
+    room: &mut [u8],
+    written: &mut usize,
+) -> u8
+    ensures { TellsAndWrites (λ shown. shown.user_length) (λ shown. shown.text.items)
+        (FieldShows basic_reads ShowsUserPassword lines.now)
+        user_length.old user_length.new room.old room.new written.old written.new result }
+{
+    match read_user_password(alloc, lines) {
+        Ok(shown) => {
+            *user_length = shown.user_length;
+            copy_into(shown.text.as_slice(), DONE, room, written)
+        }
+        Err(failure) => failure.status(),
+    }
+}
+
+/// Decodes the field lines of `authorization` or of `proxy-authorization` to the token of Bearer (RFC
+/// 6750, section 2.1).
+#[unsafe(no_mangle)]
+pub extern "C" fn typed_headers_bearer(
+    alloc: Global,
+    lines: &[u8],
+    room: &mut [u8],
+    written: &mut usize,
+) -> u8
+    ensures { Writes (λ token. token.items) (λ _. done) (FieldShows bearer_reads ShowsToken lines.now)
+        room.old room.new written.old written.new result }
+{
+    match read_token(alloc, lines) {
+        Ok(token) => copy_into(token.as_slice(), DONE, room, written),
+        Err(failure) => failure.status(),
+    }
+}
+
+/// Gives the value of the first cookie with a name, by the field lines of `cookie` (RFC 6265, section
+/// 5.4).
+#[unsafe(no_mangle)]
+pub extern "C" fn typed_headers_cookie(
+    alloc: Global,
+    lines: &[u8],
+    name: &[u8],
+    room: &mut [u8],
+    written: &mut usize,
+) -> u8
+    ensures { Writes (λ value. value.items) (λ _. done) (FindsCookie name.now lines.now)
+        room.old room.new written.old written.new result }
+{
+    match find_cookie(alloc, lines, name) {
+        Ok(value) => copy_into(value.as_slice(), DONE, room, written),
+        Err(failure) => failure.status(),
+    }
+}
+
+/// Gives all cookies of the field lines of `cookie`, one a line (RFC 6265, section 5.4).
+#[unsafe(no_mangle)]
+pub extern "C" fn typed_headers_cookies(
+    alloc: Global,
+    lines: &[u8],
+    room: &mut [u8],
+    written: &mut usize,
+) -> u8
+    ensures { Writes (λ text. text.items) (λ _. done) (FieldShows reads_cookies ShowsCookies lines.now)
+        room.old room.new written.old written.new result }
+{
+    match cookies_text(alloc, lines) {
+        Ok(text) => copy_into(text.as_slice(), DONE, room, written),
+        Err(failure) => failure.status(),
+    }
+}
+
+/// Decodes the field lines of `host` to host and port (RFC 9110, section 7.2).
+#[unsafe(no_mangle)]
+pub extern "C" fn typed_headers_host(
+    alloc: Global,
+    lines: &[u8],
+    port: &mut PortNumber,
+    room: &mut [u8],
+    written: &mut usize,
+) -> u8
+    ensures { TellsAndWrites (λ shown. shown.port) (λ shown. shown.text.items)
+        (FieldShows host_reads ShowsHost lines.now)
+        port.old port.new room.old room.new written.old written.new result }
+{
+    match read_host(alloc, lines) {
+        Ok(shown) => {
+            *port = shown.port;
+            copy_into(shown.text.as_slice(), DONE, room, written)
+        }
+        Err(failure) => failure.status(),
+    }
+}
+
+/// Decodes the field lines of `origin` to scheme, host and port (RFC 6454, section 7).
+#[unsafe(no_mangle)]
+pub extern "C" fn typed_headers_origin(
+    alloc: Global,
+    lines: &[u8],
+    parts: &mut OriginParts,
+    room: &mut [u8],
+    written: &mut usize,
+) -> u8
+    ensures { TellsAndWrites (λ shown. shown.parts) (λ shown. shown.text.items)
+        (FieldShows origin_reads ShowsOrigin lines.now)
+        parts.old parts.new room.old room.new written.old written.new result }
+{
+    match read_origin(alloc, lines) {
+        Ok(shown) => {
+            *parts = shown.parts;
+            copy_into(shown.text.as_slice(), DONE, room, written)
+        }
+        Err(failure) => failure.status(),
+    }
+}
+
+/// Decodes the field lines of `strict-transport-security` (RFC 6797, section 6.1).
+#[unsafe(no_mangle)]
+pub extern "C" fn typed_headers_strict_transport_security(
+    alloc: Global,
+    lines: &[u8],
+    policy: &mut TransportSecurity,
+) -> u8
+    ensures { Gives (FieldShows (ReadsBy security_grammar) ShowsSecurity lines.now) policy.old policy.new result }
+{
+    give(read_transport_security(alloc, lines), policy)
+}
+
+/// Decodes the field lines of `retry-after` to a delay or a date (RFC 9110, section 10.2.3).
+#[unsafe(no_mangle)]
+pub extern "C" fn typed_headers_retry_after(alloc: Global, lines: &[u8], time: &mut RetryTime) -> u8
+    ensures { Gives (FieldShows (ReadsBy retry_after_grammar) ShowsRetryTime lines.now) time.old time.new result }
+{
+    give(read_retry_after(alloc, lines), time)
+}
+
+/// Decodes the field lines of `content-range` to the range and the complete length (RFC 9110, section
+/// 14.4).
+#[unsafe(no_mangle)]
+pub extern "C" fn typed_headers_content_range(
+    alloc: Global,
+    lines: &[u8],
+    range: &mut ContentRangeParts,
+) -> u8
+    ensures { Gives (FieldShows (ReadsBy content_range_grammar) ShowsContentRange lines.now)
+        range.old range.new result }
+{
+    give(read_content_range(alloc, lines), range)
+}
+
+/// Decodes the field lines of `content-disposition` to the kind of the disposition (RFC 6266, section
+/// 4.2): 1 for `inline`, 2 for `attachment`, 3 for `form-data`, else 0.
+#[unsafe(no_mangle)]
+pub extern "C" fn typed_headers_content_disposition(
+    alloc: Global,
+    lines: &[u8],
+    disposition: &mut u8,
+) -> u8
+    ensures { Gives (FieldShows reads_disposition ShowsDisposition lines.now) disposition.old disposition.new result }
+{
+    give(read_disposition(alloc, lines), disposition)
+}
+
+/// Gives the members of a list between commas, one a line, as those of `allow`, `connection` and
+/// `vary` (RFC 9110, section 5.6.1).
+#[unsafe(no_mangle)]
+pub extern "C" fn typed_headers_members(
+    alloc: Global,
+    lines: &[u8],
+    room: &mut [u8],
+    written: &mut usize,
+) -> u8
+    ensures { Writes (λ text. text.items) (λ _. done) (FieldShows reads_list ShowsMembers lines.now)
+        room.old room.new written.old written.new result }
+{
+    match members_text(alloc, lines) {
+        Ok(text) => copy_into(text.as_slice(), DONE, room, written),
+        Err(failure) => failure.status(),
+    }
+}
+
+/// Whether a list between commas has a member: 1 if it has, 0 if not (RFC 9110, section 5.6.1).
+#[unsafe(no_mangle)]
+pub extern "C" fn typed_headers_has_member(
+    alloc: Global,
+    lines: &[u8],
+    member: &[u8],
+    any_case: bool,
+    has: &mut u8,
+) -> u8
+    ensures { Gives (FieldShows reads_list (ShowsMembership any_case member.now) lines.now) has.old has.new result }
+{
+    give(has_member(alloc, lines, member, any_case), has)
+}

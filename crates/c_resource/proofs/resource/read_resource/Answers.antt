@@ -1,0 +1,31 @@
+use Rattle.std.proofs.Common.{◌≡◌, Err, inl, inr, subst, sym}
+use Rattle.std.proofs.lemmas.Result.{err_from_is_err_and}
+use Rattle.c_resource.specs.Resources.{IsResourceAnswer}
+use Rattle.c_resource.proofs.resource.read_resource.Goals as goal
+
+pub returns-in_err-methods : goal.returns-in_err-methods
+returns-in_err-methods c =
+    let answer = c.from_residual-in_err-methods in
+    let failure = c.in_err-methods.field-0.0 in
+    let error = err_from_is_err_and answer.result answer.ensures.1 in
+    let is : answer.result ≡ Err failure = cc (error.1, error.2) in
+    subst (IsResourceAnswer c.args.parts.now c.args.numbers.now c.args.rules.now) (sym is)
+    (inr (inr (inr (inl c.in_err-methods.ensures))))
+
+pub returns-in_err-representations : goal.returns-in_err-representations
+returns-in_err-representations c =
+    let answer = c.from_residual-in_err-representations in
+    let failure = c.in_err-representations.field-0.0 in
+    let error = err_from_is_err_and answer.result answer.ensures.1 in
+    let is : answer.result ≡ Err failure = cc (error.1, error.2) in
+    subst (IsResourceAnswer c.args.parts.now c.args.numbers.now c.args.rules.now) (sym is)
+    (inr (inr (inr (inr (inl c.in_err-representations.ensures)))))
+
+pub returns-in_err-cors : goal.returns-in_err-cors
+returns-in_err-cors c =
+    let answer = c.from_residual-in_err-cors in
+    let failure = c.in_err-cors.field-0.0 in
+    let error = err_from_is_err_and answer.result answer.ensures.1 in
+    let is : answer.result ≡ Err failure = cc (error.1, error.2) in
+    subst (IsResourceAnswer c.args.parts.now c.args.numbers.now c.args.rules.now) (sym is)
+    (inr (inr (inr (inr (inr c.in_err-cors.ensures)))))

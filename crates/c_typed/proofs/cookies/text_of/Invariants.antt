@@ -1,0 +1,8 @@
+use Rattle.std.proofs.Common.{◌≡◌, ◌++◌}
+use Rattle.headers_items.specs.Pairs.{pairs_left}
+use Rattle.c_typed.specs.Cookies.{cookies_text}
+use Rattle.c_typed.proofs.cookies.text_of.Given as goal
+
+abbrev pub invariant-loop-name : goal.invariant-loop-name
+invariant-loop-name l =
+    cookies_text (pairs_left l.initial.name-iterator) ≡ l.text.items ++ cookies_text (pairs_left l.name-iterator)

@@ -1,0 +1,14 @@
+pub mod Dating
+pub mod Decisions
+pub mod Freshening
+pub mod Policies
+pub mod Requests
+pub mod Storing
+pub mod Updating
+pub mod Validating
+pub mod Varying
+pub use Rattle.cache_fields.specs.Age
+pub use Rattle.cache_fields.specs.Directives
+pub use Rattle.cache_fields.specs.Fields
+pub use Rattle.cache_fields.specs.Freshness
+pub use Rattle.cache_fields.specs.Targets

@@ -1,0 +1,97 @@
+-- The plans that a stored response can have for a request that a cache evaluates.
+use Rattle.std.proofs.Common.{◌≡◌, ℕ, ◌<◌, Bool, true, false, List, [], ◌∷◌, length, Option, Some, None}
+use Rattle.std.proofs.Common.{inl, inr, refl, sym, ◌∙◌, arith}
+use Rattle.std.specs.Prelude.{codes}
+use Rattle.std.proofs.lemmas.Bool.{lt-ltb}
+use Rattle.http_header.specs.FieldValue.{FieldValue, plain_value}
+use Rattle.headers.specs.Lines.{Line}
+use Rattle.headers.specs.Shapes.{only_tag}
+use Rattle.headers.specs.Typed.{HasLine}
+use Rattle.cache_policy.specs.Requests.{IsGetOrHead, Request}
+use Rattle.decide_preconditions.specs.Conditions.{UnmodifiedSinceIsFalse}
+use Rattle.decide_preconditions.specs.Limits.{are_too_many}
+use Rattle.decide_preconditions.specs.Plans.{IsPlanned}
+use Rattle.decide_preconditions.specs.Preconditions.{Answers, AreIgnored, IsUnconditional}
+use Rattle.decide_preconditions.specs.declared.part.Part.{Part}
+use Rattle.decide_preconditions.specs.declared.plan.Plan.{Plan}
+use Rattle.decide_preconditions.specs.declared.plan.Plan.TheVariants as plan
+use Rattle.decide_preconditions.specs.declared.precondition.Precondition.TheVariants as precondition
+use Rattle.decide_preconditions.specs.declared.resource.Resource.TheVariants.{Missing, Current}
+use Rattle.decide_preconditions.specs.declared.resource.Validators.{Validators}
+use Rattle.cache_rules.specs.Conditions.{AreValidators, IsForCache, IsStoredAnswer, answer_of, divisible}
+use Rattle.cache_rules.specs.Conditions.{one_part}
+use Rattle.cache_rules.specs.declared.stored.StoredResponse.{StoredResponse}
+
+no_line : (lines : List Line) → ¬ (HasLine lines) → lines ≡ []
+no_line [] none = refl
+no_line (line ∷ lines) none = absurd (none (omega arith))
+
+conditional : (method : List ℕ) → IsGetOrHead method → ¬ (IsUnconditional method)
+conditional method (inl get) unconditional = elim unconditional [
+  | inl connect ↦ let no : codes "GET" ≡ codes "CONNECT" = sym get ∙ connect in absurd (cc no)
+  | inr others ↦ elim others [
+    | inl options ↦ let no : codes "GET" ≡ codes "OPTIONS" = sym get ∙ options in absurd (cc no)
+    | inr trace ↦ let no : codes "GET" ≡ codes "TRACE" = sym get ∙ trace in absurd (cc no)
+  ]
+]
+conditional method (inr head) unconditional = elim unconditional [
+  | inl connect ↦ let no : codes "HEAD" ≡ codes "CONNECT" = sym head ∙ connect in absurd (cc no)
+  | inr others ↦ elim others [
+    | inl options ↦ let no : codes "HEAD" ≡ codes "OPTIONS" = sym head ∙ options in absurd (cc no)
+    | inr trace ↦ let no : codes "HEAD" ≡ codes "TRACE" = sym head ∙ trace in absurd (cc no)
+  ]
+]
+
+counted : (current : Validators) (method : List ℕ) → IsGetOrHead method → ¬ (AreIgnored (Current current) method)
+counted current method read (inl unconditional) = conditional method read unconditional
+counted current method read (inr missing) = missing
+
+module _ (now : ℕ) (request : Request) (current : Validators) (own : IsForCache request) where
+  -- no condition of it can fail
+  not_failed : Answers now request.fields (Current current) request.method precondition.Failed → ⊥
+  not_failed h = elim (h.conditional (counted current request.method own.reads)) [
+    | inl lost ↦ elim lost [
+      | inl tag ↦ own.no_match tag.0
+      | inr date ↦ unmodified (no_line (request.fields (codes "if-unmodified-since")) own.no_unmodified) date.1
+    ]
+    | inr other ↦ other.1 own.reads
+  ]
+    where
+      unmodified : request.fields (codes "if-unmodified-since") ≡ []
+          → UnmodifiedSinceIsFalse now request.fields (Current current) → ⊥
+      unmodified none is = rw none at is
+
+  -- no two parts are sent
+  not_multiple : (len : ℕ) (parts : List Part) → 1 < length parts → are_too_many one_part len parts ≡ false → ⊥
+  not_multiple len parts several few =
+      let no : true ≡ false = rw (lt-ltb 1 (length parts) several) at few in absurd (cc no)
+
+  pub evaluated : (stored : StoredResponse) (ranges : Bool) → stored.status ≡ 200 → AreValidators stored current
+      → (found : Option Plan)
+      → IsPlanned now request.method request.fields (Current current) (divisible ranges stored) one_part found
+      → IsStoredAnswer now request stored ranges (answer_of found)
+  evaluated stored ranges status valid (Some plan.Full) h = inr (own, status, (current, valid, h))
+  evaluated stored ranges status valid (Some (plan.Single part)) h = (own, status, (current, valid, h))
+  evaluated stored ranges status valid (Some (plan.Multiple parts)) h =
+      absurd (not_multiple (divisible ranges stored) parts.items h.3 h.2.few)
+  evaluated stored ranges status valid (Some plan.NotModified) h = (own, status, (current, valid, h))
+  evaluated stored ranges status valid (Some plan.Failed) h = absurd (not_failed h)
+  evaluated stored ranges status valid (Some plan.Unsatisfiable) h = (own, status, (current, valid, h))
+  evaluated stored ranges status valid None h = absurd (elim h.1 [
+    | inl missing ↦ no_resource missing
+    | inr other ↦ other own.reads
+  ])
+    where
+      no_resource : Current current ≡ Missing → ⊥
+      no_resource e = absurd (cc e)
+
+-- field lines that decode to no entity tag have none
+pub no_tag : (lines : List Line)
+    → ((tag : FieldValue) → ¬ ((only_tag {V = Line} (λ t. t)).value_of lines ≡ Some tag.bytes))
+    → None ≡ (only_tag {V = Line} (λ t. t)).value_of lines
+no_tag lines none = by ((only_tag {V = Line} (λ t. t)).value_of lines) refl
+  where
+    by : (found : Option Line) → (only_tag {V = Line} (λ t. t)).value_of lines ≡ found
+        → None ≡ (only_tag {V = Line} (λ t. t)).value_of lines
+    by None e = sym e
+    by (Some tag) e = absurd (none (plain_value tag) e)

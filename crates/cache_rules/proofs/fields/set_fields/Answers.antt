@@ -1,0 +1,23 @@
+use Rattle.std.proofs.Common.{◌≡◌, refl, subst}
+use Rattle.headers_map.specs.declared.insert.InsertError.{InsertError}
+use Rattle.headers_map.specs.declared.insert.InsertError.TheVariants.{Full}
+use Rattle.headers.specs.LineMap.{settings}
+use Rattle.headers_map.specs.InsertErrors.{AppliesPart}
+use Rattle.cache_rules.proofs.fields.set_fields.Goals as goal
+
+pub returns-in-Err-clause-full : goal.returns-in-Err-clause-full
+returns-in-Err-clause-full c = λ full.
+    let same : c.in-Err.error.cause ≡ Full = cc full in
+    record {
+      encoded = c.args.fields.items;
+      encodes = refl;
+      left = c.set_all.new.map;
+      valid = c.keys_len-names.ensures.valid;
+      part = (
+        c.in-Err.error.done,
+        subst
+            (λ (cause : InsertError). AppliesPart c.args.map.now c.set_all.new.map (settings c.args.fields.items)
+            (record { done = c.in-Err.error.done; cause = cause }))
+            same c.in-Err.ensures.err,
+      );
+    }

@@ -1,0 +1,6 @@
+use Rattle.cache_rules.specs.Selection.{IsCandidate}
+use Rattle.cache_rules.proofs.SelectionLemmas.{selects_one}
+use Rattle.cache_rules.proofs.laws.request_selects_one.Goals as goal
+
+pub returns : goal.returns
+returns c = λ request all. selects_one (IsCandidate request) all

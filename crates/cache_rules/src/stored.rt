@@ -1,0 +1,66 @@
+//! Stored responses.
+ghost use Rattle.std.specs.Prelude.{◌≡◌};
+ghost use Rattle.cache_policy.specs.Requests.{request_of};
+ghost use Rattle.cache_rules.specs.Stored.{made_at, request_of_stored, times_of};
+
+use cache_policy::{RequestHead, Times, date};
+use headers::HeaderMap;
+use http::{Method, StatusCode};
+use http_header::DATE;
+use rfc_dates::Timestamp;
+
+/// A response that a cache has stored, with the request that it answered (RFC 9111, section 2). Times
+/// are seconds since 1970, by the cache's own clock.
+#[derive(Debug, Drop)]
+pub struct StoredResponse {
+    /// The method of the request.
+    pub method: Method,
+    /// The fields of the request.
+    pub request: HeaderMap,
+    /// The status of the response.
+    pub status: StatusCode,
+    /// The fields of the response, as they are stored.
+    pub response: HeaderMap,
+    /// The whole content. Rules depend only on its length.
+    pub content: Vec<u8>,
+    /// When the request was made that the response answered, or that validated it last.
+    pub requested: u64,
+    /// When the response came, or the one that validated it last.
+    pub received: u64,
+    /// Which stored response it is, once a store has given it a number. No rule depends on it.
+    pub number: u64,
+}
+
+impl StoredResponse {
+    /// Returns the request that the response answered.
+    pub fn head(&self) -> RequestHead<'_>
+        ensures { request_of result ≡ request_of_stored self.now }
+    {
+        RequestHead {
+            method: &self.method,
+            fields: &self.request,
+        }
+    }
+
+    /// Returns the times of the response, with this present (RFC 9111, section 4.2.3).
+    pub fn times(&self, now: u64) -> Times
+        ensures { result ≡ times_of self.now now }
+    {
+        Times {
+            request: self.requested,
+            response: self.received,
+            now,
+        }
+    }
+
+    /// When it was made: its Date, or when it came if it has none that is valid (RFC 9110, section
+    /// 6.6.1).
+    pub(crate) fn made_at(&self) -> Timestamp
+        ensures { result ≡ made_at self.now }
+    {
+        match date(&self.response, DATE, self.received) {
+            Some(made) => made,
+            None => Timestamp::from_unix_seconds(self.received),
+        }
+    }
+}

@@ -1,0 +1,11 @@
+pub mod EntryLemmas
+pub mod GoOnLemmas
+pub mod HistoryLemmas
+pub mod LawLemmas
+pub mod LookupLemmas
+pub mod NamedLemmas
+pub mod NumberLawLemmas
+pub mod NumberLemmas
+pub mod RefreshLemmas
+pub mod StoringLemmas
+pub mod UpdateLemmas

@@ -1,0 +1,126 @@
+-- What a new response takes away.
+use Rattle.std.proofs.Common.{◌≡◌, ◌≢◌, ℕ, ◌+◌, ◌-◌, ◌<◌, ◌≤◌, List, [], ◌∷◌, ◌++◌, drop}
+use Rattle.std.proofs.Common.{length, get_or, Result, Option, Ok, Some}
+use Rattle.std.proofs.Common.{refl, sym, ap, subst, arith, remove, inl, inr}
+use Rattle.std.proofs.Common.{◌∙◌}
+use Rattle.std.proofs.lemmas.List.{drop-drop}
+use Rattle.std.proofs.lemmas.List.Sums.{sum_by-take-drop, sum_by-remove}
+use Rattle.std.proofs.lemmas.Option.{get_or_from_slice_get}
+use Rattle.cache_policy.specs.Requests.{Request}
+use Rattle.cache_rules.specs.Selection.{IsCandidate, IsMostRecent}
+use Rattle.cache_rules.specs.Stored.{request_of_stored}
+use Rattle.cache_rules.specs.declared.stored.StoredResponse.{StoredResponse}
+use Rattle.cache_store.specs.Changes.{FitsAlone, IsInserted, IsRest, IsTrimmed}
+use Rattle.cache_store.specs.Contents.{Contents, IsAbsent, bytes_of, responses_at, size_of, without}
+use Rattle.cache_store.specs.Room.{IsLongestWithRoom}
+use Rattle.cache_store.proofs.EntryLemmas.{IsAbsent-take, IsAbsent-without}
+use Rattle.cache_store.specs.declared.limits.Limits.{Limits}
+
+-- ---- bytes
+
+pub bytes_of-drop : (n : ℕ) (xs : List StoredResponse) → bytes_of (drop n xs) ≤ bytes_of xs
+bytes_of-drop n xs = omega (arith, sum_by-take-drop size_of xs n)
+
+pub bytes_of-remove : (xs : List StoredResponse) (i : ℕ) (d : StoredResponse) → i < length xs → bytes_of (remove xs i)
+    + size_of (get_or xs i d) ≡ bytes_of xs
+bytes_of-remove xs i d within = sum_by-remove size_of xs i d within
+
+-- ---- those of the same target
+
+pub drop-one-more : {X : Type 0} (n : ℕ) (xs : List X) → remove (drop n xs) 0 ≡ drop (n + 1) xs
+drop-one-more n xs = drop-drop 1 n xs
+
+module _ (limits : Limits) (size : ℕ) where
+  -- so many go, and one fewer would leave too little room
+  pub record IsTrimming (old new : List StoredResponse) : Type 0 where
+    pub count : ℕ
+    pub left : new ≡ drop count old
+    pub fewest : 0 < count → ¬ (FitsAlone limits (length (drop (count - 1) old) + 1) (bytes_of (drop (count - 1) old)
+        + size))
+
+  pub trim-none : (old : List StoredResponse) → IsTrimming old old
+  trim-none old = record { count = 0; left = refl; fewest = λ some. absurd (omega (arith, some)) }
+
+  pub trim-some : FitsAlone limits 1 size → (mid : List StoredResponse) → ¬ (FitsAlone limits (length mid + 1)
+      (bytes_of mid + size))
+      → 0 < length mid
+  trim-some alone [] cramped = absurd (cramped (record {
+    variants = alone.variants;
+    few = alone.few;
+    light = omega
+        (arith, alone.light);
+  }))
+  trim-some alone (x ∷ mid) cramped = omega arith
+
+  pub trim-next : (old mid new : List StoredResponse) → IsTrimming old mid → ¬ (FitsAlone limits (length mid + 1)
+      (bytes_of mid + size))
+      → new ≡ remove mid 0 → IsTrimming old new
+  trim-next old mid new trimming cramped left =
+      record {
+        count = trimming.count + 1;
+        left = left ∙ ap (λ l. remove l 0) trimming.left ∙ drop-one-more trimming.count old;
+        fewest = λ _ fits. cramped (subst (λ l. FitsAlone limits (length l + 1) (bytes_of l + size))
+            (ap (λ n. drop n old) (omega arith) ∙ sym trimming.left) fits);
+      }
+
+  pub trim-done : (old new : List StoredResponse) → IsTrimming old new → FitsAlone limits (length new + 1) (bytes_of
+      new + size)
+      → IsTrimmed limits size old new
+  trim-done old new trimming fits =
+      record { count = trimming.count; left = trimming.left; fits = fits; fewest = trimming.fewest }
+
+-- ---- those that a new one supersedes
+
+module _ (request : Request) (all : List StoredResponse) (place : ℕ) (found : IsMostRecent (IsCandidate request) all
+    place)
+    (d : StoredResponse) (at : d ≡ get_or all place d) where
+  is_found : found.response.method ≡ d.method
+  is_found = ap (λ (s : StoredResponse). s.method) (sym (at ∙ get_or_from_slice_get all place found.response d
+      found.at))
+
+  pub superseded : d.method ≡ request.method → (rest : List StoredResponse) → rest ≡ remove all place → IsRest request
+      all rest
+  superseded same rest left = inr (place, found, inl (is_found ∙ same, left))
+
+  pub unsuperseded : d.method ≢ request.method → IsRest request all all
+  unsuperseded differs = inr (place, found, inr (λ same. differs (sym is_found ∙ same), refl))
+
+-- ---- where it is put
+
+pub absent_rest : {limits : Limits} {count bytes : ℕ} (target : List ℕ) (old other rest : Contents) → other ≡ without
+    target old
+    → IsLongestWithRoom limits count bytes other rest → IsAbsent target rest
+absent_rest target old other rest is_other room =
+    subst (IsAbsent target) (sym room.front)
+    (IsAbsent-take target room.count other (subst (IsAbsent target) (sym is_other) (IsAbsent-without target old)))
+
+-- the numbers are those of the code
+pub inserted : (limits own : Limits) (target : List ℕ) (new : StoredResponse) (old other rest contents : Contents)
+    (taken others kept : List StoredResponse) (request : Request) (size count bytes : ℕ)
+    → own ≡ limits → other ≡ without target old → taken ≡ responses_at target old
+    → request ≡ request_of_stored new → IsRest request taken others
+    → size ≡ size_of new → IsTrimmed own size others kept
+    → count ≡ length kept + 1 → bytes ≡ bytes_of kept + size_of new → IsLongestWithRoom own count bytes other rest
+    → contents ≡ (target, kept ++ new ∷ []) ∷ rest → IsInserted limits target new old contents
+inserted limits own target new old other rest contents taken others kept request size count bytes
+    is_own is_other is_taken is_request beside is_size trimmed is_count is_bytes room put =
+    let room_by_limits = subst (λ l. IsLongestWithRoom l count bytes other rest) is_own room in
+    let room_by_count = subst (λ n. IsLongestWithRoom limits n bytes other rest) is_count room_by_limits in
+    let room_by_bytes = subst (λ n. IsLongestWithRoom limits (length kept + 1) n other rest) is_bytes room_by_count in
+    record {
+      others = others;
+      kept = kept;
+      rest = rest;
+      beside = subst (λ l. IsRest (request_of_stored new) l others) is_taken (subst (λ r. IsRest r taken others)
+          is_request beside);
+      trimmed = subst (λ n. IsTrimmed limits n others kept) is_size (subst (λ l. IsTrimmed l size others kept) is_own
+          trimmed);
+      room = subst (λ l. IsLongestWithRoom limits (length kept + 1) (bytes_of kept + size_of new) l rest) is_other
+          room_by_bytes;
+      put = put;
+    }
+
+-- the number in an answer
+pub same_number : {E : Type 0} (given number : ℕ) (result : Result (Option ℕ) E) → result ≡ Ok (Some given)
+    → result ≡ Ok (Some number) → given ≡ number
+same_number given number result is same = grind (arith, is, same)

@@ -1,0 +1,348 @@
+-- What a store of parts has after any calls was received.
+use Rattle.std.proofs.Common.{◌≡◌, ◌∙◌, ℕ, ◌+◌, ◌-◌, ◌≤◌, List, [], ◌∷◌, length, slice_get, codes}
+use Rattle.std.proofs.Common.{Option, Some, refl, sym, ap, subst, arith, inl, inr, IsSome, IsSomeAnd}
+use Rattle.std.proofs.Common.{nat_le}
+use Rattle.std.proofs.lemmas.Bool.{and_parts}
+use Rattle.std.proofs.lemmas.Bool.Decides.{nat_tests}
+use Rattle.std.proofs.lemmas.Option.{same_Some}
+use Rattle.headers.specs.Lines.{Line}
+use Rattle.cache_store.proofs.HistoryLemmas.{Has-slice_get, HasUnder-responses_at, run-justified}
+use Rattle.cache_store.proofs.NumberLemmas.{Has-numbered}
+use Rattle.cache_store.specs.Changes.{IsStoredAs}
+use Rattle.cache_store.specs.Contents.{Contents, responses_at, used, without}
+use Rattle.cache_store.specs.History.Call.{Arrived}
+use Rattle.cache_store.specs.History.Call.{Looked as StoreLooked, Removed as StoreRemoved}
+use Rattle.cache_store.specs.History.{Has, History, IsJustified}
+use Rattle.cache_store.specs.Numbers.{numbered}
+use Rattle.cache_store.specs.History.{Run as StoreRun}
+use Rattle.cache_store.specs.declared.limits.Limits.{Limits}
+use Rattle.cache_policy.specs.Policies.{Policy}
+use Rattle.cache_policy.specs.Requests.{Request}
+use Rattle.cache_rules.specs.Stored.{fields_of_stored}
+use Rattle.cache_rules.specs.declared.storing.Reception.{Reception}
+use Rattle.cache_rules.specs.declared.storing.Reception.TheVariants.{Complete, Incomplete}
+use Rattle.cache_rules.specs.declared.stored.StoredResponse.{StoredResponse}
+use Rattle.cache_store.specs.Parts.Answering.{HasBytesAt, IsLookedUp}
+use Rattle.cache_store.specs.Parts.Answers.{HasBytes, IsPartAnswer}
+use Rattle.cache_store.specs.Parts.Combining.{AreCombinable, Holds, IsCombination}
+use Rattle.cache_store.specs.Parts.Extents.{joined, joint, strong_tag}
+use Rattle.cache_store.specs.Parts.History.PartCall.{Looked, Received, Answered, Removed}
+use Rattle.cache_store.specs.Parts.History.{AreBytesOf, AreReceived, PartCall, PartHistory, Run, Step}
+use Rattle.cache_store.specs.Parts.History.{WasReceived}
+use Rattle.cache_store.specs.Parts.Received.{IsRecorded, received_extent}
+use Rattle.cache_store.specs.Parts.Recording.{IsTaken, IsWhole}
+use Rattle.cache_store.specs.declared.parts.extent.Extent.{Extent}
+use Rattle.cache_store.specs.declared.parts.store_answering.PartAnswer.{PartAnswer}
+use Rattle.cache_store.specs.declared.parts.store_answering.PartLookup.TheVariants.{Serve}
+use Rattle.cache_store.proofs.parts.ByteLemmas.{AllAt, all-joined, all-within, length-joined, length-within}
+use Rattle.cache_store.proofs.parts.FieldLemmas.{IsPartOf, combined-range, combined-tag, extent-is}
+use Rattle.cache_store.proofs.parts.FieldLemmas.{extent-stored, joint-is, received-is, recorded-range}
+use Rattle.cache_store.proofs.parts.FieldLemmas.{recorded-says, recorded-tag, recorded_lines, some-tag}
+use Rattle.cache_store.proofs.parts.FieldLemmas.{tag-stored, tags-same, whole-lines}
+
+-- what was received before a call was received before it
+earlier : (call : PartCall) (calls : PartHistory) (key : List ℕ) (tag : Line) (len at byte : ℕ)
+    → WasReceived calls key tag len at byte → WasReceived (call ∷ calls) key tag len at byte
+earlier call calls key tag len at byte was =
+    record {
+      came = was.came;
+      reception = was.reception;
+      extent = was.extent;
+      offset = was.offset;
+      called = inr was.called;
+      strong = was.strong;
+      part = was.part;
+      whole = was.whole;
+      position = was.position;
+      same = was.same;
+    }
+
+module _ (calls : PartHistory) (key : List ℕ) where
+  -- If the stored response is a part with a strong validator, all its bytes were received.
+  abbrev pub IsFaithful : StoredResponse → Type 0
+  IsFaithful stored =
+      (tag : Line) (own : Extent) → strong_tag (fields_of_stored stored) ≡ Some tag → Holds stored own
+      → AreReceived calls key tag own.len own.first stored.content.items
+
+  -- Which part a response is that is taken, and that all its bytes were received.
+  pub record IsTraced (part : StoredResponse) : Type 0 where
+    pub extent : Extent
+    pub tag : Line
+    pub strong : strong_tag (fields_of_stored part) ≡ Some tag
+    pub is : IsPartOf extent (length part.content.items)
+    pub lines : fields_of_stored part (codes "content-range") ≡ recorded_lines extent
+    pub each : AreReceived calls key tag extent.len extent.first part.content.items
+
+  faithful : (part : StoredResponse) → IsTraced part → IsFaithful part
+  faithful part traced tag own strong holds =
+      let same : own ≡ traced.extent =
+      recorded-says (fields_of_stored part) traced.extent own (length part.content.items) traced.is traced.lines
+      holds.extent in
+      let tags : traced.tag ≡ tag = same_Some traced.tag tag (sym traced.strong ∙ strong) in
+      subst (λ (t : Line). AreReceived calls key t own.len own.first part.content.items) tags
+      (subst (λ (e : Extent). AreReceived calls key traced.tag e.len e.first part.content.items) (sym same)
+      traced.each)
+
+  -- the ordinary store changes neither the content nor what these fields say
+  faithful-stored : (part stored : StoredResponse) → IsStoredAs part stored → IsFaithful part → IsFaithful stored
+  faithful-stored part stored kept is tag own strong holds =
+      let held : Holds part own = record {
+        extent = extent-stored part stored kept own holds.extent;
+        bytes = ap (λ c. length c.items) (sym kept.content) ∙ holds.bytes;
+      } in
+      subst (λ (bytes : List ℕ). AreReceived calls key tag own.len own.first bytes)
+      (ap (λ c. c.items) (sym kept.content)) (is tag own (tag-stored part stored kept tag strong) held)
+
+module _ (calls : PartHistory) (key : List ℕ) (came : StoredResponse) (reception : Reception) (extent : Extent)
+    (received : received_extent reception came.status (length came.content.items) (fields_of_stored came)
+    ≡ Some extent) where
+  abbrev now_calls : PartHistory
+  now_calls = Received key came reception ∷ calls
+
+  -- the bytes that came were received
+  came-received : (tag : Line) (len : ℕ) → strong_tag (fields_of_stored came) ≡ Some tag → extent.len ≡ len
+      → AreReceived now_calls key tag len extent.first came.content.items
+  came-received tag len strong whole i byte h =
+      record {
+        came = came;
+        reception = reception;
+        extent = extent;
+        offset = i;
+        called = inl refl;
+        strong = strong;
+        part = received;
+        whole = whole;
+        position = refl;
+        same = h;
+      }
+
+  came-is : IsPartOf extent (length came.content.items)
+  came-is = received-is reception came.status (length came.content.items) (fields_of_stored came) extent received
+
+  -- a part that is taken by itself
+  traced-recorded : (part : StoredResponse) → IsSome (strong_tag (fields_of_stored came))
+      → IsRecorded came extent part → IsTraced now_calls key part
+  traced-recorded part strong is =
+      let tag = some-tag (strong_tag (fields_of_stored came)) strong in
+      record {
+        extent = extent;
+        tag = tag.0;
+        strong = recorded-tag came part extent is ∙ tag.1;
+        is = subst (λ c. IsPartOf extent (length c.items)) (sym is.content) came-is;
+        lines = recorded-range came part extent is;
+        each = subst (λ c. AreReceived now_calls key tag.0 extent.len extent.first c.items) (sym is.content)
+            (came-received tag.0 extent.len tag.1 refl);
+      }
+
+  -- a combination with a stored part
+  traced-combined : (stored fresh part : StoredResponse) (own : Extent) → IsFaithful calls key stored
+      → AreCombinable stored came reception own extent → IsCombination stored came own extent fresh part
+      → IsSome (strong_tag (fields_of_stored came)) → IsTraced now_calls key part
+  traced-combined stored fresh part own is may by strong =
+      let tag = some-tag (strong_tag (fields_of_stored came)) strong in
+      let stored_tag : strong_tag (fields_of_stored stored) ≡ Some tag.0 =
+      sym (tags-same stored came may.suit.tag) ∙ tag.1 in
+      let old = stored.content.items in
+      let own_is = extent-is (fields_of_stored stored) own may.stored_part.extent in
+      let before : AllAt (WasReceived now_calls key tag.0 own.len) own.first old = λ i byte h.
+      earlier (Received key came reception) calls key tag.0 own.len (own.first + i) byte
+      (is tag.0 own stored_tag may.stored_part i byte h) in
+      let count : length (joined own old extent came.content.items)
+      ≡ (joint own extent).last + 1 - (joint own extent).first =
+      length-joined own extent old came.content.items own_is.ordered came-is.ordered may.stored_part.bytes
+      came-is.size may.suit.touch in
+      record {
+        extent = joint own extent;
+        tag = tag.0;
+        strong = combined-tag stored came fresh part own extent by may.suit.tag ∙ tag.1;
+        is = subst (IsPartOf (joint own extent)) (sym (ap length by.extended.content ∙ count))
+            (joint-is own extent (own.last + 1 - own.first) (length came.content.items) own_is came-is
+            may.suit.whole);
+        lines = combined-range stored came fresh part own extent by;
+        each = subst (λ bytes. AreReceived now_calls key tag.0 own.len (joint own extent).first bytes)
+            (sym by.extended.content)
+            (all-joined (WasReceived now_calls key tag.0 own.len) own extent old came.content.items own_is.ordered
+            came-is.ordered may.stored_part.bytes came-is.size may.suit.touch before
+            (came-received tag.0 own.len tag.1 (sym may.suit.whole)));
+      }
+
+module _ (policy : Policy) (limits : Limits) where
+  -- What a store has after these calls is what a store has after calls of the ordinary store, and what those justify
+  -- was received.
+  pub record IsKnown (calls : PartHistory) (contents : Contents) : Type 0 where
+    pub history : History
+    pub ran : StoreRun policy limits history contents
+    pub traced : (key : List ℕ) (stored : StoredResponse) → IsJustified policy key history stored
+        → IsFaithful calls key stored
+
+  -- a stored part is faithful
+  pub faithful-has : (calls : PartHistory) (contents : Contents) → IsKnown calls contents → (key : List ℕ)
+      (stored : StoredResponse) → Has (responses_at key contents) stored → IsFaithful calls key stored
+  faithful-has calls contents known key stored has =
+      known.traced key stored
+      (run-justified policy limits known.history contents known.ran key stored
+      (HasUnder-responses_at key contents stored has))
+
+  -- a part that is taken
+  pub traced-taken : (calls : PartHistory) (contents : Contents) → IsKnown calls contents → (key : List ℕ)
+      (came : StoredResponse) (reception : Reception) (part : StoredResponse)
+      → IsTaken policy (responses_at key contents) came reception part
+      → IsTraced (Received key came reception ∷ calls) key part
+  traced-taken calls contents known key came reception part (extent, is, inl (apart, self_contained, recorded)) =
+      traced-recorded calls key came reception extent is.received part is.strong recorded
+  traced-taken calls contents known key came reception part (extent, is, inr (inl (none, never))) =
+      absurd (cc never)
+  traced-taken calls contents known key came reception part
+      (extent, is, inr (inr (stored, (place, found, same), (own, other, fresh, may, by, fits)))) =
+      let at : slice_get (responses_at key contents) place ≡ Some stored = found.at ∙ ap Some same in
+      traced-combined calls key came reception other may.new_part stored fresh part own
+      (faithful-has calls contents known key stored (Has-slice_get (responses_at key contents) place stored at)) may by is.strong
+
+  module _ (calls : PartHistory) (old new : Contents) (known : IsKnown calls old) where
+    -- what stays was received before the call
+    later : (call : PartCall) (key : List ℕ) (stored : StoredResponse) → IsFaithful calls key stored
+        → IsFaithful (call ∷ calls) key stored
+    later call key stored is tag own strong holds i byte h =
+        earlier call calls key tag own.len (own.first + i) byte (is tag own strong holds i byte h)
+
+    same-known : (call : PartCall) → new ≡ old → IsKnown (call ∷ calls) new
+    same-known call same =
+        record {
+          history = known.history;
+          ran = subst (StoreRun policy limits known.history) (sym same) known.ran;
+          traced = λ key stored j. later call key stored (known.traced key stored j);
+        }
+
+    removed-known : (call : PartCall) (key : List ℕ) → new ≡ without key old → IsKnown (call ∷ calls) new
+    removed-known call key left =
+        record {
+          history = StoreRemoved key ∷ known.history;
+          ran = (old, known.ran, left);
+          traced = λ other stored j. later call other stored (known.traced other stored j.1);
+        }
+
+    looked-known : (key : List ℕ) → new ≡ used key old → IsKnown (Looked key ∷ calls) new
+    looked-known key left =
+        record {
+          history = StoreLooked key ∷ known.history;
+          ran = (old, known.ran, left);
+          traced = λ other stored j. later (Looked key) other stored (known.traced other stored j);
+        }
+
+    received-known : (key : List ℕ) (came : StoredResponse) (reception : Reception)
+        → Step policy limits (Received key came reception) old new → IsKnown (Received key came reception ∷ calls) new
+    received-known key came reception (inl same) = same-known (Received key came reception) same
+    received-known key came reception (inr (inl left)) = removed-known (Received key came reception) key left
+    -- out of memory after the removal, as if a response had come that isn't complete
+    received-known key came reception (inr (inr (inl front))) =
+        record {
+          history = Arrived key came Incomplete ∷ known.history;
+          ran = (old, known.ran, inr (inr front));
+          traced = λ other stored j. traced_before other stored j;
+        }
+      where
+        traced_before : (other : List ℕ) (stored : StoredResponse)
+            → IsJustified policy other (Arrived key came Incomplete ∷ known.history) stored
+            → IsFaithful (Received key came reception ∷ calls) other stored
+        traced_before other stored (inl j) =
+            later (Received key came reception) other stored (known.traced other stored j)
+        traced_before other stored (inr (same, to_store, kept)) = absurd (cc to_store.whole)
+    received-known key came reception (inr (inr (inr (part, one, taken, may, as_stored, inserted)))) =
+        record {
+          history = Arrived key part Complete ∷ known.history;
+          ran = (old, known.ran, inr (inl (one, may, as_stored, inserted)));
+          traced = λ other stored j. traced_by other stored j;
+        }
+      where
+        traced_by : (other : List ℕ) (stored : StoredResponse)
+            → IsJustified policy other (Arrived key part Complete ∷ known.history) stored
+            → IsFaithful (Received key came reception ∷ calls) other stored
+        traced_by other stored (inl j) =
+            later (Received key came reception) other stored (known.traced other stored j)
+        traced_by other stored (inr (same, to_store, kept)) =
+            subst (λ (k : List ℕ). IsFaithful (Received key came reception ∷ calls) k stored) same
+            (faithful-stored (Received key came reception ∷ calls) key part stored kept
+            (faithful (Received key came reception ∷ calls) key part
+            (traced-taken calls old known key came reception part taken)))
+
+    step-known : (call : PartCall) → Step policy limits call old new → IsKnown (call ∷ calls) new
+    step-known (Looked key) change = looked-known key change
+    step-known (Received key came reception) change = received-known key came reception change
+    step-known (Answered key method status) (inl (is, left)) = removed-known (Answered key method status) key left
+    step-known (Answered key method status) (inr (isnt, same)) = same-known (Answered key method status) same
+    step-known (Removed key) left = removed-known (Removed key) key left
+
+  pub run-known : (calls : PartHistory) (contents : Contents) → Run policy limits calls contents
+      → IsKnown calls contents
+  run-known [] contents none =
+      record { history = []; ran = none; traced = λ key stored j. absurd j }
+  run-known (call ∷ calls) contents (before, ran, change) =
+      step-known calls before contents (run-known calls before ran) call change
+
+  -- ---- what is served
+
+  module _ (calls : PartHistory) (contents : Contents) (ran : Run policy limits calls contents) (key : List ℕ) where
+    -- the bytes of a part of a stored one
+    bytes-of : (number : ℕ) (part : Extent) (stored : StoredResponse) (tag : Line) (bytes : List ℕ)
+        → numbered number (responses_at key contents) ≡ Some stored → strong_tag (fields_of_stored stored) ≡ Some tag
+        → HasBytes stored part bytes → AreBytesOf calls key tag part bytes
+    bytes-of number part stored tag bytes at strong (own, holds, within, same) =
+        let known = run-known calls contents ran in
+        let all = faithful-has calls contents known key stored (Has-numbered (responses_at key contents) number stored at).0 tag own strong holds in
+        record {
+          count = ap length same ∙ length-within own part stored.content.items within holds.bytes;
+          each = subst (λ len. AreReceived calls key tag len part.first bytes) (sym within.len)
+              (subst (λ bs. AreReceived calls key tag own.len part.first bs) (sym same)
+              (all-within (WasReceived calls key tag own.len) own part stored.content.items within all));
+        }
+
+    answered-tag : (request : Request) (stored : StoredResponse) (now : ℕ) (part : Extent)
+        → IsPartAnswer request stored now (Some part)
+        → (tag : Line) × (strong_tag (fields_of_stored stored) ≡ Some tag)
+    answered-tag request stored now part (inl none) = absurd (cc none.1)
+    answered-tag request stored now part (inr (extent, plan, may, planned, is)) =
+        some-tag (strong_tag (fields_of_stored stored)) may.strong
+
+    pub served-received : (most : ℕ) (request : Request) (now : ℕ) (answer : PartAnswer) (bytes : List ℕ)
+        → IsLookedUp policy most request now (responses_at key contents) (Serve answer)
+        → HasBytesAt (responses_at key contents) answer.number answer.part bytes
+        → (stored : StoredResponse) × (tag : Line)
+        × (numbered answer.number (responses_at key contents) ≡ Some stored)
+        × (strong_tag (fields_of_stored stored) ≡ Some tag) × AreBytesOf calls key tag answer.part bytes
+    served-received most request now answer bytes is has = elim is.does [
+      | inl answers ↦
+          let served = answers.1 in
+          let stored = is.found.selected.response in
+          let at : numbered answer.number (responses_at key contents) ≡ Some stored =
+          ap (λ n. numbered n (responses_at key contents)) served.number_is ∙ is.shown in
+          let tag = answered-tag request stored now answer.part served.part in
+          let has_bytes : HasBytes stored answer.part bytes =
+          subst (λ (o : Option StoredResponse). IsSomeAnd o (λ s. HasBytes s answer.part bytes)) at has in (
+            stored,
+            tag.0,
+            at,
+            tag.1,
+            bytes-of answer.number answer.part stored tag.0 bytes at tag.1 has_bytes,
+          )
+      | inr asks ↦ absurd asks.1
+    ]
+
+    -- a whole that is taken
+    pub whole-received : (came : StoredResponse) (reception : Reception) (part : StoredResponse)
+        → IsTaken policy (responses_at key contents) came reception part → IsWhole part
+        → (tag : Line) × (strong_tag (fields_of_stored part) ≡ Some tag)
+        × AreReceived (Received key came reception ∷ calls) key tag (length part.content.items) 0 part.content.items
+    whole-received came reception part taken whole =
+        let t = traced-taken calls contents (run-known calls contents ran) key came reception part taken in
+        let all = whole-lines t.extent (fields_of_stored part (codes "content-range")) t.lines whole in
+        let one = and_parts (nat_le t.extent.first 0) (nat_le t.extent.len (t.extent.last + 1)) all in
+        let start : t.extent.first ≡ 0 = grind (arith, one.0, nat_tests) in
+        let end : t.extent.len ≤ t.extent.last + 1 = grind (arith, one.1, nat_tests) in
+        let count : t.extent.len ≡ length part.content.items = omega (arith, start, end, t.is.within, t.is.size) in (
+          t.tag,
+          t.strong,
+          subst (λ first. AreReceived (Received key came reception ∷ calls) key t.tag (length part.content.items) first
+              part.content.items) start
+              (subst (λ len. AreReceived (Received key came reception ∷ calls) key t.tag len t.extent.first
+              part.content.items) count t.each),
+        )

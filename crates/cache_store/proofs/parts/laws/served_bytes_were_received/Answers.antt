@@ -1,0 +1,5 @@
+use Rattle.cache_store.proofs.parts.HistoryLemmas.{served-received}
+use Rattle.cache_store.proofs.parts.laws.served_bytes_were_received.Goals as goal
+
+pub returns : goal.returns
+returns c = served-received

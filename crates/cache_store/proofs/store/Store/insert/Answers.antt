@@ -1,0 +1,40 @@
+use Rattle.std.proofs.Common.{◌≡◌, ◌+◌, length, ap, arith, ◌∙◌}
+use Rattle.std.proofs.lemmas.Result.{on_ok_weaker}
+use Rattle.cache_policy.specs.Requests.{request_of}
+use Rattle.cache_store.specs.Contents.{bytes_of, size_of}
+use Rattle.cache_store.specs.Kept.{contents_of}
+use Rattle.cache_store.proofs.NumberLemmas.{numbered-inserted}
+use Rattle.cache_store.proofs.StoringLemmas.{absent_rest, inserted}
+use Rattle.cache_store.proofs.store.Store.insert.Goals as goal
+
+pub put_with-requires-clause-absent : goal.put_with-requires-clause-absent
+put_with-requires-clause-absent c =
+    absent_rest c.args.target.now (contents_of c.args.self.now) (contents_of c.take_out-responses.new.self)
+    (contents_of c.make_room.new.self)
+    c.take_out-responses.ensures.contents c.make_room.ensures.kept
+
+pub returns-clause-ok : goal.returns-clause-ok
+returns-clause-ok c =
+    let kept = c.trim.new.responses.items in
+    let bytes : c.bytes_of.result + c.len-2.result ≡ bytes_of kept + size_of c.args.new =
+    omega (arith, c.bytes_of.ensures ∙ ap bytes_of c.deref.ensures.value, c.len-2.ensures ∙ c.args.new.content.ok.0) in
+    let count : c.len-3.result + 1 ≡ length kept + 1 = ap (λ n. n + 1) (c.len-3.ensures ∙ c.trim.new.responses.ok.0) in
+    on_ok_weaker c.put_with.result
+    (inserted c.args.self.now.limits c.take_out-responses.new.self.limits c.args.target.now c.args.new (contents_of
+    c.args.self.now) (contents_of c.take_out-responses.new.self)
+    (contents_of c.make_room.new.self) (contents_of c.put_with.new.self) c.take_out-responses.result.items
+    c.supersede.new.responses.items kept
+    (request_of c.head.result) c.len.result (c.len-3.result + 1) (c.bytes_of.result + c.len-2.result)
+    c.take_out-responses.ensures.limits c.take_out-responses.ensures.contents c.take_out-responses.ensures.taken
+    c.head.ensures c.supersede.ensures.rest
+    (c.len.ensures ∙ c.args.new.content.ok.0) c.trim.ensures count bytes c.make_room.ensures.kept)
+    c.put_with.ensures.ok
+
+pub put_with-requires-clause-numbers : goal.put_with-requires-clause-numbers
+put_with-requires-clause-numbers c =
+    rw (c.make_room.ensures.next ∙ c.take_out-responses.ensures.next) (numbered-inserted c.args.self.now.next c.args.new
+    (contents_of c.args.self.now) (contents_of c.take_out-responses.new.self) (contents_of c.make_room.new.self)
+    c.take_out-responses.result.items c.supersede.new.responses.items c.trim.new.responses.items
+    c.args.self.now.numbered c.requires.last c.requires.unused c.take_out-responses.ensures.numbers
+    c.supersede.ensures.numbers c.trim.ensures.count c.trim.ensures.left c.make_room.ensures.kept.count
+    c.make_room.ensures.kept.front)

@@ -1,0 +1,59 @@
+-- What a store has.
+use Rattle.std.specs.Prelude.{◌≡◌, ℕ, Bool, false, not, List, [], ◌∷◌, ◌++◌, map, length, filter, sum_by, bytes_eq}
+use Rattle.std.specs.Prelude.{if◌then◌else◌, string_bytes, String, Vec}
+use Rattle.std.specs.List.{AllByRecursion}
+use Rattle.cache_rules.specs.declared.stored.StoredResponse.{StoredResponse}
+
+-- a target URI with the responses that are stored under it, in the order in which they were stored
+abbrev pub Target : Type 0
+Target = List ℕ × List StoredResponse
+
+-- what a store has: each target with its responses, the most recently used first
+abbrev pub Contents : Type 0
+Contents = List Target
+
+module _ (target : List ℕ) where
+  -- the entry is that of the target
+  abbrev pub is_for : Target → Bool
+  is_for entry = bytes_eq target entry.0
+
+  -- the responses that are stored under the target
+  abbrev pub responses_at : Contents → List StoredResponse
+  responses_at [] = []
+  responses_at (entry ∷ contents) = if is_for entry then entry.1 else responses_at contents
+
+  -- all but the target
+  abbrev pub without : Contents → Contents
+  without contents = filter (λ entry. not (is_for entry)) contents
+
+  -- the same, with the target as the most recently used
+  abbrev pub used : Contents → Contents
+  used contents = filter is_for contents ++ without contents
+
+  -- nothing is stored under the target
+  abbrev pub IsAbsent : Contents → Type 0
+  IsAbsent = AllByRecursion (λ entry. is_for entry ≡ false)
+
+-- the target first, if it has responses
+abbrev pub with_target : List ℕ → List StoredResponse → Contents → Contents
+with_target target [] contents = contents
+with_target target (response ∷ responses) contents = (target, response ∷ responses) ∷ contents
+
+-- how much a response counts against the bound: the bytes of its content
+abbrev pub size_of : StoredResponse → ℕ
+size_of stored = length stored.content.items
+
+abbrev pub bytes_of : List StoredResponse → ℕ
+bytes_of = sum_by size_of
+
+-- how many responses are stored
+abbrev pub response_count : Contents → ℕ
+response_count = sum_by (λ entry. length entry.1)
+
+-- how many bytes of content are stored
+abbrev pub byte_count : Contents → ℕ
+byte_count = sum_by (λ entry. bytes_of entry.1)
+
+-- what entries of the code's map are
+abbrev pub shown : {Y Z : Type 0} → List (String Y × Vec StoredResponse Z) → Contents
+shown = map (λ entry. (string_bytes entry.0, entry.1.items))

@@ -1,0 +1,11 @@
+pub mod Changes
+pub mod Contents
+pub mod History
+pub mod Kept
+pub mod Lookups
+pub mod Named
+pub mod Numbers
+pub mod Parts
+pub mod Room
+pub mod Served
+pub mod Updates

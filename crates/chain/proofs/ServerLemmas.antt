@@ -1,0 +1,218 @@
+-- A resource sets no connection option, and what a server sends for the same is the same.
+use Rattle.std.proofs.Common.{◌≡◌, ℕ, Bool, true, false, List, [], ◌∷◌, ◌++◌, Option, Some, None, refl, ◌∙◌, ap}
+use Rattle.std.specs.Prelude.{bytes_eq, codes, if◌then◌else◌, is_some, not}
+use Rattle.std.specs.List.{list_all}
+use Rattle.std.proofs.lemmas.Bool.{and_from, and_parts}
+use Rattle.http_header.specs.FieldValue.{FieldValue}
+use Rattle.headers.specs.LineMap.{Field, LineMap, fields_of, set, set_all}
+use Rattle.headers.specs.Lines.{Line}
+use Rattle.chain.specs.Caches.{Reply}
+use Rattle.chain.specs.Servers.{IsSent, SaysCloseAtMost, Server, connection_lines, sent_of}
+use Rattle.decide_cors.specs.Fields.{covers_origin, grant_fields, granted, vary_sent}
+use Rattle.decide_cors.specs.Kinds.{is_preflight}
+use Rattle.decide_cors.specs.Policy.{Policy}
+use Rattle.decide_preconditions.specs.Fields.{fields_removed, fields_sent, is_known_by, is_whole, keeps_encoding}
+use Rattle.decide_preconditions.specs.Responses.{IsAnswered}
+use Rattle.decide_preconditions.specs.declared.content.Content.{Content}
+use Rattle.decide_preconditions.specs.declared.plan.Plan.{Plan}
+use Rattle.decide_preconditions.specs.declared.resource.Resource.{Resource as Target}
+use Rattle.decide_preconditions.specs.declared.response.Response.{Response}
+use Rattle.decide_resource.specs.Answers.{AreSent, GivesIf, IsAnswer, IsShared, at_place, content_of, is_admitted}
+use Rattle.decide_resource.specs.Answers.{response_fields, target_of}
+use Rattle.decide_resource.specs.Applies.{rule, rule_for}
+use Rattle.decide_resource.specs.Fields.{accept_encoding_fields, describes, location_fields, metadata_fields}
+use Rattle.decide_resource.specs.Fields.{reason_fields, types_fields, vary_fields, vary_lines}
+use Rattle.decide_resource.specs.Requests.{Request}
+use Rattle.decide_resource.specs.declared.answer.Answer.{Answer}
+use Rattle.decide_resource.specs.declared.answer.Sends.{Sends}
+use Rattle.decide_resource.specs.declared.answer.Sends.TheVariants as sends
+use Rattle.decide_resource.specs.declared.reason.Reason.{Reason}
+use Rattle.decide_resource.specs.declared.reason.Reason.TheVariants.{InvalidHost, Misdirected, UnknownMethod}
+use Rattle.decide_resource.specs.declared.reason.Reason.TheVariants.{MethodNotAllowed, Options, UnmetExpectation}
+use Rattle.decide_resource.specs.declared.reason.Reason.TheVariants.{PartialContent}
+use Rattle.decide_resource.specs.declared.reason.Reason.TheVariants.{Moved, Gone, NotFound, LengthRequired}
+use Rattle.decide_resource.specs.declared.reason.Reason.TheVariants.{ContentTooLarge, UnsupportedMediaType}
+use Rattle.decide_resource.specs.declared.reason.Reason.TheVariants.{UnsupportedCoding, NotAcceptable}
+use Rattle.decide_resource.specs.declared.reason.Reason.TheVariants.{PreconditionRequired, Admitted}
+use Rattle.decide_resource.specs.declared.representation.Representation.{Representation}
+use Rattle.decide_resource.specs.declared.resource.MethodRule.{MethodRule}
+use Rattle.decide_resource.specs.declared.resource.Resource.{Resource}
+use Rattle.decide_resource.specs.declared.resource.State.{State}
+use Rattle.decide_resource.specs.declared.resource.State.TheVariants as state
+
+-- ---- what is the same
+
+pub same_sent : (a b : Sends) → AreSent a b → sent_of a ≡ sent_of b
+same_sent sends.Nothing sends.Nothing h = refl
+same_sent sends.Alternatives sends.Alternatives h = refl
+same_sent (sends.Planned place p) (sends.Planned other q) h = cc (h.0, h.1.1)
+same_sent sends.Perform sends.Perform h = refl
+same_sent a b h = absurd h
+
+-- ---- fields that aren't Connection
+
+abbrev is_other : Field → Bool
+is_other field = not (bytes_eq field.0 (codes "connection"))
+
+abbrev are_other : List Field → Bool
+are_other fields = list_all is_other fields
+
+both : (fs gs : List Field) → are_other fs ≡ true → are_other gs ≡ true → are_other (fs ++ gs) ≡ true
+both [] gs h k = k
+both (f ∷ fs) gs h k =
+    let x = and_parts (is_other f) (are_other fs) h in and_from _ _ x.0 (both fs gs x.1 k)
+
+not_other : (b : Bool) → not b ≡ true → b ≡ false
+not_other false e = refl
+not_other true e = absurd (cc e)
+
+keep : (m : LineMap) (fields : List Field) → are_other fields ≡ true
+    → set_all m fields (codes "connection") ≡ m (codes "connection")
+keep m [] h = refl
+keep m (f ∷ fields) h =
+    let x = and_parts (is_other f) (are_other fields) h in
+    keep (set m f) fields x.1
+    ∙ ap (λ (b : Bool). if b then f.1 else m (codes "connection"))
+    (not_other (bytes_eq f.0 (codes "connection")) x.0)
+
+-- ---- the fields of an answer
+
+located : (s : State) → are_other (location_fields s) ≡ true
+located (state.Moved redirect location) = refl
+located state.Current = refl
+located state.Absent = refl
+located state.Gone = refl
+
+accepting : (b : Bool) (r : Option MethodRule)
+    → are_other (types_fields (codes "accept") r ++ (if b then types_fields (codes "accept-patch") r else [])) ≡ true
+accepting true None = refl
+accepting true (Some r) = refl
+accepting false None = refl
+accepting false (Some r) = refl
+
+accepting_coding : (r : Option MethodRule) → are_other (accept_encoding_fields r) ≡ true
+accepting_coding None = refl
+accepting_coding (Some r) = refl
+
+offering : (p q : Option MethodRule)
+    → are_other (types_fields (codes "accept-patch") p ++ types_fields (codes "accept-post") q) ≡ true
+offering None None = refl
+offering None (Some q) = refl
+offering (Some p) None = refl
+offering (Some p) (Some q) = refl
+
+explained : (resource : Resource) (request : Request) (reason : Reason)
+    → are_other (reason_fields resource request reason) ≡ true
+explained resource request MethodNotAllowed = refl
+explained resource request Options =
+    offering (rule_for resource.rules.items (codes "PATCH")) (rule_for resource.rules.items (codes "POST"))
+explained resource request Moved = located resource.state
+explained resource request UnsupportedMediaType =
+    accepting (bytes_eq request.method (codes "PATCH")) (rule resource request)
+explained resource request UnsupportedCoding = accepting_coding (rule resource request)
+explained resource request InvalidHost = refl
+explained resource request Misdirected = refl
+explained resource request UnknownMethod = refl
+explained resource request UnmetExpectation = refl
+explained resource request PartialContent = refl
+explained resource request Gone = refl
+explained resource request NotFound = refl
+explained resource request LengthRequired = refl
+explained resource request ContentTooLarge = refl
+explained resource request NotAcceptable = refl
+explained resource request PreconditionRequired = refl
+explained resource request Admitted = refl
+
+described : (b : Bool) (representation : Representation) → are_other (metadata_fields b representation) ≡ true
+described true representation = refl
+described false representation = refl
+
+removed : (plan : Plan) (known : Bool) → are_other (fields_removed plan known) ≡ true
+removed plan known = by (keeps_encoding plan known) (is_whole plan)
+  where
+    by : (b c : Bool)
+        → are_other
+        ((if b then [] else (codes "content-encoding", []) ∷ [])
+        ++ (if c then [] else (codes "content-digest", []) ∷ (codes "content-md5", []) ∷ []))
+        ≡ true
+    by true true = refl
+    by true false = refl
+    by false true = refl
+    by false false = refl
+
+planned : (present : ℕ) (plan : Plan) (known : Bool) (target : Target) (content : Content) (multipart : FieldValue)
+    → are_other (fields_sent present plan known target content multipart) ≡ true
+planned present plan known target content multipart = removed plan known
+
+answered : (present : ℕ) (request : Request) (representation : Option Representation) (target : Target)
+    (content : Content) (multipart : FieldValue) (response : Option Response)
+    → IsAnswered present request.method request.fields target content multipart response
+    → are_other (response_fields request.fields representation response) ≡ true
+answered present request representation target content multipart None h = refl
+answered present request None target content multipart (Some response) h =
+    ap are_other h.fields ∙ planned present response.plan (is_known_by request.fields) target content multipart
+answered present request (Some representation) target content multipart (Some response) h =
+    both (metadata_fields (describes response.plan (is_known_by request.fields)) representation)
+    (fields_of response.fields.items)
+    (described (describes response.plan (is_known_by request.fields)) representation)
+    (ap are_other h.fields ∙ planned present response.plan (is_known_by request.fields) target content multipart)
+
+given : (b : Bool) (present : ℕ) (resource : Resource) (request : Request) (reason : Reason) (status : Option ℕ)
+    (sent : Sends) (own : List Field) → GivesIf b present resource request reason status sent own
+    → are_other own ≡ true
+given true present resource request reason status sent own h =
+    let representation = at_place resource.representations.items h.place in
+    ap are_other h.goes.has_fields
+    ∙ answered present request representation (target_of resource.state representation) (content_of representation)
+    resource.boundary h.goes.response h.goes.answered
+given false present resource request reason status sent own h =
+    ap are_other h.has_fields ∙ explained resource request reason
+
+varied : (lines : List Line) → are_other (vary_fields lines) ≡ true
+varied [] = refl
+varied (line ∷ lines) = refl
+
+granting : (policy : Policy) (pre : Bool) (line : Option Line) (lines : List Line)
+    → are_other (grant_fields policy pre line ++ vary_sent policy lines) ≡ true
+granting policy pre line lines = by (is_some policy.origins) (covers_origin lines)
+  where
+    by : (b c : Bool)
+        → are_other (if b then (if c then [] else (codes "vary", lines ++ codes "origin" ∷ []) ∷ []) else []) ≡ true
+    by true true = refl
+    by true false = refl
+    by false c = refl
+
+sharing : (cors : Option Policy) (request : Request) (lines : List Line) (fields : List Field)
+    → IsShared cors request lines fields → are_other fields ≡ true
+sharing None request lines fields none = ap are_other none
+sharing (Some policy) request lines fields h =
+    ap are_other (h.2 ∙ h.1.fields)
+    ∙ granting policy (is_preflight h.0.kind) (granted policy (request.fields (codes "origin"))) lines
+
+-- the fields of an answer leave Connection as it is
+pub sets_no_option : (present : ℕ) (resource : Resource) (request : Request) (answer : Answer)
+    → IsAnswer present resource request answer → (before : LineMap)
+    → set_all before (fields_of answer.fields.items) (codes "connection") ≡ before (codes "connection")
+sets_no_option present resource request answer a before =
+    let vary = vary_fields (vary_lines resource answer.reason) in
+    keep before (fields_of answer.fields.items)
+    (
+    ap are_other a.fields
+    ∙ both (a.own ++ vary) a.shared
+    (
+    both a.own vary
+    (given (is_admitted answer.reason) present resource request answer.reason answer.status answer.sends a.own a.gives)
+    (varied (vary_lines resource answer.reason))
+    )
+    (sharing resource.cors request (vary_lines resource answer.reason) a.shared a.is_shared)
+    )
+
+-- so a server says at most that it closes the connection
+pub says_close_at_most : (server : Server) (now : ℕ) (request : Request) (reply : Reply)
+    → IsSent server now request reply → SaysCloseAtMost reply.fields
+says_close_at_most server now request reply h = (
+  h.closes,
+  h.connection
+      ∙ sets_no_option now (server.resource now) request h.said.answer h.said.is
+      (set (server.own now reply.status) (codes "connection", connection_lines h.closes)),
+)

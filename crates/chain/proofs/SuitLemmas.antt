@@ -1,0 +1,241 @@
+-- Requests that a cache takes for one by Vary get the same answers.
+use Rattle.std.proofs.Common.{◌≡◌, ◌≢◌, ◌↔◌, ℕ, Bool, true, false, List, [], ◌∷◌, refl, sym}
+use Rattle.std.proofs.Common.{◌∙◌, ap, subst, inl, inr, arith, bytes_eq}
+use Rattle.std.specs.Prelude.{All, ◌||◌, codes, if◌then◌else◌}
+use Rattle.std.specs.List.{list_any}
+use Rattle.std.specs.Char.{to_ascii_lowercase}
+use Rattle.std.proofs.lemmas.Bool.{cases_Bool}
+use Rattle.std.proofs.lemmas.Bool.Decides.{nat_tests}
+use Rattle.std.proofs.lemmas.List.Elements.{All-head, All-tail}
+use Rattle.std.proofs.lemmas.Slice.Eq.{bytes_eq-Decides}
+use Rattle.http_header.specs.Token.{lowercase}
+use Rattle.headers.specs.LineMap.{LineMap, fields_of, set_all}
+use Rattle.headers.specs.Lines.{Line}
+use Rattle.cache_policy.specs.Varying.{Agree, SayTheSame, has_pairs, is_list_name}
+use Rattle.rfc_fields.specs.Directives.{is_same_token}
+use Rattle.rfc_fields.specs.Members.{field_members}
+use Rattle.rfc_fields.specs.Scan.{Member}
+use Rattle.rfc_fields.specs.Scan.Member.{Whole, Malformed}
+use Rattle.cache_policy.specs.Requests.{AllowsMethod}
+use Rattle.cache_policy.specs.Varying.{Suits}
+use Rattle.chain.specs.Caches.{asked}
+use Rattle.decide_cors.specs.Cache.{Serves, nominates}
+use Rattle.decide_resource.specs.Answers.{AreSame, IsAnswer}
+use Rattle.decide_resource.specs.Requests.{Request}
+use Rattle.decide_resource.specs.Vary.{AreAlike, ListAlike, SelectTheSame}
+use Rattle.decide_resource.specs.declared.answer.Answer.{Answer}
+use Rattle.decide_resource.specs.declared.resource.Resource.{Resource}
+
+-- ---- what members of Vary nominate
+
+star_alone : (name : List ℕ) → lowercase name ≡ codes "*" → name ≡ codes "*"
+star_alone [] e = absurd (cc e)
+star_alone (b ∷ []) e =
+    let low : to_ascii_lowercase b ≡ 42 = cc e in
+    let same : b ≡ 42 = grind (arith, nat_tests, low) in ap (λ (n : ℕ). n ∷ []) same
+star_alone (b ∷ c ∷ name) e = absurd (cc e)
+
+module _ (r s : LineMap) where
+  -- requests agree in each name that a member is
+  agreed : (name : Line) (ms : List Member) → All (Agree r s) ms → list_any (is_same_token name) ms ≡ true
+      → SayTheSame (lowercase name) (r (lowercase name)) (s (lowercase name))
+  agreed name [] all e = absurd (cc e)
+  agreed name (Malformed ∷ ms) all e = absurd (All-head (Agree r s) Malformed ms all)
+  agreed name (Whole text ∷ ms) all e =
+      elim (cases_Bool (bytes_eq (lowercase text) (lowercase name))) [
+        | inl t ↦
+            subst (λ (n : Line). SayTheSame n (r n) (s n)) ((bytes_eq-Decides (lowercase text) (lowercase name)).0 t)
+            (All-head (Agree r s) (Whole text) ms all).2
+        | inr f ↦
+            agreed name ms (All-tail (Agree r s) (Whole text) ms all)
+            (sym (ap (λ (b : Bool). b || list_any (is_same_token name) ms) f) ∙ e)
+      ]
+
+  no_star : (ms : List Member) → All (Agree r s) ms → list_any (is_same_token (codes "*")) ms ≡ true → ⊥
+  no_star [] all e = cc e
+  no_star (Malformed ∷ ms) all e = All-head (Agree r s) Malformed ms all
+  no_star (Whole text ∷ ms) all e =
+      elim (cases_Bool (bytes_eq (lowercase text) (codes "*"))) [
+        | inl t ↦
+            (All-head (Agree r s) (Whole text) ms all).1
+            (star_alone text ((bytes_eq-Decides (lowercase text) (codes "*")).0 t))
+        | inr f ↦
+            no_star ms (All-tail (Agree r s) (Whole text) ms all)
+            (sym (ap (λ (b : Bool). b || list_any (is_same_token (codes "*")) ms) f) ∙ e)
+      ]
+
+-- ---- the request between two that a cache takes for one
+
+-- the field lines of the first where Vary names the field, and else those of the second
+abbrev between : List Line → LineMap → LineMap → LineMap
+between varying r s name = if nominates varying name then r name else s name
+
+either : {X : Type 0} (b : Bool) (x y : X) → x ≡ y → x ≡ (if b then x else y)
+either true x y e = refl
+either false x y e = e
+
+other : {X : Type 0} (b : Bool) (x y : X) → x ≡ y → y ≡ (if b then x else y)
+other true x y e = sym e
+other false x y e = refl
+
+-- a field that is no list has the same field lines
+one_line : (name : Line) (b : Bool) (r s : List Line) → is_list_name name ≡ false
+    → (b ≡ true → SayTheSame name r s) → s ≡ (if b then r else s)
+one_line name true r s single says = elim (says refl) [
+  | inl e ↦ sym e
+  | inr h ↦ let list : is_list_name name ≡ true = h.0 in absurd (cc (single, list))
+]
+one_line name false r s single says = refl
+
+-- a list is the same
+one_list : (name : Line) (b : Bool) (r s : List Line) → has_pairs name ≡ true → (b ≡ true → SayTheSame name r s)
+    → ListAlike s (if b then r else s)
+one_list name true r s pairs says = elim (says refl) [
+  | inl e ↦ inl (sym e)
+  | inr h ↦
+      let same : field_members (has_pairs name) r ≡ field_members (has_pairs name) s = h.1.same.1 in
+      inr (
+        h.1.also_present,
+        h.1.present,
+        sym (ap (λ (p : Bool). field_members p r) (sym pairs) ∙ same ∙ ap (λ (p : Bool). field_members p s) pairs),
+      )
+]
+one_list name false r s pairs says = inl refl
+
+is_list_origin : is_list_name (codes "origin") ≡ false
+unfolding is_list_name
+is_list_origin = refl
+
+is_list_method : is_list_name (codes "access-control-request-method") ≡ false
+unfolding is_list_name
+is_list_method = refl
+
+pairs_accept : has_pairs (codes "accept") ≡ true
+unfolding has_pairs
+pairs_accept = refl
+
+pairs_language : has_pairs (codes "accept-language") ≡ true
+unfolding has_pairs
+pairs_language = refl
+
+pairs_coding : has_pairs (codes "accept-encoding") ≡ true
+unfolding has_pairs
+pairs_coding = refl
+
+module _ (varying : List Line) (r s : Request) (alike : AreAlike r s)
+    (agree : All (Agree r.fields s.fields) (field_members true varying)) where
+  abbrev middle : Request
+  middle =
+      record {
+        protocol = s.protocol;
+        method = s.method;
+        authority = s.authority;
+        content = s.content;
+        fields = between varying r.fields s.fields;
+      }
+
+  says : (name : Line) → lowercase name ≡ name → nominates varying name ≡ true
+      → SayTheSame name (r.fields name) (s.fields name)
+  says name low e =
+      subst (λ (n : Line). SayTheSame n (r.fields n) (s.fields n)) low
+      (agreed r.fields s.fields name (field_members true varying) agree e)
+
+  serves : Serves varying r.fields middle.fields
+  serves =
+      record {
+        no_star = λ e. no_star r.fields s.fields (field_members true varying) agree e;
+        same = λ name e. rw e refl;
+      }
+
+  first : AreAlike r middle
+  first =
+      let by = λ (name : Line) (e : r.fields name ≡ s.fields name).
+      either (nominates varying name) (r.fields name) (s.fields name) e in
+      record {
+        protocol = alike.protocol;
+        method = alike.method;
+        authority = alike.authority;
+        host = by (codes "host") alike.host;
+        expect = by (codes "expect") alike.expect;
+        content = alike.content;
+        content_type = by (codes "content-type") alike.content_type;
+        content_encoding = by (codes "content-encoding") alike.content_encoding;
+        content_range = λ put. by (codes "content-range") (alike.content_range put);
+        asks =
+            record {
+              if_match = by (codes "if-match") alike.asks.if_match;
+              if_none_match = by (codes "if-none-match") alike.asks.if_none_match;
+              if_modified_since = by (codes "if-modified-since") alike.asks.if_modified_since;
+              if_unmodified_since = by (codes "if-unmodified-since") alike.asks.if_unmodified_since;
+              range = by (codes "range") alike.asks.range;
+              if_range = by (codes "if-range") alike.asks.if_range;
+            };
+      }
+
+  second : AreAlike s middle
+  second =
+      let by = λ (name : Line) (e : r.fields name ≡ s.fields name).
+      other (nominates varying name) (r.fields name) (s.fields name) e in
+      record {
+        protocol = refl;
+        method = refl;
+        authority = refl;
+        host = by (codes "host") alike.host;
+        expect = by (codes "expect") alike.expect;
+        content = refl;
+        content_type = by (codes "content-type") alike.content_type;
+        content_encoding = by (codes "content-encoding") alike.content_encoding;
+        content_range = λ put. by (codes "content-range") (alike.content_range (alike.method ∙ put));
+        asks =
+            record {
+              if_match = by (codes "if-match") alike.asks.if_match;
+              if_none_match = by (codes "if-none-match") alike.asks.if_none_match;
+              if_modified_since = by (codes "if-modified-since") alike.asks.if_modified_since;
+              if_unmodified_since = by (codes "if-unmodified-since") alike.asks.if_unmodified_since;
+              range = by (codes "range") alike.asks.range;
+              if_range = by (codes "if-range") alike.asks.if_range;
+            };
+      }
+
+  select : SelectTheSame s.fields middle.fields
+  select =
+      let list = λ (name : Line) (low : lowercase name ≡ name) (pairs : has_pairs name ≡ true).
+      one_list name (nominates varying name) (r.fields name) (s.fields name) pairs (says name low) in
+      let line = λ (name : Line) (low : lowercase name ≡ name) (single : is_list_name name ≡ false).
+      one_line name (nominates varying name) (r.fields name) (s.fields name) single (says name low) in
+      record {
+        accept = list (codes "accept") refl pairs_accept;
+        accept_language = list (codes "accept-language") refl pairs_language;
+        accept_encoding = list (codes "accept-encoding") refl pairs_coding;
+        origin = line (codes "origin") refl is_list_origin;
+        requested_method = line (codes "access-control-request-method") refl is_list_method;
+      }
+
+-- ---- laws of a resource
+
+abbrev pub VaryIsSound : Type 0
+VaryIsSound =
+    (present : ℕ) (resource : Resource) (r s : Request) (a b : Answer) (before : LineMap)
+    → IsAnswer present resource r a → IsAnswer present resource s b → AreAlike r s → r.method ≢ codes "OPTIONS"
+    → Serves (set_all before (fields_of a.fields.items) (codes "vary")) r.fields s.fields → AreSame a b
+
+abbrev pub MembersSelect : Type 0
+MembersSelect =
+    (present : ℕ) (resource : Resource) (r s : Request) (answer : Answer) → AreAlike r s
+    → SelectTheSame r.fields s.fields → IsAnswer present resource r answer ↔ IsAnswer present resource s answer
+
+read_only : (stored method : List ℕ) → AllowsMethod stored method → stored ≢ codes "OPTIONS"
+read_only stored method (inl h) e = absurd (cc (h.0, e))
+read_only stored method (inr h) e = absurd (cc (h.0, e))
+
+pub suited : VaryIsSound → MembersSelect → (present : ℕ) (resource : Resource) (r s : Request) (a b : Answer)
+    (before : LineMap) → IsAnswer present resource r a → IsAnswer present resource s b → AreAlike r s
+    → Suits (asked r) (asked s) (set_all before (fields_of a.fields.items)) → AreSame a b
+suited sound members present resource r s a b before h k alike suits =
+    let varying = set_all before (fields_of a.fields.items) (codes "vary") in
+    let near : IsAnswer present resource (middle varying r s alike suits.fields) b =
+    (members present resource s (middle varying r s alike suits.fields) b (second varying r s alike suits.fields)
+    (select varying r s alike suits.fields)).0 k in
+    sound present resource r (middle varying r s alike suits.fields) a b before h near
+    (first varying r s alike suits.fields) (read_only r.method s.method suits.method)
+    (serves varying r s alike suits.fields)

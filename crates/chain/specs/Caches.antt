@@ -1,0 +1,198 @@
+-- A cache before other servers (RFC 9111): which requests it answers from its store, what it stores, and when.
+use Rattle.std.specs.Prelude.{◌≡◌, ◌≢◌, ◌⊎◌, ℕ, ◌+◌, ◌-◌, ◌≤◌, Bool, true, ◌&&◌, not, ◌==◌, List, [], ◌∷◌, ◌++◌, All}
+use Rattle.std.specs.Prelude.{None, Some, bytes_eq, codes, if◌then◌else◌, unwrap_or}
+use Rattle.std.specs.List.{list_all}
+use Rattle.headers.specs.LineMap.{Field, LineMap, lines_at}
+use Rattle.headers.specs.Lines.{Line, only_line}
+use Rattle.headers.specs.Text.{is_text}
+use Rattle.cache_store.specs.Contents.{Contents, responses_at}
+use Rattle.cache_store.specs.History.{Call, History, Step}
+use Rattle.cache_store.specs.History.Call.{Looked, Arrived, Removed}
+use Rattle.cache_store.specs.Lookups.{IsAnswer, age_of_stored}
+use Rattle.cache_store.specs.Served.{Serves}
+use Rattle.cache_store.specs.declared.limits.Limits.{Limits}
+use Rattle.cache_store.specs.Numbers.{numbered}
+use Rattle.cache_store.specs.declared.lookup.Lookup.{Lookup}
+use Rattle.cache_store.specs.declared.lookup.Lookup.TheVariants.{Serve, ServeAndRevalidate, Validate, ValidateOrServe}
+use Rattle.cache_store.specs.declared.lookup.Lookup.TheVariants.{Unavailable, Forward}
+use Rattle.cache_policy.specs.Policies.{Policy}
+use Rattle.cache_policy.specs.Requests.{IsGetOrHead, Request as Asked}
+use Rattle.cache_rules.specs.Stored.{fields_of_stored}
+use Rattle.cache_rules.specs.declared.storing.Reception.{Reception}
+use Rattle.cache_rules.specs.declared.stored.StoredResponse.{StoredResponse}
+use Rattle.gateway_messages.specs.declared.protocol.Protocol.TheVariants.{Http11}
+use Rattle.decide_resource.specs.Requests.{Request}
+use Rattle.decide_resource.specs.declared.request.RequestContent.TheVariants.{Absent}
+
+-- a response as it is received, with its content
+pub record Reply : Type 0 where
+  pub status : ℕ
+  pub fields : LineMap
+  pub content : List ℕ
+
+-- a response to HEAD has no content (RFC 9110, section 9.3.2)
+abbrev pub unless_head : List ℕ → List ℕ → List ℕ
+unless_head method content = if bytes_eq method (codes "HEAD") then [] else content
+
+-- those who answer requests: at a time, in seconds since 1970, they give a request to a target this reply
+abbrev pub Origin : Type 1
+Origin = ℕ → List ℕ → Request → Reply → Type 0
+
+-- a request as a cache reads it
+abbrev pub asked : Request → Asked
+asked request = record { method = request.method; fields = request.fields }
+
+-- ---- which requests
+
+-- The fields that a plain request doesn't have: connection options, which could name any field of it; those of content;
+-- expectations; conditions; and ranges.
+abbrev pub special_names : List (List ℕ)
+special_names =
+    codes "connection" ∷ codes "content-type" ∷ codes "content-encoding" ∷ codes "expect" ∷ codes "if-match"
+    ∷ codes "if-none-match" ∷ codes "if-modified-since" ∷ codes "if-unmodified-since" ∷ codes "range"
+    ∷ codes "if-range" ∷ []
+
+-- the host is text, and no slash is in it
+abbrev pub is_bare : Line → Bool
+is_bare host = is_text host && list_all (λ b. not (b == 47)) host
+
+-- a GET or a HEAD in HTTP/1.1 without content, whose target isn't in absolute-form
+pub record IsBareRead (request : Request) : Type 0 where
+  pub method : IsGetOrHead request.method
+  pub protocol : request.protocol ≡ Http11
+  pub authority : request.authority ≡ None
+  pub content : request.content ≡ Absent
+
+-- A request that a cache may answer from its store: a bare read of a path at one host, without the special fields.
+pub record IsPlain (target : List ℕ) (request : Request) : Type 0 where
+  pub read : IsBareRead request
+  pub path : List ℕ
+  pub is_path : target ≡ 47 ∷ path
+  pub host : Line
+  pub has_host : request.fields (codes "host") ≡ host ∷ []
+  pub bare : is_bare host ≡ true
+  pub without : All (λ name. request.fields name ≡ []) special_names
+
+-- The key under which a cache stores the responses to a request: the URI of its target, of its host and its path (RFC
+-- 9111, section 2; RFC 9110, section 7.1).
+abbrev pub key_of : List ℕ → Request → List ℕ
+key_of target request = codes "http://" ++ (unwrap_or (only_line (request.fields (codes "host"))) [] ++ target)
+
+-- ---- the clock of a cache
+
+-- A clock, and what it shows at a time. It runs as time does from when it was set; it may be wrong.
+pub record Clock : Type 0 where
+  pub shows : ℕ → ℕ
+  pub set : ℕ
+  pub runs : (time later : ℕ) → set ≤ time → time ≤ later → shows later ≡ shows time + (later - time)
+
+-- ---- what a cache does
+
+-- a cache: its policy, how much it stores, how many seconds it guesses at most for a lifetime that nobody states, and
+-- its clock
+pub record Caching : Type 0 where
+  pub policy : Policy
+  pub limits : Limits
+  pub most : ℕ
+  pub clock : Clock
+
+-- an act of a cache on its store
+pub data Act : Type 0 where
+  -- it looks for a stored response to a request to a target
+  Looks : List ℕ → Request → Act
+  -- it takes the response to a request to a target that it sent on: so it is stored, if it is
+  Takes : List ℕ → Request → StoredResponse → Reception → Act
+  -- it removes what is stored under a key
+  Drops : List ℕ → Act
+
+-- what a cache writes down of a request, and of the response to it: all of it, and what its clock showed when it sent
+-- the request on and when the response came
+pub record IsNoted (request : Request) (requested : ℕ) (reply : Reply) (received : ℕ) (came : StoredResponse)
+    : Type 0 where
+  pub method : came.method ≡ request.method
+  pub asked_fields : (name : List ℕ) → lines_at came.request name ≡ request.fields name
+  pub status : came.status ≡ reply.status
+  pub fields : (name : List ℕ) → fields_of_stored came name ≡ reply.fields name
+  pub content : came.content.items ≡ reply.content
+  pub requested_at : came.requested ≡ requested
+  pub received_at : came.received ≡ received
+
+-- The response came from those behind the cache: they gave it after the cache sent the request on, and before it came.
+pub record HasComeFrom (clock : Clock) (origin : Origin) (now : ℕ) (target : List ℕ) (request : Request)
+    (came : StoredResponse) : Type 0 where
+  pub sent : ℕ
+  pub time : ℕ
+  pub received : ℕ
+  pub reply : Reply
+  pub answered : origin time target request reply
+  pub noted : IsNoted request (clock.shows sent) reply (clock.shows received) came
+  pub set_before : clock.set ≤ sent
+  pub after : sent ≤ time
+  pub before : time ≤ received
+  pub past : received ≤ now
+
+module _ (caching : Caching) (origin : Origin) (now : ℕ) where
+  -- What an act makes of what is stored. A cache looks for plain requests alone, and takes the responses to those that
+  -- it sent on.
+  abbrev pub Does : Act → Contents → Contents → Type 0
+  Does (Looks target request) old new =
+      IsPlain target request × Step caching.policy caching.limits (Looked (key_of target request)) old new
+  Does (Takes target request came reception) old new =
+      IsPlain target request × HasComeFrom caching.clock origin now target request came
+      × Step caching.policy caching.limits (Arrived (key_of target request) came reception) old new
+  Does (Drops key) old new = Step caching.policy caching.limits (Removed key) old new
+
+  -- a cache that was empty has this after these acts, the latest first
+  abbrev pub HasAfter : List Act → Contents → Type 0
+  HasAfter [] contents = contents ≡ []
+  HasAfter (act ∷ acts) contents = (before : Contents) × HasAfter acts before × Does act before contents
+
+-- the call of the store
+abbrev pub call_of : Act → Call
+call_of (Looks target request) = Looked (key_of target request)
+call_of (Takes target request came reception) = Arrived (key_of target request) came reception
+call_of (Drops key) = Removed key
+
+-- the calls of the store, the latest first
+abbrev pub calls_of : List Act → History
+calls_of [] = []
+calls_of (act ∷ acts) = call_of act ∷ calls_of acts
+
+-- A cache of this policy asks its store for a plain request: this is the answer, and this is stored before and after.
+pub record IsSought (policy : Policy) (limits : Limits) (most : ℕ) (target : List ℕ) (request : Request) (now : ℕ)
+    (old new : Contents) (lookup : Lookup) : Type 0 where
+  pub plain : IsPlain target request
+  pub looked : Step policy limits (Looked (key_of target request)) old new
+  pub answer : IsAnswer policy most (asked request) now (responses_at (key_of target request) new) lookup
+
+-- the lookup lets the cache send the stored response with the number if the servers behind it fail (RFC 5861, section
+-- 4)
+abbrev pub ServesOnError : Lookup → ℕ → Type 0
+ServesOnError (ValidateOrServe named fields) number = named ≡ number
+ServesOnError (Validate named fields) number = ⊥
+ServesOnError (Serve named age) number = ⊥
+ServesOnError (ServeAndRevalidate named age) number = ⊥
+ServesOnError Unavailable number = ⊥
+ServesOnError Forward number = ⊥
+
+-- The reply is the stored response that a lookup of the cache's store serves to a plain request, at once or as the
+-- servers behind it fail, with its age.
+pub record IsFromStore (caching : Caching) (origin : Origin) (now : ℕ) (target : List ℕ) (request : Request)
+    (reply : Reply) : Type 0 where
+  pub acts : List Act
+  pub before : Contents
+  pub has : HasAfter caching origin now acts before
+  pub contents : Contents
+  pub lookup : Lookup
+  pub sought : IsSought caching.policy caching.limits caching.most target request (caching.clock.shows now) before
+      contents lookup
+  pub number : ℕ
+  pub age : Field
+  pub stored : StoredResponse
+  pub at : numbered number (responses_at (key_of target request) contents) ≡ Some stored
+  pub serves : Serves lookup number age
+      ⊎ (ServesOnError lookup number × (age ≡ age_of_stored stored (caching.clock.shows now)))
+  pub status : reply.status ≡ stored.status
+  pub content : reply.content ≡ unless_head request.method stored.content.items
+  pub fields : (name : List ℕ) → name ≢ codes "age" → reply.fields name ≡ fields_of_stored stored name
+  pub has_age : reply.fields (codes "age") ≡ age.1

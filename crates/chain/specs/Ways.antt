@@ -1,0 +1,56 @@
+-- The way of a request through gateways to a resource (RFC 9110, section 7.6).
+use Rattle.std.specs.Prelude.{◌≡◌, ℕ, List, [], ◌∷◌, None, bytes_eq, codes, if◌then◌else◌}
+use Rattle.headers.specs.LineMap.{LineMap}
+use Rattle.gateway_messages.specs.FieldLines.{fields_of, lines_under}
+use Rattle.gateway_messages.specs.Forwarding.{replaced}
+use Rattle.gateway_messages.specs.HopByHop.{connection_options, is_hop_by_hop}
+use Rattle.gateway_messages.specs.Requests.{IsForwarded, Request as Received}
+use Rattle.gateway_messages.specs.declared.gateway.Gateway.{Gateway}
+use Rattle.gateway_messages.specs.declared.protocol.Protocol.TheVariants.{Http11}
+use Rattle.gateway_messages.specs.declared.request.ForwardedRequest.{ForwardedRequest}
+use Rattle.decide_resource.specs.Requests.{Request}
+
+-- a request as a gateway reads it: its content decides nothing
+abbrev pub received : Request → Received
+received request =
+    record {
+      protocol = request.protocol;
+      method = request.method;
+      authority = request.authority;
+      fields = request.fields;
+    }
+
+-- The next server gets what was forwarded: in HTTP/1.1, for the host that its fields name, and with the same content.
+pub record IsPassedOn (request : Request) (sent : ForwardedRequest) (next : Request) : Type 0 where
+  pub protocol : next.protocol ≡ Http11
+  pub method : request.method ≡ next.method
+  pub authority : next.authority ≡ None
+  pub content : request.content ≡ next.content
+  pub fields : (name : List ℕ) → next.fields name ≡ lines_under (fields_of sent.fields.items) name
+
+-- each gateway of the list forwards the request, the first one that of the client; the last request is what the
+-- server behind them gets
+abbrev pub Reaches : List Gateway → Request → Request → Type 0
+Reaches [] request last = request ≡ last
+Reaches (gateway ∷ gateways) request last =
+    (sent : ForwardedRequest) × (next : Request) × IsForwarded gateway (received request) sent
+    × IsPassedOn request sent next × Reaches gateways next last
+
+-- the field lines of a request that are meant for the server behind a gateway: those of the connection to the gateway
+-- are left out, and Host is that of the target
+abbrev pub end_to_end_lines : Gateway → Request → LineMap
+end_to_end_lines gateway request name =
+    if bytes_eq (codes "host") name then replaced request.authority (request.fields (codes "host"))
+    else (if is_hop_by_hop gateway.consumes_credentials (connection_options request.fields) name then []
+    else request.fields name)
+
+-- the request of a client to a gateway, as it would send it to the server behind it
+abbrev pub sent_directly : Gateway → Request → Request
+sent_directly gateway request =
+    record {
+      protocol = Http11;
+      method = request.method;
+      authority = None;
+      content = request.content;
+      fields = end_to_end_lines gateway request;
+    }

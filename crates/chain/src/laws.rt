@@ -1,0 +1,165 @@
+//! What follows from the definitions. A proof cites a law by calling it.
+ghost use Rattle.std.specs.Prelude.{◌≡◌, ◌≢◌, ◌↔◌, ◌⊎◌, ◌∷◌, [], ℕ, List, All, codes, false, true};
+ghost use Rattle.headers.specs.LineMap.{LineMap, fields_of, set_all};
+ghost use Rattle.cache_policy.specs.Varying.{Suits};
+ghost use Rattle.cache_policy.specs.Fields.{IsPresent};
+ghost use Rattle.cache_policy.specs.Policies.{tells};
+ghost use Rattle.cache_policy.specs.Storing.{IsOpen};
+ghost use Rattle.cache_policy.specs.declared.Kind.TheVariants.{Shared};
+ghost use Rattle.chain.specs.Caches.{Caching, IsFromStore, IsPlain, Reply, asked, key_of, unless_head};
+ghost use Rattle.chain.specs.Chains.{Hop, IsForwardedBack, IsOwn, IsTold, behind, meant};
+ghost use Rattle.chain.specs.Servers.{IsSent, SaysCloseAtMost, Server};
+ghost use Rattle.decide_cors.specs.Browser.{CorsCheck, Request as Sent};
+ghost use Rattle.chain.specs.Responses.{HasNoOptions, Returns};
+ghost use Rattle.chain.specs.Ways.{Reaches, sent_directly};
+ghost use Rattle.gateway_messages.specs.Forwarding.{IsHopByHop, own_names};
+ghost use Rattle.gateway_messages.specs.Spellings.{has_mark};
+ghost use Rattle.gateway_messages.specs.HopByHop.{is_known};
+ghost use Rattle.gateway_messages.specs.Responses.{Response};
+ghost use Rattle.gateway_messages.specs.declared.gateway.Gateway.{Gateway};
+ghost use Rattle.decide_resource.specs.Answers.{AreSame, IsAnswer};
+ghost use Rattle.decide_resource.specs.Requests.{Request};
+ghost use Rattle.decide_resource.specs.declared.answer.Answer.{Answer};
+ghost use Rattle.decide_resource.specs.Vary.{AreAlike};
+ghost use Rattle.decide_resource.specs.declared.resource.Resource.{Resource};
+
+use cache_store::laws::{calls_justify_what_is_stored, lookups_serve_what_calls_justify};
+use decide_resource::laws::{
+    head_is_answered_as_get, members_alone_select, other_fields_change_nothing, vary_is_sound,
+};
+
+/// Theorem: gateways are invisible to a resource. What any number of gateways forward gets exactly
+/// the answers that the client's request would get if the client sent it itself, without the fields
+/// for its connection to the first gateway. So no gateway changes what is selected, which
+/// preconditions are true, or which origins may read the answer.
+pub fn gateways_are_invisible()
+    ensures { (present : ℕ) (resource : Resource) (gateway : Gateway) (gateways : List Gateway)
+        (request last : Request) (answer : Answer) → Reaches (gateway ∷ gateways) request last
+        → IsAnswer present resource (sent_directly gateway request) answer
+        ↔ IsAnswer present resource last answer }
+{
+    other_fields_change_nothing();
+}
+
+/// Theorem: the field lines of a response reach the client through any gateways as the server sent
+/// them, in order, if the server sends no connection option. This holds for each name of letters,
+/// digits and dashes that no gateway writes itself, and that isn't for one connection.
+pub fn responses_return_unchanged()
+    ensures { (gateways : List Gateway) (response last : Response) (name : List ℕ)
+        → Returns gateways response last → HasNoOptions response.fields
+        → All (λ gateway. is_known gateway.consumes_credentials name ≡ false) gateways
+        → has_mark name ≡ false → All (λ own. own ≢ name) own_names → last.fields name ≡ response.fields name }
+{}
+
+/// Theorem: through any gateways, a browser's CORS check of what it gets passes exactly if that of
+/// what the server sent does.
+pub fn cors_check_survives_gateways()
+    ensures { (gateways : List Gateway) (response last : Response) (sent : Sent)
+        → Returns gateways response last → HasNoOptions response.fields
+        → CorsCheck response.fields sent ↔ CorsCheck last.fields sent }
+{}
+
+/// Theorem: what a client gets through gateways is what the resource says about its own request. If
+/// they forward the request, the resource answers what it gets, and they forward the response, then
+/// it is an answer to the client's own request. The client gets each field that the answer sets
+/// with the answer's field lines, except fields that the gateways write, those of one connection,
+/// and names with more than letters, digits and dashes.
+pub fn client_gets_the_answer()
+    ensures own { (present : ℕ) (resource : Resource) (gateway : Gateway) (gateways : List Gateway)
+        (request last : Request) (answer : Answer) → Reaches (gateway ∷ gateways) request last
+        → IsAnswer present resource last answer → IsAnswer present resource (sent_directly gateway request) answer }
+    ensures whole { (back : List Gateway) (before : LineMap) (answer : Answer) (response last : Response)
+        (name : List ℕ) → response.fields ≡ set_all before (fields_of answer.fields.items)
+        → Returns back response last → HasNoOptions response.fields
+        → All (λ gateway. is_known gateway.consumes_credentials name ≡ false) back
+        → has_mark name ≡ false → All (λ own. own ≢ name) own_names
+        → last.fields name ≡ set_all before (fields_of answer.fields.items) name }
+{
+    other_fields_change_nothing();
+}
+
+/// Theorem: a stored answer that a cache uses for a request is the resource's answer to it. If a
+/// resource answers two requests with the same method, target, content and conditions, and a cache
+/// that has stored the first answer uses it for the second request by method and Vary (RFC 9111,
+/// sections 4 and 4.1), then both answers are the same. A cache may compare the members of Accept
+/// and similar fields, and not their field lines.
+pub fn stored_answer_is_the_answer()
+    ensures { (present : ℕ) (resource : Resource) (r s : Request) (a b : Answer) (before : LineMap)
+        → IsAnswer present resource r a → IsAnswer present resource s b → AreAlike r s
+        → Suits (asked r) (asked s) (set_all before (fields_of a.fields.items)) → AreSame a b }
+{
+    vary_is_sound();
+    members_alone_select();
+}
+
+/// Theorem: what a client gets through any gateways and caches is what the resource says about its
+/// request, or what one of them answers by itself. The resource says it now; or it said it no
+/// longer ago than Age tells, and a cache on the way found it fresh, or each directive allowed it
+/// stale. The status, the content and each field that neither a gateway nor a cache writes are the
+/// server's. An answer of their own has no content, and no such field.
+pub fn client_gets_what_the_resource_says()
+    ensures { (site : List ℕ → Server) (hops : List Hop) (now : ℕ) (target : List ℕ) (request : Request)
+        (reply : Reply) → behind site hops now target request reply
+        → IsTold (site target) now (meant hops request) reply ⊎ IsOwn reply }
+{
+    head_is_answered_as_get();
+    calls_justify_what_is_stored();
+    lookups_serve_what_calls_justify();
+    vary_is_sound();
+    members_alone_select();
+    other_fields_change_nothing();
+}
+
+/// A server says of its connection at most that it is closed: a resource sets no connection option (RFC 9110,
+/// section 7.6.1).
+pub fn servers_say_close_at_most()
+    ensures { (server : Server) (now : ℕ) (request : Request) (reply : Reply) → IsSent server now request reply
+        → SaysCloseAtMost reply.fields }
+{}
+
+/// A key is of one target: plain requests that a cache stores the responses to under one key are for the same
+/// path, and name the same host (RFC 9111, section 2).
+pub fn key_is_of_one_target()
+    ensures target { (target other : List ℕ) (r s : Request) → IsPlain target r → IsPlain other s
+        → key_of target r ≡ key_of other s → target ≡ other }
+    ensures host { (target other : List ℕ) (r s : Request) → IsPlain target r → IsPlain other s
+        → key_of target r ≡ key_of other s → r.fields (codes "host") ≡ s.fields (codes "host") }
+{}
+
+/// Theorem: a shared cache serves nothing that is for one client. What it serves from its store
+/// isn't `private`, by what governs the response under the policy of the cache: without targeted
+/// fields its Cache-Control. It is the content of an answer to some request without Authorization,
+/// or of one that allows that others get it (RFC 9111, sections 3.5 and 5.2.2.7).
+pub fn shared_caches_serve_nothing_private()
+    ensures private { (site : List ℕ → Server) (hops : List Hop) (caching : Caching) (now : ℕ) (target : List ℕ)
+        (request : Request) (reply : Reply) → caching.policy.kind ≡ Shared
+        → IsFromStore caching (behind site hops) now target request reply
+        → (tells caching.policy reply.fields).private ≡ false }
+    ensures credentials { (site : List ℕ → Server) (hops : List Hop) (caching : Caching) (now : ℕ)
+        (target : List ℕ) (request : Request) (reply : Reply) → caching.policy.kind ≡ Shared
+        → IsFromStore caching (behind site hops) now target request reply
+        → (time : ℕ) × (first : Request) × (came : Reply) × behind site hops time target first came
+        × (reply.content ≡ unless_head request.method came.content)
+        × (IsPresent (codes "authorization") first.fields → IsOpen (tells caching.policy reply.fields)) }
+{
+    calls_justify_what_is_stored();
+    lookups_serve_what_calls_justify();
+}
+
+/// Theorem: no field of one connection crosses: a gateway forwards none of a response but its own
+/// Transfer-Encoding, and none comes from a store (RFC 9110, section 7.6.1). Fields that Connection
+/// names are included.
+pub fn no_connection_field_crosses()
+    ensures forwarded { (site : List ℕ → Server) (hops : List Hop) (gateway : Gateway) (now : ℕ)
+        (target : List ℕ) (request : Request) (reply : Reply) (name : List ℕ)
+        → (f : IsForwardedBack gateway (behind site hops) now target request reply)
+        → IsHopByHop gateway f.behind.fields name → name ≢ codes "transfer-encoding" → reply.fields name ≡ [] }
+    ensures stored { (site : List ℕ → Server) (hops : List Hop) (caching : Caching) (now : ℕ) (target : List ℕ)
+        (request : Request) (reply : Reply) (name : List ℕ)
+        → IsFromStore caching (behind site hops) now target request reply → is_known true name ≡ true
+        → reply.fields name ≡ [] }
+{
+    calls_justify_what_is_stored();
+    lookups_serve_what_calls_justify();
+    other_fields_change_nothing();
+}

@@ -1,0 +1,147 @@
+-- A list of methods or names encodes to a value whose elements are exactly these.
+use Rattle.std.proofs.Common.{◌≡◌, ℕ, ◌-◌, true, false, List, [], ◌∷◌, length, map, Some}
+use Rattle.std.proofs.Common.{IsTrue, refl, ap, subst, ◌∙◌, inl, inr, arith, leb}
+use Rattle.std.specs.Prelude.{codes, filter, nat_lt, ◌==◌}
+use Rattle.std.specs.List.{list_all, prefix_len, slice_split, suffix_len}
+use Rattle.std.proofs.Math.Seq.{take-length}
+use Rattle.std.proofs.lemmas.Bool.{and_from, and_parts, cases_Bool, leb-true, ltb-true, ne_eqb}
+use Rattle.std.proofs.lemmas.Bool.Decides.{nat_tests}
+use Rattle.std.proofs.lemmas.List.Elements.{All-weaker}
+use Rattle.std.proofs.lemmas.List.Splits.{slice_split_at, slice_split_none}
+use Rattle.std.proofs.lemmas.List.Sums.{AllPass-from_list_all, list_all-from_AllPass, suffix_len_is}
+use Rattle.http_header.specs.Token.{IsToken, is_token_byte, lowercase}
+use Rattle.http_header.proofs.TokenLemmas.{IsHeaderName-lowercase}
+use Rattle.headers.specs.Lines.{Line}
+use Rattle.headers.specs.ListItem.{IsListOf, is_token, method_of, name_of, values}
+use Rattle.headers.specs.Merge.{merge}
+use Rattle.headers.specs.Places.{comma}
+use Rattle.headers.specs.Text.{is_blank, trim}
+use Rattle.headers.proofs.TextLemmas.{token_no_blank}
+use Rattle.decide_cors.specs.Browser.{extracted, star}
+use Rattle.decide_cors.specs.Elements.{elements, is_filled}
+
+is_token-from : (item : List ℕ) → is_token item ≡ true → IsToken item
+is_token-from item e =
+    let parts = and_parts _ _ e in (ltb-true _ _ parts.0, AllPass-from_list_all is_token_byte item parts.1)
+
+is_token-of : (item : List ℕ) → IsToken item → is_token item ≡ true
+is_token-of item t =
+    let some = t.0 in
+    and_from _ _ (grind (arith, nat_tests)) (list_all-from_AllPass is_token_byte item t.1)
+
+-- no byte of a token is a comma
+no_comma : (b : ℕ) → IsTrue (is_token_byte b) → (b == comma) ≡ false
+unfolding is_token_byte
+no_comma b t = ne_eqb _ _ (λ e. let f : IsTrue (is_token_byte comma) =
+    subst (λ (x : ℕ). IsTrue (is_token_byte x)) e t in absurd (cc f))
+
+token_front : (x : List ℕ) → IsToken x → prefix_len is_blank x ≡ 0
+token_front [] t = absurd (omega (arith, t.0))
+token_front (b ∷ bs) t = let no : is_blank b ≡ false = token_no_blank b (t.1 0 0 t.0) in rw no refl
+
+token_back : (x : List ℕ) → IsToken x → suffix_len is_blank x ≡ 0
+token_back x t =
+    let some = t.0 in
+    suffix_len_is is_blank x (length x) 0 (omega arith) (λ k a b. absurd (omega (arith, a, b)))
+    (λ h. token_no_blank _ (t.1 (length x - 1) 0 (omega arith)))
+    ∙ (let z : length x - length x ≡ 0 = omega arith in z)
+
+token_trim : (x : List ℕ) → IsToken x → trim x ≡ x
+token_trim x t =
+    let whole : length x - 0 ≡ length x = omega arith in
+    rw (token_front x t) (rw (token_back x t) (rw whole (take-length x)))
+
+token_trim_behind : (x : List ℕ) → IsToken x → trim (32 ∷ x) ≡ x
+token_trim_behind x t =
+    let whole : length x - 0 ≡ length x = omega arith in
+    rw (token_front x t) (rw (token_back x t) (rw whole (take-length x)))
+
+-- Joined tokens split into the first token and pieces that the trim turns into the others.
+split_tokens : (x : List ℕ) (xs : List (List ℕ)) → IsToken x → list_all is_token xs ≡ true
+    → (rest : List (List ℕ)) × (slice_split (λ b. b == comma) (merge comma (x ∷ xs)) ≡ x ∷ rest)
+    × (map trim rest ≡ xs)
+split_tokens x [] t h = (
+  [],
+  slice_split_none (λ b. b == comma) x (All-weaker _ (λ b. (b == comma) ≡ false) no_comma x t.1),
+  refl,
+)
+split_tokens x (y ∷ ys) t h =
+    let parts = and_parts _ _ h in
+    let token = is_token-from y parts.0 in
+    let later = split_tokens y ys token parts.1 in (
+      (32 ∷ y) ∷ later.0,
+      slice_split_at (λ b. b == comma) x comma (32 ∷ merge comma (y ∷ ys))
+          (All-weaker _ (λ b. (b == comma) ≡ false) no_comma x t.1) refl
+          ∙ rw (later.1) refl,
+      rw (token_trim_behind y token) (ap (λ (r : List (List ℕ)). y ∷ r) later.2),
+    )
+
+filled : (xs : List (List ℕ)) → list_all is_token xs ≡ true → filter is_filled xs ≡ xs
+filled [] h = refl
+filled (x ∷ xs) h =
+    let parts = and_parts _ _ h in
+    let some = and_parts (nat_lt 0 (length x)) (list_all is_token_byte x) parts.0 in
+    rw (some.0) (ap (λ (r : List (List ℕ)). x ∷ r) (filled xs parts.1))
+
+-- joined tokens have themselves as elements
+elements_tokens : (xs : List (List ℕ)) → list_all is_token xs ≡ true → elements (merge comma xs) ≡ xs
+unfolding elements
+elements_tokens [] h = refl
+elements_tokens (x ∷ xs) h =
+    let parts = and_parts _ _ h in
+    let token = is_token-from x parts.0 in
+    let split = split_tokens x xs token parts.1 in
+    rw (split.1) (rw (token_trim x token, split.2) (filled (x ∷ xs) h))
+
+-- a method or a name, as a list item parses to it, is a token
+methods_tokens : (items : List (List ℕ)) → list_all is_token (values method_of items) ≡ true
+unfolding method_of
+methods_tokens [] = refl
+methods_tokens (x ∷ xs) =
+    elim (cases_Bool (is_token x)) [
+      | inl t ↦ rw t (and_from _ _ t (methods_tokens xs))
+      | inr f ↦ rw f (methods_tokens xs)
+    ]
+
+name_token : (x : List ℕ) → is_token x ≡ true → leb (length x) 65535 ≡ true → is_token (lowercase x) ≡ true
+name_token x t l =
+    is_token-of (lowercase x) (IsHeaderName-lowercase x (is_token-from x t, leb-true _ _ l)).0.0
+
+names_tokens : (items : List (List ℕ)) → list_all is_token (values name_of items) ≡ true
+unfolding name_of
+names_tokens [] = refl
+names_tokens (x ∷ xs) =
+    elim (cases_Bool (is_token x)) [
+      | inl t ↦ elim (cases_Bool (leb (length x) 65535)) [
+        | inl l ↦ rw (t, l) (and_from _ _ (name_token x t l) (names_tokens xs))
+        | inr l ↦ rw (t, l) (names_tokens xs)
+      ]
+      | inr f ↦ rw f (names_tokens xs)
+    ]
+
+extracted_tokens : (xs : List (List ℕ)) (line : Line) → list_all is_token xs ≡ true → line ≡ merge comma xs
+    → extracted (Some line) ≡ Some xs
+extracted_tokens xs line h e = rw e (rw (elements_tokens xs h) (rw h refl))
+
+-- a browser extracts exactly the methods and the names that are listed
+pub methods_extracted : (xs : List (List ℕ)) (line : Line) → IsListOf method_of xs line
+    → extracted (Some line) ≡ Some xs
+methods_extracted xs line h =
+    extracted_tokens xs line
+    (subst (λ (ms : List (List ℕ)). list_all is_token ms ≡ true) h.all (methods_tokens _)) h.bytes
+
+pub names_extracted : (xs : List (List ℕ)) (line : Line) → IsListOf name_of xs line → extracted (Some line) ≡ Some xs
+names_extracted xs line h =
+    extracted_tokens xs line
+    (subst (λ (ns : List (List ℕ)). list_all is_token ns ≡ true) h.all (names_tokens _)) h.bytes
+
+-- of a star, it extracts a star
+pub star_extracted : (line : Line) → line ≡ star → extracted (Some line) ≡ Some (star ∷ [])
+unfolding elements is_token_byte
+star_extracted line e = rw e refl
+
+-- of a star and `authorization`, these two
+pub all_extracted : (line : Line) → line ≡ codes "*, authorization"
+    → extracted (Some line) ≡ Some (star ∷ codes "authorization" ∷ [])
+unfolding elements is_token_byte
+all_extracted line e = rw e refl

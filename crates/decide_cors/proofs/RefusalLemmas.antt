@@ -1,0 +1,16 @@
+-- Which rules make a policy.
+use Rattle.std.proofs.Common.{◌≡◌, true, Result, Ok, Err}
+use Rattle.std.specs.Prelude.{IfOk}
+use Rattle.decide_cors.specs.Policy.{Policy}
+use Rattle.decide_cors.specs.Rules.{IsLawful, IsPolicyOf, IsReadable, texts}
+use Rattle.decide_cors.specs.SentOrigins.{are_sent}
+use Rattle.decide_cors.specs.declared.error.RulesError.{RulesError}
+use Rattle.decide_cors.specs.declared.rules.CorsRules.{CorsRules}
+
+-- a policy is made of rules that browsers read, and whose origins they send
+pub lawful_by : (rules : CorsRules) (result : Result Policy RulesError) → IsReadable rules
+    → IfOk result (λ policy. (are_sent (texts rules.origins) ≡ true) × IsPolicyOf rules policy)
+    → IfOk result (λ policy. IsLawful rules × IsPolicyOf rules policy)
+lawful_by rules (Ok policy) readable made =
+    (record { lists = readable.lists; no_star = readable.no_star; sent = made.0 }, made.1)
+lawful_by rules (Err error) readable made = tt

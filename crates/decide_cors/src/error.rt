@@ -1,0 +1,60 @@
+//! Why rules make no policy.
+use std::alloc::AllocError;
+use std::error::Error;
+use std::fmt;
+
+/// Why rules make no policy.
+#[derive(Clone, Copy, Debug, PartialEq, Eq)]
+pub enum RulesError {
+    /// Any origin would be allowed with credentials, which browsers don't accept.
+    AnyOriginWithCredentials,
+    /// Any method would be allowed with credentials, but browsers then take the star for a method's
+    /// name.
+    AnyMethodWithCredentials,
+    /// Any request field would be allowed with credentials, but browsers then take the star for a
+    /// field's name.
+    AnyNameWithCredentials,
+    /// Any response field would be exposed with credentials, but browsers then take the star for a
+    /// field's name.
+    AnyExposedWithCredentials,
+    /// A listed method or field name is `*`, which browsers take for any.
+    Star,
+    /// A listed origin has a text that no browser sends, so no request would match it. It has an
+    /// upper-case letter, a star or userinfo, or its port is the scheme's default, is past 65,535,
+    /// is empty or begins with a zero.
+    UnsentOrigin,
+    /// Out of memory: an allocation failed.
+    Memory,
+}
+
+impl fmt::Display for RulesError {
+    ghost use Rattle.std.specs.Prelude.{Some};
+    ghost use Rattle.decide_cors.specs.Errors.{rules_error_text};
+
+    ghost output = { λ e. Some (rules_error_text e) };
+
+    fn fmt<W: fmt::Write>(&self, f: &mut fmt::Formatter<W>) -> fmt::Result {
+        f.write_str(match self {
+            RulesError::AnyOriginWithCredentials => "any origin with credentials",
+            RulesError::AnyMethodWithCredentials => "any method with credentials",
+            RulesError::AnyNameWithCredentials => "any request field with credentials",
+            RulesError::AnyExposedWithCredentials => "any response field with credentials",
+            RulesError::Star => "a star in a list",
+            RulesError::UnsentOrigin => "an origin that no browser sends",
+            RulesError::Memory => "out of memory",
+        })
+    }
+}
+
+impl Error for RulesError {}
+
+impl From<AllocError> for RulesError {
+    ghost use Rattle.std.specs.Prelude.{◌≡◌};
+    ghost use Rattle.decide_cors.specs.declared.error.RulesError.TheVariants.{Memory};
+
+    ghost from_gives = { λ _ e. e ≡ Memory };
+
+    fn from(_error: AllocError) -> RulesError {
+        RulesError::Memory
+    }
+}

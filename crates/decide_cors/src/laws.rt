@@ -1,0 +1,100 @@
+//! Theorems about the definitions alone. To cite one in a proof, call it.
+ghost use Rattle.std.specs.Prelude.{◌≡◌, ◌≢◌, ◌↔◌, ◌⊎◌, ◌∷◌, [], ◌++◌, ℕ, List, None, IsTrue, codes};
+ghost use Rattle.headers.specs.LineMap.{LineMap, fields_of, set_all};
+ghost use Rattle.headers.specs.Lines.{Line};
+ghost use Rattle.decide_cors.specs.Answer.{AreSame, IsAnswer};
+ghost use Rattle.decide_cors.specs.Browser.{CorsCheck, IsExposed, IsOkStatus, IsPreflightFor, IsSentFor};
+ghost use Rattle.decide_cors.specs.Browser.{PreflightPasses, Request};
+ghost use Rattle.decide_cors.specs.Cache.{Serves};
+ghost use Rattle.decide_cors.specs.Kinds.{IsKindOf};
+ghost use Rattle.decide_cors.specs.Policy.{Policy};
+ghost use Rattle.decide_cors.specs.Rules.{AllowsCredentials, AllowsOrigin, AllowsRequest, Exposes};
+ghost use Rattle.decide_cors.specs.Rules.{IsLawful, IsPolicyOf};
+ghost use Rattle.decide_cors.specs.declared.kind.CorsKind.{CorsKind};
+ghost use Rattle.decide_cors.specs.declared.policy.CorsAnswer.{CorsAnswer};
+ghost use Rattle.decide_cors.specs.declared.rules.CorsRules.{CorsRules};
+
+/// Theorem: each request is of some kind, and so has an answer, which is computed from the kind.
+pub fn request_has_a_kind()
+    ensures { (method : List ℕ) (sent : LineMap) → (kind : CorsKind) × IsKindOf method sent kind }
+{}
+
+/// Theorem: a request has at most one answer: one kind, one permission, and one list of fields.
+pub fn request_has_one_answer()
+    ensures { (policy : Policy) (method : List ℕ) (sent response : LineMap) (a b : CorsAnswer)
+        → IsAnswer policy method sent response a → IsAnswer policy method sent response b → AreSame a b }
+{}
+
+/// Theorem: a browser's CORS check passes exactly if the rules allow the origin and the
+/// credentials. This holds after `set_all` of the answer's fields, whatever fields the response had
+/// before.
+pub fn check_goes_by_rules()
+    ensures { (rules : CorsRules) (policy : Policy) (method : List ℕ) (sent response before : LineMap)
+        (answer : CorsAnswer) (request : Request) → IsLawful rules → IsPolicyOf rules policy
+        → IsAnswer policy method sent response answer → sent (codes "origin") ≡ request.origin ∷ []
+        → CorsCheck (set_all before (fields_of answer.fields.items)) request
+        ↔ (AllowsOrigin rules request.origin × AllowsCredentials rules request.credentials) }
+{}
+
+/// Theorem: after a preflight, a browser sends the request exactly if the rules allow it. They must
+/// allow its origin, its credentials, its method and each field name that isn't safelisted.
+pub fn preflight_goes_by_rules()
+    ensures { (rules : CorsRules) (policy : Policy) (method : List ℕ) (sent response before : LineMap)
+        (answer : CorsAnswer) (request : Request) (status : ℕ) → IsLawful rules → IsPolicyOf rules policy
+        → IsAnswer policy method sent response answer → IsPreflightFor request method sent → IsOkStatus status
+        → PreflightPasses status (set_all before (fields_of answer.fields.items)) request
+        ↔ AllowsRequest rules request }
+{}
+
+/// Theorem: of a response that passed the check, scripts may read exactly the fields that the rules
+/// expose.
+pub fn exposed_goes_by_rules()
+    ensures { (rules : CorsRules) (policy : Policy) (method : List ℕ) (sent response before : LineMap)
+        (answer : CorsAnswer) (request : Request) → IsLawful rules → IsPolicyOf rules policy
+        → IsAnswer policy method sent response answer → IsSentFor request sent
+        → CorsCheck (set_all before (fields_of answer.fields.items)) request → (name : Line)
+        → IsExposed (set_all before (fields_of answer.fields.items)) request name ↔ Exposes rules name }
+{}
+
+/// Theorem: an answer says that a request is allowed exactly if the rules allow its origin.
+pub fn allowed_goes_by_rules()
+    ensures { (rules : CorsRules) (policy : Policy) (method : List ℕ) (sent response : LineMap)
+        (answer : CorsAnswer) (origin : Line) → IsPolicyOf rules policy
+        → IsAnswer policy method sent response answer → sent (codes "origin") ≡ origin ∷ []
+        → IsTrue answer.is_allowed ↔ AllowsOrigin rules origin }
+{}
+
+/// Theorem: if a stored response is used for another request of its method, that request would have
+/// got the same fields. `Vary` decides whether a cache uses it so; a cache stores no response to
+/// OPTIONS (RFC 9110, section 9.3.7).
+pub fn stored_lines_are_own()
+    ensures { (policy : Policy) (method : List ℕ) (r s response : LineMap) (a b : CorsAnswer)
+        → IsAnswer policy method r response a → IsAnswer policy method s response b → method ≢ codes "OPTIONS"
+        → Serves (set_all response (fields_of a.fields.items) (codes "vary")) r s
+        → fields_of a.fields.items ≡ fields_of b.fields.items }
+{}
+
+/// Theorem: the field lines of `Vary` stay, and at most `origin` is added after them.
+pub fn vary_stays()
+    ensures { (policy : Policy) (method : List ℕ) (sent response : LineMap) (answer : CorsAnswer)
+        → IsAnswer policy method sent response answer
+        → (set_all response (fields_of answer.fields.items) (codes "vary") ≡ response (codes "vary"))
+        ⊎ (set_all response (fields_of answer.fields.items) (codes "vary")
+        ≡ response (codes "vary") ++ codes "origin" ∷ []) }
+{}
+
+/// Theorem: the fields depend on the method, `Origin` and `Access-Control-Request-Method` alone.
+pub fn lines_go_by_origin()
+    ensures { (policy : Policy) (method : List ℕ) (r s response : LineMap) (a b : CorsAnswer)
+        → IsAnswer policy method r response a → IsAnswer policy method s response b
+        → r (codes "origin") ≡ s (codes "origin")
+        → r (codes "access-control-request-method") ≡ s (codes "access-control-request-method")
+        → fields_of a.fields.items ≡ fields_of b.fields.items }
+{}
+
+/// Theorem: if any origin is allowed, two requests of one kind get the same fields.
+pub fn any_origin_gets_equal_lines()
+    ensures { (policy : Policy) (m n : List ℕ) (r s response : LineMap) (a b : CorsAnswer)
+        → IsAnswer policy m r response a → IsAnswer policy n s response b → policy.origins ≡ None
+        → a.kind ≡ b.kind → fields_of a.fields.items ≡ fields_of b.fields.items }
+{}

@@ -1,0 +1,11 @@
+use Rattle.std.proofs.Common.{rules, tests, bytes_eq}
+use Rattle.std.proofs.lemmas.Iterator.{YieldsList-from_slice}
+use Rattle.std.proofs.lemmas.Iterator.Search.{any_from_yields_List}
+use Rattle.http_header.specs.FieldValue.{FieldValue}
+use Rattle.http_header.specs.Token.{lowercase}
+use Rattle.decide_handshake.proofs.origins.lists_origin.Goals as goal
+
+pub returns : goal.returns
+returns c =
+    any_from_yields_List (λ (origin : FieldValue). bytes_eq (lowercase origin.bytes) (lowercase c.args.text.now))
+    _ _ c.any.result c.any.ensures.ran (YieldsList-from_slice c.args.origins.now cc) (λ x b q k. search (rules, tests))

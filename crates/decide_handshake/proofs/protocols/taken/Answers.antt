@@ -1,0 +1,12 @@
+use Rattle.std.proofs.Common.{rules}
+use Rattle.std.proofs.lemmas.Iterator.{YieldsList-from_slice}
+use Rattle.std.proofs.lemmas.Iterator.Search.{find_from_yields_List}
+use Rattle.http_header.specs.FieldValue.{FieldValue}
+use Rattle.headers.specs.LineMap.{lines_at}
+use Rattle.decide_handshake.specs.Protocols.{lists_protocol}
+use Rattle.decide_handshake.proofs.protocols.taken.Goals as goal
+
+pub returns : goal.returns
+returns c =
+    find_from_yields_List (λ (v : FieldValue). lists_protocol v.bytes (lines_at c.args.request.now)) _ _ c.find.result
+    c.find.ensures.ran (YieldsList-from_slice c.args.own.now cc) (λ x b q k. search rules)

@@ -1,0 +1,23 @@
+-- Which origins a server allows (RFC 6455, sections 4.2.2 and 10.2).
+use Rattle.std.specs.Prelude.{◌≡◌, ◌⊎◌, ⊤, Bool, List, [], IsSomeAnd, IsTrue, bytes_eq, codes}
+use Rattle.std.specs.List.{list_any}
+use Rattle.http_header.specs.FieldValue.{FieldValue}
+use Rattle.http_header.specs.Token.{lowercase}
+use Rattle.headers.specs.LineMap.{LineMap}
+use Rattle.headers.specs.Lines.{Line, only_line}
+use Rattle.decide_handshake.specs.declared.origins.Origins.{Origins}
+use Rattle.decide_handshake.specs.declared.origins.Origins.TheVariants.{Any, Listed}
+
+-- one of the origins is this text, ignoring the case of ASCII letters
+abbrev pub lists_origin : List FieldValue → Line → Bool
+lists_origin origins text = list_any (λ origin. bytes_eq (lowercase origin.bytes) (lowercase text)) origins
+
+-- the only line of Origin is one of these
+abbrev pub NamesListed : List FieldValue → LineMap → Type 0
+NamesListed origins request =
+    IsSomeAnd (only_line (request (codes "origin"))) (λ text. IsTrue (lists_origin origins text))
+
+-- A request without Origin is from no browser (section 4.2.1), and only scripts in browsers are to be kept out.
+abbrev pub AllowsOrigin : Origins → LineMap → Type 0
+AllowsOrigin Any request = ⊤
+AllowsOrigin (Listed origins) request = (request (codes "origin") ≡ []) ⊎ NamesListed origins.items request

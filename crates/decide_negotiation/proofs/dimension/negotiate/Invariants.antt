@@ -1,0 +1,11 @@
+use Rattle.http_header.specs.HeaderMap.{get_all}
+use Rattle.headers_syntax.specs.Lines.{lines_of}
+use Rattle.decide_negotiation.specs.Choice.{offer_rank}
+use Rattle.decide_negotiation.specs.Qualities.{quality_in}
+use Rattle.decide_negotiation.proofs.ChoiceLemmas.{IsLeading}
+use Rattle.decide_negotiation.proofs.dimension.negotiate.Given as goal
+
+abbrev pub invariant-loop-place : goal.invariant-loop-place
+invariant-loop-place g l =
+    IsLeading (offer_rank (quality_in g.D.Dimension.gives (lines_of (get_all l.request g.D.Dimension.NAME)))) l.offers
+    l.place l.leader

@@ -1,0 +1,30 @@
+use Rattle.std.proofs.Common.{◌∙◌, List, None, true, ap, sym, subst}
+use Rattle.headers_syntax.specs.Lines.{lines_of}
+use Rattle.rfc_fields.specs.Members.{field_left, field_members, member_of}
+use Rattle.rfc_fields.specs.Scan.{Member}
+use Rattle.decide_negotiation.specs.declared.choice.Leader.{Leader}
+use Rattle.decide_negotiation.proofs.LookupLemmas.{SoFar, so_far_end, so_far_more, so_far_none}
+use Rattle.decide_negotiation.proofs.lookup.found.Goals as goal
+
+pub loop-member-init : goal.loop-member-init
+loop-member-init c =
+    let field = field_members true (lines_of c.args.field.now) in
+    subst (λ (left : List Member). SoFar field c.args.offers.now left (record { place = None; score = 0 }))
+    (sym (ap field_left c.into_iter-member-iterator.ensures.into_iter_gives ∙ c.new-member-items.ensures))
+    (so_far_none field c.args.offers.now)
+
+pub loop-member-preserved : goal.loop-member-preserved
+loop-member-preserved c =
+    subst
+    (λ (leader : Leader). SoFar (field_members true (lines_of c.args.field.now)) c.args.offers.now
+    (field_left c.next.new.self) leader)
+    (sym c.led-leader.ensures)
+    (so_far_more (field_members true (lines_of c.args.field.now)) c.args.offers.now
+    (field_left c.loop-member.member-iterator) (field_left c.next.new.self) (member_of c.in-Some.member)
+    c.loop-member.leader c.found_by-found.result c.loop-member.invariant c.in-Some.ensures.steps
+    c.found_by-found.ensures)
+
+pub returns : goal.returns
+returns c =
+    so_far_end (field_members true (lines_of c.args.field.now)) c.args.offers.now
+    (field_left c.loop-member.member-iterator) c.loop-member.leader c.loop-member.invariant c.in-None.ensures.steps.0

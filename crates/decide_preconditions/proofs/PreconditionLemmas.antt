@@ -1,0 +1,300 @@
+-- What follows from the rows of `Answers`.
+use Rattle.std.proofs.Common.{◌≡◌, ℕ, ◌+◌, ◌<◌, ◌≤◌, ◌⊎◌, List, [], ◌∷◌, Option, Some, None, refl, arith, inl, inr}
+use Rattle.std.proofs.Common.{IfSome, IsTrue}
+use Rattle.std.proofs.Common.{Bool, true, false}
+use Rattle.std.specs.Prelude.{IsSomeAnd, bytes_eq, codes}
+use Rattle.std.proofs.lemmas.Bool.{cases_Bool, both_ways, cases_lt}
+use Rattle.std.proofs.lemmas.Slice.Eq.{bytes_eq-Decides}
+use Rattle.rfc_dates.specs.Calendar.{unix_epoch}
+use Rattle.headers.specs.LineMap.{LineMap}
+use Rattle.headers.specs.Lines.{Line}
+use Rattle.headers.specs.Typed.{HasLine}
+use Rattle.decide_preconditions.specs.Conditions.{ModifiedSinceLets, UnmodifiedSinceLets, dates}
+use Rattle.decide_preconditions.specs.Preconditions.{Answers, AreIgnored, IsGetOrHead, IsRead, IsUnconditional}
+use Rattle.decide_preconditions.specs.Preconditions.{MayBeThere, ReadsMissing}
+use Rattle.decide_preconditions.specs.Preconditions.{IsStoredByDate, IsStoredByTag, StateIsLost, StateIsKept}
+use Rattle.decide_preconditions.specs.Preconditions.{StepsAnswer}
+use Rattle.decide_preconditions.specs.Tags.{may_name, names}
+use Rattle.decide_preconditions.specs.declared.precondition.Precondition.{Precondition}
+use Rattle.decide_preconditions.specs.declared.precondition.Precondition.TheVariants.{Perform, NotModified, Failed}
+use Rattle.decide_preconditions.specs.declared.resource.Resource.{Resource}
+use Rattle.decide_preconditions.specs.declared.tags.Comparison.{Comparison}
+use Rattle.decide_preconditions.specs.declared.tags.Comparison.TheVariants.{Strong, Weak}
+use Rattle.decide_preconditions.specs.declared.resource.Resource.TheVariants.{Missing, Current}
+use Rattle.decide_preconditions.specs.declared.resource.Validators.{Validators}
+use Rattle.headers.specs.EntityTagRange.{star}
+
+later_or_not : (both : Option (ℕ × ℕ)) → IsSomeAnd both (λ d. d.0 < unix_epoch + d.1)
+    → ¬ (IfSome both (λ d. unix_epoch + d.1 ≤ d.0))
+later_or_not None h k = h
+later_or_not (Some d) h k = omega (arith, h, k)
+
+earlier_or_not : (both : Option (ℕ × ℕ)) → IsSomeAnd both (λ d. unix_epoch + d.1 ≤ d.0)
+    → ¬ (IfSome both (λ d. d.0 < unix_epoch + d.1))
+earlier_or_not None h k = h
+earlier_or_not (Some d) h k = omega (arith, h, k)
+
+lost_or_kept : (present : ℕ) (request : LineMap) (resource : Resource) → StateIsLost present request resource
+    → ¬ (StateIsKept present request resource)
+lost_or_kept present request resource (inl h) k = h.1 (k.0 h.0)
+lost_or_kept present request resource (inr h) k =
+    later_or_not (dates present (codes "if-unmodified-since") request resource) h.1 (k.1 h.0)
+
+-- ---- each fact holds or doesn't
+
+has_or_not : (lines : List Line) → HasLine lines ⊎ ¬ (HasLine lines)
+has_or_not [] = inr (λ h. omega (arith, h))
+has_or_not (line ∷ lines) = inl (omega arith)
+
+lacks : (lines : List Line) → lines ≡ [] → ¬ (HasLine lines)
+lacks [] e h = omega (arith, h)
+lacks (line ∷ lines) e h = absurd (cc e)
+
+true_or_not : (b : Bool) → IsTrue b ⊎ ¬ (IsTrue b)
+true_or_not true = inl refl
+true_or_not false = inr (λ h. cc h)
+
+later_or_lets : (both : Option (ℕ × ℕ)) → IsSomeAnd both (λ d. d.0 < unix_epoch + d.1)
+    ⊎ IfSome both (λ d. unix_epoch + d.1 ≤ d.0)
+later_or_lets None = inr tt
+later_or_lets (Some d) =
+    elim (cases_lt d.0 (unix_epoch + d.1)) [
+      | inl l ↦ inl l
+      | inr l ↦ inr l
+    ]
+
+earlier_or_lets : (both : Option (ℕ × ℕ)) → IsSomeAnd both (λ d. unix_epoch + d.1 ≤ d.0)
+    ⊎ IfSome both (λ d. d.0 < unix_epoch + d.1)
+earlier_or_lets None = inr tt
+earlier_or_lets (Some d) =
+    elim (cases_lt d.0 (unix_epoch + d.1)) [
+      | inl l ↦ inr l
+      | inr l ↦ inl l
+    ]
+
+pub same_or_not : (a b : List ℕ) → (a ≡ b) ⊎ ¬ (a ≡ b)
+same_or_not a b =
+    elim (cases_Bool (bytes_eq a b)) [
+      | inl y ↦ inl ((bytes_eq-Decides a b).0 y)
+      | inr n ↦ inr (λ e. both_ways (bytes_eq a b) n ((bytes_eq-Decides a b).1 e))
+    ]
+
+pub read_or_not : (method : List ℕ) → IsGetOrHead method ⊎ ¬ (IsGetOrHead method)
+read_or_not method =
+    elim (same_or_not method (codes "GET")) [
+      | inl y ↦ inl (inl y)
+      | inr n ↦
+          elim (same_or_not method (codes "HEAD")) [
+            | inl y ↦ inl (inr y)
+            | inr m ↦
+                inr (λ h. elim h [
+                  | inl e ↦ n e
+                  | inr e ↦ m e
+                ])
+          ]
+    ]
+
+unconditional_or_not : (method : List ℕ) → IsUnconditional method ⊎ ¬ (IsUnconditional method)
+unconditional_or_not method =
+    elim (same_or_not method (codes "CONNECT")) [
+      | inl y ↦ inl (inl y)
+      | inr n ↦
+          elim (same_or_not method (codes "OPTIONS")) [
+            | inl y ↦ inl (inr (inl y))
+            | inr m ↦
+                elim (same_or_not method (codes "TRACE")) [
+                  | inl y ↦ inl (inr (inr y))
+                  | inr o ↦
+                      inr (λ h. elim h [
+                        | inl e ↦ n e
+                        | inr k ↦
+                            elim k [
+                              | inl e ↦ m e
+                              | inr e ↦ o e
+                            ]
+                      ])
+                ]
+          ]
+    ]
+
+missing_or_not : (resource : Resource) (method : List ℕ)
+    → ReadsMissing resource method ⊎ ¬ (ReadsMissing resource method)
+missing_or_not Missing method = read_or_not method
+missing_or_not (Current validators) method = inr (λ h. h)
+
+ignored_or_not : (resource : Resource) (method : List ℕ)
+    → AreIgnored resource method ⊎ ¬ (AreIgnored resource method)
+ignored_or_not resource method =
+    elim (unconditional_or_not method) [
+      | inl is ↦ inl (inl is)
+      | inr n ↦
+          elim (missing_or_not resource method) [
+            | inl missing ↦ inl (inr missing)
+            | inr m ↦
+                inr (λ h. elim h [
+                  | inl is ↦ n is
+                  | inr missing ↦ m missing
+                ])
+          ]
+    ]
+
+module _ (present : ℕ) (request : LineMap) (resource : Resource) where
+  kept_or_lost : StateIsKept present request resource ⊎ StateIsLost present request resource
+  kept_or_lost =
+      elim (has_or_not (request (codes "if-match"))) [
+        | inl has ↦
+            elim (true_or_not (names Strong (request (codes "if-match")) resource)) [
+              | inl y ↦ inl ((λ h. y), (λ lacks. absurd (lacks has)))
+              | inr n ↦ inr (inl (has, n))
+            ]
+        | inr lacks ↦
+            elim (later_or_lets (dates present (codes "if-unmodified-since") request resource)) [
+              | inl lost ↦ inr (inr (lacks, lost))
+              | inr lets ↦ inl ((λ has. absurd (lacks has)), (λ h. lets))
+            ]
+      ]
+
+  stored_or_read : (IsStoredByTag request resource ⊎ IsStoredByDate present request resource)
+      ⊎ IsRead present request resource
+  stored_or_read =
+      elim (has_or_not (request (codes "if-none-match"))) [
+        | inl has ↦
+            elim (true_or_not (names Weak (request (codes "if-none-match")) resource)) [
+              | inl y ↦ inl (inl (has, y))
+              | inr n ↦ inr (record { by_tag = λ h. n; by_date = λ lacks. absurd (lacks has) })
+            ]
+        | inr lacks ↦
+            elim (earlier_or_lets (dates present (codes "if-modified-since") request resource)) [
+              | inl stored ↦ inl (inr (lacks, stored))
+              | inr lets ↦ inr (record { by_tag = λ has. absurd (lacks has); by_date = λ h. lets })
+            ]
+      ]
+
+  there_or_not : MayBeThere request resource ⊎ ¬ (MayBeThere request resource)
+  there_or_not =
+      elim (has_or_not (request (codes "if-none-match"))) [
+        | inl has ↦
+            elim (true_or_not (may_name Weak (request (codes "if-none-match")) resource)) [
+              | inl y ↦ inl (has, y)
+              | inr n ↦ inr (λ h. n h.1)
+            ]
+        | inr lacks ↦ inr (λ h. lacks h.0)
+      ]
+
+  some_step_answer : (method : List ℕ)
+      → (answer : Precondition) × StepsAnswer present request resource method answer
+  some_step_answer method =
+      elim kept_or_lost [
+        | inr lost ↦ (Failed, inl lost)
+        | inl kept ↦
+            elim (read_or_not method) [
+              | inl read ↦
+                  elim stored_or_read [
+                    | inl stored ↦ (NotModified, (kept, read, stored))
+                    | inr lets ↦ (Perform, (kept, (λ h. lets), (λ other. absurd (other read))))
+                  ]
+              | inr other ↦
+                  elim there_or_not [
+                    | inl there ↦ (Failed, inr (kept, other, there))
+                    | inr free ↦ (Perform, (kept, (λ read. absurd (other read)), (λ h. free)))
+                  ]
+            ]
+      ]
+
+  pub some_answer : (method : List ℕ) → (answer : Precondition) × Answers present request resource method answer
+  some_answer method =
+      elim (ignored_or_not resource method) [
+        | inl is ↦ (Perform, record { unconditional = λ i. refl; conditional = λ counts. absurd (counts is) })
+        | inr counts ↦
+            let step = some_step_answer method in (
+              step.0,
+              record { unconditional = λ i. absurd (counts i); conditional = λ c. step.1 },
+            )
+      ]
+
+-- ---- at most one
+
+module _ (present : ℕ) (request : LineMap) (resource : Resource) (method : List ℕ) where
+  failed_or_not_modified : StepsAnswer present request resource method Failed
+      → ¬ (StepsAnswer present request resource method NotModified)
+  failed_or_not_modified (inl h) k = lost_or_kept present request resource h k.0
+  failed_or_not_modified (inr h) k = h.1 k.1
+
+  failed_or_performed : StepsAnswer present request resource method Failed
+      → ¬ (StepsAnswer present request resource method Perform)
+  failed_or_performed (inl h) k = lost_or_kept present request resource h k.0
+  failed_or_performed (inr h) k = k.2 h.1 h.2
+
+  stored_or_performed : StepsAnswer present request resource method NotModified
+      → ¬ (StepsAnswer present request resource method Perform)
+  stored_or_performed h k =
+      let read = k.1 h.1 in
+      elim h.2 [
+        | inl tag ↦ read.by_tag tag.0 tag.1
+        | inr date ↦
+            earlier_or_not (dates present (codes "if-modified-since") request resource) date.1 (read.by_date date.0)
+      ]
+
+  one_step_answer : (a b : Precondition) → StepsAnswer present request resource method a
+      → StepsAnswer present request resource method b → a ≡ b
+  one_step_answer Perform Perform h k = refl
+  one_step_answer Perform NotModified h k = absurd (stored_or_performed k h)
+  one_step_answer Perform Failed h k = absurd (failed_or_performed k h)
+  one_step_answer NotModified Perform h k = absurd (stored_or_performed h k)
+  one_step_answer NotModified NotModified h k = refl
+  one_step_answer NotModified Failed h k = absurd (failed_or_not_modified k h)
+  one_step_answer Failed Perform h k = absurd (failed_or_performed h k)
+  one_step_answer Failed NotModified h k = absurd (failed_or_not_modified h k)
+  one_step_answer Failed Failed h k = refl
+
+  -- what isn't performed is answered by the steps
+  stored_by_steps : Answers present request resource method NotModified → ¬ (AreIgnored resource method)
+  stored_by_steps h i = let e = h.unconditional i in cc e
+
+  failed_by_steps : Answers present request resource method Failed → ¬ (AreIgnored resource method)
+  failed_by_steps h i = let e = h.unconditional i in cc e
+
+  by_steps : (a b : Precondition) → (¬ (AreIgnored resource method)) → Answers present request resource method a
+      → Answers present request resource method b → a ≡ b
+  by_steps a b counts h k = one_step_answer a b (h.conditional counts) (k.conditional counts)
+
+  pub one_answer : (a b : Precondition) → Answers present request resource method a
+      → Answers present request resource method b → a ≡ b
+  one_answer Perform Perform h k = refl
+  one_answer Perform NotModified h k = by_steps Perform NotModified (stored_by_steps k) h k
+  one_answer Perform Failed h k = by_steps Perform Failed (failed_by_steps k) h k
+  one_answer NotModified b h k = by_steps NotModified b (stored_by_steps h) h k
+  one_answer Failed b h k = by_steps Failed b (failed_by_steps h) h k
+
+  modified_lets : request (codes "if-modified-since") ≡ [] → ModifiedSinceLets present request resource
+  modified_lets c = rw c tt
+
+  unmodified_lets : request (codes "if-unmodified-since") ≡ [] → UnmodifiedSinceLets present request resource
+  unmodified_lets d = rw d tt
+
+  performed : request (codes "if-match") ≡ [] → request (codes "if-none-match") ≡ []
+      → request (codes "if-modified-since") ≡ [] → request (codes "if-unmodified-since") ≡ []
+      → StepsAnswer present request resource method Perform
+  performed a b c d = (
+    ((λ h. absurd (lacks (request (codes "if-match")) a h)), (λ h. unmodified_lets d)),
+    (λ read.
+        record { by_tag = λ h. absurd (lacks (request (codes "if-none-match")) b h); by_date = λ h. modified_lets c }),
+    (λ other h. lacks (request (codes "if-none-match")) b h.0),
+  )
+
+  pub unconditional : request (codes "if-match") ≡ [] → request (codes "if-none-match") ≡ []
+      → request (codes "if-modified-since") ≡ [] → request (codes "if-unmodified-since") ≡ []
+      → Answers present request resource method Perform
+  unconditional a b c d =
+      record { unconditional = λ i. refl; conditional = λ counts. performed a b c d }
+
+pub missing_performed : (present : ℕ) (request : LineMap) (method : List ℕ) → IsGetOrHead method
+    → Answers present request Missing method Perform
+missing_performed present request method read =
+    record { unconditional = λ i. refl; conditional = λ counts. absurd (counts (inr read)) }
+
+-- ---- the star
+
+pub star_names : (comparison : Comparison) (validators : Validators)
+    → names comparison (star ∷ []) (Current validators) ≡ true
+star_names comparison validators = rw ((bytes_eq-Decides star star).1 refl) refl

@@ -1,0 +1,32 @@
+use Rattle.std.proofs.Common.{inl, rules}
+use Rattle.headers.specs.LineMap.{lines_at}
+use Rattle.decide_preconditions.specs.Contents.{divisible_len, limits_of}
+use Rattle.decide_preconditions.specs.Plans.{IsPlan}
+use Rattle.decide_preconditions.specs.Responses.{IsPlannedAtAll}
+use Rattle.decide_preconditions.proofs.PlanLemmas.{sized-from_plan}
+use Rattle.decide_preconditions.proofs.response.respond.Goals as goal
+
+pub fields-requires : goal.fields-requires
+fields-requires c =
+    sized-from_plan c.args.present c.args.method.now (lines_at c.args.request.now) c.args.resource.now
+    c.divisible_len-len.result c.limits-limits.result c.in-Some.plan (rw c.in-Some.is at c.in_ok-plan.ensures.plan)
+    (search rules)
+
+pub returns-in_err-fields-clause-memory : goal.returns-in_err-fields-clause-memory
+returns-in_err-fields-clause-memory c =
+    let planned = rw c.in-Some.is at c.in_ok-plan.ensures.plan in
+    let own : IsPlan c.args.present c.args.method.now (lines_at c.args.request.now) c.args.resource.now
+    (divisible_len c.args.content.now) (limits_of c.args.content.now) c.in-Some.plan =
+    rw (c.divisible_len-len.ensures, c.limits-limits.ensures) at planned in
+    let some : IsPlannedAtAll c.args.present c.args.method.now (lines_at c.args.request.now) c.args.resource.now
+    c.args.content.now = inl (c.in-Some.plan, own) in
+    search (rules, some)
+
+pub returns-clause-answer : goal.returns-clause-answer
+returns-clause-answer c =
+    let planned = rw c.in-Some.is at c.in_ok-plan.ensures.plan in
+    record {
+      plan = rw (c.divisible_len-len.ensures, c.limits-limits.ensures) at planned;
+      status = c.status.ensures;
+      fields = rw c.is_known_by.ensures at c.in_ok-fields.ensures;
+    }

@@ -1,0 +1,60 @@
+-- Conditions are evaluated on the representation that the request without them gets.
+use Rattle.std.proofs.Common.{◌≡◌, ℕ, Bool, true, false, List, Option, Some, None, refl, sym, ◌∙◌}
+use Rattle.headers.specs.LineMap.{Field}
+use Rattle.decide_preconditions.specs.declared.plan.Plan.{Plan}
+use Rattle.decide_preconditions.specs.declared.response.Response.{Response}
+use Rattle.decide_resource.specs.Answers.{GivesIf, IsAnswer, IsSelected, is_admitted, is_sent, sent_for}
+use Rattle.decide_resource.specs.Representations.{score}
+use Rattle.decide_resource.specs.Requests.{Request, unconditional}
+use Rattle.decide_resource.specs.declared.answer.Answer.{Answer}
+use Rattle.decide_resource.specs.declared.answer.Sends.{Sends}
+use Rattle.decide_resource.specs.declared.answer.Sends.TheVariants as sends
+use Rattle.decide_resource.specs.declared.reason.Reason.{Reason}
+use Rattle.decide_resource.specs.declared.reason.Reason.TheVariants.{NotAcceptable}
+use Rattle.decide_resource.specs.declared.representation.Representation.{Representation}
+use Rattle.decide_resource.specs.declared.resource.Resource.{Resource}
+use Rattle.decide_resource.proofs.AnswerLemmas.{one_place}
+use Rattle.decide_resource.proofs.PickLemmas.{picks_alike}
+
+module _ (present : ℕ) (resource : Resource) (request : Request) where
+  -- what an answer sends of a representation is of the selected one
+  is_selected : (b : Bool) (reason : Reason) (status : Option ℕ) (sent : Sends) (fields : List Field)
+      (place : Option ℕ) (plan : Plan) → GivesIf b present resource request reason status sent fields
+      → sent ≡ sends.Planned place plan → IsSelected resource request.fields place
+  is_selected true reason status sent fields place plan h e = by h.goes.response (sym h.goes.sends ∙ e)
+    where
+      by : (response : Option Response) → is_sent h.place response ≡ sends.Planned place plan
+          → IsSelected resource request.fields place
+      by None f = absurd (cc f)
+      by (Some response) f =
+          let same : h.place ≡ place = cc f in
+          record { choice = h.selected.choice; picks = h.selected.picks; is = sym same ∙ h.selected.is }
+  is_selected false reason status sent fields place plan h e = absurd (by reason (sym h.sends ∙ e))
+    where
+      by : (r : Reason) → sent_for r ≡ sends.Planned place plan → ⊥
+      by NotAcceptable f = cc f
+      by r f = cc f
+
+score_alike : (resource : Resource) (request : Request) (x : Representation)
+    → score resource.negotiation (unconditional request).fields x ≡ score resource.negotiation request.fields x
+unfolding score
+score_alike resource request x = refl
+
+pub same_place : (present : ℕ) (resource : Resource) (request : Request) (a b : Answer) (p q : Option ℕ)
+    (plan other : Plan) → IsAnswer present resource request a → IsAnswer present resource (unconditional request) b
+    → a.sends ≡ sends.Planned p plan → b.sends ≡ sends.Planned q other → p ≡ q
+same_place present resource request a b p q plan other h k e f =
+    let mine = is_selected present resource request (is_admitted a.reason) a.reason a.status a.sends h.own p plan
+    h.gives e in
+    let theirs = is_selected present resource (unconditional request) (is_admitted b.reason) b.reason b.status b.sends
+    k.own q other k.gives f in
+    let here : IsSelected resource request.fields q =
+    record {
+      choice = theirs.choice;
+      picks =
+          picks_alike (score resource.negotiation (unconditional request).fields)
+          (score resource.negotiation request.fields) (score_alike resource request) resource.representations.items
+          theirs.choice theirs.picks;
+      is = theirs.is;
+    } in
+    one_place resource request.fields p q mine here

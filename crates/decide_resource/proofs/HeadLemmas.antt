@@ -1,0 +1,169 @@
+-- A HEAD is answered as a GET without Range.
+use Rattle.std.proofs.Common.{◌≡◌, ℕ, Bool, true, false, List, Option, Some, None, refl}
+use Rattle.std.proofs.Common.{◌∙◌}
+use Rattle.std.specs.Prelude.{codes}
+use Rattle.http_header.specs.FieldValue.{FieldValue}
+use Rattle.headers.specs.LineMap.{Field}
+use Rattle.headers.specs.Lines.{Line}
+use Rattle.decide_cors.specs.Kinds.{IsKindOf}
+use Rattle.decide_cors.specs.Policy.{Policy}
+use Rattle.decide_cors.specs.declared.kind.CorsKind.{CorsKind}
+use Rattle.decide_cors.specs.declared.kind.CorsKind.TheVariants.{Preflight, Plain, NoOrigin}
+use Rattle.decide_preconditions.specs.Contents.{divisible_len, limits_of}
+use Rattle.decide_preconditions.specs.Responses.{IsAnswered}
+use Rattle.decide_preconditions.specs.declared.content.Content.{Content}
+use Rattle.decide_preconditions.specs.declared.resource.Resource.{Resource as Target}
+use Rattle.decide_preconditions.specs.declared.response.Response.{Response}
+use Rattle.decide_preconditions.proofs.HeadLemmas.{head_as_get}
+use Rattle.decide_resource.specs.Answers.{GivesIf, IsAnswer, IsSelected, IsShared, at_place}
+use Rattle.decide_resource.specs.Answers.{content_of, is_admitted, response_fields, target_of}
+use Rattle.decide_resource.specs.Applies.{applies, is_unacceptable, rule_for, takes_type}
+use Rattle.decide_resource.specs.Fields.{reason_fields, vary_lines}
+use Rattle.decide_resource.specs.Representations.{score}
+use Rattle.decide_resource.specs.Requests.{Request, get_of, head_of}
+use Rattle.decide_resource.specs.declared.answer.Answer.{Answer}
+use Rattle.decide_resource.specs.declared.answer.Sends.{Sends}
+use Rattle.decide_resource.specs.declared.reason.Reason.{Reason}
+use Rattle.decide_resource.specs.declared.reason.Reason.TheVariants.{InvalidHost, Misdirected, UnknownMethod}
+use Rattle.decide_resource.specs.declared.reason.Reason.TheVariants.{MethodNotAllowed, Options, UnmetExpectation}
+use Rattle.decide_resource.specs.declared.reason.Reason.TheVariants.{PartialContent}
+use Rattle.decide_resource.specs.declared.reason.Reason.TheVariants.{Moved, Gone, NotFound, LengthRequired}
+use Rattle.decide_resource.specs.declared.reason.Reason.TheVariants.{ContentTooLarge, UnsupportedMediaType}
+use Rattle.decide_resource.specs.declared.reason.Reason.TheVariants.{UnsupportedCoding, NotAcceptable}
+use Rattle.decide_resource.specs.declared.reason.Reason.TheVariants.{PreconditionRequired, Admitted}
+use Rattle.decide_resource.specs.declared.representation.Representation.{Representation}
+use Rattle.decide_resource.specs.declared.resource.Resource.{Resource}
+use Rattle.decide_resource.proofs.PickLemmas.{first_alike, picks_alike}
+
+module _ (resource : Resource) (request : Request) where
+  apply_alike : (reason : Reason) → applies resource (get_of request) reason ≡ applies resource (head_of request) reason
+  unfolding rule_for is_unacceptable takes_type score
+  apply_alike InvalidHost = refl
+  apply_alike Misdirected = refl
+  apply_alike UnknownMethod = refl
+  apply_alike MethodNotAllowed = refl
+  apply_alike Options = refl
+  apply_alike UnmetExpectation = refl
+  apply_alike PartialContent = refl
+  apply_alike Moved = refl
+  apply_alike Gone = refl
+  apply_alike NotFound = refl
+  apply_alike LengthRequired = refl
+  apply_alike ContentTooLarge = refl
+  apply_alike UnsupportedMediaType = refl
+  apply_alike UnsupportedCoding = refl
+  apply_alike NotAcceptable = refl
+  apply_alike PreconditionRequired = refl
+  apply_alike Admitted = refl
+
+  reason_alike : (reason : Reason)
+      → reason_fields resource (get_of request) reason ≡ reason_fields resource (head_of request) reason
+  unfolding rule_for
+  reason_alike InvalidHost = refl
+  reason_alike Misdirected = refl
+  reason_alike UnknownMethod = refl
+  reason_alike MethodNotAllowed = refl
+  reason_alike Options = refl
+  reason_alike UnmetExpectation = refl
+  reason_alike PartialContent = refl
+  reason_alike Moved = refl
+  reason_alike Gone = refl
+  reason_alike NotFound = refl
+  reason_alike LengthRequired = refl
+  reason_alike ContentTooLarge = refl
+  reason_alike UnsupportedMediaType = refl
+  reason_alike UnsupportedCoding = refl
+  reason_alike NotAcceptable = refl
+  reason_alike PreconditionRequired = refl
+  reason_alike Admitted = refl
+
+  score_alike : (representation : Representation)
+      → score resource.negotiation (get_of request).fields representation
+      ≡ score resource.negotiation (head_of request).fields representation
+  unfolding score
+  score_alike representation = refl
+
+  selected_alike : (place : Option ℕ) → IsSelected resource (get_of request).fields place
+      → IsSelected resource (head_of request).fields place
+  selected_alike place h =
+      record {
+        choice = h.choice;
+        picks =
+            picks_alike (score resource.negotiation (get_of request).fields)
+            (score resource.negotiation (head_of request).fields) score_alike resource.representations.items h.choice
+            h.picks;
+        is = h.is;
+      }
+
+  answered_alike : (present : ℕ) (target : Target) (content : Content) (multipart : FieldValue)
+      (response : Option Response)
+      → IsAnswered present (codes "GET") (get_of request).fields target content multipart response
+      → IsAnswered present (codes "HEAD") (head_of request).fields target content multipart response
+  answered_alike present target content multipart None h =
+      (head_as_get present request.fields target (divisible_len content) (limits_of content) None).1 h
+  answered_alike present target content multipart (Some response) h =
+      record {
+        plan =
+            (head_as_get present request.fields target (divisible_len content) (limits_of content)
+            (Some response.plan)).1
+            h.plan;
+        status = h.status;
+        fields = h.fields;
+      }
+
+  fields_alike : (representation : Option Representation) (response : Option Response)
+      → response_fields (get_of request).fields representation response
+      ≡ response_fields (head_of request).fields representation response
+  fields_alike None None = refl
+  fields_alike None (Some response) = refl
+  fields_alike (Some representation) None = refl
+  fields_alike (Some representation) (Some response) = refl
+
+  gives_alike : (present : ℕ) (b : Bool) (reason : Reason) (status : Option ℕ) (sent : Sends) (fields : List Field)
+      → GivesIf b present resource (get_of request) reason status sent fields
+      → GivesIf b present resource (head_of request) reason status sent fields
+  gives_alike present true reason status sent fields h =
+      let representation = at_place resource.representations.items h.place in
+      record {
+        place = h.place;
+        selected = selected_alike h.place h.selected;
+        goes =
+            record {
+              response = h.goes.response;
+              answered =
+                  answered_alike present (target_of resource.state representation) (content_of representation)
+                  resource.boundary h.goes.response h.goes.answered;
+              has_status = h.goes.has_status;
+              sends = h.goes.sends;
+              has_fields = h.goes.has_fields ∙ fields_alike representation h.goes.response;
+            };
+      }
+  gives_alike present false reason status sent fields h =
+      record { has_status = h.has_status; sends = h.sends; has_fields = h.has_fields ∙ reason_alike reason }
+
+  kind_alike : (kind : CorsKind) → IsKindOf (codes "GET") (get_of request).fields kind
+      → IsKindOf (codes "HEAD") (head_of request).fields kind
+  kind_alike Preflight h = let options = h.1.0 in absurd (cc options)
+  kind_alike Plain h = (h.0, λ asks. let options = asks.0 in absurd (cc options))
+  kind_alike NoOrigin h = h
+
+  shared_alike : (policy : Option Policy) (lines : List Line) (fields : List Field)
+      → IsShared policy (get_of request) lines fields → IsShared policy (head_of request) lines fields
+  shared_alike None lines fields h = h
+  shared_alike (Some policy) lines fields h =
+      (h.0, record { kind = kind_alike h.0.kind h.1.kind; allowed = h.1.allowed; fields = h.1.fields }, h.2)
+
+  pub answer_of_get : (present : ℕ) (answer : Answer) → IsAnswer present resource (get_of request) answer
+      → IsAnswer present resource (head_of request) answer
+  answer_of_get present answer h =
+      record {
+        first =
+            first_alike (applies resource (get_of request)) (applies resource (head_of request)) apply_alike
+            answer.reason h.first;
+        own = h.own;
+        gives =
+            gives_alike present (is_admitted answer.reason) answer.reason answer.status answer.sends h.own h.gives;
+        shared = h.shared;
+        is_shared = shared_alike resource.cors (vary_lines resource answer.reason) h.shared h.is_shared;
+        fields = h.fields;
+      }

@@ -1,0 +1,258 @@
+-- What a resource answers depends on the members of Accept, Accept-Language and Accept-Encoding, and not on the field
+-- lines in which they are.
+use Rattle.std.proofs.Common.{◌≡◌, ◌↔◌, ℕ, Bool, true, false, List, [], ◌∷◌, Option, Some, None, refl, sym, ◌∙◌}
+use Rattle.std.proofs.Common.{ap, inl, inr, arith, bytes_eq}
+use Rattle.std.specs.Prelude.{◌==◌, ◌&&◌, codes, if◌then◌else◌, length, nat_lt, option_map}
+use Rattle.http_header.specs.FieldValue.{FieldValue}
+use Rattle.headers.specs.LineMap.{Field, LineMap}
+use Rattle.headers.specs.Lines.{Line}
+use Rattle.decide_cors.specs.Answer.{IsAnswer as IsPolicyAnswer}
+use Rattle.decide_cors.specs.Kinds.{IsKindOf}
+use Rattle.decide_cors.specs.Policy.{Policy}
+use Rattle.decide_cors.specs.declared.kind.CorsKind.{CorsKind}
+use Rattle.decide_cors.specs.declared.kind.CorsKind.TheVariants.{Preflight, Plain, NoOrigin}
+use Rattle.decide_cors.specs.declared.policy.CorsAnswer.{CorsAnswer}
+use Rattle.rfc_fields.specs.Scan.{Member}
+use Rattle.decide_negotiation.specs.Codings.{encoding_quality}
+use Rattle.decide_negotiation.specs.Languages.{language_says}
+use Rattle.decide_negotiation.specs.MediaRanges.{media_type_says}
+use Rattle.decide_negotiation.specs.Qualities.{quality_by, quality_in, rank}
+use Rattle.decide_negotiation.specs.declared.acceptability.Quality.{Quality}
+use Rattle.decide_preconditions.specs.declared.response.Response.{Response}
+use Rattle.decide_resource.specs.Answers.{GivesIf, IsAnswer, IsShared, at_place, content_of, is_admitted}
+use Rattle.decide_resource.specs.Answers.{response_fields, target_of, varying}
+use Rattle.decide_resource.specs.Applies.{applies, is_current, is_read, is_unacceptable, takes_type}
+use Rattle.decide_resource.specs.Fields.{reason_fields, vary_lines}
+use Rattle.decide_resource.specs.Representations.{are_unacceptable, coding_of, joined, rank_by, score}
+use Rattle.decide_resource.specs.Requests.{Request}
+use Rattle.decide_resource.specs.Vary.{AreAlike, AskAlike, ChooseAlike, ListAlike, SelectTheSame}
+use Rattle.decide_resource.specs.declared.answer.Answer.{Answer}
+use Rattle.decide_resource.specs.declared.answer.Sends.{Sends}
+use Rattle.decide_resource.specs.declared.reason.Reason.{Reason}
+use Rattle.decide_resource.specs.declared.reason.Reason.TheVariants.{NotAcceptable}
+use Rattle.decide_resource.specs.declared.representation.Negotiation.{Negotiation}
+use Rattle.decide_resource.specs.declared.representation.Representation.{Representation}
+use Rattle.decide_resource.specs.declared.resource.Resource.{Resource}
+use Rattle.decide_resource.proofs.OtherFieldLemmas.{alike_back, other_fields}
+use Rattle.decide_resource.proofs.PickLemmas.{first_alike, picks_alike}
+use Rattle.decide_resource.proofs.SamePlanLemmas.{answered}
+
+rank_same : (gives : List Member → List ℕ → Quality) (used : Bool) (lines others : List Line) (offer : Option Line)
+    → ListAlike lines others → rank_by gives used lines offer ≡ rank_by gives used others offer
+rank_same gives used lines others None same = refl
+rank_same gives false lines others (Some offer) same = refl
+rank_same gives true lines others (Some offer) (inl same) =
+    ap (λ (ls : List Line). rank (quality_in gives ls offer)) same
+rank_same gives true [] others (Some offer) (inr same) = absurd (omega (arith, same.0))
+rank_same gives true (line ∷ lines) [] (Some offer) (inr same) = absurd (omega (arith, same.1))
+rank_same gives true (line ∷ lines) (other ∷ others) (Some offer) (inr same) =
+    ap (λ (ms : List Member). rank (gives ms offer)) same.2
+
+-- the field lines with these of the fields that select a representation
+abbrev pub choosing : List Line → List Line → List Line → LineMap → LineMap
+choosing accept language coding fields name =
+    if bytes_eq (codes "accept") name then accept
+    else (if bytes_eq (codes "accept-language") name then language
+    else (if bytes_eq (codes "accept-encoding") name then coding else fields name))
+
+-- ---- one request, with other field lines of these fields
+
+module _ (request : Request) (accept language coding : List Line)
+    (same_accept : ListAlike (request.fields (codes "accept")) accept)
+    (same_language : ListAlike (request.fields (codes "accept-language")) language)
+    (same_coding : ListAlike (request.fields (codes "accept-encoding")) coding) where
+  abbrev r : LineMap
+  r = request.fields
+
+  abbrev s : LineMap
+  s = choosing accept language coding request.fields
+
+  abbrev chooser : Request
+  chooser =
+      record {
+        protocol = request.protocol;
+        method = request.method;
+        authority = request.authority;
+        content = request.content;
+        fields = s;
+      }
+
+  score_same : (n : Negotiation) (x : Representation) → score n r x ≡ score n s x
+  unfolding score
+  score_same n x =
+      let media_offer : Option Line = option_map (λ (v : FieldValue). v.bytes) x.content.media_type in
+      let language_offer : Option Line = option_map (λ (v : FieldValue). v.bytes) x.language in
+      let media = λ (ls : List Line). rank_by (quality_by media_type_says) n.media_type ls media_offer in
+      let tongue = λ (ls : List Line). rank_by (quality_by language_says) n.language ls language_offer in
+      let code = λ (ls : List Line). rank_by encoding_quality n.coding ls (Some (coding_of x)) in
+      let first : media (r (codes "accept")) ≡ media accept =
+      rank_same (quality_by media_type_says) n.media_type (r (codes "accept")) accept media_offer same_accept in
+      let second : tongue (r (codes "accept-language")) ≡ tongue language =
+      rank_same (quality_by language_says) n.language (r (codes "accept-language")) language language_offer
+      same_language in
+      let third : code (r (codes "accept-encoding")) ≡ code coding =
+      rank_same encoding_quality n.coding (r (codes "accept-encoding")) coding (Some (coding_of x)) same_coding in
+      ap (λ (k : ℕ). joined k (tongue (r (codes "accept-language"))) (code (r (codes "accept-encoding")))) first
+      ∙ ap (λ (k : ℕ). joined (media accept) k (code (r (codes "accept-encoding")))) second
+      ∙ ap (λ (k : ℕ). joined (media accept) (tongue language) k) third
+
+  unacceptable_same : (n : Negotiation) (xs : List Representation)
+      → are_unacceptable n r xs ≡ are_unacceptable n s xs
+  unacceptable_same n [] = refl
+  unacceptable_same n (x ∷ xs) =
+      ap (λ (k : ℕ). (k == 0) && are_unacceptable n r xs) (score_same n x)
+      ∙ ap (λ (b : Bool). (score n s x == 0) && b) (unacceptable_same n xs)
+
+  asks : AskAlike r s
+  asks =
+      record {
+        if_match = refl;
+        if_none_match = refl;
+        if_modified_since = refl;
+        if_unmodified_since = refl;
+        range = refl;
+        if_range = refl;
+      }
+
+  module _ (present : ℕ) (resource : Resource) where
+    unaccepted : is_unacceptable resource request ≡ is_unacceptable resource chooser
+    unfolding is_unacceptable
+    unaccepted =
+        let n = resource.negotiation in
+        let xs = resource.representations.items in
+        ap
+        (λ (b : Bool). is_read request.method && (is_current resource.state && (n.is_strict
+        && (nat_lt 0 (length xs) && b))))
+        (unacceptable_same n xs)
+
+    same_reason : (reason : Reason) → applies resource request reason ≡ applies resource chooser reason
+    unfolding takes_type
+    same_reason NotAcceptable = unaccepted
+    same_reason reason = refl
+
+    same_fields : (reason : Reason) → reason_fields resource request reason ≡ reason_fields resource chooser reason
+    same_fields reason = refl
+
+    known : (rep : Option Representation) (response : Option Response)
+        → response_fields r rep response ≡ response_fields s rep response
+    known rep None = refl
+    known None (Some response) = refl
+    known (Some rep) (Some response) = refl
+
+    gives : (b : Bool) (reason : Reason) (status : Option ℕ) (sent : Sends) (fields : List Field)
+        → GivesIf b present resource request reason status sent fields
+        → GivesIf b present resource chooser reason status sent fields
+    gives true reason status sent fields h =
+        let rep = at_place resource.representations.items h.place in
+        record {
+          place = h.place;
+          selected =
+              record {
+                choice = h.selected.choice;
+                picks =
+                    picks_alike (score resource.negotiation r) (score resource.negotiation s)
+                    (score_same resource.negotiation) resource.representations.items h.selected.choice
+                    h.selected.picks;
+                is = h.selected.is;
+              };
+          goes =
+              record {
+                response = h.goes.response;
+                answered =
+                    answered present request.method (target_of resource.state rep) (content_of rep)
+                    resource.boundary r s asks h.goes.response h.goes.answered;
+                has_status = h.goes.has_status;
+                sends = h.goes.sends;
+                has_fields = h.goes.has_fields ∙ known rep h.goes.response;
+              };
+        }
+    gives false reason status sent fields h =
+        record { has_status = h.has_status; sends = h.sends; has_fields = h.has_fields ∙ same_fields reason }
+
+    kind : (k : CorsKind) → IsKindOf request.method r k → IsKindOf request.method s k
+    kind Preflight h = h
+    kind Plain h = h
+    kind NoOrigin h = h
+
+    shared : (policy : Option Policy) (lines : List Line) (fields : List Field)
+        → IsShared policy request lines fields → IsShared policy chooser lines fields
+    shared None lines fields h = h
+    shared (Some policy) lines fields h =
+        let answer : CorsAnswer = h.0 in
+        let is : IsPolicyAnswer policy request.method r (varying lines) answer = h.1 in (
+          answer,
+          record { kind = kind answer.kind is.kind; allowed = is.allowed; fields = is.fields },
+          h.2,
+        )
+
+    chosen : (a : Answer) → IsAnswer present resource request a → IsAnswer present resource chooser a
+    chosen a h =
+        record {
+          first = first_alike (applies resource request) (applies resource chooser) same_reason a.reason h.first;
+          own = h.own;
+          gives = gives (is_admitted a.reason) a.reason a.status a.sends h.own h.gives;
+          shared = h.shared;
+          is_shared = shared resource.cors (vary_lines resource a.reason) h.shared h.is_shared;
+          fields = h.fields;
+        }
+
+-- ---- two requests
+
+module _ (present : ℕ) (resource : Resource) (a : Answer) where
+  transferred : (r s : Request) → AreAlike r s → SelectTheSame r.fields s.fields → IsAnswer present resource r a
+      → IsAnswer present resource s a
+  transferred r s alike same h =
+      let accept = s.fields (codes "accept") in
+      let language = s.fields (codes "accept-language") in
+      let coding = s.fields (codes "accept-encoding") in
+      let between : Request = chooser r accept language coding same.accept same.accept_language same.accept_encoding in
+      let near : AreAlike between s =
+      record {
+        protocol = alike.protocol;
+        method = alike.method;
+        authority = alike.authority;
+        host = alike.host;
+        expect = alike.expect;
+        content = alike.content;
+        content_type = alike.content_type;
+        content_encoding = alike.content_encoding;
+        content_range = alike.content_range;
+        asks =
+            record {
+              if_match = alike.asks.if_match;
+              if_none_match = alike.asks.if_none_match;
+              if_modified_since = alike.asks.if_modified_since;
+              if_unmodified_since = alike.asks.if_unmodified_since;
+              range = alike.asks.range;
+              if_range = alike.asks.if_range;
+            };
+      } in
+      let choose : ChooseAlike between.fields s.fields =
+      record {
+        accept = refl;
+        accept_language = refl;
+        accept_encoding = refl;
+        origin = same.origin;
+        requested_method = same.requested_method;
+      } in
+      (other_fields present resource between s a near choose).0
+      (chosen r accept language coding same.accept same.accept_language same.accept_encoding present resource a h)
+
+list_back : (lines others : List Line) → ListAlike lines others → ListAlike others lines
+list_back lines others (inl same) = inl (sym same)
+list_back lines others (inr same) = inr (same.1, same.0, sym same.2)
+
+pub members_select : (present : ℕ) (resource : Resource) (r s : Request) (a : Answer) → AreAlike r s
+    → SelectTheSame r.fields s.fields → IsAnswer present resource r a ↔ IsAnswer present resource s a
+members_select present resource r s a alike same =
+    let back : SelectTheSame s.fields r.fields =
+    record {
+      accept = list_back (r.fields (codes "accept")) (s.fields (codes "accept")) same.accept;
+      accept_language =
+          list_back (r.fields (codes "accept-language")) (s.fields (codes "accept-language")) same.accept_language;
+      accept_encoding =
+          list_back (r.fields (codes "accept-encoding")) (s.fields (codes "accept-encoding")) same.accept_encoding;
+      origin = sym same.origin;
+      requested_method = sym same.requested_method;
+    } in
+    (transferred present resource a r s alike same, transferred present resource a s r (alike_back r s alike) back)

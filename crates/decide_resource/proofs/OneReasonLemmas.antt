@@ -1,0 +1,177 @@
+-- A request has one first reason.
+use Rattle.std.proofs.Common.{◌≡◌, ℕ, ◌<◌, Bool, true, false, List, [], ◌∷◌, Option, Some, None}
+use Rattle.std.proofs.Common.{refl, sym, subst, inl, inr}
+use Rattle.std.specs.Prelude.{◌&&◌, ◌||◌, ◌==◌, not, find, if◌then◌else◌}
+use Rattle.std.proofs.lemmas.Bool.{cases_order}
+use Rattle.decide_resource.specs.Applies.{applies, exceeds, has_moved, is_absent, is_gone, is_unsized}
+use Rattle.decide_resource.specs.Reasons.{IsFirst, in_order, or_admitted, stage}
+use Rattle.decide_resource.specs.Requests.{Request}
+use Rattle.decide_resource.specs.declared.reason.Reason.{Reason}
+use Rattle.decide_resource.specs.declared.reason.Reason.TheVariants.{InvalidHost, Misdirected, UnknownMethod}
+use Rattle.decide_resource.specs.declared.reason.Reason.TheVariants.{MethodNotAllowed, Options, UnmetExpectation}
+use Rattle.decide_resource.specs.declared.reason.Reason.TheVariants.{PartialContent}
+use Rattle.decide_resource.specs.declared.reason.Reason.TheVariants.{Moved, Gone, NotFound, LengthRequired}
+use Rattle.decide_resource.specs.declared.reason.Reason.TheVariants.{ContentTooLarge, UnsupportedMediaType}
+use Rattle.decide_resource.specs.declared.reason.Reason.TheVariants.{UnsupportedCoding, NotAcceptable}
+use Rattle.decide_resource.specs.declared.reason.Reason.TheVariants.{PreconditionRequired, Admitted}
+use Rattle.decide_resource.specs.declared.request.RequestContent.{RequestContent}
+use Rattle.decide_resource.specs.declared.request.RequestContent.TheVariants as sent
+use Rattle.decide_resource.specs.declared.resource.Resource.{Resource}
+use Rattle.decide_resource.specs.declared.resource.State.{State}
+use Rattle.decide_resource.specs.declared.resource.State.TheVariants as state
+use Rattle.decide_resource.proofs.ReasonLemmas.{Among, first_in_order}
+
+-- the reasons of one stage exclude each other
+pub record AreExclusive (p : Reason → Bool) : Type 0 where
+  pub methods : p MethodNotAllowed ≡ true → p Options ≡ true → ⊥
+  pub moved_gone : p Moved ≡ true → p Gone ≡ true → ⊥
+  pub moved_missing : p Moved ≡ true → p NotFound ≡ true → ⊥
+  pub gone_missing : p Gone ≡ true → p NotFound ≡ true → ⊥
+  pub lengths : p LengthRequired ≡ true → p ContentTooLarge ≡ true → ⊥
+
+-- the reasons of a stage
+abbrev of_stage : ℕ → List Reason
+of_stage n =
+    if n == 0 then InvalidHost ∷ []
+    else (if n == 1 then Misdirected ∷ []
+    else (if n == 2 then UnknownMethod ∷ []
+    else (if n == 3 then MethodNotAllowed ∷ Options ∷ []
+    else (if n == 4 then UnmetExpectation ∷ []
+    else (if n == 5 then PartialContent ∷ []
+    else (if n == 6 then Moved ∷ Gone ∷ NotFound ∷ []
+    else (if n == 7 then LengthRequired ∷ ContentTooLarge ∷ []
+    else (if n == 8 then UnsupportedMediaType ∷ []
+    else (if n == 9 then UnsupportedCoding ∷ []
+    else (if n == 10 then NotAcceptable ∷ []
+    else (if n == 11 then PreconditionRequired ∷ [] else Admitted ∷ [])))))))))))
+
+own : (r : Reason) → Among r (of_stage (stage r))
+own InvalidHost = inl refl
+own Misdirected = inl refl
+own UnknownMethod = inl refl
+own MethodNotAllowed = inl refl
+own Options = inr (inl refl)
+own UnmetExpectation = inl refl
+own PartialContent = inl refl
+own Moved = inl refl
+own Gone = inr (inl refl)
+own NotFound = inr (inr (inl refl))
+own LengthRequired = inl refl
+own ContentTooLarge = inr (inl refl)
+own UnsupportedMediaType = inl refl
+own UnsupportedCoding = inl refl
+own NotAcceptable = inl refl
+own PreconditionRequired = inl refl
+own Admitted = inl refl
+
+only : (r s : Reason) → Among s (r ∷ []) → r ≡ s
+only r s (inl same) = sym same
+only r s (inr none) = absurd none
+
+module _ (p : Reason → Bool) (exclusive : AreExclusive p) where
+  -- two reasons, the second of which applies as the other does
+  of_two : (r s t : Reason) → (p r ≡ true → p t ≡ true → ⊥) → p r ≡ true → p s ≡ true → Among s (r ∷ t ∷ [])
+      → r ≡ s
+  of_two r s t apart h k (inl same) = sym same
+  of_two r s t apart h k (inr (inl same)) = absurd (apart h (subst (λ (q : Reason). p q ≡ true) same k))
+  of_two r s t apart h k (inr (inr none)) = absurd none
+
+  swapped : (r s : Reason) → (p r ≡ true → p s ≡ true → ⊥) → p s ≡ true → p r ≡ true → ⊥
+  swapped r s apart h k = apart k h
+
+  holds : (r s : Reason) → r ≡ s → p r ≡ true → p s ≡ true
+  holds r s e h = subst (λ (q : Reason). p q ≡ true) e h
+
+  alike : (r s : Reason) → p r ≡ true → p s ≡ true → Among s (of_stage (stage r)) → r ≡ s
+  alike InvalidHost s h k among = only InvalidHost s among
+  alike Misdirected s h k among = only Misdirected s among
+  alike UnknownMethod s h k among = only UnknownMethod s among
+  alike MethodNotAllowed s h k among = of_two MethodNotAllowed s Options exclusive.methods h k among
+  alike Options s h k (inl same) = absurd (exclusive.methods (holds s MethodNotAllowed same k) h)
+  alike Options s h k (inr rest) = only Options s rest
+  alike UnmetExpectation s h k among = only UnmetExpectation s among
+  alike PartialContent s h k among = only PartialContent s among
+  alike Moved s h k (inl same) = sym same
+  alike Moved s h k (inr (inl same)) = absurd (exclusive.moved_gone h (holds s Gone same k))
+  alike Moved s h k (inr (inr (inl same))) = absurd (exclusive.moved_missing h (holds s NotFound same k))
+  alike Moved s h k (inr (inr (inr none))) = absurd none
+  alike Gone s h k (inl same) = absurd (exclusive.moved_gone (holds s Moved same k) h)
+  alike Gone s h k (inr (inl same)) = sym same
+  alike Gone s h k (inr (inr (inl same))) = absurd (exclusive.gone_missing h (holds s NotFound same k))
+  alike Gone s h k (inr (inr (inr none))) = absurd none
+  alike NotFound s h k (inl same) = absurd (exclusive.moved_missing (holds s Moved same k) h)
+  alike NotFound s h k (inr (inl same)) = absurd (exclusive.gone_missing (holds s Gone same k) h)
+  alike NotFound s h k (inr (inr rest)) = only NotFound s rest
+  alike LengthRequired s h k among = of_two LengthRequired s ContentTooLarge exclusive.lengths h k among
+  alike ContentTooLarge s h k (inl same) = absurd (exclusive.lengths (holds s LengthRequired same k) h)
+  alike ContentTooLarge s h k (inr rest) = only ContentTooLarge s rest
+  alike UnsupportedMediaType s h k among = only UnsupportedMediaType s among
+  alike UnsupportedCoding s h k among = only UnsupportedCoding s among
+  alike NotAcceptable s h k among = only NotAcceptable s among
+  alike PreconditionRequired s h k among = only PreconditionRequired s among
+  alike Admitted s h k among = only Admitted s among
+
+  not_before : (r s : Reason) → IsFirst p r → IsFirst p s → ¬ (stage r < stage s)
+  not_before r s h k low = let none : p r ≡ false = k.none_before r low in cc (h.is, none)
+
+  pub one_first : (r s : Reason) → IsFirst p r → IsFirst p s → r ≡ s
+  one_first r s h k =
+      elim (cases_order (stage r) (stage s)) [
+        | inl level ↦
+            alike r s h.is k.is (subst (λ (n : ℕ). Among s (of_stage n)) (sym level) (own s))
+        | inr apart ↦
+            elim apart [
+              | inl low ↦ absurd (not_before r s h k low)
+              | inr high ↦ absurd (not_before s r k h high)
+            ]
+      ]
+
+methods_apart : (b c : Bool) → not (b || c) ≡ true → b ≡ true → ⊥
+methods_apart true c h k = cc h
+methods_apart false c h k = cc k
+
+moved_or_gone : (state : State) → has_moved state ≡ true → is_gone state ≡ true → ⊥
+moved_or_gone state.Current h k = cc h
+moved_or_gone state.Absent h k = cc h
+moved_or_gone state.Gone h k = cc h
+moved_or_gone (state.Moved redirect location) h k = cc k
+
+moved_or_missing : (state : State) (b : Bool) → has_moved state ≡ true → (is_absent state && b) ≡ true → ⊥
+moved_or_missing state.Current b h k = cc h
+moved_or_missing state.Absent b h k = cc h
+moved_or_missing state.Gone b h k = cc h
+moved_or_missing (state.Moved redirect location) b h k = cc k
+
+gone_or_missing : (state : State) (b : Bool) → is_gone state ≡ true → (is_absent state && b) ≡ true → ⊥
+gone_or_missing state.Current b h k = cc h
+gone_or_missing state.Absent b h k = cc h
+gone_or_missing state.Gone b h k = cc k
+gone_or_missing (state.Moved redirect location) b h k = cc h
+
+unsized_or_long : (b : Bool) (limit : Option ℕ) (content : RequestContent) → (b && is_unsized content) ≡ true
+    → exceeds limit content ≡ true → ⊥
+unsized_or_long b None content h k = cc k
+unsized_or_long b (Some limit) sent.Absent h k = cc k
+unsized_or_long b (Some limit) sent.Unsized h k = cc k
+unsized_or_long true (Some limit) (sent.Sized len) h k = cc h
+unsized_or_long false (Some limit) (sent.Sized len) h k = cc h
+
+pub exclusive : (resource : Resource) (request : Request) → AreExclusive (applies resource request)
+exclusive resource request =
+    record {
+      methods = methods_apart _ _;
+      moved_gone = moved_or_gone resource.state;
+      moved_missing = moved_or_missing resource.state _;
+      gone_missing = gone_or_missing resource.state _;
+      lengths = unsized_or_long resource.needs_length resource.limit request.content;
+    }
+
+pub some_reason : (resource : Resource) (request : Request)
+    → (reason : Reason) × IsFirst (applies resource request) reason
+some_reason resource request =
+    let p = applies resource request in
+    (or_admitted (find p in_order), first_in_order p refl (find p in_order) refl)
+
+pub one_reason : (resource : Resource) (request : Request) (a b : Reason) → IsFirst (applies resource request) a
+    → IsFirst (applies resource request) b → a ≡ b
+one_reason resource request a b h k = one_first (applies resource request) (exclusive resource request) a b h k

@@ -1,0 +1,323 @@
+-- Allow, ETag and Last-Modified of an answer.
+use Rattle.std.proofs.Common.{◌≡◌, ◌≢◌, ◌↔◌, ◌⊎◌, ℕ, Bool, true, false, List, [], ◌∷◌, ◌++◌, Option, Some, None}
+use Rattle.std.proofs.Common.{refl, sym, ◌∙◌, ap, subst, inl, inr, lit≤, arith}
+use Rattle.std.specs.Prelude.{◌||◌, Contains, codes, if◌then◌else◌, is_some, not}
+use Rattle.std.proofs.lemmas.Bool.{cases_order}
+use Rattle.http_header.specs.FieldValue.{FieldValue}
+use Rattle.headers.specs.Date.{fixdate}
+use Rattle.headers.specs.LineMap.{Field, LineMap, fields_of, set, set_all}
+use Rattle.headers.specs.Lines.{Line}
+use Rattle.headers.specs.Merge.{merge}
+use Rattle.headers.specs.Places.{comma}
+use Rattle.decide_cors.specs.Browser.{IsPreflightFor, PreflightPasses, Request as Sent}
+use Rattle.decide_cors.specs.Fields.{covers_origin, grant_fields, granted, vary_sent}
+use Rattle.decide_cors.specs.Kinds.{is_preflight}
+use Rattle.decide_cors.specs.Policy.{Policy}
+use Rattle.decide_cors.specs.Rules.{AllowsRequest, IsLawful, IsPolicyOf}
+use Rattle.decide_cors.specs.declared.rules.CorsRules.{CorsRules}
+use Rattle.decide_preconditions.specs.Conditions.{modified_of}
+use Rattle.decide_preconditions.specs.Fields.{etag_of, fields_sent, is_known_by, lines_sent, modified_without, not_after}
+use Rattle.decide_preconditions.specs.Responses.{IsAnswered}
+use Rattle.decide_preconditions.specs.declared.content.Content.{Content}
+use Rattle.decide_preconditions.specs.declared.plan.Plan.{Plan}
+use Rattle.decide_preconditions.specs.declared.plan.Plan.TheVariants.{Full, NotModified}
+use Rattle.decide_preconditions.specs.declared.resource.Resource.{Resource as Target}
+use Rattle.decide_preconditions.specs.declared.response.Response.{Response}
+use Rattle.decide_resource.specs.Answers.{GivesIf, IsAnswer, IsShared, Stops, at_place, content_of, is_admitted}
+use Rattle.decide_resource.specs.Answers.{is_sent, response_fields, sent_for, target_of, with_metadata}
+use Rattle.decide_resource.specs.Applies.{applies, methods, rule_for}
+use Rattle.decide_resource.specs.Fields.{allow_field, offered_fields, types_fields, vary_fields, vary_lines}
+use Rattle.decide_resource.specs.Reasons.{Before, IsFirst, stage}
+use Rattle.decide_resource.specs.Requests.{Request, unconditional}
+use Rattle.decide_resource.specs.declared.answer.Answer.{Answer}
+use Rattle.decide_resource.specs.declared.answer.Sends.{Sends}
+use Rattle.decide_resource.specs.declared.answer.Sends.TheVariants as sends
+use Rattle.decide_resource.specs.declared.reason.Reason.{Reason}
+use Rattle.decide_resource.specs.declared.reason.Reason.TheVariants.{MethodNotAllowed, NotAcceptable, Options}
+use Rattle.decide_resource.specs.declared.reason.Reason.TheVariants.{UnknownMethod, UnmetExpectation}
+use Rattle.decide_resource.specs.declared.representation.Representation.{Representation}
+use Rattle.decide_resource.specs.declared.resource.MethodRule.{MethodRule}
+use Rattle.decide_resource.specs.declared.resource.Resource.{Resource}
+use Rattle.decide_resource.proofs.AllowLemmas.{allow_is_exact, allow_lists}
+use Rattle.decide_resource.proofs.ConditionLemmas.{same_place}
+use Rattle.decide_resource.proofs.SharedLemmas.{preflight_of_answer, set_all-append}
+
+-- ---- what neither Vary nor a policy sets
+
+data Own : Type 0 where
+  allow etag last_modified : Own
+
+abbrev own_name : Own → List ℕ
+own_name allow = codes "allow"
+own_name etag = codes "etag"
+own_name last_modified = codes "last-modified"
+
+vary_keeps : (which : Own) (m : LineMap) (lines : List Line)
+    → set_all m (vary_fields lines) (own_name which) ≡ m (own_name which)
+vary_keeps which m [] = refl
+vary_keeps allow m (line ∷ lines) = refl
+vary_keeps etag m (line ∷ lines) = refl
+vary_keeps last_modified m (line ∷ lines) = refl
+
+policy_keeps : (which : Own) (m : LineMap) (policy : Policy) (pre : Bool) (line : Option Line) (lines : List Line)
+    → set_all m (grant_fields policy pre line ++ vary_sent policy lines) (own_name which) ≡ m (own_name which)
+policy_keeps which m policy pre line lines = by which (is_some policy.origins) (covers_origin lines)
+  where
+    by : (w : Own) (b c : Bool)
+        → set_all m
+        (grant_fields policy pre line
+        ++ (if b then (if c then [] else (codes "vary", lines ++ codes "origin" ∷ []) ∷ []) else []))
+        (own_name w)
+        ≡ m (own_name w)
+    by allow true true = refl
+    by allow true false = refl
+    by allow false c = refl
+    by etag true true = refl
+    by etag true false = refl
+    by etag false c = refl
+    by last_modified true true = refl
+    by last_modified true false = refl
+    by last_modified false c = refl
+
+shared_keeps : (which : Own) (m : LineMap) (cors : Option Policy) (request : Request) (lines : List Line)
+    (fields : List Field) → IsShared cors request lines fields → set_all m fields (own_name which) ≡ m (own_name which)
+shared_keeps which m None request lines fields none = ap (λ (fs : List Field). set_all m fs (own_name which)) none
+shared_keeps which m (Some policy) request lines fields shares =
+    ap (λ (fs : List Field). set_all m fs (own_name which)) (shares.2 ∙ shares.1.fields)
+    ∙ policy_keeps which m policy (is_preflight shares.0.kind) (granted policy (request.fields (codes "origin"))) lines
+
+-- ---- Allow
+
+offered_keep : (m : LineMap) (rules : List MethodRule)
+    → set_all m (offered_fields rules) (codes "allow") ≡ m (codes "allow")
+offered_keep m rules = by (rule_for rules (codes "PATCH")) (rule_for rules (codes "POST"))
+  where
+    by : (patch post : Option MethodRule)
+        → set_all m (types_fields (codes "accept-patch") patch ++ types_fields (codes "accept-post") post)
+        (codes "allow")
+        ≡ m (codes "allow")
+    by None None = refl
+    by None (Some post) = refl
+    by (Some patch) None = refl
+    by (Some patch) (Some post) = refl
+
+module _ (present : ℕ) (resource : Resource) (request : Request) (answer : Answer)
+    (a : IsAnswer present resource request answer) (before : LineMap) where
+  kept : (which : Own)
+      → set_all before (fields_of answer.fields.items) (own_name which) ≡ set_all before a.own (own_name which)
+  kept which =
+      let vary = vary_fields (vary_lines resource answer.reason) in
+      ap (λ (fields : List Field). set_all before fields (own_name which)) a.fields
+      ∙ ap (λ (m : LineMap). m (own_name which)) (set_all-append before (a.own ++ vary) a.shared)
+      ∙ shared_keeps which (set_all before (a.own ++ vary)) resource.cors request (vary_lines resource answer.reason)
+      a.shared a.is_shared
+      ∙ ap (λ (m : LineMap). m (own_name which)) (set_all-append before a.own vary)
+      ∙ vary_keeps which (set_all before a.own) (vary_lines resource answer.reason)
+
+  stops_by : (reason : Reason) → answer.reason ≡ reason → is_admitted reason ≡ false
+      → Stops resource request reason answer.status answer.sends a.own
+  stops_by reason same stops =
+      let gives : GivesIf (is_admitted reason) present resource request reason answer.status answer.sends a.own =
+      subst (λ (r : Reason). GivesIf (is_admitted r) present resource request r answer.status answer.sends a.own) same
+      a.gives in
+      subst (λ (b : Bool). GivesIf b present resource request reason answer.status answer.sends a.own) stops gives
+
+  pub allow_told : (answer.reason ≡ Options) ⊎ (answer.reason ≡ MethodNotAllowed)
+      → set_all before (fields_of answer.fields.items) (codes "allow") ≡ merge comma (methods resource.rules.items) ∷ []
+  allow_told (inl same) =
+      kept allow
+      ∙ ap (λ (fields : List Field). set_all before fields (codes "allow")) (stops_by Options same refl).has_fields
+      ∙ offered_keep (set before (allow_field resource.rules.items)) resource.rules.items
+  allow_told (inr same) =
+      kept allow
+      ∙ ap (λ (fields : List Field). set_all before fields (codes "allow"))
+      (stops_by MethodNotAllowed same refl).has_fields
+
+  -- ---- a preflight
+
+  pub preflight_told : answer.reason ≡ Options → (policy : Policy) → resource.cors ≡ Some policy → (rules : CorsRules)
+      (sent : Sent) → IsLawful rules → IsPolicyOf rules policy → IsPreflightFor sent request.method request.fields
+      → (answer.status ≡ Some 204)
+      × (PreflightPasses 204 (set_all before (fields_of answer.fields.items)) sent ↔ AllowsRequest rules sent)
+  preflight_told same policy has rules sent lawful made asks = (
+    (stops_by Options same refl).has_status,
+    preflight_of_answer present resource request answer policy has a before rules sent 204 lawful made asks
+        (lit≤ tt, lit≤ tt),
+  )
+
+-- ---- methods that are listed
+
+listed_applies : (resource : Resource) (request : Request) (answer : Answer) (reason : Reason)
+    → IsFirst (applies resource request) answer.reason → answer.reason ≡ reason → applies resource request reason ≡ true
+listed_applies resource request answer reason first same =
+    subst (λ (r : Reason). applies resource request r ≡ true) same first.is
+
+not_either : (b c : Bool) → not (b || c) ≡ true → c ≡ true → ⊥
+not_either true c e f = cc e
+not_either false true e f = cc e
+not_either false false e f = cc f
+
+pub listed_is_had : (present : ℕ) (resource : Resource) (request : Request) (answer : Answer)
+    → IsAnswer present resource request answer → Contains (methods resource.rules.items) request.method
+    → (answer.reason ≢ MethodNotAllowed) × (answer.reason ≢ UnknownMethod)
+listed_is_had present resource request answer a listed =
+    let had : applies resource request MethodNotAllowed ≡ false =
+    (allow_is_exact resource.rules.items request.method).0 listed in (
+      λ same.
+          let refused = listed_applies resource request answer MethodNotAllowed a.first same in
+          cc (had, refused),
+      λ same.
+          not_either _ _ (listed_applies resource request answer UnknownMethod a.first same)
+          ((allow_lists resource.rules.items request.method).0 listed),
+    )
+
+pub unlisted_is_refused : (present : ℕ) (resource : Resource) (request : Request) (answer : Answer)
+    → IsAnswer present resource request answer → ¬ (Contains (methods resource.rules.items) request.method)
+    → Before answer.reason UnmetExpectation × (answer.reason ≢ Options)
+unlisted_is_refused present resource request answer a unlisted = (
+  elim (cases_order (stage answer.reason) 3) [
+    | inl level ↦ omega (arith, level)
+    | inr apart ↦
+        elim apart [
+          | inl low ↦ omega (arith, low)
+          | inr high ↦ absurd (cc (a.first.none_before MethodNotAllowed high, refused))
+        ]
+  ],
+  λ same.
+      let options = listed_applies resource request answer Options a.first same in
+      unlisted
+      ((allow_lists resource.rules.items request.method).1
+      (ap (λ (b : Bool). b || is_some (rule_for resource.rules.items request.method)) options)),
+)
+  where
+    refused : applies resource request MethodNotAllowed ≡ true
+    refused = by (applies resource request MethodNotAllowed) refl
+      where
+        by : (b : Bool) → applies resource request MethodNotAllowed ≡ b → b ≡ true
+        by true e = refl
+        by false e = absurd (unlisted ((allow_is_exact resource.rules.items request.method).1 e))
+
+-- ---- ETag and Last-Modified
+
+-- the field lines of a field among what a plan sends are these of the target
+abbrev Tells : ℕ → List ℕ → (Target → List Line) → Plan → Type 0
+Tells present name lines plan =
+    (fields : LineMap) (representation : Option Representation) (target : Target) (content : Content)
+    (multipart : FieldValue) (before : LineMap)
+    → set_all before
+    (with_metadata fields representation plan (fields_sent present plan (is_known_by fields) target content multipart))
+    name
+    ≡ lines target
+
+abbrev tag_lines : Target → List Line
+tag_lines target = lines_sent (λ (tag : FieldValue). tag.bytes) (etag_of target)
+
+full_tag : (present : ℕ) → Tells present (codes "etag") tag_lines Full
+full_tag present fields None target content multipart before = refl
+full_tag present fields (Some representation) target content multipart before = refl
+
+unmodified_tag : (present : ℕ) → Tells present (codes "etag") tag_lines NotModified
+unmodified_tag present fields None target content multipart before = refl
+unmodified_tag present fields (Some representation) target content multipart before = refl
+
+abbrev date_lines : ℕ → Target → List Line
+date_lines present target = lines_sent fixdate (not_after present (modified_of target))
+
+full_date : (present : ℕ) → Tells present (codes "last-modified") (date_lines present) Full
+full_date present fields None target content multipart before = refl
+full_date present fields (Some representation) target content multipart before = refl
+
+abbrev date_without_tag : ℕ → Target → List Line
+date_without_tag present target =
+    lines_sent fixdate (not_after present (modified_without (etag_of target) (modified_of target)))
+
+unmodified_date : (present : ℕ) → Tells present (codes "last-modified") (date_without_tag present) NotModified
+unmodified_date present fields None target content multipart before = refl
+unmodified_date present fields (Some representation) target content multipart before = refl
+
+-- without a tag, the date is that of the target
+untagged_date : (present : ℕ) (target : Target) → tag_lines target ≡ []
+    → date_without_tag present target ≡ date_lines present target
+untagged_date present target none = by (etag_of target) none
+  where
+    by : (tag : Option FieldValue) → lines_sent (λ (t : FieldValue). t.bytes) tag ≡ []
+        → lines_sent fixdate (not_after present (modified_without tag (modified_of target)))
+        ≡ date_lines present target
+    by None e = refl
+    by (Some tag) e = absurd (cc e)
+
+module _ (present : ℕ) (resource : Resource) (request : Request) (before : LineMap) (which : Own)
+    (lines : Target → List Line) where
+  abbrev lines_at_place : Option ℕ → List Line
+  lines_at_place place = lines (target_of resource.state (at_place resource.representations.items place))
+
+  told_by : (b : Bool) (reason : Reason) (status : Option ℕ) (sent : Sends) (own : List Field) (place : Option ℕ)
+      (plan : Plan) → Tells present (own_name which) lines plan → GivesIf b present resource request reason status sent own
+      → sent ≡ sends.Planned place plan → set_all before own (own_name which) ≡ lines_at_place place
+  told_by true reason status sent own place plan tells h e =
+      by h.goes.response h.goes.answered h.goes.has_fields (sym h.goes.sends ∙ e)
+    where
+      found : Option Representation
+      found = at_place resource.representations.items h.place
+
+      by : (response : Option Response)
+          → IsAnswered present request.method request.fields (target_of resource.state found) (content_of found)
+          resource.boundary response
+          → own ≡ response_fields request.fields found response
+          → is_sent h.place response ≡ sends.Planned place plan
+          → set_all before own (own_name which) ≡ lines_at_place place
+      by None is has f = absurd (cc f)
+      by (Some response) is has f =
+          let here : h.place ≡ place = cc f in
+          let planned : response.plan ≡ plan = cc f in
+          ap (λ (fields : List Field). set_all before fields (own_name which)) has
+          ∙ ap
+          (λ (fields : List Field). set_all before (with_metadata request.fields found response.plan fields)
+          (own_name which))
+          is.fields
+          ∙ ap
+          (λ (p : Plan). set_all before
+          (with_metadata request.fields found p
+          (fields_sent present p (is_known_by request.fields) (target_of resource.state found) (content_of found)
+          resource.boundary))
+          (own_name which))
+          planned
+          ∙ tells request.fields found (target_of resource.state found) (content_of found) resource.boundary before
+          ∙ ap lines_at_place here
+  told_by false reason status sent own place plan tells h e = absurd (by reason (sym h.sends ∙ e))
+    where
+      by : (r : Reason) → sent_for r ≡ sends.Planned place plan → ⊥
+      by NotAcceptable f = cc f
+      by r f = cc f
+
+  told : (answer : Answer) → IsAnswer present resource request answer → (place : Option ℕ) (plan : Plan)
+      → Tells present (own_name which) lines plan → answer.sends ≡ sends.Planned place plan
+      → set_all before (fields_of answer.fields.items) (own_name which) ≡ lines_at_place place
+  told answer a place plan tells e =
+      kept present resource request answer a before which
+      ∙ told_by (is_admitted answer.reason) answer.reason answer.status answer.sends a.own place plan tells a.gives e
+
+module _ (present : ℕ) (resource : Resource) (request : Request) (a b : Answer) (p q : Option ℕ) (before : LineMap)
+    (h : IsAnswer present resource request a) (k : IsAnswer present resource (unconditional request) b)
+    (e : a.sends ≡ sends.Planned p NotModified) (f : b.sends ≡ sends.Planned q Full) where
+  abbrev sent_by : Answer → List ℕ → List Line
+  sent_by answer name = set_all before (fields_of answer.fields.items) name
+
+  same : p ≡ q
+  same = same_place present resource request a b p q NotModified Full h k e f
+
+  pub same_tag : sent_by a (codes "etag") ≡ sent_by b (codes "etag")
+  same_tag =
+      told present resource request before etag tag_lines a h p NotModified (unmodified_tag present) e
+      ∙ ap (lines_at_place present resource request before etag tag_lines) same
+      ∙ sym (told present resource (unconditional request) before etag tag_lines b k q Full (full_tag present) f)
+
+  pub same_date : sent_by a (codes "etag") ≡ [] → sent_by a (codes "last-modified") ≡ sent_by b (codes "last-modified")
+  same_date none =
+      told present resource request before last_modified (date_without_tag present) a h p NotModified
+      (unmodified_date present) e
+      ∙ untagged_date present (target_of resource.state (at_place resource.representations.items p))
+      (sym (told present resource request before etag tag_lines a h p NotModified (unmodified_tag present) e) ∙ none)
+      ∙ ap (lines_at_place present resource request before last_modified (date_lines present)) same
+      ∙ sym (told present resource (unconditional request) before last_modified (date_lines present) b k q Full
+      (full_date present) f)

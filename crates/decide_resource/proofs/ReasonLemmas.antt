@@ -1,0 +1,179 @@
+-- The first reason that applies.
+use Rattle.std.proofs.Common.{◌≡◌, ◌⊎◌, ◌<◌, ◌≤◌, Bool, true, false, cond, List, [], ◌∷◌, Option, Some, None}
+use Rattle.std.proofs.Common.{refl, sym, ap, subst, inl, inr, arith, lit≤}
+use Rattle.std.specs.Prelude.{find}
+use Rattle.decide_resource.specs.Reasons.{Before, IsFirst, in_order, or_admitted, stage}
+use Rattle.decide_resource.specs.declared.reason.Reason.{Reason}
+use Rattle.decide_resource.specs.declared.reason.Reason.TheVariants.{InvalidHost, Misdirected, UnknownMethod}
+use Rattle.decide_resource.specs.declared.reason.Reason.TheVariants.{MethodNotAllowed, Options, UnmetExpectation}
+use Rattle.decide_resource.specs.declared.reason.Reason.TheVariants.{PartialContent}
+use Rattle.decide_resource.specs.declared.reason.Reason.TheVariants.{Moved, Gone, NotFound, LengthRequired}
+use Rattle.decide_resource.specs.declared.reason.Reason.TheVariants.{ContentTooLarge, UnsupportedMediaType}
+use Rattle.decide_resource.specs.declared.reason.Reason.TheVariants.{UnsupportedCoding, NotAcceptable}
+use Rattle.decide_resource.specs.declared.reason.Reason.TheVariants.{PreconditionRequired, Admitted}
+
+-- each reason is no earlier than the one before it
+abbrev IsChain : Reason → List Reason → Type 0
+IsChain x [] = Unit {0}
+IsChain x (y ∷ ys) = (stage x ≤ stage y) × IsChain y ys
+
+abbrev pub Among : Reason → List Reason → Type 0
+Among s [] = ⊥
+Among s (x ∷ xs) = (s ≡ x) ⊎ Among s xs
+
+abbrev IsOrdered : List Reason → Type 0
+IsOrdered [] = Unit {0}
+IsOrdered (x ∷ xs) = IsChain x xs
+
+later : (x : Reason) (xs : List Reason) → IsChain x xs → (s : Reason) → Among s xs → stage x ≤ stage s
+later x [] chain s among = absurd among
+later x (y ∷ ys) chain s among =
+    elim among [
+      | inl same ↦ subst (λ (r : Reason). stage x ≤ stage r) (sym same) chain.0
+      | inr rest ↦ let more = later y ys chain.1 s rest in omega (arith, chain.0, more)
+    ]
+
+tail_ordered : (x : Reason) (xs : List Reason) → IsChain x xs → IsOrdered xs
+tail_ordered x [] chain = tt
+tail_ordered x (y ∷ ys) chain = chain.1
+
+-- what is found applies, and what stands elsewhere and is earlier doesn't
+pub record IsFoundFirst (p : Reason → Bool) (xs : List Reason) (r : Reason) : Type 0 where
+  pub is : p r ≡ true
+  pub none_before : (s : Reason) → Among s xs → Before s r → p s ≡ false
+
+found_first : (p : Reason → Bool) (xs : List Reason) → IsOrdered xs → (r : Reason) → find p xs ≡ Some r
+    → IsFoundFirst p xs r
+found_first p [] ordered r e = absurd (cc e)
+found_first p (x ∷ xs) ordered r e = by (p x) refl e (found_first p xs (tail_ordered x xs ordered) r)
+  where
+    by : (b : Bool) → p x ≡ b → cond b (Some x) (find p xs) ≡ Some r
+        → (find p xs ≡ Some r → IsFoundFirst p xs r) → IsFoundFirst p (x ∷ xs) r
+    by true t found rest_of =
+        let same : x ≡ r = cc found in
+        record {
+          is = subst (λ (q : Reason). p q ≡ true) same t;
+          none_before = λ s among before.
+              let low : stage s < stage x = subst (λ (q : Reason). stage s < stage q) (sym same) before in
+              elim among [
+                | inl own ↦
+                    let level : stage s ≡ stage x = ap stage own in absurd (omega (arith, level, low))
+                | inr rest ↦ let more = later x xs ordered s rest in absurd (omega (arith, more, low))
+              ];
+        }
+    by false f found rest_of =
+        let rest = rest_of found in
+        record {
+          is = rest.is;
+          none_before = λ s among before.
+              elim among [
+                | inl own ↦ subst (λ (q : Reason). p q ≡ false) (sym own) f
+                | inr others ↦ rest.none_before s others before
+              ];
+        }
+
+found_none : (p : Reason → Bool) (xs : List Reason) → find p xs ≡ None → (s : Reason) → Among s xs → p s ≡ false
+found_none p [] e s among = absurd among
+found_none p (x ∷ xs) e s among = by (p x) refl e (λ found others. found_none p xs found s others)
+  where
+    by : (b : Bool) → p x ≡ b → cond b (Some x) (find p xs) ≡ None → (find p xs ≡ None → Among s xs → p s ≡ false)
+        → p s ≡ false
+    by true t found rest_of = absurd (cc found)
+    by false f found rest_of =
+        elim among [
+          | inl own ↦ subst (λ (q : Reason). p q ≡ false) (sym own) f
+          | inr others ↦ rest_of found others
+        ]
+
+ordered : IsOrdered in_order
+ordered = (
+  lit≤ tt,
+  (
+    lit≤ tt,
+    (
+      lit≤ tt,
+      (
+        lit≤ tt,
+        (
+          lit≤ tt,
+          (
+            lit≤ tt,
+            (
+              lit≤ tt,
+              (
+                lit≤ tt,
+                (lit≤ tt, (lit≤ tt, (lit≤ tt, (lit≤ tt, (lit≤ tt, (lit≤ tt, (lit≤ tt, tt))))))),
+              ),
+            ),
+          ),
+        ),
+      ),
+    ),
+  ),
+)
+
+each : (s : Reason) → (s ≡ Admitted) ⊎ Among s in_order
+each InvalidHost = inr (inl refl)
+each Misdirected = inr (inr (inl refl))
+each UnknownMethod = inr (inr (inr (inl refl)))
+each MethodNotAllowed = inr (inr (inr (inr (inl refl))))
+each Options = inr (inr (inr (inr (inr (inl refl)))))
+each UnmetExpectation = inr (inr (inr (inr (inr (inr (inl refl))))))
+each PartialContent = inr (inr (inr (inr (inr (inr (inr (inl refl)))))))
+each Moved = inr (inr (inr (inr (inr (inr (inr (inr (inl refl))))))))
+each Gone = inr (inr (inr (inr (inr (inr (inr (inr (inr (inl refl)))))))))
+each NotFound = inr (inr (inr (inr (inr (inr (inr (inr (inr (inr (inl refl))))))))))
+each LengthRequired = inr (inr (inr (inr (inr (inr (inr (inr (inr (inr (inr (inl refl)))))))))))
+each ContentTooLarge = inr (inr (inr (inr (inr (inr (inr (inr (inr (inr (inr (inr (inl refl))))))))))))
+each UnsupportedMediaType = inr (inr (inr (inr (inr (inr (inr (inr (inr (inr (inr (inr (inr (inl refl)))))))))))))
+each UnsupportedCoding = inr (inr (inr (inr (inr (inr (inr (inr (inr (inr (inr (inr (inr (inr (inl refl))))))))))))))
+each NotAcceptable = inr (inr (inr (inr (inr (inr (inr (inr (inr (inr (inr (inr (inr (inr (inr (inl refl)))))))))))))))
+each PreconditionRequired =
+    inr (inr (inr (inr (inr (inr (inr (inr (inr (inr (inr (inr (inr (inr (inr (inr (inl refl))))))))))))))))
+each Admitted = inl refl
+
+-- none comes after that nothing stands in the way
+last : (r : Reason) → stage r ≤ 12
+last InvalidHost = lit≤ tt
+last Misdirected = lit≤ tt
+last UnknownMethod = lit≤ tt
+last MethodNotAllowed = lit≤ tt
+last Options = lit≤ tt
+last UnmetExpectation = lit≤ tt
+last PartialContent = lit≤ tt
+last Moved = lit≤ tt
+last Gone = lit≤ tt
+last NotFound = lit≤ tt
+last LengthRequired = lit≤ tt
+last ContentTooLarge = lit≤ tt
+last UnsupportedMediaType = lit≤ tt
+last UnsupportedCoding = lit≤ tt
+last NotAcceptable = lit≤ tt
+last PreconditionRequired = lit≤ tt
+last Admitted = lit≤ tt
+
+-- what is found among the reasons in order is the first that applies
+pub first_in_order : (p : Reason → Bool) → p Admitted ≡ true → (found : Option Reason) → found ≡ find p in_order
+    → IsFirst p (or_admitted found)
+first_in_order p admits None e =
+    record {
+      is = admits;
+      none_before = λ s before.
+          elim (each s) [
+            | inl own ↦ let level : stage s ≡ 12 = ap stage own in absurd (omega (arith, level, before))
+            | inr among ↦ found_none p in_order (sym e) s among
+          ];
+    }
+first_in_order p admits (Some r) e =
+    let first = found_first p in_order ordered r (sym e) in
+    record {
+      is = first.is;
+      none_before = λ s before.
+          elim (each s) [
+            | inl own ↦
+                let level : stage s ≡ 12 = ap stage own in
+                let most : stage r ≤ 12 = last r in
+                absurd (omega (arith, level, most, before))
+            | inr among ↦ first.none_before s among before
+          ];
+    }

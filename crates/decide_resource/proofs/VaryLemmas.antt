@@ -1,0 +1,480 @@
+-- What Vary tells a cache.
+use Rattle.std.proofs.Common.{◌≡◌, ◌≢◌, ℕ, ◌<◌, Bool, true, false, List, [], ◌∷◌, ◌++◌, Option, Some, None, refl}
+use Rattle.std.proofs.Common.{sym, ◌∙◌, ap, subst, inl, inr, arith, bytes_eq, lit<}
+use Rattle.std.specs.Prelude.{◌&&◌, ◌||◌, codes, if◌then◌else◌, is_some, nat_lt, length, not}
+use Rattle.std.proofs.lemmas.Bool.{cases_Bool}
+use Rattle.std.proofs.lemmas.Grind.{flat_map-append}
+use Rattle.std.proofs.lemmas.List.Folds.{list_any-append}
+use Rattle.std.proofs.lemmas.Slice.Eq.{bytes_eq-Decides}
+use Rattle.headers.specs.LineMap.{Field, LineMap, fields_of, set_all}
+use Rattle.headers.specs.Lines.{Line}
+use Rattle.rfc_fields.specs.Directives.{is_same_token}
+use Rattle.rfc_fields.specs.Members.{field_members, members}
+use Rattle.rfc_fields.specs.Scan.{pieces, push}
+use Rattle.gateway_messages.specs.declared.protocol.Protocol.{Protocol}
+use Rattle.decide_cors.specs.Cache.{Serves, nominates}
+use Rattle.decide_cors.specs.Fields.{covers_origin, grant_fields, granted, vary_sent}
+use Rattle.decide_cors.specs.Kinds.{is_preflight}
+use Rattle.decide_cors.specs.Policy.{Policy}
+use Rattle.decide_cors.proofs.SameLemmas.{never_pre, same_by}
+use Rattle.decide_resource.specs.Answers.{AreSame, GivesIf, IsAnswer, IsShared, at_place, content_of}
+use Rattle.decide_resource.specs.Answers.{is_admitted, response_fields, target_of, varying}
+use Rattle.decide_preconditions.specs.Responses.{IsAnswered}
+use Rattle.decide_preconditions.specs.declared.response.Response.{Response}
+use Rattle.decide_resource.specs.Applies.{applies, is_current, is_present, is_read, is_unacceptable, rule_for}
+use Rattle.decide_resource.specs.Applies.{is_unsupported_part, takes_parts, takes_type}
+use Rattle.decide_resource.specs.Fields.{depends_on_selection, describes, line_if, metadata_fields, reason_fields, selecting}
+use Rattle.decide_resource.specs.Fields.{vary_fields, vary_lines}
+use Rattle.decide_resource.specs.Reasons.{IsFirst, stage}
+use Rattle.decide_resource.specs.Representations.{are_unacceptable, score}
+use Rattle.decide_resource.specs.Requests.{Request}
+use Rattle.decide_resource.specs.Vary.{AreAlike}
+use Rattle.decide_resource.specs.declared.answer.Answer.{Answer}
+use Rattle.decide_resource.specs.declared.answer.Sends.{Sends}
+use Rattle.decide_resource.specs.declared.reason.Reason.{Reason}
+use Rattle.decide_resource.specs.declared.reason.Reason.TheVariants.{InvalidHost, Misdirected, UnknownMethod}
+use Rattle.decide_resource.specs.declared.reason.Reason.TheVariants.{MethodNotAllowed, Options, UnmetExpectation}
+use Rattle.decide_resource.specs.declared.reason.Reason.TheVariants.{PartialContent}
+use Rattle.decide_resource.specs.declared.reason.Reason.TheVariants.{Moved, Gone, NotFound, LengthRequired}
+use Rattle.decide_resource.specs.declared.reason.Reason.TheVariants.{ContentTooLarge, UnsupportedMediaType}
+use Rattle.decide_resource.specs.declared.reason.Reason.TheVariants.{UnsupportedCoding, NotAcceptable}
+use Rattle.decide_resource.specs.declared.reason.Reason.TheVariants.{PreconditionRequired, Admitted}
+use Rattle.decide_resource.specs.declared.representation.Negotiation.{Negotiation}
+use Rattle.decide_resource.specs.declared.representation.Representation.{Representation}
+use Rattle.decide_resource.specs.declared.request.RequestContent.{RequestContent}
+use Rattle.decide_resource.specs.declared.resource.Resource.{Resource}
+use Rattle.decide_resource.proofs.AnswerLemmas.{gives_same}
+use Rattle.decide_resource.proofs.OneReasonLemmas.{one_reason}
+use Rattle.decide_resource.proofs.PickLemmas.{first_alike, picks_alike}
+use Rattle.decide_resource.proofs.SamePlanLemmas.{answered}
+use Rattle.decide_resource.proofs.SelectionLemmas.{SelectAlike, score_alike, unacceptable_alike}
+use Rattle.decide_resource.proofs.SharedLemmas.{set_all-append}
+
+-- ---- what Vary names
+
+or_true : (b : Bool) → (b || true) ≡ true
+or_true true = refl
+or_true false = refl
+
+-- what some lines nominate, all do
+behind : (lines others : List Line) (name : Line) → nominates others name ≡ true
+    → nominates (lines ++ others) name ≡ true
+behind lines others name e =
+    rw (flat_map-append (members true) lines others)
+    (list_any-append (is_same_token name) (field_members true lines) (field_members true others)
+    ∙ ap (λ (b : Bool). nominates lines name || b) e ∙ or_true (nominates lines name))
+
+before_others : (lines others : List Line) (name : Line) → nominates lines name ≡ true
+    → nominates (lines ++ others) name ≡ true
+before_others lines others name e =
+    rw (flat_map-append (members true) lines others)
+    (list_any-append (is_same_token name) (field_members true lines) (field_members true others)
+    ∙ ap (λ (b : Bool). b || nominates others name) e)
+
+origin_named : nominates (codes "origin" ∷ []) (codes "origin") ≡ true
+unfolding pieces push
+origin_named = refl
+
+abbrev of_flags : Bool → Bool → Bool → List Line
+of_flags a b c =
+    line_if a (codes "accept") ++ line_if b (codes "accept-language") ++ line_if c (codes "accept-encoding")
+
+accept_named : (b c : Bool) → nominates (of_flags true b c) (codes "accept") ≡ true
+unfolding pieces push
+accept_named true true = refl
+accept_named true false = refl
+accept_named false true = refl
+accept_named false false = refl
+
+language_named : (a c : Bool) → nominates (of_flags a true c) (codes "accept-language") ≡ true
+unfolding pieces push
+language_named true true = refl
+language_named true false = refl
+language_named false true = refl
+language_named false false = refl
+
+coding_named : (a b : Bool) → nominates (of_flags a b true) (codes "accept-encoding") ≡ true
+unfolding pieces push
+coding_named true true = refl
+coding_named true false = refl
+coding_named false true = refl
+coding_named false false = refl
+
+-- neither `origin` nor a star is among them
+no_origin : (a b c : Bool) → covers_origin (of_flags a b c) ≡ false
+unfolding pieces push
+no_origin true true true = refl
+no_origin true true false = refl
+no_origin true false true = refl
+no_origin true false false = refl
+no_origin false true true = refl
+no_origin false true false = refl
+no_origin false false true = refl
+no_origin false false false = refl
+
+no_origin_in : (negotiation : Negotiation) (b : Bool)
+    → covers_origin (if b then selecting negotiation else []) ≡ false
+no_origin_in negotiation true = no_origin negotiation.media_type negotiation.language negotiation.coding
+no_origin_in negotiation false = refl
+
+-- ---- the lines of Vary in the end
+
+-- Vary after the fields of a policy that lists its origins, or doesn't
+policy_varies : (m : LineMap) (policy : Policy) (pre : Bool) (line : Option Line) (lines : List Line)
+    → covers_origin lines ≡ false
+    → set_all m (grant_fields policy pre line ++ vary_sent policy lines) (codes "vary")
+    ≡ (if is_some policy.origins then lines ++ codes "origin" ∷ [] else m (codes "vary"))
+policy_varies m policy pre line lines none = by (is_some policy.origins)
+  where
+    by : (b : Bool)
+        → set_all m
+        (grant_fields policy pre line
+        ++ (if b then (if covers_origin lines then [] else (codes "vary", lines ++ codes "origin" ∷ []) ∷ []) else []))
+        (codes "vary")
+        ≡ (if b then lines ++ codes "origin" ∷ [] else m (codes "vary"))
+    by true = rw none refl
+    by false = refl
+
+module _ (present : ℕ) (resource : Resource) (request : Request) (answer : Answer)
+    (a : IsAnswer present resource request answer) (before : LineMap) where
+  abbrev first : LineMap
+  first = set_all before (a.own ++ vary_fields (vary_lines resource answer.reason))
+
+  abbrev final : List Line
+  final = set_all before (fields_of answer.fields.items) (codes "vary")
+
+  final_is : final ≡ set_all first a.shared (codes "vary")
+  final_is =
+      ap (λ (fields : List Field). set_all before fields (codes "vary")) a.fields
+      ∙ ap (λ (m : LineMap). m (codes "vary"))
+      (set_all-append before (a.own ++ vary_fields (vary_lines resource answer.reason)) a.shared)
+
+  -- the lines, if there are some, are those of Vary before the policy adds to them
+  first_is : (line : Line) (rest : List Line) → vary_lines resource answer.reason ≡ line ∷ rest
+      → first (codes "vary") ≡ line ∷ rest
+  first_is line rest e =
+      ap (λ (ls : List Line). set_all before (a.own ++ vary_fields ls) (codes "vary")) e
+      ∙ ap (λ (m : LineMap). m (codes "vary")) (set_all-append before a.own ((codes "vary", line ∷ rest) ∷ []))
+
+  -- Vary in the end: the policy adds `origin` if it lists its origins
+  abbrev ends : Option Policy → List Line
+  ends None = first (codes "vary")
+  ends (Some policy) =
+      if is_some policy.origins then vary_lines resource answer.reason ++ codes "origin" ∷ [] else first (codes "vary")
+
+  final_by : (cors : Option Policy) → resource.cors ≡ cors → final ≡ ends cors
+  final_by None e =
+      let none : a.shared ≡ [] =
+      subst (λ (p : Option Policy). IsShared p request (vary_lines resource answer.reason) a.shared) e a.is_shared in
+      final_is ∙ ap (λ (fields : List Field). set_all first fields (codes "vary")) none
+  final_by (Some policy) e =
+      let shares : IsShared (Some policy) request (vary_lines resource answer.reason) a.shared =
+      subst (λ (p : Option Policy). IsShared p request (vary_lines resource answer.reason) a.shared) e a.is_shared in
+      final_is
+      ∙ ap (λ (fields : List Field). set_all first fields (codes "vary")) (shares.2 ∙ shares.1.fields)
+      ∙ policy_varies first policy (is_preflight shares.0.kind) (granted policy (request.fields (codes "origin")))
+      (vary_lines resource answer.reason)
+      (no_origin_in resource.negotiation (depends_on_selection answer.reason))
+
+  -- what the decision names, Vary names in the end
+  named : (name : Line) → nominates (vary_lines resource answer.reason) name ≡ true → nominates final name ≡ true
+  named name e = by (vary_lines resource answer.reason) refl
+    where
+      choose : first (codes "vary") ≡ vary_lines resource answer.reason → (b : Bool)
+          → final ≡ (if b then vary_lines resource answer.reason ++ codes "origin" ∷ [] else first (codes "vary"))
+          → nominates final name ≡ true
+      choose f true g =
+          subst (λ (ls : List Line). nominates ls name ≡ true) (sym g)
+          (before_others (vary_lines resource answer.reason) (codes "origin" ∷ []) name e)
+      choose f false g = subst (λ (ls : List Line). nominates ls name ≡ true) (sym (g ∙ f)) e
+
+      within : first (codes "vary") ≡ vary_lines resource answer.reason → (cors : Option Policy)
+          → resource.cors ≡ cors → nominates final name ≡ true
+      within f None c = choose f false (final_by None c)
+      within f (Some policy) c = choose f (is_some policy.origins) (final_by (Some policy) c)
+
+      by : (ls : List Line) → vary_lines resource answer.reason ≡ ls → nominates final name ≡ true
+      by [] f =
+          let none : nominates [] name ≡ true = subst (λ (ls : List Line). nominates ls name ≡ true) f e in
+          absurd (cc none)
+      by (line ∷ rest) f = within (first_is line rest f ∙ sym f) resource.cors refl
+
+  module _ (r s : LineMap) (v : Serves final r s) where
+    selects : depends_on_selection answer.reason ≡ true → SelectAlike resource.negotiation r s
+    selects dep =
+        let n = resource.negotiation in
+        let all : vary_lines resource answer.reason ≡ selecting n =
+        ap (λ (b : Bool). if b then selecting n else []) dep in
+        let here = λ (name : Line) (e : nominates (selecting n) name ≡ true). v.same name
+        (named name (ap (λ (ls : List Line). nominates ls name) all ∙ e)) in
+        record {
+          media_type = λ flag. here (codes "accept")
+              (ap (λ (b : Bool). nominates (of_flags b n.language n.coding) (codes "accept")) flag
+              ∙ accept_named n.language n.coding);
+          language = λ flag. here (codes "accept-language")
+              (ap (λ (b : Bool). nominates (of_flags n.media_type b n.coding) (codes "accept-language")) flag
+              ∙ language_named n.media_type n.coding);
+          coding = λ flag. here (codes "accept-encoding")
+              (ap (λ (b : Bool). nominates (of_flags n.media_type n.language b) (codes "accept-encoding")) flag
+              ∙ coding_named n.media_type n.language);
+        }
+
+    grants : (policy : Policy) → resource.cors ≡ Some policy
+        → granted policy (r (codes "origin")) ≡ granted policy (s (codes "origin"))
+    grants policy c = by policy.origins refl
+      where
+        by : (origins : Option (List Line)) → policy.origins ≡ origins
+            → granted policy (r (codes "origin")) ≡ granted policy (s (codes "origin"))
+        by None e = rw e refl
+        by (Some listed) e =
+            let ls = vary_lines resource answer.reason in
+            let f : final ≡ ls ++ codes "origin" ∷ [] =
+            final_by (Some policy) c
+            ∙ ap
+            (λ (o : Option (List Line)). if is_some o then ls ++ codes "origin" ∷ [] else first (codes "vary")) e in
+            let names : nominates final (codes "origin") ≡ true =
+            subst (λ (lines : List Line). nominates lines (codes "origin") ≡ true) (sym f)
+            (behind ls (codes "origin" ∷ []) (codes "origin") origin_named) in
+            ap (granted policy) (v.same (codes "origin") names)
+
+-- ---- what depends on the other fields alone
+
+abbrev fields_with : List Line → List Line → List Line → List Line → List Line → List Line → LineMap
+fields_with host expect type coding match none_match name =
+    if bytes_eq (codes "host") name then host
+    else (if bytes_eq (codes "expect") name then expect
+    else (if bytes_eq (codes "content-type") name then type
+    else (if bytes_eq (codes "content-encoding") name then coding
+    else (if bytes_eq (codes "if-match") name then match
+    else (if bytes_eq (codes "if-none-match") name then none_match else [])))))
+
+-- a request of what the reasons read, but for 406 and for a part that PUT doesn't take
+built : Protocol → List ℕ → Option Line → RequestContent → List Line → List Line → List Line → List Line → List Line
+    → List Line → Request
+built protocol method authority content host expect type coding match none_match =
+    record {
+      protocol = protocol;
+      method = method;
+      authority = authority;
+      content = content;
+      fields = fields_with host expect type coding match none_match;
+    }
+
+abbrev read_of : Request → Request
+read_of q =
+    built q.protocol q.method q.authority q.content (q.fields (codes "host")) (q.fields (codes "expect"))
+    (q.fields (codes "content-type")) (q.fields (codes "content-encoding")) (q.fields (codes "if-match"))
+    (q.fields (codes "if-none-match"))
+
+same_read : (r s : Request) → AreAlike r s → read_of r ≡ read_of s
+same_read r s h =
+    cc (
+      h.protocol,
+      h.method,
+      h.authority,
+      h.content,
+      h.host,
+      h.expect,
+      h.content_type,
+      h.content_encoding,
+      h.asks.if_match,
+      h.asks.if_none_match,
+    )
+
+early : (reason : Reason) → depends_on_selection reason ≡ false → stage reason < 10
+early InvalidHost e = lit< tt
+early Misdirected e = lit< tt
+early UnknownMethod e = lit< tt
+early MethodNotAllowed e = lit< tt
+early Options e = lit< tt
+early UnmetExpectation e = lit< tt
+early PartialContent e = lit< tt
+early Moved e = lit< tt
+early Gone e = lit< tt
+early NotFound e = lit< tt
+early LengthRequired e = lit< tt
+early ContentTooLarge e = lit< tt
+early UnsupportedMediaType e = lit< tt
+early UnsupportedCoding e = lit< tt
+early NotAcceptable e = absurd (cc e)
+early PreconditionRequired e = absurd (cc e)
+early Admitted e = absurd (cc e)
+
+admitted_depends : (reason : Reason) → is_admitted reason ≡ true → depends_on_selection reason ≡ true
+admitted_depends Admitted e = refl
+admitted_depends reason e = absurd (cc e)
+
+other_than : (reason : Reason) → stage reason < 10 → reason ≢ NotAcceptable
+other_than reason low e = let level : stage reason ≡ 10 = ap stage e in omega (arith, low, level)
+
+module _ (resource : Resource) (r s : Request) (alike : AreAlike r s) where
+  -- only of PUT does Content-Range count
+  same_part : (m : List ℕ)
+      → (m ≡ codes "PUT" → r.fields (codes "content-range") ≡ s.fields (codes "content-range"))
+      → is_unsupported_part (rule_for resource.rules.items m) m (r.fields (codes "content-range"))
+      ≡ is_unsupported_part (rule_for resource.rules.items m) m (s.fields (codes "content-range"))
+  same_part m same = by (bytes_eq m (codes "PUT")) refl
+    where
+      rest : List Line → Bool
+      rest ranges = is_present ranges && not (takes_parts (rule_for resource.rules.items m))
+
+      by : (b : Bool) → bytes_eq m (codes "PUT") ≡ b
+          → (b && rest (r.fields (codes "content-range"))) ≡ (b && rest (s.fields (codes "content-range")))
+      by true e = ap rest (same ((bytes_eq-Decides m (codes "PUT")).0 e))
+      by false e = refl
+
+  same_reason : (reason : Reason) → reason ≢ NotAcceptable → applies resource r reason ≡ applies resource s reason
+  unfolding built rule_for takes_type
+  same_reason InvalidHost other = ap (λ (q : Request). applies resource q InvalidHost) (same_read r s alike)
+  same_reason Misdirected other = ap (λ (q : Request). applies resource q Misdirected) (same_read r s alike)
+  same_reason UnknownMethod other = ap (λ (q : Request). applies resource q UnknownMethod) (same_read r s alike)
+  same_reason MethodNotAllowed other = ap (λ (q : Request). applies resource q MethodNotAllowed) (same_read r s alike)
+  same_reason Options other = ap (λ (q : Request). applies resource q Options) (same_read r s alike)
+  same_reason UnmetExpectation other = ap (λ (q : Request). applies resource q UnmetExpectation) (same_read r s alike)
+  same_reason PartialContent other =
+      same_part r.method alike.content_range
+      ∙ ap
+      (λ (m : List ℕ). is_unsupported_part (rule_for resource.rules.items m) m (s.fields (codes "content-range")))
+      alike.method
+  same_reason Moved other = refl
+  same_reason Gone other = refl
+  same_reason NotFound other = ap (λ (q : Request). applies resource q NotFound) (same_read r s alike)
+  same_reason LengthRequired other = ap (λ (q : Request). applies resource q LengthRequired) (same_read r s alike)
+  same_reason ContentTooLarge other = ap (λ (q : Request). applies resource q ContentTooLarge) (same_read r s alike)
+  same_reason UnsupportedMediaType other =
+      ap (λ (q : Request). applies resource q UnsupportedMediaType) (same_read r s alike)
+  same_reason UnsupportedCoding other =
+      ap (λ (q : Request). applies resource q UnsupportedCoding) (same_read r s alike)
+  same_reason NotAcceptable other = absurd (other refl)
+  same_reason PreconditionRequired other =
+      ap (λ (q : Request). applies resource q PreconditionRequired) (same_read r s alike)
+  same_reason Admitted other = refl
+
+  same_fields : (reason : Reason) → reason_fields resource r reason ≡ reason_fields resource s reason
+  unfolding built rule_for
+  same_fields InvalidHost = refl
+  same_fields UnsupportedMediaType =
+      ap (λ (q : Request). reason_fields resource q UnsupportedMediaType) (same_read r s alike)
+  same_fields UnsupportedCoding =
+      ap (λ (q : Request). reason_fields resource q UnsupportedCoding) (same_read r s alike)
+  same_fields reason = refl
+
+  module _ (select : SelectAlike resource.negotiation r.fields s.fields) where
+    unacceptable_same : is_unacceptable resource r ≡ is_unacceptable resource s
+    unfolding is_unacceptable
+    unacceptable_same =
+        let n = resource.negotiation in
+        let xs = resource.representations.items in
+        let there = λ (b : Bool). is_current resource.state && (n.is_strict && (nat_lt 0 (length xs) && b)) in
+        ap (λ (m : List ℕ). is_read m && there (are_unacceptable n r.fields xs)) alike.method
+        ∙ ap (λ (b : Bool). is_read s.method && there b) (unacceptable_alike n r.fields s.fields select xs)
+
+    all_reasons : (reason : Reason) → applies resource r reason ≡ applies resource s reason
+    all_reasons NotAcceptable = unacceptable_same
+    all_reasons reason = same_reason reason (λ e. absurd (cc e))
+
+    known : (rep : Option Representation) (response : Option Response)
+        → response_fields r.fields rep response ≡ response_fields s.fields rep response
+    known rep None = refl
+    known None (Some response) = refl
+    known (Some rep) (Some response) =
+        ap
+        (λ (lines : List Line). metadata_fields (describes response.plan (nat_lt 0 (length lines))) rep
+        ++ fields_of response.fields.items)
+        alike.asks.if_range
+
+  pub same_first : (reason : Reason)
+      → (depends_on_selection reason ≡ true → SelectAlike resource.negotiation r.fields s.fields)
+      → IsFirst (applies resource r) reason → IsFirst (applies resource s) reason
+  same_first reason select h =
+      elim (cases_Bool (depends_on_selection reason)) [
+        | inl dep ↦ first_alike (applies resource r) (applies resource s) (all_reasons (select dep)) reason h
+        | inr free ↦
+            let low : stage reason < 10 = early reason free in
+            record {
+              is = sym (same_reason reason (other_than reason low)) ∙ h.is;
+              none_before = λ other before.
+                  let less : stage other < stage reason = before in
+                  let lower : stage other < 10 = omega (arith, less, low) in
+                  sym (same_reason other (other_than other lower)) ∙ h.none_before other before;
+            }
+      ]
+
+  pub gives_alike : (present : ℕ) (b : Bool) (reason : Reason) (status : Option ℕ) (sent : Sends) (fields : List Field)
+      → (b ≡ true → SelectAlike resource.negotiation r.fields s.fields)
+      → GivesIf b present resource r reason status sent fields → GivesIf b present resource s reason status sent fields
+  gives_alike present true reason status sent fields select h =
+      let rep = at_place resource.representations.items h.place in
+      let target = target_of resource.state rep in
+      let alike_select = select refl in
+      let with_method =
+      subst
+      (λ (m : List ℕ). IsAnswered present m r.fields target (content_of rep) resource.boundary h.goes.response)
+      alike.method h.goes.answered in
+      record {
+        place = h.place;
+        selected =
+            record {
+              choice = h.selected.choice;
+              picks =
+                  picks_alike (score resource.negotiation r.fields) (score resource.negotiation s.fields)
+                  (score_alike resource.negotiation r.fields s.fields alike_select) resource.representations.items
+                  h.selected.choice h.selected.picks;
+              is = h.selected.is;
+            };
+        goes =
+            record {
+              response = h.goes.response;
+              answered =
+                  answered present s.method target (content_of rep) resource.boundary r.fields s.fields alike.asks
+                  h.goes.response with_method;
+              has_status = h.goes.has_status;
+              sends = h.goes.sends;
+              has_fields = h.goes.has_fields ∙ known alike_select rep h.goes.response;
+            };
+      }
+  gives_alike present false reason status sent fields select h =
+      record { has_status = h.has_status; sends = h.sends; has_fields = h.has_fields ∙ same_fields reason }
+
+  shared_alike : (policy : Option Policy) (lines : List Line) (fs gs : List Field)
+      → ((p : Policy) → policy ≡ Some p → granted p (r.fields (codes "origin")) ≡ granted p (s.fields (codes "origin")))
+      → r.method ≢ codes "OPTIONS" → IsShared policy r lines fs → IsShared policy s lines gs → fs ≡ gs
+  shared_alike None lines fs gs grant other h k = h ∙ sym k
+  shared_alike (Some policy) lines fs gs grant other h k =
+      h.2
+      ∙ same_by policy r.method s.method r.fields s.fields (varying lines) h.0 k.0 h.1 k.1
+      (never_pre r.method r.fields h.0.kind other h.1.kind
+      ∙ sym (never_pre s.method s.fields k.0.kind (λ e. other (alike.method ∙ e)) k.1.kind))
+      (grant policy refl)
+      ∙ sym k.2
+
+pub vary_is_sound : (present : ℕ) (resource : Resource) (r s : Request) (a b : Answer) (before : LineMap)
+    → IsAnswer present resource r a → IsAnswer present resource s b → AreAlike r s → r.method ≢ codes "OPTIONS"
+    → Serves (set_all before (fields_of a.fields.items) (codes "vary")) r.fields s.fields → AreSame a b
+vary_is_sound present resource r s a b before h k alike other v =
+    let select = selects present resource r a h before r.fields s.fields v in
+    let reason : b.reason ≡ a.reason =
+    one_reason resource s b.reason a.reason k.first (same_first resource r s alike a.reason select h.first) in
+    let mine : GivesIf (is_admitted a.reason) present resource s a.reason a.status a.sends h.own =
+    gives_alike resource r s alike present (is_admitted a.reason) a.reason a.status a.sends h.own
+    (λ e. select (admitted_depends a.reason e)) h.gives in
+    let theirs : GivesIf (is_admitted a.reason) present resource s a.reason b.status b.sends k.own =
+    subst (λ (q : Reason). GivesIf (is_admitted q) present resource s q b.status b.sends k.own) reason k.gives in
+    let given = gives_same present resource s a.status b.status a.sends b.sends h.own k.own (is_admitted a.reason)
+    a.reason mine theirs in
+    let shares : IsShared resource.cors s (vary_lines resource a.reason) k.shared =
+    subst (λ (q : Reason). IsShared resource.cors s (vary_lines resource q) k.shared) reason k.is_shared in
+    let shared : h.shared ≡ k.shared =
+    shared_alike resource r s alike resource.cors (vary_lines resource a.reason) h.shared k.shared
+    (grants present resource r a h before r.fields s.fields v) other h.is_shared shares in
+    record {
+      reason = sym reason;
+      status = given.status;
+      sends = given.sends;
+      fields =
+          h.fields
+          ∙ ap (λ (own : List Field). (own ++ vary_fields (vary_lines resource a.reason)) ++ h.shared) given.fields
+          ∙ ap (λ (rest : List Field). (k.own ++ vary_fields (vary_lines resource a.reason)) ++ rest) shared
+          ∙ ap (λ (q : Reason). (k.own ++ vary_fields (vary_lines resource q)) ++ k.shared) (sym reason)
+          ∙ sym k.fields;
+    }

@@ -1,0 +1,190 @@
+-- The fields of an answer, and its status (RFC 9110).
+use Rattle.std.specs.Prelude.{ℕ, Bool, true, false, List, [], ◌∷◌, ◌++◌, Option, Some, None}
+use Rattle.std.specs.Prelude.{bytes_eq, codes, not, if◌then◌else◌}
+use Rattle.std.specs.Option.{option_map_or}
+use Rattle.http_header.specs.FieldValue.{FieldValue}
+use Rattle.headers.specs.LineMap.{Field, lines_at}
+use Rattle.headers.specs.Lines.{Line}
+use Rattle.headers.specs.Merge.{merge}
+use Rattle.headers.specs.Places.{comma}
+use Rattle.decide_preconditions.specs.declared.plan.Plan.{Plan}
+use Rattle.decide_preconditions.specs.declared.plan.Plan.TheVariants.{NotModified, Failed, Full, Single}
+use Rattle.decide_preconditions.specs.declared.plan.Plan.TheVariants.{Multiple, Unsatisfiable}
+use Rattle.decide_resource.specs.Applies.{methods, rule, rule_for}
+use Rattle.decide_resource.specs.Requests.{Request}
+use Rattle.decide_resource.specs.declared.reason.Reason.{Reason}
+use Rattle.decide_resource.specs.declared.reason.Reason.TheVariants.{InvalidHost, Misdirected, UnknownMethod}
+use Rattle.decide_resource.specs.declared.reason.Reason.TheVariants.{MethodNotAllowed, Options, UnmetExpectation}
+use Rattle.decide_resource.specs.declared.reason.Reason.TheVariants.{PartialContent}
+use Rattle.decide_resource.specs.declared.reason.Reason.TheVariants.{Moved, Gone, NotFound, LengthRequired}
+use Rattle.decide_resource.specs.declared.reason.Reason.TheVariants.{ContentTooLarge, UnsupportedMediaType}
+use Rattle.decide_resource.specs.declared.reason.Reason.TheVariants.{UnsupportedCoding, NotAcceptable}
+use Rattle.decide_resource.specs.declared.reason.Reason.TheVariants.{PreconditionRequired, Admitted}
+use Rattle.decide_resource.specs.declared.representation.Negotiation.{Negotiation}
+use Rattle.decide_resource.specs.declared.representation.Representation.{Representation}
+use Rattle.decide_resource.specs.declared.resource.MethodRule.{MethodRule}
+use Rattle.decide_resource.specs.declared.resource.Redirect.{Redirect}
+use Rattle.decide_resource.specs.declared.resource.Redirect.TheVariants.{MovedPermanently, Temporary, Permanent}
+use Rattle.decide_resource.specs.declared.resource.Resource.{Resource}
+use Rattle.decide_resource.specs.declared.resource.State.{State}
+use Rattle.decide_resource.specs.declared.resource.State.TheVariants as state
+
+-- ---- the status
+
+abbrev pub redirect_status : Redirect → ℕ
+redirect_status MovedPermanently = 301
+redirect_status Temporary = 307
+redirect_status Permanent = 308
+
+-- the status of a resource under another URI
+abbrev pub moved_status : State → ℕ
+moved_status (state.Moved redirect location) = redirect_status redirect
+moved_status state.Current = 200
+moved_status state.Absent = 200
+moved_status state.Gone = 200
+
+-- the status of a reason, where the state says which redirect; that of a request that goes on isn't among them
+abbrev pub status_of : State → Reason → ℕ
+status_of state InvalidHost = 400
+status_of state Misdirected = 421
+status_of state UnknownMethod = 501
+status_of state MethodNotAllowed = 405
+status_of state Options = 204
+status_of state UnmetExpectation = 417
+status_of state PartialContent = 400
+status_of state Moved = moved_status state
+status_of state Gone = 410
+status_of state NotFound = 404
+status_of state LengthRequired = 411
+status_of state ContentTooLarge = 413
+status_of state UnsupportedMediaType = 415
+status_of state UnsupportedCoding = 415
+status_of state NotAcceptable = 406
+status_of state PreconditionRequired = 428
+status_of state Admitted = 200
+
+-- ---- the fields that explain a reason
+
+-- Allow lists the methods (section 10.2.1)
+abbrev pub allow_field : List MethodRule → Field
+allow_field rules = (codes "allow", merge comma (methods rules) ∷ [])
+
+-- Location of a resource that moved (section 10.2.2)
+abbrev pub location_fields : State → List Field
+location_fields (state.Moved redirect location) = (codes "location", location.bytes ∷ []) ∷ []
+location_fields state.Current = []
+location_fields state.Absent = []
+location_fields state.Gone = []
+
+-- the field of this name lists the media types that a method takes
+abbrev pub types_fields : List ℕ → Option MethodRule → List Field
+types_fields name rule = option_map_or (λ r. (name, lines_at r.takes (codes "accept")) ∷ []) rule []
+
+-- Where the media type of a request isn't taken, Accept says which are (section 12.5.1). For PATCH so does Accept-Patch
+-- (RFC 5789, section 2.2).
+abbrev pub accept_fields : List ℕ → Option MethodRule → List Field
+accept_fields method rule =
+    types_fields (codes "accept") rule
+    ++ (if bytes_eq method (codes "PATCH") then types_fields (codes "accept-patch") rule else [])
+
+-- What OPTIONS says of content: Accept-Patch which media types PATCH takes (RFC 5789, section 3.1), and Accept-Post
+-- which POST takes (Linked Data Platform 1.0, section 7.1).
+abbrev pub offered_fields : List MethodRule → List Field
+offered_fields rules =
+    types_fields (codes "accept-patch") (rule_for rules (codes "PATCH"))
+    ++ types_fields (codes "accept-post") (rule_for rules (codes "POST"))
+
+-- the codings that these lines of Accept-Encoding list, which without a line are `identity` alone
+abbrev pub codings_told : List Line → List Line
+codings_told [] = codes "identity" ∷ []
+codings_told (line ∷ lines) = line ∷ lines
+
+-- Accept-Encoding says which codings it takes (section 12.5.3)
+abbrev pub accept_encoding_fields : Option MethodRule → List Field
+accept_encoding_fields rule =
+    option_map_or
+    (λ r. (codes "accept-encoding", codings_told (lines_at r.takes (codes "accept-encoding"))) ∷ []) rule []
+
+module _ (resource : Resource) (request : Request) where
+  -- A 415 for a media type has no Accept-Encoding, from which a client would learn that a coding is to blame (12.5.3).
+  abbrev pub reason_fields : Reason → List Field
+  reason_fields MethodNotAllowed = allow_field resource.rules.items ∷ []
+  reason_fields Options = allow_field resource.rules.items ∷ offered_fields resource.rules.items
+  reason_fields Moved = location_fields resource.state
+  reason_fields UnsupportedMediaType = accept_fields request.method (rule resource request)
+  reason_fields UnsupportedCoding = accept_encoding_fields (rule resource request)
+  reason_fields InvalidHost = []
+  reason_fields Misdirected = []
+  reason_fields UnknownMethod = []
+  reason_fields UnmetExpectation = []
+  reason_fields PartialContent = []
+  reason_fields Gone = []
+  reason_fields NotFound = []
+  reason_fields LengthRequired = []
+  reason_fields ContentTooLarge = []
+  reason_fields NotAcceptable = []
+  reason_fields PreconditionRequired = []
+  reason_fields Admitted = []
+
+-- ---- the coding and the language of a representation (sections 8.4 and 8.5)
+
+abbrev pub lines_of_value : Option FieldValue → List Line
+lines_of_value None = []
+lines_of_value (Some value) = value.bytes ∷ []
+
+-- the answer has the header fields of the representation: a 200, and a 206 unless the client knows them (section 15.3.7)
+abbrev pub describes : Plan → Bool → Bool
+describes Full is_known = true
+describes (Single part) is_known = not is_known
+describes (Multiple parts) is_known = not is_known
+describes NotModified is_known = false
+describes Failed is_known = false
+describes Unsatisfiable is_known = false
+
+-- Both, where the answer has the header fields of the representation. The fields that the preconditions give follow, and
+-- remove Content-Encoding where it isn't the coding of the content.
+abbrev pub metadata_fields : Bool → Representation → List Field
+metadata_fields true representation =
+    (codes "content-encoding", lines_of_value representation.coding)
+    ∷ (codes "content-language", lines_of_value representation.language) ∷ []
+metadata_fields false representation = (codes "content-language", []) ∷ []
+
+-- ---- Vary (section 12.5.5)
+
+abbrev pub line_if : Bool → Line → List Line
+line_if true line = line ∷ []
+line_if false line = []
+
+-- the fields by which a representation is chosen
+abbrev pub selecting : Negotiation → List Line
+selecting negotiation =
+    line_if negotiation.media_type (codes "accept") ++ line_if negotiation.language (codes "accept-language")
+    ++ line_if negotiation.coding (codes "accept-encoding")
+
+-- the reason was found after the representations were looked at
+abbrev pub depends_on_selection : Reason → Bool
+depends_on_selection NotAcceptable = true
+depends_on_selection PreconditionRequired = true
+depends_on_selection Admitted = true
+depends_on_selection InvalidHost = false
+depends_on_selection Misdirected = false
+depends_on_selection UnknownMethod = false
+depends_on_selection MethodNotAllowed = false
+depends_on_selection Options = false
+depends_on_selection UnmetExpectation = false
+depends_on_selection PartialContent = false
+depends_on_selection Moved = false
+depends_on_selection Gone = false
+depends_on_selection NotFound = false
+depends_on_selection LengthRequired = false
+depends_on_selection ContentTooLarge = false
+depends_on_selection UnsupportedMediaType = false
+depends_on_selection UnsupportedCoding = false
+
+abbrev pub vary_lines : Resource → Reason → List Line
+vary_lines resource reason = if depends_on_selection reason then selecting resource.negotiation else []
+
+-- Vary, unless nothing is named
+abbrev pub vary_fields : List Line → List Field
+vary_fields [] = []
+vary_fields (line ∷ lines) = (codes "vary", line ∷ lines) ∷ []

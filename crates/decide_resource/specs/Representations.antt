@@ -1,0 +1,50 @@
+-- Which representation a request selects (RFC 9110, section 12.1).
+use Rattle.std.specs.Prelude.{ℕ, ◌+◌, ◌*◌, ◌==◌, Bool, true, false, ◌||◌, List, Option, Some, None, codes, option_map}
+use Rattle.std.specs.Prelude.{if◌then◌else◌}
+use Rattle.std.specs.List.{list_all}
+use Rattle.std.specs.Option.{option_map_or}
+use Rattle.headers.specs.LineMap.{LineMap}
+use Rattle.headers.specs.Lines.{Line}
+use Rattle.rfc_fields.specs.Scan.{Member}
+use Rattle.decide_negotiation.specs.Codings.{encoding_quality}
+use Rattle.decide_negotiation.specs.Languages.{language_says}
+use Rattle.decide_negotiation.specs.MediaRanges.{media_type_says}
+use Rattle.decide_negotiation.specs.Qualities.{quality_by, quality_in, rank}
+use Rattle.decide_negotiation.specs.declared.acceptability.Quality.{Quality}
+use Rattle.decide_resource.specs.declared.representation.Negotiation.{Negotiation}
+use Rattle.decide_resource.specs.declared.representation.Representation.{Representation}
+
+-- The rank of an offer by the lines of a field. Without an offer, or if the field isn't used, it is that of weight 1.
+abbrev pub rank_by : (List Member → List ℕ → Quality) → Bool → List Line → Option Line → ℕ
+rank_by gives used lines None = 1001
+rank_by gives false lines (Some offer) = 1001
+rank_by gives true lines (Some offer) = rank (quality_in gives lines offer)
+
+-- content without a coding is `identity` (section 12.5.3)
+abbrev pub coding_of : Representation → Line
+coding_of representation = option_map_or (λ coding. coding.bytes) representation.coding (codes "identity")
+
+-- the media type counts most, then the language, then the coding; a language alone excludes nothing
+abbrev pub joined : ℕ → ℕ → ℕ → ℕ
+joined media_type language coding =
+    if media_type == 0 || coding == 0 then 0 else (media_type * 131072 + language) * 131072 + coding
+
+-- How much a client prefers a representation: 0 if its media type or its coding isn't acceptable.
+unfoldable pub score : Negotiation → LineMap → Representation → ℕ
+score negotiation fields representation =
+    joined
+    (
+    rank_by (quality_by media_type_says) negotiation.media_type (fields (codes "accept"))
+    (option_map (λ value. value.bytes) representation.content.media_type)
+    )
+    (
+    rank_by (quality_by language_says) negotiation.language (fields (codes "accept-language"))
+    (option_map (λ value. value.bytes) representation.language)
+    )
+    (
+    rank_by encoding_quality negotiation.coding (fields (codes "accept-encoding"))
+    (Some (coding_of representation))
+    )
+
+abbrev pub are_unacceptable : Negotiation → LineMap → List Representation → Bool
+are_unacceptable negotiation fields representations = list_all (λ r. score negotiation fields r == 0) representations

@@ -1,0 +1,67 @@
+//! Why a request is answered as it is.
+ghost use Rattle.std.specs.Prelude.{◌≡◌};
+ghost use Rattle.decide_resource.specs.Reasons.{stage};
+
+/// Why a request gets its answer: what keeps its method from being performed, or that nothing does.
+#[derive(Clone, Copy, Debug, PartialEq, Eq)]
+pub enum Reason {
+    /// 400: Host is missing, is present twice, or is no host (RFC 9110, section 7.2).
+    InvalidHost,
+    /// 421: the host isn't one of the resource's (section 7.4).
+    Misdirected,
+    /// 501: the method isn't known (section 9.1).
+    UnknownMethod,
+    /// 405: the resource doesn't have the method (section 15.5.6).
+    MethodNotAllowed,
+    /// 204: the method is OPTIONS (section 9.3.7).
+    Options,
+    /// 417: Expect has a member other than `100-continue` (section 10.1.1).
+    UnmetExpectation,
+    /// 400: PUT with Content-Range, of a resource that takes no parts (section 14.5).
+    PartialContent,
+    /// 301, 307 or 308: the resource is under another URI (section 15.4).
+    Moved,
+    /// 410: the resource is gone (section 15.5.11).
+    Gone,
+    /// 404: there is no current representation, and the method makes none (section 15.5.5).
+    NotFound,
+    /// 411: the length of the content isn't stated (section 15.5.12).
+    LengthRequired,
+    /// 413: the content is longer than the limit (section 15.5.14).
+    ContentTooLarge,
+    /// 415: the method doesn't take the media type of the content (section 15.5.16).
+    UnsupportedMediaType,
+    /// 415: the method doesn't take a coding of the content (sections 12.5.3 and 15.5.16).
+    UnsupportedCoding,
+    /// 406: no representation is acceptable (section 15.5.7).
+    NotAcceptable,
+    /// 428: the request doesn't name what it may replace, by entity tags in If-Match or by `*` in
+    /// If-None-Match (RFC 6585, section 3).
+    PreconditionRequired,
+    /// Nothing keeps the method from being performed: the preconditions and Range decide.
+    Admitted,
+}
+
+impl Reason {
+    /// Returns the stage of the reason: of those that apply to a request, the one with the lowest
+    /// stage decides. Reasons of one stage exclude each other.
+    pub fn stage(self) -> u8
+        ensures { result ≡ stage self }
+    {
+        match self {
+            Reason::InvalidHost => 0,
+            Reason::Misdirected => 1,
+            Reason::UnknownMethod => 2,
+            Reason::MethodNotAllowed | Reason::Options => 3,
+            Reason::UnmetExpectation => 4,
+            Reason::PartialContent => 5,
+            Reason::Moved | Reason::Gone | Reason::NotFound => 6,
+            Reason::LengthRequired | Reason::ContentTooLarge => 7,
+            Reason::UnsupportedMediaType => 8,
+            Reason::UnsupportedCoding => 9,
+            Reason::NotAcceptable => 10,
+            Reason::PreconditionRequired => 11,
+            Reason::Admitted => 12,
+        }
+    }
+}

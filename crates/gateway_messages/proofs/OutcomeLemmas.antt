@@ -1,0 +1,124 @@
+-- Each request has one outcome.
+use Rattle.std.proofs.Common.{◌≡◌, ◌⊎◌, ℕ, ◌+◌, zero, suc, true, false, List, Option, Some, None, refl, sym, ap, arith}
+use Rattle.std.proofs.Common.{inl, inr, codes}
+use Rattle.std.specs.Prelude.{option_map}
+use Rattle.std.proofs.lemmas.Bool.{cases_Bool}
+use Rattle.gateway_messages.specs.Expectations.{has_known_expectation}
+use Rattle.gateway_messages.specs.Framing.{RejectsFraming}
+use Rattle.gateway_messages.specs.HopByHop.{HasFairOptions, are_options, connection_options, names_protected}
+use Rattle.gateway_messages.specs.Hops.{HasHops}
+use Rattle.gateway_messages.specs.Outcomes.{HasOneOutcome, HasOutcome, IsFinal, IsRejected}
+use Rattle.gateway_messages.specs.Requests.{HasHopsLeft, IsAccepted, IsForwardable, Rejects, Request, has_host}
+use Rattle.gateway_messages.specs.Via.{is_loop}
+use Rattle.gateway_messages.specs.declared.framing.Framing.{Framing}
+use Rattle.gateway_messages.specs.declared.gateway.Gateway.{Gateway}
+use Rattle.gateway_messages.specs.declared.rejection.Rejection.{Rejection}
+use Rattle.gateway_messages.proofs.OneLemmas.{framed_or_not, limit_or_not, limited, one_limit, unframed}
+
+-- ---- no two
+
+pub unaccepted : (gateway : Gateway) (request : Request) (framing : Framing) (hops : Option ℕ) (rejection : Rejection)
+    → IsAccepted gateway request framing → HasHops request.method request.fields hops
+    → Rejects gateway request rejection → ⊥
+unaccepted gateway request framing hops Rejection.LengthAndCoding a h r =
+    unframed request.protocol request.fields framing Rejection.LengthAndCoding a.states r
+unaccepted gateway request framing hops Rejection.InvalidLength a h r =
+    unframed request.protocol request.fields framing Rejection.InvalidLength a.states r
+unaccepted gateway request framing hops Rejection.UnknownCoding a h r =
+    unframed request.protocol request.fields framing Rejection.UnknownCoding a.states r
+unaccepted gateway request framing hops Rejection.LastCodingNotChunked a h r =
+    unframed request.protocol request.fields framing Rejection.LastCodingNotChunked a.states r
+unaccepted gateway request framing hops Rejection.CodingInHttp10 a h r =
+    unframed request.protocol request.fields framing Rejection.CodingInHttp10 a.states r
+unaccepted gateway request framing hops Rejection.InvalidOption a h r = cc (a.options.listed, r)
+unaccepted gateway request framing hops Rejection.ProtectedOption a h r = cc (a.options.unprotected, r)
+unaccepted gateway request framing hops Rejection.InvalidHost a h r = cc (a.host, r)
+unaccepted gateway request framing hops Rejection.InvalidHops a h r = limited request.method request.fields hops h r
+unaccepted gateway request framing hops Rejection.Loop a h r = cc (a.first_time, r)
+unaccepted gateway request framing hops Rejection.UnknownExpectation a h r = cc (a.expectation, r)
+unaccepted gateway request framing hops Rejection.SwitchedProtocols a h r = r
+
+one_more : (left : Option ℕ) → Some 0 ≡ option_map (λ hops. hops + 1) left → ⊥
+one_more None e = cc e
+one_more (Some n) e = let zero : 0 ≡ n + 1 = cc e in omega (arith, zero)
+
+-- what may be forwarded no more isn't
+pub final_unforwarded : (request : Request) (left : Option ℕ) → HasHops request.method request.fields (Some 0)
+    → HasHopsLeft request left → ⊥
+final_unforwarded request left final counted =
+    one_more left (one_limit request.method request.fields _ _ final counted)
+
+pub one_outcome : (gateway : Gateway) (request : Request) → HasOneOutcome gateway request
+one_outcome gateway request =
+    record {
+      not_final = λ r f. unaccepted gateway request f.0 (Some 0) r.0 f.1.accepted f.1.hops r.1;
+      not_forwarded = λ r f. unaccepted gateway request f.framing _ r.0 f.accepted f.hops r.1;
+      not_both = λ f g. final_unforwarded request g.left f.1.hops g.hops;
+    }
+
+-- ---- one of them
+
+accept : (gateway : Gateway) (request : Request) (framing : Framing) → IsAccepted gateway request framing
+    → (hops : Option ℕ) → HasHops request.method request.fields hops → HasOutcome gateway request
+accept gateway request framing a None h =
+    inr (inr (record { framing = framing; left = None; accepted = a; hops = h }))
+accept gateway request framing a (Some zero) h = inr (inl (framing, record { accepted = a; hops = h }))
+accept gateway request framing a (Some (suc n)) h =
+    inr (inr (record { framing = framing; left = Some n; accepted = a; hops = counted }))
+  where
+    counted : HasHopsLeft request (Some n)
+    counted = let more : suc n ≡ n + 1 = omega arith in rw (sym more) h
+
+pub some_outcome : (gateway : Gateway) (request : Request) → HasOutcome gateway request
+some_outcome gateway request =
+    elim (cases_Bool (has_host request.protocol (request.fields (codes "host")))) [
+      | inr f ↦ inl (Rejection.InvalidHost, f)
+      | inl host ↦ elim (cases_Bool (is_loop gateway.pseudonym (request.fields (codes "via")))) [
+        | inl t ↦ inl (Rejection.Loop, t)
+        | inr first ↦ elim (cases_Bool (are_options (connection_options request.fields))) [
+          | inr f ↦ inl (Rejection.InvalidOption, f)
+          | inl listed ↦
+              elim (cases_Bool (names_protected gateway.protected.items (connection_options request.fields))) [
+                | inl t ↦ inl (Rejection.ProtectedOption, t)
+                | inr unprotected ↦ elim (cases_Bool (has_known_expectation (request.fields (codes "expect")))) [
+                  | inr f ↦ inl (Rejection.UnknownExpectation, f)
+                  | inl known ↦ framed host first (record { listed = listed; unprotected = unprotected }) known
+                ]
+              ]
+        ]
+      ]
+    ]
+  where
+    unframe : (rejection : Rejection) → RejectsFraming request.protocol request.fields rejection
+        → IsRejected gateway request
+    unframe Rejection.LengthAndCoding r = (Rejection.LengthAndCoding, r)
+    unframe Rejection.InvalidLength r = (Rejection.InvalidLength, r)
+    unframe Rejection.UnknownCoding r = (Rejection.UnknownCoding, r)
+    unframe Rejection.LastCodingNotChunked r = (Rejection.LastCodingNotChunked, r)
+    unframe Rejection.CodingInHttp10 r = (Rejection.CodingInHttp10, r)
+    unframe Rejection.InvalidOption r = absurd r
+    unframe Rejection.ProtectedOption r = absurd r
+    unframe Rejection.InvalidHost r = absurd r
+    unframe Rejection.InvalidHops r = absurd r
+    unframe Rejection.Loop r = absurd r
+    unframe Rejection.UnknownExpectation r = absurd r
+    unframe Rejection.SwitchedProtocols r = absurd r
+
+    framed : has_host request.protocol (request.fields (codes "host")) ≡ true
+        → is_loop gateway.pseudonym (request.fields (codes "via")) ≡ false → HasFairOptions gateway request.fields
+        → has_known_expectation (request.fields (codes "expect")) ≡ true → HasOutcome gateway request
+    framed host first options known =
+        elim (framed_or_not request.protocol request.fields) [
+          | inl r ↦ inl (unframe r.0 r.1)
+          | inr f ↦ elim (limit_or_not request.method request.fields) [
+            | inl r ↦ inl (Rejection.InvalidHops, r)
+            | inr h ↦ accept gateway request f.0
+                (record {
+                  states = f.1;
+                  options = options;
+                  host = host;
+                  first_time = first;
+                  expectation = known;
+                }) h.0 h.1
+          ]
+        ]

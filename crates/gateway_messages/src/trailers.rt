@@ -1,0 +1,66 @@
+//! The trailer fields of a message.
+ghost use Rattle.std.specs.Prelude.{◌≡◌, IfOk, OnErr, bytes_eq};
+ghost use Rattle.std.specs.List.{list_any};
+ghost use Rattle.headers.specs.LineMap.{lines_at};
+ghost use Rattle.gateway_messages.specs.FieldLines.{fields_of, lines_under};
+ghost use Rattle.gateway_messages.specs.Trailers.{ForwardsTrailers, may_trail, trailer_names};
+ghost use Rattle.gateway_messages.specs.declared.framing.Framing.TheVariants.{Chunked};
+
+use crate::field_line::FieldLine;
+use crate::framing::Framing;
+use crate::gateway::Gateway;
+use crate::received::{Section, received_fields};
+use headers::HeaderMap;
+use http_header::CONNECTION;
+use std::alloc::{AllocError, Global};
+
+// Whether the definition of the field permits it in a trailer section.
+fn is_trailer(name: &str) -> bool
+    ensures { result ≡ list_any (bytes_eq name.now) trailer_names }
+{
+    name == "accept-ranges"
+        || name == "authentication-info"
+        || name == "content-digest"
+        || name == "etag"
+        || name == "proxy-authentication-info"
+        || name == "repr-digest"
+        || name == "server-timing"
+        || name == "signature"
+        || name == "signature-input"
+}
+
+fn is_protected(gateway: &Gateway, name: &str) -> bool
+    ensures { result ≡ list_any (bytes_eq name.now) gateway.now.protected.items }
+{
+    gateway.protected.iter().any(|own| name == own.as_str())
+}
+
+/// Whether the field may stand in a trailer section, and the gateway doesn't protect it.
+pub(crate) fn may_trail(gateway: &Gateway, name: &str) -> bool
+    ensures { result ≡ may_trail gateway.now name.now }
+{
+    is_trailer(name) && !is_protected(gateway, name)
+}
+
+/// Returns the trailer fields that a gateway forwards of a message with these fields (RFC 9110,
+/// section 6.5.1). `framing` is that of the message as it is forwarded: only chunked content has
+/// trailer fields (RFC 9112, section 7.1.2). A field is dropped unless its definition permits it in
+/// a trailer section, and so is one that the gateway protects.
+pub fn forward_trailers(
+    alloc: Global,
+    gateway: &Gateway,
+    fields: &HeaderMap,
+    framing: Framing,
+    trailers: &HeaderMap,
+) -> Result<Vec<FieldLine>, AllocError>
+    ensures forwarded { IfOk result (λ sent. ForwardsTrailers gateway.now framing (lines_at fields.now)
+        (lines_at trailers.now) (lines_under (fields_of sent.items))) }
+    ensures err { OnErr result (framing ≡ Chunked) }
+{
+    if framing != Framing::Chunked {
+        return Ok(Vec::new(alloc));
+    }
+    let _names = trailers.keys_len();
+    let connection = fields.get_all(CONNECTION);
+    received_fields(alloc, gateway, Section::Trailer, &connection, trailers)
+}

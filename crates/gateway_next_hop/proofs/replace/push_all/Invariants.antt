@@ -1,0 +1,13 @@
+use Rattle.std.proofs.Common.{◌≡◌, ◌++◌}
+use Rattle.std.specs.List.{flat_map}
+use Rattle.std.specs.Vec.Iter.{into_iter_items}
+use Rattle.headers.specs.LineMap.{fields_of as encodings_of}
+use Rattle.gateway_messages.specs.FieldLines.{fields_of}
+use Rattle.gateway_next_hop.specs.Replaced.{lines_with_name}
+use Rattle.gateway_next_hop.proofs.replace.push_all.Given as goal
+
+abbrev pub invariant-loop-encoded : goal.invariant-loop-encoded
+invariant-loop-encoded l =
+    fields_of l.fields.items
+    ++ flat_map lines_with_name (encodings_of (into_iter_items l.encoded-iterator))
+    ≡ fields_of l.initial.fields.items ++ flat_map lines_with_name (encodings_of l.fn.own.items)

@@ -1,0 +1,113 @@
+//! The target of a request (RFC 9112, section 3.2).
+ghost use Rattle.std.specs.Prelude.{◌≡◌, ◌≤◌, IfOk, codes, length};
+ghost use Rattle.std.specs.List.{list_all};
+ghost use Rattle.gateway_proxy.specs.Targets.{authority_len, begins_with, is_target_byte, origin_form, scheme_len};
+ghost use Rattle.gateway_proxy.specs.Targets.{target_of, target_parts};
+
+use bytes::{Bytes, BytesMut};
+use std::alloc::{AllocError, Global};
+
+/// The parts of a target.
+#[derive(Clone, Copy)]
+pub(crate) struct Target<'a> {
+    /// The authority, if the target is in absolute-form.
+    pub(crate) authority: Option<&'a [u8]>,
+    /// What follows it.
+    pub(crate) path: &'a [u8],
+}
+
+fn is_target_byte(byte: u8) -> bool
+    ensures { result ≡ is_target_byte byte }
+{
+    33 <= byte && byte <= 126 && byte != b'#'
+}
+
+fn are_target_bytes(target: &[u8]) -> bool
+    ensures { result ≡ list_all is_target_byte target.now }
+{
+    target.iter().all(|byte| is_target_byte(*byte))
+}
+
+fn is_http(target: &[u8]) -> bool
+    ensures { result ≡ begins_with 7 (codes "http://") target.now }
+{
+    target.len() >= 7 && target[..7].eq_ignore_ascii_case(b"http://")
+}
+
+fn is_https(target: &[u8]) -> bool
+    ensures { result ≡ begins_with 8 (codes "https://") target.now }
+{
+    target.len() >= 8 && target[..8].eq_ignore_ascii_case(b"https://")
+}
+
+// How many bytes of the target are the scheme and the mark behind it.
+fn scheme_len(target: &[u8]) -> usize
+    ensures value { result ≡ scheme_len target.now }
+    ensures within { result ≤ length target.now }
+{
+    if is_http(target) {
+        7
+    } else if is_https(target) {
+        8
+    } else {
+        0
+    }
+}
+
+fn authority_len(text: &[u8]) -> usize
+    ensures value { result ≡ authority_len text.now }
+    ensures within { result ≤ length text.now }
+{
+    text.iter()
+        .take_while(|byte| !matches!(**byte, b'/' | b'?'))
+        .count()
+}
+
+/// The parts of a target in origin-form, absolute-form or asterisk-form. `None` if it is in no such form,
+/// or in asterisk-form though the method isn't OPTIONS, or has a fragment or a byte that isn't visible ASCII.
+pub(crate) fn target_of(is_options: bool, target: &[u8]) -> Option<Target<'_>>
+    ensures { target_parts result ≡ target_of is_options target.now }
+{
+    if !are_target_bytes(target) {
+        return None;
+    }
+    let scheme = scheme_len(target);
+    if scheme != 0 {
+        let rest = &target[scheme..];
+        let (authority, path) = rest.split_at(authority_len(rest));
+        return Some(Target {
+            authority: Some(authority),
+            path,
+        });
+    }
+    if target.starts_with(b"/") || (is_options && target == b"*".as_slice()) {
+        return Some(Target {
+            authority: None,
+            path: target,
+        });
+    }
+    None
+}
+
+/// The target that is sent to the origin server: an empty path is sent as `/`, or for OPTIONS as `*`.
+pub(crate) fn origin_form(
+    alloc: Global,
+    is_options: bool,
+    target: &Target<'_>,
+) -> Result<Bytes, AllocError>
+    ensures { IfOk result (λ sent. sent ≡ origin_form is_options target.now.path.now) }
+{
+    let path = target.path;
+    if path.is_empty() {
+        return Ok(Bytes::from_static(if is_options { b"*" } else { b"/" }));
+    }
+    let mut sent = BytesMut::new(alloc);
+    if path[0] == b'?' {
+        sent.extend_from_slice(b"/")?;
+    }
+    sent.extend_from_slice(path)?;
+    match sent.freeze() {
+        Ok(sent) => Ok(sent),
+        Err(_) => Err(AllocError),
+    }
+}

@@ -1,0 +1,174 @@
+-- Heads that were read.
+use Rattle.std.proofs.Common.{◌≡◌, ℕ, List, ◌++◌, ◌∙◌, ap, sym, subst, drop, false, Err, IfErr, IfOk, IsErr, Ok}
+use Rattle.std.proofs.Common.{Option, Result, ◌⊎◌, inl, inr, map}
+use Rattle.std.proofs.KnownBytes.{Consumes-kept}
+use Rattle.std.specs.Io.KnownBytes.{Consumes, Keeps}
+use Rattle.httparse.specs.Grammar.{RequestHead, ResponseHead}
+use Rattle.httparse.specs.Spans.{name_and_value}
+use Rattle.httparse.specs.declared.spans.HeaderSpan.{HeaderSpan}
+use Rattle.httparse.specs.declared.spans.RequestSpans.{RequestSpans}
+use Rattle.httparse.specs.declared.spans.ResponseSpans.{ResponseSpans}
+use Rattle.http1.specs.Client.{ClientReads, ReadsAt, ReadsFirst, ReadsHead, TakesHead}
+use Rattle.http1.specs.Conn.{awaits_head}
+use Rattle.http1.specs.Fields.{Header}
+use Rattle.http1.specs.Message.{AcceptsRequest, AcceptsResponse}
+use Rattle.http1.specs.Server as Serving
+use Rattle.http1.specs.Server.{ServerReads, new_server}
+use Rattle.http1.specs.declared.client.Client.{Client}
+use Rattle.http1.specs.declared.conn.Event.{Event}
+use Rattle.http1.specs.declared.conn.Event.TheVariants.{Head, Informational}
+use Rattle.http1.specs.declared.conn.Limits.{Limits}
+use Rattle.http1.specs.declared.conn.Progress.{Progress}
+use Rattle.http1.specs.declared.conn.Reading.{Reading}
+use Rattle.http1.specs.declared.conn.Reading.TheVariants as Reads
+use Rattle.http1.specs.declared.error.ReadError.{ReadError}
+use Rattle.http1.specs.declared.framing.Framing.{Framing}
+use Rattle.http1.specs.declared.server.Server.{Server}
+use Rattle.gateway_relay.specs.Content.{map_of}
+use Rattle.gateway_relay.specs.Failures.{HasNoMap, IsMapFailure, IsReceiveFailure, Receives}
+use Rattle.gateway_relay.specs.Heads.{FailsToReadRequest, FailsToReadResponse, IsHeadFailure, IsResponseAt}
+use Rattle.gateway_relay.specs.Heads.{ReadsResponseHead}
+use Rattle.gateway_relay.specs.declared.failure.Failure.{Failure}
+use Rattle.gateway_relay.specs.declared.failure.Failure.TheVariants as Failed
+use Rattle.gateway_relay.specs.declared.response.Response.{Response}
+
+-- ---- failures
+
+-- no read gave more
+unread : (is_cut has_no_map : Type 0) (is_malformed : ReadError → Type 0) (f : Failure) → IsReceiveFailure f
+    → IsHeadFailure is_cut has_no_map is_malformed f
+unread is_cut has_no_map is_malformed Failed.Reader is = tt
+unread is_cut has_no_map is_malformed Failed.CutShort is = absurd is
+unread is_cut has_no_map is_malformed Failed.InvalidFields is = absurd is
+unread is_cut has_no_map is_malformed (Failed.Malformed e) is = absurd is
+unread is_cut has_no_map is_malformed Failed.TooLong is = absurd is
+unread is_cut has_no_map is_malformed (Failed.Unsendable e) is = absurd is
+unread is_cut has_no_map is_malformed Failed.Writer is = absurd is
+unread is_cut has_no_map is_malformed Failed.OutOfMemory is = tt
+
+-- the fields of a head have no map
+unmapped : (is_cut has_no_map : Type 0) (is_malformed : ReadError → Type 0) (fields : List Header) (f : Failure)
+    → IsMapFailure fields f → (HasNoMap fields → has_no_map) → IsHeadFailure is_cut has_no_map is_malformed f
+unmapped is_cut has_no_map is_malformed fields Failed.Reader is because = absurd is
+unmapped is_cut has_no_map is_malformed fields Failed.CutShort is because = absurd is
+unmapped is_cut has_no_map is_malformed fields Failed.InvalidFields is because = because is
+unmapped is_cut has_no_map is_malformed fields (Failed.Malformed e) is because = absurd is
+unmapped is_cut has_no_map is_malformed fields Failed.TooLong is because = absurd is
+unmapped is_cut has_no_map is_malformed fields (Failed.Unsendable e) is because = absurd is
+unmapped is_cut has_no_map is_malformed fields Failed.Writer is because = absurd is
+unmapped is_cut has_no_map is_malformed fields Failed.OutOfMemory is because = tt
+
+-- what was taken, and kept by a read that failed
+receives_kept : (before input : List ℕ) (left left_then left_now : Option (List ℕ)) (taken : List ℕ)
+    → Consumes left left_then taken → input ≡ before ++ taken → Keeps left_then left_now
+    → Receives before input left left_now
+receives_kept before input left left_then left_now taken received text keeps = record {
+  taken = taken;
+  received = Consumes-kept left left_then left_now taken received keeps;
+  input = text;
+}
+
+-- a call that fails so
+module _ {T : Type 0} (r : Result T Failure) {f y : Failure} (is : r ≡ Err y) (same : y ≡ f) where
+  pub fails_as : (P : Failure → Type 0) → P f → IfErr r P
+  fails_as P because = subst (λ (x : Result T Failure). IfErr x P) (sym is) (subst P (sym same) because)
+
+  pub request_fails : (limits : Limits) (before input : List ℕ) (left left_then left_now : Option (List ℕ))
+      (taken : List ℕ) → Consumes left left_then taken → input ≡ before ++ taken → Keeps left_then left_now
+      → IsReceiveFailure f → IfErr r (FailsToReadRequest limits before input left left_now)
+  request_fails limits before input left left_then left_now taken received text keeps none =
+      fails_as (FailsToReadRequest limits before input left left_now) (record {
+        receives = receives_kept before input left left_then left_now taken received text keeps;
+        because = unread _ _ _ f none;
+      })
+
+  pub response_fails : (client : Client) (before input : List ℕ) (left left_then left_now : Option (List ℕ))
+      (taken : List ℕ) → Consumes left left_then taken → input ≡ before ++ taken → Keeps left_then left_now
+      → IsReceiveFailure f → IfErr r (FailsToReadResponse client before input left left_now)
+  response_fails client before input left left_then left_now taken received text keeps none =
+      fails_as (FailsToReadResponse client before input left left_now) (record {
+        receives = receives_kept before input left left_then left_now taken received text keeps;
+        because = unread _ _ _ f none;
+      })
+
+  pub request_has_no_map : (limits : Limits) (before input : List ℕ) (left left_now : Option (List ℕ))
+      (taken : List ℕ) (head : RequestHead) (framing : Framing) (rest : List ℕ) → Consumes left left_now taken
+      → input ≡ before ++ taken → AcceptsRequest limits input head framing rest
+      → IsMapFailure (map name_and_value head.fields) f
+      → IfErr r (FailsToReadRequest limits before input left left_now)
+  request_has_no_map limits before input left left_now taken head framing rest received text accepts none =
+      fails_as (FailsToReadRequest limits before input left left_now) (record {
+        receives = record { taken = taken; received = received; input = text };
+        because = unmapped _ _ _ _ f none (λ is. (head, framing, rest, accepts, is));
+      })
+
+  pub response_has_no_map : (client : Client) (before input : List ℕ) (left left_now : Option (List ℕ))
+      (taken : List ℕ) (head : ResponseHead) (framing : Framing) (rest : List ℕ) → Consumes left left_now taken
+      → input ≡ before ++ taken → AcceptsResponse client.limits client.method input head framing rest
+      → IsMapFailure (map name_and_value head.fields) f
+      → IfErr r (FailsToReadResponse client before input left left_now)
+  response_has_no_map client before input left left_now taken head framing rest received text accepts none =
+      fails_as (FailsToReadResponse client before input left left_now) (record {
+        receives = record { taken = taken; received = received; input = text };
+        because = unmapped _ _ _ _ f none (λ is. (head, framing, rest, accepts, is));
+      })
+
+-- nothing is said of the value of an error
+pub no_value : {T E : Type 0} (P : T → Type 0) (r : Result T E) → IsErr r → IfOk r P
+no_value P (Ok value) error = cc
+no_value P (Err e) error = tt
+
+-- ---- requests
+
+-- a server that has read nothing, and found a head
+pub takes_request : (old new : Server) (limits : Limits) (input : List ℕ) (spans : List HeaderSpan)
+    (read : Progress RequestSpans) (r : RequestSpans) → old ≡ new_server limits → ServerReads old input spans new read
+    → read.event ≡ Head r → Serving.TakesHead (new_server limits) input spans new read.consumed r
+takes_request old new limits input spans read r same reads is =
+    subst (λ (x : Event RequestSpans). Serving.ReadsHead (new_server limits) input spans new read.consumed x) is
+    (subst (λ (x : Server). ServerReads x input spans new read) same reads)
+
+-- ---- responses
+
+-- a client that awaits a head, and found one
+pub takes_head : (client old new : Client) (input : List ℕ) (spans : List HeaderSpan) (read : Progress ResponseSpans)
+    (r : ResponseSpans) → old ≡ client → client.reading ≡ Reads.Head → awaits_head client.writing ≡ false
+    → ClientReads old input spans new read → (read.event ≡ Head r) ⊎ (read.event ≡ Informational r)
+    → TakesHead client input spans new read.consumed r
+takes_head client old new input spans read r same reading writing reads is =
+    let at_head : ReadsAt Reads.Head client input spans new read =
+    subst (λ (x : Reading). ReadsAt x client input spans new read) reading
+    (subst (λ (x : Client). ClientReads x input spans new read) same reads) in
+    let found : ReadsHead client input spans new read.consumed read.event =
+    subst (λ x. ReadsFirst x client input spans new read) writing at_head in
+    elim is [
+      | inl final ↦ (subst (λ
+          (x : Event ResponseSpans). ReadsHead client input spans new read.consumed x) final found).1
+      | inr interim ↦
+          (subst (λ (x : Event ResponseSpans). ReadsHead client input spans new read.consumed x) interim found).1
+    ]
+
+-- its parts were taken
+pub head_taken : (client new : Client) (before taken input after : List ℕ) (left left_after : Option (List ℕ))
+    (spans : List HeaderSpan) (len : ℕ) (r : ResponseSpans) (response : Response)
+    → TakesHead client input spans new len r → Consumes left left_after taken → input ≡ before ++ taken
+    → after ≡ drop r.len input → IsResponseAt input spans r response
+    → ReadsResponseHead client new before after left left_after response
+head_taken client new before taken input after left left_after spans len r response t received is rest parts =
+    let left_is : drop len input ≡ after = ap (λ (n : ℕ). drop n input) t.consumed ∙ sym rest in
+    record {
+      taken = taken;
+      received = received;
+      head = t.head;
+      framing = t.framing;
+      accepts = subst (λ (s : List ℕ). AcceptsResponse client.limits client.method s t.head t.framing after) is
+          (subst (λ (s : List ℕ). AcceptsResponse client.limits client.method input t.head t.framing s) left_is
+          t.accepts);
+      parts = record {
+        minor = parts.minor ∙ t.covered.version;
+        status = parts.status ∙ t.covered.code;
+        reason = parts.reason ∙ t.covered.reason;
+        fields = parts.fields ∙ ap map_of t.covered.fields;
+      };
+      next = t.next;
+    }

@@ -1,0 +1,51 @@
+//! Bytes from a reader and to a writer.
+ghost use Rattle.std.specs.Prelude.{◌≡◌, ◌++◌, ℕ, List, [], length, IfErr, IfOk, OnErr, OnOk};
+ghost use Rattle.std.specs.Io.KnownBytes.{Consumes, IsAtEnd, Keeps};
+ghost use Rattle.gateway_relay.specs.Failures.{IsReceiveFailure};
+ghost use Rattle.gateway_relay.specs.Relay.{Sends};
+
+use crate::failure::Failure;
+use bytes::BytesMut;
+use std::io::{Read, Write};
+
+/// How many bytes a read may give at once.
+const READ_SIZE: usize = 64 * 1024;
+
+/// Writes the bytes, and lets the writer send what it holds. After a failure, a first part of them is
+/// written.
+pub fn send<W: Write>(writer: &mut W, text: &[u8]) -> Result<(), Failure>
+    ensures sends { Sends result (W.contents writer.old) (W.contents writer.new) text.now }
+    ensures err { IfErr result (λ failure. failure ≡ Failure.Writer) }
+{
+    let mut at = 0;
+    while at < text.len() {
+        match writer.write(&text[at..]) {
+            Ok(0) => return Err(Failure::Writer),
+            Ok(count) => at += count,
+            Err(_) => return Err(Failure::Writer),
+        }
+    }
+    match writer.flush() {
+        Ok(()) => Ok(()),
+        Err(_) => Err(Failure::Writer),
+    }
+}
+
+/// Reads once, and appends what was read to the input. No byte is the end of what the reader gives.
+pub fn receive<R: Read>(reader: &mut R, input: &mut BytesMut) -> Result<usize, Failure>
+    ensures ok { IfOk result (λ count. (more : List ℕ) × (length more ≡ count)
+        × (input.new.items ≡ input.old.items ++ more)
+        × Consumes (R.remaining reader.old) (R.remaining reader.new) more) }
+    ensures end { result ≡ Ok 0 → IsAtEnd (R.remaining reader.new) }
+    ensures err { OnErr result ((input.new.items ≡ input.old.items)
+        × Keeps (R.remaining reader.old) (R.remaining reader.new)) }
+    ensures reason { IfErr result IsReceiveFailure }
+{
+    if input.reserve(READ_SIZE).is_err() {
+        return Err(Failure::OutOfMemory);
+    }
+    match input.read_from(reader) {
+        Ok(count) => Ok(count),
+        Err(_) => Err(Failure::Reader),
+    }
+}

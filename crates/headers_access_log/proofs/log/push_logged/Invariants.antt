@@ -1,7 +1,0 @@
-use Rattle.std.proofs.Common.{◌≡◌, ◌++◌, take}
-use Rattle.headers_access_log.specs.Log.{logged}
-use Rattle.headers_access_log.proofs.log.push_logged.Given as goal
-
-abbrev pub invariant-loop-byte : goal.invariant-loop-byte
-invariant-loop-byte l =
-    l.text.items ≡ l.fn.text.items ++ logged (take l.byte-index l.chosen)

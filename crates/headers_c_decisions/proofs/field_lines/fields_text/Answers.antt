@@ -1,9 +1,0 @@
-use Rattle.std.proofs.Common.{arith}
-use Rattle.std.proofs.lemmas.Grind.{common_steps}
-use Rattle.std.proofs.lemmas.List.Folds.{flat_map-map}
-use Rattle.headers.specs.LineMap.{field_of}
-use Rattle.headers_c_decisions.specs.FieldLines.{field_text}
-use Rattle.headers_c_decisions.proofs.field_lines.fields_text.Goals as goal
-
-pub returns : goal.returns
-returns c = rw (flat_map-map field_text field_of c.args.fields.now) (grind (arith, common_steps))

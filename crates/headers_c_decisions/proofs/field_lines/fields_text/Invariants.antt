@@ -1,8 +1,0 @@
-use Rattle.std.proofs.Common.{◌≡◌, flat_map, take}
-use Rattle.headers.specs.LineMap.{field_of}
-use Rattle.headers_c_decisions.specs.FieldLines.{field_text}
-use Rattle.headers_c_decisions.proofs.field_lines.fields_text.Given as goal
-
-abbrev pub invariant-loop-field : goal.invariant-loop-field
-invariant-loop-field l =
-    l.text.items ≡ flat_map (λ field. field_text (field_of field)) (take l.field-index l.fields)

@@ -1,7 +1,0 @@
-use Rattle.headers.specs.Lines.{lines_of}
-use Rattle.headers_c_resource.specs.Lists.{IsEachAt}
-use Rattle.headers_c_resource.specs.MethodRules.{IsRuleAt, lines_by}
-use Rattle.headers_c_resource.proofs.method_rule.rules_by.Given as goal
-
-abbrev pub invariant-loop-place : goal.invariant-loop-place
-invariant-loop-place l = IsEachAt (IsRuleAt (lines_of l.methods) (lines_by l.lists)) l.place l.rules.items

@@ -1,5 +1,0 @@
-use Rattle.headers_cache.proofs.HistoryLemmas.{run-justified}
-use Rattle.headers_cache.proofs.laws.calls_justify_what_is_stored.Goals as goal
-
-pub returns : goal.returns
-returns c = run-justified

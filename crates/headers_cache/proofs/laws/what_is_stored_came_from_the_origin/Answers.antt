@@ -1,5 +1,0 @@
-use Rattle.headers_cache.proofs.LawLemmas.{stored-came}
-use Rattle.headers_cache.proofs.laws.what_is_stored_came_from_the_origin.Goals as goal
-
-pub returns : goal.returns
-returns c = stored-came

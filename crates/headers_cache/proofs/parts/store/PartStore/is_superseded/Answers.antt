@@ -1,8 +1,0 @@
-use Rattle.std.proofs.Common.{inr}
-use Rattle.headers_cache.proofs.parts.CallLemmas.{bool_map}
-use Rattle.headers_cache.proofs.parts.store.PartStore.is_superseded.Goals as goal
-
-pub returns-in-Some : goal.returns-in-Some
-returns-in-Some c =
-    bool_map c.changes.result (λ changes. (c.in-Some.stored.now, c.in-Some.ensures, changes))
-    (λ same. inr (c.in-Some.stored.now, c.in-Some.ensures, same)) c.changes.ensures

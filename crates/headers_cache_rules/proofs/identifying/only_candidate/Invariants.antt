@@ -1,8 +1,0 @@
-use Rattle.headers_cache_policy.specs.Requests.{request_of}
-use Rattle.headers_cache_rules.specs.Selection.{IsCandidate}
-use Rattle.headers_cache_rules.proofs.IdentifyingLemmas.{FoundBelow}
-use Rattle.headers_cache_rules.proofs.identifying.only_candidate.Given as goal
-
--- what is found of the stored responses so far
-abbrev pub invariant-loop-place : goal.invariant-loop-place
-invariant-loop-place l = FoundBelow (IsCandidate (request_of l.request)) l.stored l.place l.found

@@ -1,6 +1,0 @@
-use Rattle.headers_cache_rules.specs.Selection.{IsCandidate}
-use Rattle.headers_cache_rules.proofs.SelectionLemmas.{selects_one}
-use Rattle.headers_cache_rules.proofs.laws.request_selects_one.Goals as goal
-
-pub returns : goal.returns
-returns c = λ request all. selects_one (IsCandidate request) all

@@ -1,5 +1,0 @@
-use Rattle.headers_chain.proofs.ServerLemmas.{says_close_at_most}
-use Rattle.headers_chain.proofs.laws.servers_say_close_at_most.Goals as goal
-
-pub returns : goal.returns
-returns c server now request reply h = says_close_at_most server now request reply h

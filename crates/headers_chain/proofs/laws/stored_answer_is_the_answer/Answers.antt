@@ -1,5 +1,0 @@
-use Rattle.headers_chain.proofs.SuitLemmas.{suited}
-use Rattle.headers_chain.proofs.laws.stored_answer_is_the_answer.Goals as goal
-
-pub returns : goal.returns
-returns c = suited c.vary_is_sound.ensures c.members_alone_select.ensures

@@ -1,9 +1,0 @@
-//! What a client gets from a resource behind gateways and caches, as theorems over the definitions of
-//! `headers_gateway`, `headers_cache` and `headers_resource` (RFC 9110, section 7.6; RFC 9111), and the calls
-//! of a cache in such a chain.
-#![tactic(auto)]
-
-mod cache;
-pub mod laws;
-
-pub use crate::cache::{Action, Pending, Received, answer_from_store, take_response};

@@ -1,9 +1,0 @@
-use Rattle.std.proofs.Common.{rules, None}
-use Rattle.headers_cors_policy.specs.Rules.{RefusesReading}
-use Rattle.headers_cors_policy.proofs.RefusalLemmas.{lawful_by}
-use Rattle.headers_cors_policy.proofs.policy.CorsPolicy.new.Goals as goal
-
-pub returns-clause-ok : goal.returns-clause-ok
-returns-clause-ok c =
-    let readable : RefusesReading c.args.rules None = search rules in
-    lawful_by c.args.rules c.written_of.result readable c.written_of.ensures.ok

@@ -1,8 +1,0 @@
-use Rattle.std.proofs.Common.{sym, arith}
-use Rattle.headers_exchange.specs.Machine.{core}
-use Rattle.http_server.proofs.MachineLemmas.{starved_by_size}
-use Rattle.headers_exchange.proofs.machine.Machine.missing.Goals as goal
-
-pub returns-in-Known : goal.returns-in-Known
-returns-in-Known c = λ some p.
-    starved_by_size (core c.args.self.now p) c.in-Known.len (sym c.in-Known.ensures) (omega arith)

@@ -1,5 +1,0 @@
-use Rattle.headers_fields.proofs.JoinLemmas.{join_keeps_members as law}
-use Rattle.headers_fields.proofs.laws.joined_lines_keep_members.Goals as goal
-
-pub returns : goal.returns
-returns c = law

@@ -1,5 +1,0 @@
-use Rattle.headers_fields.proofs.FieldLemmas.{malformed_is_clear_of_none as law}
-use Rattle.headers_fields.proofs.laws.malformed_fields_are_clear_of_none.Goals as goal
-
-pub returns : goal.returns
-returns c = law

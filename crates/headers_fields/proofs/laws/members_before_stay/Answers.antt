@@ -1,5 +1,0 @@
-use Rattle.headers_fields.proofs.JoinLemmas.{keeps_members_before as law}
-use Rattle.headers_fields.proofs.laws.members_before_stay.Goals as goal
-
-pub returns : goal.returns
-returns c = law

@@ -1,5 +1,0 @@
-use Rattle.headers_fields.proofs.WholeLemmas.{parts_are_whole as law}
-use Rattle.headers_fields.proofs.laws.parts_of_well_formed_texts_are_whole.Goals as goal
-
-pub returns : goal.returns
-returns c = law

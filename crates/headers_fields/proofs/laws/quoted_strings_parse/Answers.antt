@@ -1,5 +1,0 @@
-use Rattle.headers_fields.proofs.QuotedLemmas.{quoted_texts_parse as law}
-use Rattle.headers_fields.proofs.laws.quoted_strings_parse.Goals as goal
-
-pub returns : goal.returns
-returns c = law

@@ -1,5 +1,0 @@
-use Rattle.headers_files.proofs.ListingLemmas.{page_links}
-use Rattle.headers_files.proofs.laws.listing_links_to_each_name.Goals as goal
-
-pub returns : goal.returns
-returns c = page_links

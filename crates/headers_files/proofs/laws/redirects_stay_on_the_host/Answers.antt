@@ -1,5 +1,0 @@
-use Rattle.headers_files.proofs.RedirectLemmas.{stays_on_host}
-use Rattle.headers_files.proofs.laws.redirects_stay_on_the_host.Goals as goal
-
-pub returns : goal.returns
-returns c = stays_on_host

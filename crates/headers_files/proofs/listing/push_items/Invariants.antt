@@ -1,8 +1,0 @@
-use Rattle.std.proofs.Common.{◌≡◌, ◌++◌, map, take}
-use Rattle.std.specs.Prelude.{flat_map, string_bytes}
-use Rattle.headers_files.specs.Listings.{item}
-use Rattle.headers_files.proofs.listing.push_items.Given as goal
-
-abbrev pub invariant-loop-name : goal.invariant-loop-name
-invariant-loop-name l =
-    l.text.items ≡ l.fn.text.items ++ flat_map item (map string_bytes (take l.name-index l.names))

@@ -1,6 +1,0 @@
-use Rattle.std.proofs.Common.{◌∙◌}
-use Rattle.headers_gateway.proofs.HostLemmas.{ipv6_result}
-use Rattle.headers_gateway.proofs.host.is_ipv6.Goals as goal
-
-pub returns : goal.returns
-returns c = c.is_ok.ensures.value ∙ ipv6_result c.args.text.now _ c.parse_ascii.ensures

@@ -1,8 +1,0 @@
-use Rattle.std.proofs.Common.{Err, ap, rules}
-use Rattle.headers_gateway.proofs.ViaLemmas.{IsFieldValue-token}
-use Rattle.headers_gateway.proofs.via.Pseudonym.new.Goals as goal
-
-pub unreachable-requires : goal.unreachable-requires
-unreachable-requires c =
-    c.in-Err-Invalid.ensures.invalid.0 (ap (λ e. Err e) c.in-Err-Invalid.field-0-is)
-    (IsFieldValue-token c.args.text.now (search rules))

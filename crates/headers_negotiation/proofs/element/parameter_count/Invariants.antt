@@ -1,9 +1,0 @@
-use Rattle.std.proofs.Common.{◌≡◌, ◌+◌, length}
-use Rattle.headers_fields.specs.Members.{members_left}
-use Rattle.headers_negotiation.specs.Elements.{own_parameters}
-use Rattle.headers_negotiation.proofs.ParameterLemmas.{own}
-use Rattle.headers_negotiation.proofs.element.parameter_count.Given as goal
-
-abbrev pub invariant-loop-member : goal.invariant-loop-member
-invariant-loop-member l =
-    length (own_parameters l.text) ≡ l.count + length (own (members_left l.member-iterator))

@@ -1,6 +1,0 @@
-use Rattle.std.proofs.Common.{◌≡◌, drop}
-use Rattle.headers_negotiation.specs.Languages.{covers}
-use Rattle.headers_negotiation.proofs.language.covers.Given as goal
-
-abbrev pub invariant-loop-byte : goal.invariant-loop-byte
-invariant-loop-byte l = covers l.range l.tag ≡ covers (drop l.byte-index l.range) l.rest

@@ -1,5 +1,0 @@
-use Rattle.headers_negotiation.proofs.LawLemmas.{listed_first as law}
-use Rattle.headers_negotiation.proofs.laws.listed_comes_first.Goals as goal
-
-pub returns : goal.returns
-returns c = law

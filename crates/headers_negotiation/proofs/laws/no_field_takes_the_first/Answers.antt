@@ -1,5 +1,0 @@
-use Rattle.headers_negotiation.proofs.LawLemmas.{chooses_first as law}
-use Rattle.headers_negotiation.proofs.laws.no_field_takes_the_first.Goals as goal
-
-pub returns : goal.returns
-returns g c = law g.D.Dimension.gives

@@ -1,9 +1,0 @@
-use Rattle.std.proofs.Common.{true}
-use Rattle.headers_syntax.specs.Lines.{lines_of}
-use Rattle.headers_fields.specs.Members.{field_left, field_members}
-use Rattle.headers_negotiation.proofs.LookupLemmas.{SoFar}
-use Rattle.headers_negotiation.proofs.lookup.found.Given as goal
-
-abbrev pub invariant-loop-member : goal.invariant-loop-member
-invariant-loop-member l =
-    SoFar (field_members true (lines_of l.field)) l.offers (field_left l.member-iterator) l.leader

@@ -1,5 +1,0 @@
-use Rattle.headers_preconditions.proofs.PartLemmas.{sizes_of_coalesced}
-use Rattle.headers_preconditions.proofs.laws.parts_fit_the_whole.Goals as goal
-
-pub returns : goal.returns
-returns c = sizes_of_coalesced

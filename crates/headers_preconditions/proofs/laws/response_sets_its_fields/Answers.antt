@@ -1,5 +1,0 @@
-use Rattle.headers_preconditions.proofs.FieldLemmas.{set_from_plan}
-use Rattle.headers_preconditions.proofs.laws.response_sets_its_fields.Goals as goal
-
-pub returns : goal.returns
-returns c = set_from_plan

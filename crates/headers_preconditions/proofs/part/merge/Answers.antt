@@ -1,7 +1,0 @@
-use Rattle.std.proofs.Common.{rules}
-use Rattle.headers_preconditions.proofs.PartLemmas.{merged_from_dedup}
-use Rattle.headers_preconditions.proofs.part.merge.Goals as goal
-
-pub returns : goal.returns
-returns c =
-    merged_from_dedup _ c.args.gap _ (λ next part b f' next' part' k. search rules) _ _ c.dedup_by.ensures.filtered

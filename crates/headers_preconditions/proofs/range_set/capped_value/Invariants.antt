@@ -1,6 +1,0 @@
-use Rattle.std.proofs.Common.{◌≡◌, take}
-use Rattle.headers_preconditions.specs.RangeSets.{capped}
-use Rattle.headers_preconditions.proofs.range_set.capped_value.Given as goal
-
-abbrev pub invariant-loop-byte : goal.invariant-loop-byte
-invariant-loop-byte l = l.number ≡ capped (take l.byte-index l.digits)

@@ -1,5 +1,0 @@
-use Rattle.std.proofs.Common.{length}
-use Rattle.headers_replay_parts.proofs.items.+are_cuts.Given as goal
-
-abbrev pub decreases-are_cuts : goal.decreases-are_cuts
-decreases-are_cuts l = length l.places.now

@@ -1,7 +1,0 @@
-use Rattle.std.proofs.Common.{◌≡◌, take}
-use Rattle.std.specs.Prelude.{flat_map}
-use Rattle.headers_resource.specs.Applies.{methods_of}
-use Rattle.headers_resource.proofs.allow.methods_of.Given as goal
-
-abbrev pub invariant-loop-rule : goal.invariant-loop-rule
-invariant-loop-rule l = l.methods.items ≡ flat_map methods_of (take l.rule-index l.rules)

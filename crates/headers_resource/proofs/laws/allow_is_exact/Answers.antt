@@ -1,5 +1,0 @@
-use Rattle.headers_resource.proofs.AllowLemmas.{allow_is_exact}
-use Rattle.headers_resource.proofs.laws.allow_is_exact.Goals as goal
-
-pub returns : goal.returns
-returns c resource request = allow_is_exact resource.rules.items request.method

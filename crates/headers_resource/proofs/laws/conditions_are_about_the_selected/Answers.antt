@@ -1,5 +1,0 @@
-use Rattle.headers_resource.proofs.ConditionLemmas.{same_place}
-use Rattle.headers_resource.proofs.laws.conditions_are_about_the_selected.Goals as goal
-
-pub returns : goal.returns
-returns c = same_place

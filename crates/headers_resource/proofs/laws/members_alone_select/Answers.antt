@@ -1,5 +1,0 @@
-use Rattle.headers_resource.proofs.MemberLemmas.{members_select}
-use Rattle.headers_resource.proofs.laws.members_alone_select.Goals as goal
-
-pub returns : goal.returns
-returns c = members_select

@@ -1,5 +1,0 @@
-use Rattle.headers_resource.proofs.GuardLemmas.{conditions_last}
-use Rattle.headers_resource.proofs.laws.preconditions_come_last.Goals as goal
-
-pub returns : goal.returns
-returns c present resource request = conditions_last resource request present

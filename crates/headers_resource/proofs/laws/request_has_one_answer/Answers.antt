@@ -1,5 +1,0 @@
-use Rattle.headers_resource.proofs.AnswerLemmas.{one_answer}
-use Rattle.headers_resource.proofs.laws.request_has_one_answer.Goals as goal
-
-pub returns : goal.returns
-returns c = one_answer

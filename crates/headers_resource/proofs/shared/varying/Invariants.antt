@@ -1,7 +1,0 @@
-use Rattle.std.proofs.Common.{◌≡◌, codes, take}
-use Rattle.headers.specs.LineMap.{lines_at}
-use Rattle.headers.specs.Lines.{lines_of}
-use Rattle.headers_resource.proofs.shared.varying.Given as goal
-
-abbrev pub invariant-loop-line : goal.invariant-loop-line
-invariant-loop-line l = lines_at l.response (codes "vary") ≡ lines_of (take l.line-index l.lines)

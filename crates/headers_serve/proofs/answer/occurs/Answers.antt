@@ -1,5 +1,0 @@
-use Rattle.headers_serve.proofs.AnswerLemmas.{Occurs-from_find}
-use Rattle.headers_serve.proofs.answer.occurs.Goals as goal
-
-pub returns : goal.returns
-returns c = rw c.is_some.ensures (Occurs-from_find _ _ _ c.find.ensures)

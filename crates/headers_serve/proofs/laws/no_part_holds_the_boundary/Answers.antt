@@ -1,5 +1,0 @@
-use Rattle.headers_serve.proofs.PartLemmas.{no_part_holds_boundary}
-use Rattle.headers_serve.proofs.laws.no_part_holds_the_boundary.Goals as goal
-
-pub returns : goal.returns
-returns c = no_part_holds_boundary

@@ -1,6 +1,0 @@
-use Rattle.std.proofs.Common.{◌≡◌, map, take}
-use Rattle.headers_serve.specs.File.{representation_of}
-use Rattle.headers_serve.proofs.representation.representations_of.Given as goal
-
-abbrev pub invariant-loop-file : goal.invariant-loop-file
-invariant-loop-file l = l.made.items ≡ map (representation_of l.present) (take l.file-index l.files)

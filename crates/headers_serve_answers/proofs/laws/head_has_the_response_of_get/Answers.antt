@@ -1,5 +1,0 @@
-use Rattle.headers_serve_answers.proofs.HeadLemmas.{head_answered}
-use Rattle.headers_serve_answers.proofs.laws.head_has_the_response_of_get.Goals as goal
-
-pub returns : goal.returns
-returns c = head_answered c.head_is_answered_as_get.ensures

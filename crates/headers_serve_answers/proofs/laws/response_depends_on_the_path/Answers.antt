@@ -1,5 +1,0 @@
-use Rattle.headers_serve_answers.proofs.StoreLemmas.{answered_alike}
-use Rattle.headers_serve_answers.proofs.laws.response_depends_on_the_path.Goals as goal
-
-pub returns : goal.returns
-returns c = answered_alike

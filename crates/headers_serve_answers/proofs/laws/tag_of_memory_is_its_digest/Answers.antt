@@ -1,5 +1,0 @@
-use Rattle.headers_serve_answers.proofs.RevalidateLemmas.{kept_tag}
-use Rattle.headers_serve_answers.proofs.laws.tag_of_memory_is_its_digest.Goals as goal
-
-pub returns : goal.returns
-returns c = kept_tag

@@ -1,6 +1,0 @@
-use Rattle.headers_serve_laws.proofs.ServedLemmas.{served}
-use Rattle.headers_serve_laws.proofs.laws.get_is_answered_by_the_file.Goals as goal
-
-pub returns : goal.returns
-returns c config settings first now sent room of bare index undated more e =
-    served config settings first room of bare index undated more now sent e

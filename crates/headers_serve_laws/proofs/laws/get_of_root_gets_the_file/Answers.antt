@@ -1,5 +1,0 @@
-use Rattle.headers_serve_laws.proofs.RootLemmas.{get_root}
-use Rattle.headers_serve_laws.proofs.laws.get_of_root_gets_the_file.Goals as goal
-
-pub returns : goal.returns
-returns c = get_root

@@ -1,0 +1,166 @@
+-- What a text that is a directive begins with, and that it is one directive only.
+use Rattle.std.proofs.Common.{◌≡◌, ℕ, suc, ◌+◌, ◌-◌, ◌<◌, ◌≤◌, Bool, true, false, not, cond, List, [], ◌∷◌, ◌++◌}
+use Rattle.std.proofs.Common.{length, get_or, take, drop, Option, Some, None, refl, sym, ◌∙◌, ap, subst, arith}
+use Rattle.std.proofs.Common.{length-drop}
+use Rattle.std.proofs.Math.Seq.{take-append_seam}
+use Rattle.std.proofs.lemmas.List.{take_all, take-append-drop}
+use Rattle.std.proofs.lemmas.List.Folds.{length-prefix_len}
+use Rattle.std.proofs.lemmas.Bool.{and_parts, ne_eqb}
+use Rattle.std.specs.Prelude.{◌&&◌, ◌==◌}
+use Rattle.std.specs.List.{list_all, prefix_len}
+use Rattle.http_header.specs.Token.{is_token_byte}
+use Rattle.rfc_fields.specs.Values.{ValueParts, is_token, is_value, value_text}
+use Rattle.rfc_fields.specs.Values.ValueParts.{TokenText, QuotedText}
+use Rattle.rfc_fields.specs.Directives.{DirectiveParts, IsDirective, IsArgument, argument_text, is_argument}
+use Rattle.rfc_fields.specs.Directives.{is_directive}
+use Rattle.rfc_fields.proofs.GrammarLemmas.{false_true}
+
+-- the name ends where the bytes of a token do
+argument_ends : (a : Option ValueParts) → prefix_len is_token_byte (argument_text a) ≡ 0
+unfolding is_token_byte
+argument_ends None = refl
+argument_ends (Some v) = refl
+
+front-len : (name tail : List ℕ) → list_all is_token_byte name ≡ true → prefix_len is_token_byte tail ≡ 0
+    → prefix_len is_token_byte (name ++ tail) ≡ length name
+front-len [] tail h k = k
+front-len (b ∷ name) tail h k =
+    let x = and_parts (is_token_byte b) (list_all is_token_byte name) h in
+    let rest = front-len name tail x.1 k in
+    ap (λ c. cond c (1 + prefix_len is_token_byte (name ++ tail)) 0) x.0 ∙ omega (arith, rest)
+
+name_valid : (d : DirectiveParts) → is_directive d ≡ true → is_token d.name ≡ true
+name_valid d h = (and_parts (is_token d.name) (is_argument d.argument) h).0
+
+argument_valid : (d : DirectiveParts) → is_directive d ≡ true → is_argument d.argument ≡ true
+argument_valid d h = (and_parts (is_token d.name) (is_argument d.argument) h).1
+
+pub name-len : (m : List ℕ) (d : DirectiveParts) → IsDirective m d → prefix_len is_token_byte m ≡ length d.name
+name-len m d h =
+    ap (prefix_len is_token_byte) h.written
+    ∙ front-len d.name (argument_text d.argument)
+    (and_parts (not (length d.name == 0)) (list_all is_token_byte d.name) (name_valid d h.valid)).1
+    (argument_ends d.argument)
+
+drop-front : (xs ys : List ℕ) → drop (length xs) (xs ++ ys) ≡ ys
+drop-front [] ys = refl
+drop-front (x ∷ xs) ys = drop-front xs ys
+
+pub argument-is : (m : List ℕ) (d : DirectiveParts) → IsDirective m d
+    → drop (prefix_len is_token_byte m) m ≡ argument_text d.argument
+argument-is m d h =
+    ap (λ n. drop n m) (name-len m d h) ∙ ap (drop (length d.name)) h.written
+    ∙ drop-front d.name (argument_text d.argument)
+
+list_all-prefix : (s : List ℕ) → list_all is_token_byte (take (prefix_len is_token_byte s) s) ≡ true
+list_all-prefix [] = refl
+list_all-prefix (b ∷ s) = prefix_step b s (is_token_byte b) refl (list_all-prefix s)
+  where
+    prefix_step : (b : ℕ) (s : List ℕ) (c : Bool) → is_token_byte b ≡ c
+        → list_all is_token_byte (take (prefix_len is_token_byte s) s) ≡ true
+        → list_all is_token_byte (take (cond c (1 + prefix_len is_token_byte s) 0) (b ∷ s)) ≡ true
+    prefix_step b s true e h =
+        let n : 1 + prefix_len is_token_byte s ≡ suc (prefix_len is_token_byte s) = omega arith in
+        ap (λ k. list_all is_token_byte (take k (b ∷ s))) n
+        ∙ ap (λ c. c && list_all is_token_byte (take (prefix_len is_token_byte s) s)) e ∙ h
+    prefix_step b s false e h = refl
+
+nonzero : (n : ℕ) → 0 < n → not (n == 0) ≡ true
+nonzero n h = ap not (ne_eqb n 0 (λ e. omega (arith, e, h)))
+
+length-prefix : (s : List ℕ) → length (take (prefix_len is_token_byte s) s) ≡ prefix_len is_token_byte s
+length-prefix s = length-prefix_len is_token_byte s
+
+-- the bytes of a token at the front of a text are a name, if there's one
+front_valid : (m : List ℕ) → 0 < prefix_len is_token_byte m → is_token (take (prefix_len is_token_byte m) m) ≡ true
+front_valid m h =
+    ap (λ c. c && list_all is_token_byte (take (prefix_len is_token_byte m) m))
+    (nonzero (length (take (prefix_len is_token_byte m) m)) (rw (length-prefix m) h))
+    ∙ list_all-prefix m
+
+pub no_name : (m : List ℕ) → prefix_len is_token_byte m ≡ 0 → (d : DirectiveParts) → IsDirective m d → ⊥
+no_name m e d h =
+    let n : length d.name ≡ 0 = sym (name-len m d h) ∙ e in
+    let x = and_parts (not (length d.name == 0)) (list_all is_token_byte d.name) (name_valid d h.valid) in
+    false_true (sym (ap (λ k. not (k == 0)) n) ∙ x.0)
+
+take_rest : (k : ℕ) (xs : List ℕ) → take (length xs - k) (drop k xs) ≡ drop k xs
+take_rest k xs =
+    let h : length (drop k xs) ≤ length xs - k = omega (arith, length-drop {A = ℕ}) in
+    take_all (length xs - k) (drop k xs) h
+
+-- what is left from place n on, as the code has it
+pub argument_at : (m : List ℕ) (n : ℕ) (d : DirectiveParts) → n ≡ prefix_len is_token_byte m → IsDirective m d
+    → IsArgument (take (length m - n) (drop n m)) d.argument
+argument_at m n d e h =
+    record {
+      valid = argument_valid d h.valid;
+      written = take_rest n m ∙ ap (λ k. drop k m) e ∙ argument-is m d h;
+    }
+
+pub directive_at : (m : List ℕ) (n : ℕ) (a : Option ValueParts) → n ≡ prefix_len is_token_byte m → 0 < n
+    → IsArgument (take (length m - n) (drop n m)) a → IsDirective m (record { name = take n m; argument = a })
+directive_at m n a e h t =
+    let named : is_token (take n m) ≡ true =
+    ap (λ k. is_token (take k m)) e ∙ front_valid m (subst (λ (k : ℕ). 0 < k) e h) in
+    record {
+      valid = ap (λ c. c && is_argument a) named ∙ t.valid;
+      written = sym (take-append-drop n m) ∙ ap (λ x. take n m ++ x) (sym (take_rest n m) ∙ t.written);
+    }
+
+rest_cons : (s : List ℕ) → 0 < length s → get_or s 0 0 ≡ 61 → 61 ∷ drop 1 s ≡ s
+rest_cons [] h e = absurd (omega arith)
+rest_cons (b ∷ s) h e = ap (λ x. x ∷ s) (sym e)
+
+-- the text behind "="
+pub rest_is : (s : List ℕ) → 0 < length s → get_or s 0 0 ≡ 61 → 61 ∷ take (length s - 1) (drop 1 s) ≡ s
+rest_is s h e = ap (λ x. 61 ∷ x) (take_rest 1 s) ∙ rest_cons s h e
+
+-- and two texts that are the same are one value
+nil_snoc : (t : List ℕ) → [] ≡ t ++ 34 ∷ [] → ⊥
+nil_snoc [] e = cc
+nil_snoc (x ∷ t) e = cc
+
+snoc_once : (s t : List ℕ) → s ++ 34 ∷ [] ≡ t ++ 34 ∷ [] → s ≡ t
+snoc_once [] [] e = refl
+snoc_once [] (y ∷ t) e = let tails : [] ≡ t ++ 34 ∷ [] = cc in absurd (nil_snoc t tails)
+snoc_once (x ∷ s) [] e = let tails : [] ≡ s ++ 34 ∷ [] = cc in absurd (nil_snoc s tails)
+snoc_once (x ∷ s) (y ∷ t) e =
+    let tails : s ++ 34 ∷ [] ≡ t ++ 34 ∷ [] = cc in let heads : x ≡ y = cc in
+    ap (λ h. h ∷ s) heads ∙ ap (λ r. y ∷ r) (snoc_once s t tails)
+
+-- a quote is no byte of a token
+no_quoted_token : (s t : List ℕ) → s ≡ 34 ∷ t → is_token s ≡ true → ⊥
+unfolding is_token_byte
+no_quoted_token s t e h =
+    false_true (and_parts (not (length (34 ∷ t) == 0)) (list_all is_token_byte (34 ∷ t)) (sym (ap is_token e) ∙ h)).1
+
+pub value_once : (v w : ValueParts) → is_value v ≡ true → is_value w ≡ true → value_text v ≡ value_text w → v ≡ w
+value_once (TokenText s) (TokenText t) h k e = ap TokenText e
+value_once (TokenText s) (QuotedText t) h k e = absurd (no_quoted_token s (t ++ 34 ∷ []) e h)
+value_once (QuotedText s) (TokenText t) h k e = absurd (no_quoted_token t (s ++ 34 ∷ []) (sym e) k)
+value_once (QuotedText s) (QuotedText t) h k e =
+    let tails : s ++ 34 ∷ [] ≡ t ++ 34 ∷ [] = cc in ap QuotedText (snoc_once s t tails)
+
+argument_once : (a b : Option ValueParts) → is_argument a ≡ true → is_argument b ≡ true
+    → argument_text a ≡ argument_text b → a ≡ b
+argument_once None None h k e = refl
+argument_once None (Some w) h k e = cc
+argument_once (Some v) None h k e = cc
+argument_once (Some v) (Some w) h k e =
+    let tails : value_text v ≡ value_text w = cc in ap (λ x. Some x) (value_once v w h k tails)
+
+name-is : (m : List ℕ) (d : DirectiveParts) → IsDirective m d → take (prefix_len is_token_byte m) m ≡ d.name
+name-is m d h =
+    ap (λ n. take n m) (name-len m d h) ∙ ap (take (length d.name)) h.written
+    ∙ take-append_seam d.name (argument_text d.argument)
+
+-- a text is one directive only
+pub directive_once : (m : List ℕ) (d e : DirectiveParts) → IsDirective m d → IsDirective m e → d ≡ e
+directive_once m d e h k =
+    let name : d.name ≡ e.name = sym (name-is m d h) ∙ name-is m e k in
+    let argument : d.argument ≡ e.argument =
+    argument_once d.argument e.argument (argument_valid d h.valid) (argument_valid e k.valid)
+    (sym (argument-is m d h) ∙ argument-is m e k) in
+    let of : List ℕ → Option ValueParts → DirectiveParts = λ n a. record { name = n; argument = a } in
+    ap (λ n. of n d.argument) name ∙ ap (of e.name) argument

@@ -1,0 +1,166 @@
+-- The loops over the members of a field.
+use Rattle.std.proofs.Common.{◌≡◌, ℕ, Bool, true, false, cond, List, [], ◌∷◌, ◌++◌, map, find, Option, Some, None}
+use Rattle.std.proofs.Common.{refl, sym, ◌∙◌, ap, subst}
+use Rattle.std.specs.Prelude.{◌&&◌}
+use Rattle.std.specs.List.{list_all}
+use Rattle.std.proofs.lemmas.Bool.{and_parts}
+use Rattle.std.proofs.lemmas.List.{append-nil}
+use Rattle.std.proofs.lemmas.List.Folds.{list_all-append}
+use Rattle.headers_syntax.specs.Lines.{Line}
+use Rattle.rfc_fields.specs.Scan.{Member}
+use Rattle.rfc_fields.specs.Scan.Member.{Whole, Malformed}
+use Rattle.rfc_fields.specs.Scan.{closes}
+use Rattle.rfc_fields.specs.Members.{members, field_members, combined, is_whole, is_well_formed}
+use Rattle.rfc_fields.specs.Laws.{DirectivesParseOneWay, JoinKeepsDirectives, WellFormedFieldIsWhole}
+use Rattle.rfc_fields.specs.Laws.{MalformedIsClearOfNone}
+use Rattle.rfc_fields.specs.declared.scan.State.TheVariants.{Outside}
+use Rattle.rfc_fields.specs.Directives.{DirectiveParts, IsMemberDirective}
+use Rattle.rfc_fields.specs.Directives.{AreDirectives, FindsDirective, IsClearOf, HasOtherThanDirectives}
+use Rattle.rfc_fields.specs.Directives.{directive_text, directive_member, is_directive, is_named, or_named}
+use Rattle.rfc_fields.proofs.DirectiveLemmas.{directive_once}
+use Rattle.rfc_fields.proofs.JoinLemmas.{join_keeps_members}
+use Rattle.rfc_fields.proofs.PieceLemmas.{whole_members}
+
+-- the members up to what is left are directives, and the first of the name among them was found
+pub record SoFar (name : List ℕ) (initial left : List Member) (found : Option DirectiveParts) : Type 0 where
+  pub directives : List DirectiveParts
+  pub valid : list_all is_directive directives ≡ true
+  pub split : initial ≡ map directive_member directives ++ left
+  pub first : found ≡ find (is_named name) directives
+
+all_more : (ds : List DirectiveParts) (d : DirectiveParts) → list_all is_directive ds ≡ true → is_directive d ≡ true
+    → list_all is_directive (ds ++ d ∷ []) ≡ true
+all_more [] d h e = ap (λ c. c && true) e
+all_more (x ∷ ds) d h e =
+    let p = and_parts (is_directive x) (list_all is_directive ds) h in
+    ap (λ c. c && list_all is_directive (ds ++ d ∷ [])) p.0 ∙ all_more ds d p.1 e
+
+split_more : (ds : List DirectiveParts) (d : DirectiveParts) (rest : List Member)
+    → map directive_member ds ++ directive_member d ∷ rest ≡ map directive_member (ds ++ d ∷ []) ++ rest
+split_more [] d rest = refl
+split_more (x ∷ ds) d rest = ap (λ ms. directive_member x ∷ ms) (split_more ds d rest)
+
+find_case : (name : List ℕ) (x d : DirectiveParts) (ds : List DirectiveParts) (c : Bool)
+    → or_named name (find (is_named name) ds) d ≡ find (is_named name) (ds ++ d ∷ [])
+    → or_named name (cond c (Some x) (find (is_named name) ds)) d
+    ≡ cond c (Some x) (find (is_named name) (ds ++ d ∷ []))
+find_case name x d ds true h = refl
+find_case name x d ds false h = h
+
+find_more : (name : List ℕ) (ds : List DirectiveParts) (d : DirectiveParts)
+    → or_named name (find (is_named name) ds) d ≡ find (is_named name) (ds ++ d ∷ [])
+find_more name [] d = refl
+find_more name (x ∷ ds) d = find_case name x d ds (is_named name x) (find_more name ds d)
+
+pub so_far_more : (name : List ℕ) (initial left rest : List Member) (m : Member) (found : Option DirectiveParts)
+    (d : DirectiveParts) → SoFar name initial left found → left ≡ m ∷ rest → IsMemberDirective m d
+    → SoFar name initial rest (or_named name found d)
+so_far_more name initial left rest Malformed found d h e k = absurd k
+so_far_more name initial left rest (Whole s) found d h e k =
+    record {
+      directives = h.directives ++ d ∷ [];
+      valid = all_more h.directives d h.valid k.valid;
+      split = h.split ∙ ap (λ ms. map directive_member h.directives ++ ms) e
+          ∙ ap (λ t. map directive_member h.directives ++ Whole t ∷ rest) k.written ∙ split_more h.directives d rest;
+      first = ap (λ f. or_named name f d) h.first ∙ find_more name h.directives d;
+    }
+
+pub so_far_end : (lines : List Line) (name : List ℕ) (initial left : List Member) (found : Option DirectiveParts)
+    → initial ≡ field_members true lines → SoFar name initial left found → left ≡ [] → FindsDirective lines name found
+so_far_end lines name initial left found is h e =
+    record {
+      directives = h.directives;
+      are = record {
+        valid = h.valid;
+        written = sym is ∙ h.split ∙ ap (λ ms. map directive_member h.directives ++ ms) e
+            ∙ append-nil (map directive_member h.directives);
+      };
+      first = h.first;
+    }
+
+-- a member among directives is one
+other_in : (before ds : List DirectiveParts) (m : Member) (rest : List Member)
+    → map directive_member before ++ m ∷ rest ≡ map directive_member ds → list_all is_directive ds ≡ true
+    → (d : DirectiveParts) × IsMemberDirective m d
+other_in [] [] m rest e v = absurd (cc e)
+other_in [] (d ∷ ds) m rest e v =
+    let head : directive_member d ≡ m = cc in (
+      d,
+      subst (λ (x : Member). IsMemberDirective x d) head (record {
+        valid = (and_parts (is_directive d) (list_all is_directive ds) v).0;
+        written = refl;
+      }),
+    )
+other_in (x ∷ before) [] m rest e v = absurd (cc e)
+other_in (x ∷ before) (d ∷ ds) m rest e v =
+    let tails : map directive_member before ++ m ∷ rest ≡ map directive_member ds = cc in
+    other_in before ds m rest tails (and_parts (is_directive d) (list_all is_directive ds) v).1
+
+pub so_far_other : (lines : List Line) (name : List ℕ) (initial left rest : List Member) (m : Member)
+    (found : Option DirectiveParts) → initial ≡ field_members true lines → SoFar name initial left found
+    → left ≡ m ∷ rest → ((d : DirectiveParts) → IsMemberDirective m d → ⊥) → HasOtherThanDirectives lines
+so_far_other lines name initial left rest m found is h e other ds are =
+    let same : map directive_member h.directives ++ m ∷ rest ≡ map directive_member ds =
+    ap (λ ms. map directive_member h.directives ++ ms) (sym e) ∙ sym h.split ∙ is ∙ are.written in
+    let some = other_in h.directives ds m rest same are.valid in
+    other some.0 some.1
+
+-- the directives of a field are fixed by its members
+directives_once : (ds es : List DirectiveParts) → list_all is_directive ds ≡ true → list_all is_directive es ≡ true
+    → map directive_member ds ≡ map directive_member es → ds ≡ es
+directives_once [] [] v w e = refl
+directives_once [] (y ∷ es) v w e = cc
+directives_once (x ∷ ds) [] v w e = cc
+directives_once (x ∷ ds) (y ∷ es) v w e =
+    let p = and_parts (is_directive x) (list_all is_directive ds) v in
+    let q = and_parts (is_directive y) (list_all is_directive es) w in
+    let texts : directive_text x ≡ directive_text y = cc in
+    let tails : map directive_member ds ≡ map directive_member es = cc in
+    let same : x ≡ y =
+    directive_once (directive_text x) x y (record { valid = p.0; written = refl })
+    (record { valid = q.0; written = texts }) in
+    ap (λ d. d ∷ ds) same ∙ ap (λ ds. y ∷ ds) (directives_once ds es p.1 q.1 tails)
+
+pub are_once : (lines : List Line) (ds es : List DirectiveParts) → AreDirectives lines ds → AreDirectives lines es
+    → ds ≡ es
+are_once lines ds es h k = directives_once ds es h.valid k.valid (sym h.written ∙ k.written)
+
+pub found_once : (lines : List Line) (name : List ℕ) (a b : Option DirectiveParts) → FindsDirective lines name a
+    → FindsDirective lines name b → a ≡ b
+found_once lines name a b h k =
+    h.first ∙ ap (find (is_named name)) (are_once lines h.directives k.directives h.are k.are) ∙ sym k.first
+
+pub not_clear : (lines : List Line) (name : List ℕ) (d : DirectiveParts) → FindsDirective lines name (Some d)
+    → IsClearOf lines name → ⊥
+not_clear lines name d h k = let same : Some d ≡ None = found_once lines name (Some d) None h k in cc
+
+pub directives_parse_one_way : DirectivesParseOneWay
+directives_parse_one_way = record { one = directive_once; all = are_once }
+
+join_members : (lines : List Line) → list_all is_well_formed lines ≡ true
+    → field_members true (combined lines ∷ []) ≡ field_members true lines
+join_members lines h = append-nil (members true (combined lines)) ∙ (join_keeps_members true lines h).1
+
+pub join_keeps_directives : JoinKeepsDirectives
+join_keeps_directives lines ds h = (
+  λ are. record { valid = are.valid; written = sym (join_members lines h) ∙ are.written },
+  λ are. record { valid = are.valid; written = join_members lines h ∙ are.written },
+)
+
+pub whole_field : WellFormedFieldIsWhole
+whole_field q [] = refl
+whole_field q (line ∷ lines) =
+    list_all-append is_whole (members q line) (field_members q lines)
+    ∙ ap (λ c. c && list_all is_whole (field_members q lines)) (whole_members q line)
+    ∙ ap (λ c. closes q Outside line && c) (whole_field q lines)
+
+all_whole : (ds : List DirectiveParts) → list_all is_whole (map directive_member ds) ≡ true
+all_whole [] = refl
+all_whole (d ∷ ds) = all_whole ds
+
+pub malformed_is_clear_of_none : MalformedIsClearOfNone
+malformed_is_clear_of_none lines name bad h =
+    let good : list_all is_whole (field_members true lines) ≡ true =
+    ap (list_all is_whole) h.are.written ∙ all_whole h.directives in
+    let e : false ≡ true = sym bad ∙ sym (whole_field true lines) ∙ good in
+    cc

@@ -1,0 +1,110 @@
+-- Pieces: that there is one, and which of them are whole.
+use Rattle.std.proofs.Common.{◌≡◌, ℕ, Bool, true, false, not, cond, List, [], ◌∷◌}
+use Rattle.std.proofs.Common.{length, refl, sym, ◌∙◌, ap}
+use Rattle.std.specs.Prelude.{◌&&◌, ◌==◌}
+use Rattle.std.specs.List.{list_all}
+use Rattle.std.proofs.lemmas.Bool.{and_parts, eqb-true}
+use Rattle.headers_syntax.specs.Text.{trim}
+use Rattle.rfc_fields.specs.Grammar.{comma}
+use Rattle.rfc_fields.specs.Scan.{Member, state_after, is_cut, closes, last_member, with_byte, push}
+use Rattle.rfc_fields.specs.Scan.{pieces}
+use Rattle.rfc_fields.specs.Scan.Member.{Whole, Malformed}
+use Rattle.rfc_fields.specs.Members.{is_whole, members_of, members}
+use Rattle.rfc_fields.specs.declared.scan.State.{State}
+use Rattle.rfc_fields.specs.declared.scan.State.TheVariants.{Outside, Inside, Escaped}
+use Rattle.rfc_fields.proofs.GrammarLemmas.{false_true}
+
+-- some pieces, of which there's one at least
+pub record SomePieces (ps : List Member) : Type 0 where
+  pub head : Member
+  pub tail : List Member
+  pub is : ps ≡ head ∷ tail
+
+some_push : (b : ℕ) (ps : List Member) → SomePieces ps → SomePieces (push b ps)
+unfolding push
+some_push b ps h = record { head = with_byte b h.head; tail = h.tail; is = ap (push b) h.is }
+
+some_step : (c : Bool) (x y : List Member) → SomePieces x → SomePieces y → SomePieces (cond c x y)
+some_step true x y h k = h
+some_step false x y h k = k
+
+pub some_pieces : (sep : ℕ) (q : Bool) (st : State) (s : List ℕ) → SomePieces (pieces sep q st s)
+unfolding pieces
+some_pieces sep q st [] = record { head = last_member st; tail = []; is = refl }
+some_pieces sep q st (b ∷ s) =
+    some_step (is_cut sep st b) (Whole [] ∷ pieces sep q Outside s) (push b (pieces sep q (state_after q st b) s))
+    (record { head = Whole []; tail = pieces sep q Outside s; is = refl })
+    (some_push b (pieces sep q (state_after q st b) s) (some_pieces sep q (state_after q st b) s))
+
+pub whole_push : (b : ℕ) (ps : List Member) → list_all is_whole (push b ps) ≡ list_all is_whole ps
+unfolding push
+whole_push b [] = refl
+whole_push b (Whole s ∷ ps) = refl
+whole_push b (Malformed ∷ ps) = refl
+
+-- blanks and empty members make no difference
+pub whole_members_of : (ps : List Member) → list_all is_whole (members_of ps) ≡ list_all is_whole ps
+whole_members_of [] = refl
+whole_members_of (Malformed ∷ ps) = refl
+whole_members_of (Whole s ∷ ps) = whole_kept (not (length (trim s) == 0)) (trim s) ps (whole_members_of ps)
+  where
+    whole_kept : (c : Bool) (t : List ℕ) (ps : List Member) → list_all is_whole (members_of ps) ≡ list_all is_whole ps
+        → list_all is_whole (cond c (Whole t ∷ members_of ps) (members_of ps)) ≡ list_all is_whole ps
+    whole_kept true t ps h = h
+    whole_kept false t ps h = h
+
+-- behind a separator that cuts, the scan is outside
+pub cut_outside : (sep : ℕ) (q : Bool) (st : State) (b : ℕ) → (sep == 34) ≡ false → is_cut sep st b ≡ true
+    → state_after q st b ≡ Outside
+cut_outside sep q Outside b g h =
+    let e : b ≡ sep = eqb-true b sep (and_parts (b == sep) true h).0 in
+    ap (state_after q Outside) e ∙ ap (λ c. cond c Inside Outside) g
+cut_outside sep q Inside b g h = absurd (false_true (and_parts (b == sep) false h).1)
+cut_outside sep q Escaped b g h = absurd (false_true (and_parts (b == sep) false h).1)
+
+whole_last : (q : Bool) (st : State) → list_all is_whole (last_member st ∷ []) ≡ closes q st []
+unfolding closes
+whole_last q Outside = refl
+whole_last q Inside = refl
+whole_last q Escaped = refl
+
+whole_step : (sep : ℕ) (q : Bool) (st : State) (b : ℕ) (s : List ℕ) (c : Bool) → is_cut sep st b ≡ c
+    → (sep == 34) ≡ false
+    → list_all is_whole (pieces sep q (state_after q st b) s) ≡ closes q (state_after q st b) s
+    → list_all is_whole (cond c (Whole [] ∷ pieces sep q Outside s) (push b (pieces sep q (state_after q st b) s)))
+    ≡ closes q (state_after q st b) s
+whole_step sep q st b s true e g h =
+    ap (λ t. list_all is_whole (pieces sep q t s)) (sym (cut_outside sep q st b g e)) ∙ h
+whole_step sep q st b s false e g h = whole_push b (pieces sep q (state_after q st b) s) ∙ h
+
+-- each piece is whole exactly if each quote has its end
+pub whole_pieces : (sep : ℕ) (q : Bool) (st : State) (s : List ℕ) → (sep == 34) ≡ false
+    → list_all is_whole (pieces sep q st s) ≡ closes q st s
+unfolding pieces closes
+whole_pieces sep q st [] g = whole_last q st
+whole_pieces sep q st (b ∷ s) g =
+    whole_step sep q st b s (is_cut sep st b) refl g (whole_pieces sep q (state_after q st b) s g)
+
+pub whole_members : (q : Bool) (s : List ℕ) → list_all is_whole (members q s) ≡ closes q Outside s
+whole_members q s = whole_members_of (pieces comma q Outside s) ∙ whole_pieces comma q Outside s refl
+
+-- an empty line has no members
+pub no_members : (q : Bool) → members q [] ≡ []
+unfolding pieces
+no_members q = refl
+
+-- what a loop that has come to some members left knows of the line
+pub well_formed_by : (s : List ℕ) (initial left : List Member) → initial ≡ members true s
+    → list_all is_whole initial ≡ list_all is_whole left → list_all is_whole left ≡ closes true Outside s
+well_formed_by s initial left e same = sym same ∙ ap (list_all is_whole) e ∙ whole_members true s
+
+and_false : (c d : Bool) → c ≡ false → (c && d) ≡ false
+and_false true d e = absurd (false_true (sym e))
+and_false false d e = refl
+
+pub malformed_by : (s : List ℕ) (initial left : List Member) → initial ≡ members true s
+    → list_all is_whole initial ≡ list_all is_whole left → (m : Member) (rest : List Member) → left ≡ m ∷ rest
+    → is_whole m ≡ false → false ≡ closes true Outside s
+malformed_by s initial left e same m rest is bad =
+    sym (ap (list_all is_whole) is ∙ and_false (is_whole m) (list_all is_whole rest) bad)
+    ∙ well_formed_by s initial left e same

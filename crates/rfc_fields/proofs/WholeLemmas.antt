@@ -1,0 +1,156 @@
+-- A whole member is well formed by itself.
+use Rattle.std.proofs.Common.{◌≡◌, ℕ, zero, suc, ◌+◌, ◌-◌, ◌≤◌, Bool, true, false, not, cond, List, [], ◌∷◌}
+use Rattle.std.proofs.Common.{◌++◌, length, get_or, take, drop, refl, sym, ◌∙◌, ap, subst, arith, inl, inr}
+use Rattle.std.proofs.Math.Seq.{take-suc}
+use Rattle.std.proofs.lemmas.Bool.{and_parts, cases_Bool, eqb-true, or_cases}
+use Rattle.std.proofs.lemmas.List.{take_all}
+use Rattle.std.proofs.lemmas.List.Sums.{suffix_len-take_yes, suffix_len-take_no}
+use Rattle.std.specs.Prelude.{◌&&◌, ◌==◌}
+use Rattle.std.specs.List.{list_all, prefix_len, suffix_len}
+use Rattle.headers_syntax.specs.Text.{trim, trim_start, is_blank}
+use Rattle.rfc_fields.specs.Grammar.{comma}
+use Rattle.rfc_fields.specs.Scan.{Member, is_outside, state_after, is_cut, closes, last_member, push, pieces}
+use Rattle.rfc_fields.specs.Scan.Member.{Whole, Malformed}
+use Rattle.rfc_fields.specs.Members.{members_of, closes_member}
+use Rattle.rfc_fields.specs.Laws.{PartsAreWhole, WholeMembersAreWellFormed}
+use Rattle.rfc_fields.specs.declared.scan.State.{State}
+use Rattle.rfc_fields.specs.declared.scan.State.TheVariants.{Outside, Inside, Escaped}
+use Rattle.rfc_fields.proofs.PieceLemmas.{whole_pieces}
+use Rattle.rfc_fields.proofs.GrammarLemmas.{false_true}
+
+-- a blank leaves the state as it is, but behind a backslash
+blank_outside : (q : Bool) (b : ℕ) → is_blank b ≡ true → state_after q Outside b ≡ Outside
+blank_outside q b h =
+    elim (or_cases (b == 9) (b == 32) h) [
+      | inl tab ↦ ap (state_after q Outside) (eqb-true b 9 tab)
+      | inr space ↦ ap (state_after q Outside) (eqb-true b 32 space)
+    ]
+
+inside_step : (q : Bool) → cond (q && false) Escaped Inside ≡ Inside
+inside_step true = refl
+inside_step false = refl
+
+blank_inside : (q : Bool) (b : ℕ) → is_blank b ≡ true → state_after q Inside b ≡ Inside
+blank_inside q b h =
+    elim (or_cases (b == 9) (b == 32) h) [
+      | inl tab ↦ ap (state_after q Inside) (eqb-true b 9 tab) ∙ inside_step q
+      | inr space ↦ ap (state_after q Inside) (eqb-true b 32 space) ∙ inside_step q
+    ]
+
+-- blanks at the start make no difference
+leading_case : (q : Bool) (b : ℕ) (s : List ℕ) (c : Bool) → is_blank b ≡ c
+    → closes q Outside (drop (prefix_len is_blank s) s) ≡ closes q Outside s
+    → closes q Outside (drop (cond c (1 + prefix_len is_blank s) 0) (b ∷ s)) ≡ closes q Outside (b ∷ s)
+unfolding closes
+leading_case q b s true e h =
+    let n : 1 + prefix_len is_blank s ≡ suc (prefix_len is_blank s) = omega arith in
+    ap (λ k. closes q Outside (drop k (b ∷ s))) n ∙ h ∙ ap (λ t. closes q t s) (sym (blank_outside q b e))
+leading_case q b s false e h = refl
+
+leading : (q : Bool) (s : List ℕ) → closes q Outside (trim_start s) ≡ closes q Outside s
+leading q [] = refl
+leading q (b ∷ s) = leading_case q b s (is_blank b) refl (leading q s)
+
+-- and one at the end of a well formed text is behind its last quote
+strip_one : (q : Bool) (st : State) (b : ℕ) → is_blank b ≡ true → closes q st (b ∷ []) ≡ true → closes q st [] ≡ true
+unfolding closes
+strip_one q Outside b h e = refl
+strip_one q Inside b h e = absurd (false_true (sym (ap is_outside (blank_inside q b h)) ∙ e))
+strip_one q Escaped b h e = absurd (false_true e)
+
+strip_last : (q : Bool) (st : State) (s : List ℕ) (b : ℕ) → is_blank b ≡ true → closes q st (s ++ b ∷ []) ≡ true
+    → closes q st s ≡ true
+unfolding closes
+strip_last q st [] b h e = strip_one q st b h e
+strip_last q st (x ∷ s) b h e = strip_last q (state_after q st x) s b h e
+
+trailing : (q : Bool) (st : State) (s : List ℕ) (n : ℕ) → n ≤ length s → closes q st (take n s) ≡ true
+    → closes q st (take (n - suffix_len is_blank (take n s)) s) ≡ true
+trailing q st s zero h e =
+    let same : 0 ≡ 0 - suffix_len is_blank (take 0 s) = omega arith in
+    subst (λ (k : ℕ). closes q st (take k s) ≡ true) same e
+trailing q st s (suc m) h e =
+    elim (cases_Bool (is_blank (get_or s m 0))) [
+      | inl blank ↦
+          let len : suffix_len is_blank (take (suc m) s) ≡ 1 + suffix_len is_blank (take m s) =
+          suffix_len-take_yes is_blank s (suc m) 0 (omega arith) h (ap (λ k. is_blank (get_or s k 0)) (omega arith)
+          ∙ blank)
+          ∙ ap (λ k. 1 + suffix_len is_blank (take k s)) (omega arith) in
+          let front : closes q st (take m s) ≡ true =
+          strip_last q st (take m s) (get_or s m 0) blank (sym (ap (closes q st) (take-suc s m 0 (omega arith))) ∙ e) in
+          let same : m - suffix_len is_blank (take m s) ≡ suc m - suffix_len is_blank (take (suc m) s) = omega arith in
+          subst (λ (k : ℕ). closes q st (take k s) ≡ true) same (trailing q st s m (omega arith) front)
+      | inr other ↦
+          let len : suffix_len is_blank (take (suc m) s) ≡ 0 =
+          suffix_len-take_no is_blank s (suc m) 0 (omega arith) h (ap (λ k. is_blank (get_or s k 0)) (omega arith)
+          ∙ other) in
+          let same : suc m ≡ suc m - suffix_len is_blank (take (suc m) s) = omega arith in
+          subst (λ (k : ℕ). closes q st (take k s) ≡ true) same e
+    ]
+
+-- a well formed text is well formed without the blanks about it
+pub trim_closes : (q : Bool) (s : List ℕ) → closes q Outside s ≡ true → closes q Outside (trim s) ≡ true
+trim_closes q s h =
+    let t = trim_start s in
+    let all : take (length t) t ≡ t = take_all (length t) t (omega arith) in
+    subst (λ (u : List ℕ). closes q Outside (take (length t - suffix_len is_blank u) t) ≡ true) all
+    (trailing q Outside t (length t) (omega arith) (ap (closes q Outside) all ∙ leading q s ∙ h))
+
+-- each whole piece is well formed, the first one from a state on
+abbrev pub PieceCloses : Bool → State → Member → Type 0
+PieceCloses q st (Whole s) = closes q st s ≡ true
+PieceCloses q st Malformed = Unit {0}
+
+abbrev pub PiecesClose : Bool → State → List Member → Type 0
+PiecesClose q st [] = Unit {0}
+PiecesClose q st (m ∷ ms) = PieceCloses q st m × PiecesClose q Outside ms
+
+last_closes : (q : Bool) (st : State) → PieceCloses q st (last_member st)
+unfolding closes
+last_closes q Outside = refl
+last_closes q Inside = tt
+last_closes q Escaped = tt
+
+push_closes : (q : Bool) (st : State) (b : ℕ) (ps : List Member) → PiecesClose q (state_after q st b) ps
+    → PiecesClose q st (push b ps)
+unfolding push closes
+push_closes q st b [] h = tt
+push_closes q st b (Whole s ∷ ps) h = h
+push_closes q st b (Malformed ∷ ps) h = h
+
+closed_at_cut : (sep : ℕ) (q : Bool) (st : State) (b : ℕ) → is_cut sep st b ≡ true → closes q st [] ≡ true
+unfolding closes
+closed_at_cut sep q st b h = (and_parts (b == sep) (is_outside st) h).1
+
+step_closes : (sep : ℕ) (q : Bool) (st : State) (b : ℕ) (s : List ℕ) (c : Bool) → is_cut sep st b ≡ c
+    → PiecesClose q Outside (pieces sep q Outside s) → PiecesClose q (state_after q st b)
+    (pieces sep q (state_after q st b) s)
+    → PiecesClose q st (cond c (Whole [] ∷ pieces sep q Outside s) (push b (pieces sep q (state_after q st b) s)))
+step_closes sep q st b s true e h k = (closed_at_cut sep q st b e, h)
+step_closes sep q st b s false e h k = push_closes q st b (pieces sep q (state_after q st b) s) k
+
+pub pieces_close : (sep : ℕ) (q : Bool) (st : State) (s : List ℕ) → PiecesClose q st (pieces sep q st s)
+unfolding pieces
+pieces_close sep q st [] = (last_closes q st, tt)
+pieces_close sep q st (b ∷ s) =
+    step_closes sep q st b s (is_cut sep st b) refl (pieces_close sep q Outside s)
+    (pieces_close sep q (state_after q st b) s)
+
+members_of_close : (q : Bool) (ps : List Member) → PiecesClose q Outside ps
+    → list_all (closes_member q) (members_of ps) ≡ true
+members_of_close q [] h = refl
+members_of_close q (Malformed ∷ ps) h = members_of_close q ps h.1
+members_of_close q (Whole s ∷ ps) h =
+    kept q (not (length (trim s) == 0)) (trim s) ps (trim_closes q s h.0) (members_of_close q ps h.1)
+  where
+    kept : (q c : Bool) (t : List ℕ) (ps : List Member) → closes q Outside t ≡ true
+        → list_all (closes_member q) (members_of ps) ≡ true
+        → list_all (closes_member q) (cond c (Whole t ∷ members_of ps) (members_of ps)) ≡ true
+    kept q true t ps h k = ap (λ c. c && list_all (closes_member q) (members_of ps)) h ∙ k
+    kept q false t ps h k = k
+
+pub whole_members_close : WholeMembersAreWellFormed
+whole_members_close q line = members_of_close q (pieces comma q Outside line) (pieces_close comma q Outside line)
+
+pub parts_are_whole : PartsAreWhole
+parts_are_whole sep q s g = whole_pieces sep q Outside s g.not_quote

@@ -1,0 +1,30 @@
+use Rattle.std.proofs.Common.{sym, ◌∙◌, ◌+◌, subst, arith}
+use Rattle.std.proofs.lemmas.List.{take_rest}
+use Rattle.rfc_fields.specs.Comments.{HasComment}
+use Rattle.rfc_fields.proofs.CommentLemmas.{behind-end, closed_comment, never-next, no_comment, within-next}
+use Rattle.rfc_fields.proofs.comments.skip_comment.Goals as goal
+
+pub returns-in-Closed : goal.returns-in-Closed
+returns-in-Closed c =
+    subst (HasComment c.args.text.now) (sym (take_rest c.args.text.now (c.loop-place.place + 1)))
+    (closed_comment c.loop-place.nesting c.loop-place.place c.args.text.now c.loop-place-test.true c.if-text-ne40.false
+    (sym c.after.ensures.value ∙ c.in-Closed.is) c.loop-place.invariant.0)
+
+pub returns-in-Never : goal.returns-in-Never
+returns-in-Never c =
+    no_comment c.args.text.now
+    (never-next c.loop-place.nesting c.loop-place.place c.args.text.now _ c.loop-place-test.true
+    (sym c.after.ensures.value ∙ c.in-Never.is) c.loop-place.invariant.0)
+
+pub loop-place-preserved : goal.loop-place-preserved
+loop-place-preserved c = (
+  within-next c.loop-place.nesting c.in-Within.next c.loop-place.place c.args.text.now _ c.loop-place-test.true
+      (sym c.after.ensures.value ∙ c.in-Within.is) c.loop-place.invariant.0,
+  omega (arith, c.loop-place.invariant.1, c.after.ensures.one_more c.in-Within.next c.in-Within.is),
+)
+
+pub returns : goal.returns
+returns c =
+    no_comment c.args.text.now
+    (behind-end c.loop-place.nesting c.loop-place.place c.args.text.now _ (omega (arith, c.loop-place-test.false))
+    c.loop-place.invariant.0)

@@ -1,4 +1,0 @@
-use Rattle.serve_folder.proofs.folder.Folder.listing.Goals as goal
-
-pub returns : goal.returns
-returns c = c.entry_of.ensures.listed c.args.path.now

@@ -1,0 +1,90 @@
+-- Two parts that join are the content.
+use Rattle.std.proofs.Common.{◌≡◌, ◌≤◌, ℕ, ◌+◌, ◌-◌, ◌++◌, List, [], ◌∷◌, length, take, drop, Option, Some, None, refl}
+use Rattle.std.proofs.Common.{sym, ap, append-nil, subst, ◌∙◌, arith}
+use Rattle.std.proofs.lemmas.List.{length-drop, take-append-drop, take_all}
+use Rattle.std.specs.Prelude.{string_bytes}
+use Rattle.http.specs.declared.request.Request.{Request}
+use Rattle.server_connection.specs.Pieces.{AreSent}
+use Rattle.server_connection.specs.declared.piece.Piece.{Piece}
+use Rattle.server_connection.specs.declared.piece.Piece.TheVariants.{Range}
+use Rattle.server_connection.specs.declared.plan.Plan.{Plan as Response}
+use Rattle.decide_preconditions.specs.declared.part.Part.{Part}
+use Rattle.decide_preconditions.specs.declared.plan.Plan.TheVariants.{Single}
+use Rattle.decide_resource.specs.declared.answer.Sends.{Sends}
+use Rattle.decide_resource.specs.declared.answer.Sends.TheVariants.{Planned}
+use Rattle.server_service.specs.Answer.{IsAnswerAt, file_at, pieces_for, pieces_of, source_of, source_sent, status_for}
+use Rattle.server_service.specs.File.{gives_at, gives_of}
+use Rattle.server_service.specs.Parts.{bytes_of, part_extent}
+use Rattle.server_service.specs.declared.file.Entry.{Entry}
+use Rattle.server_service.specs.declared.file.File.{File}
+use Rattle.server_files.specs.declared.kept.Kept.{Kept}
+use Rattle.server_service.specs.declared.settings.Site.{Site}
+use Rattle.server_service.specs.declared.source.Source.{Source}
+use Rattle.server_service.specs.declared.source.Source.TheVariants.{Kept as InMemory}
+use Rattle.server_answers.specs.Joined.{JoinTo}
+use Rattle.server_answers.specs.Stores.{has_at}
+
+-- what the law of bytes in memory says
+abbrev SendsRanges : Type 0
+SendsRanges = (kept : Kept) (pieces : List Piece) (sent : List ℕ) → AreSent (gives_at (InMemory kept)) pieces sent
+    → sent ≡ bytes_of kept.content pieces
+
+part_pieces : (divider : List ℕ) (file : Option File) (part : Part) (source : Source) → Some source ≡ source_of file
+    → pieces_of divider file (Single part) ≡ Range (part_extent part) ∷ []
+part_pieces divider None part source e = absurd (cc e)
+part_pieces divider (Some file) part source e = refl
+
+module _ (law : SendsRanges) (now : Option ℕ) (left : ℕ) (site : Site) (look : List ℕ → Entry)
+    (request : Request (List ℕ)) (response : Response) (kept : Kept)
+    (x : IsAnswerAt now left site (has_at look) request response (Some (InMemory kept))) (place : Option ℕ)
+    (part : Part) (sends : x.answer.sends ≡ Planned place (Single part)) where
+  abbrev divider : List ℕ
+  divider = string_bytes site.divider
+
+  pieces_are : response.pieces.items ≡ Range (part_extent part) ∷ []
+  pieces_are =
+      x.carries.pieces
+      ∙ ap
+      (λ (s : Sends). pieces_for divider site.pages.items x.found.files.items
+      (status_for x.found.status x.answer.reason x.answer.status) s) sends
+      ∙ part_pieces divider (file_at x.found.files.items place) part (InMemory kept)
+      (x.opens ∙ ap (λ (s : Sends). source_sent x.found.files.items s) sends)
+
+  sent_part : (sent : List ℕ) → AreSent (gives_of (Some (InMemory kept))) response.pieces.items sent
+      → sent ≡ take (part.last + 1 - part.first) (drop part.first kept.content)
+  sent_part sent h =
+      law kept response.pieces.items sent h ∙ ap (λ (p : List Piece). bytes_of kept.content p) pieces_are
+      ∙ append-nil (take (part.last + 1 - part.first) (drop part.first kept.content))
+
+halves : (content : List ℕ) (first second : Part) → JoinTo (length content) first second
+    → take (first.last + 1 - first.first) (drop first.first content)
+    ++ take (second.last + 1 - second.first) (drop second.first content) ≡ content
+halves content first second joins =
+    let k : ℕ = first.last + 1 in
+    let front : take (k - first.first) (drop first.first content) ≡ take k content
+    = ap (λ (s : ℕ). take (k - s) (drop s content)) joins.begins
+    ∙ ap (λ (n : ℕ). take n content) (let whole : k - 0 ≡ k = omega arith in whole) in
+    let rest : length (drop k content) ≤ second.last + 1 - k
+    = subst (λ (n : ℕ). n ≤ second.last + 1 - k) (sym (length-drop k content))
+    (subst (λ (n : ℕ). n - k ≤ second.last + 1 - k) joins.ends (let same : second.last + 1 - k ≤ second.last + 1 - k
+    = omega arith in same)) in
+    let back : take (second.last + 1 - second.first) (drop second.first content) ≡ drop k content
+    = ap (λ (s : ℕ). take (second.last + 1 - s) (drop s content)) joins.meet
+    ∙ take_all (second.last + 1 - k) (drop k content) rest in
+    ap (λ (l : List ℕ). l ++ take (second.last + 1 - second.first) (drop second.first content)) front
+    ∙ ap (λ (l : List ℕ). take k content ++ l) back ∙ take-append-drop k content
+
+pub joined : SendsRanges → (now later : Option ℕ) (left more : ℕ) (site : Site) (look : List ℕ → Entry)
+    (request next : Request (List ℕ)) (r s : Response) (kept : Kept) (first second : Part) (p q : Option ℕ)
+    (a b : List ℕ) (x : IsAnswerAt now left site (has_at look) request r (Some (InMemory kept)))
+    (y : IsAnswerAt later more site (has_at look) next s (Some (InMemory kept)))
+    → x.answer.sends ≡ Planned p (Single first) → y.answer.sends ≡ Planned q (Single second)
+    → JoinTo (length kept.content) first second
+    → AreSent (gives_of (Some (InMemory kept))) r.pieces.items a
+    → AreSent (gives_of (Some (InMemory kept))) s.pieces.items b → a ++ b ≡ kept.content
+joined law now later left more site look request next r s kept first second p q a b x y e f joins h k =
+    ap (λ (l : List ℕ). l ++ b) (sent_part law now left site look request r kept x p first e a h)
+    ∙ ap
+    (λ (l : List ℕ). take (first.last + 1 - first.first) (drop first.first kept.content) ++ l)
+    (sent_part law later more site look next s kept y q second f b k)
+    ∙ halves kept.content first second joins

@@ -1,0 +1,18 @@
+-- Requests that are sent again, with a condition.
+use Rattle.std.specs.Prelude.{◌≡◌, ◌≢◌, ℕ, List, [], ◌∷◌}
+use Rattle.http.specs.Request.{head_of}
+use Rattle.http.specs.declared.request.Request.{Request}
+use Rattle.headers.specs.LineMap.{lines_at}
+use Rattle.headers.specs.Lines.{Line}
+use Rattle.decide_preconditions.specs.Preconditions.{IsGetOrHead}
+
+-- Both are GET or HEAD, with the same target, version and fields, but for the field of this name: in the second it has
+-- this field line alone.
+pub record IsAgain (name : List ℕ) (line : Line) (first second : Request (List ℕ)) : Type 0 where
+  pub read : IsGetOrHead (head_of first).method
+  pub read_again : IsGetOrHead (head_of second).method
+  pub uri : (head_of second).uri ≡ (head_of first).uri
+  pub version : (head_of second).version ≡ (head_of first).version
+  pub condition : lines_at (head_of second).headers name ≡ line ∷ []
+  pub others : (other : List ℕ) → other ≢ name
+      → lines_at (head_of second).headers other ≡ lines_at (head_of first).headers other

@@ -1,0 +1,37 @@
+-- Files that a client takes for one.
+use Rattle.std.specs.Prelude.{◌≡◌, ◌⊎◌, ℕ, ◌++◌, Bool, true, List, Option, Some}
+use Rattle.http_header.specs.FieldValue.{FieldValue}
+use Rattle.server_files.specs.Codings.{coding_suffix}
+use Rattle.server_files.specs.Path.{Names}
+use Rattle.server_files.specs.declared.coding.Coding.{Coding}
+use Rattle.server_service.specs.File.{tag_of}
+use Rattle.server_service.specs.declared.file.Entry.{Entry}
+use Rattle.server_service.specs.declared.file.Entry.TheVariants.{Readable}
+use Rattle.server_service.specs.declared.file.File.{File}
+
+-- what a client knows a file by
+pub record Label : Type 0 where
+  pub tag : Option FieldValue
+  pub media_type : FieldValue
+  pub modified : Option ℕ
+  pub coding : Coding
+
+abbrev pub label_of : File → Label
+label_of file = record {
+  tag = tag_of file.source;
+  media_type = file.media_type;
+  modified = file.modified;
+  coding = file.coding;
+}
+
+-- both are the same, or files with the same entity tag, media type, modification date and coding
+abbrev pub AreSimilar : Entry → Entry → Type 0
+AreSimilar a b =
+    (a ≡ b) ⊎ ((f : File) × (g : File) × (a ≡ Readable f) × (b ≡ Readable g) × (label_of f ≡ label_of g))
+
+-- two stores have something similar at the path that this path of a URI names, and beside it in a coding, if codings
+-- are negotiated
+pub record HaveSimilar (negotiates : Bool) (path : List ℕ) (look other : List ℕ → Entry) : Type 0 where
+  pub named : (named : List ℕ) → Names path (Some named) → AreSimilar (look named) (other named)
+  pub beside : (named : List ℕ) (coding : Coding) → negotiates ≡ true → Names path (Some named)
+      → AreSimilar (look (named ++ coding_suffix coding)) (other (named ++ coding_suffix coding))

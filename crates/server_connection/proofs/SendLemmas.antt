@@ -1,0 +1,584 @@
+-- What a step of sending does to a response.
+use Rattle.std.proofs.Common.{◌≡◌, ℕ, ◌+◌, ◌^◌, ◌<◌, ◌≤◌, Bool, true, false, cond, List, [], ◌∷◌, ◌++◌, length}
+use Rattle.std.proofs.Common.{replicate, not, None, refl, sym, ap, ◌∙◌, subst, arith, append_assoc, append-nil, inl}
+use Rattle.std.proofs.Common.{inr}
+use Rattle.std.proofs.lemmas.Bool.{ne_eqb, cond-false}
+use Rattle.std.proofs.lemmas.List.{length-replicate, nil_from_length}
+use Rattle.http.specs.declared.request.Request.{Request}
+use Rattle.http.specs.Request.{head_of, body_of}
+use Rattle.http1.specs.declared.conn.Writing.{Writing}
+use Rattle.http1.specs.declared.conn.Writing.TheVariants as Writes
+use Rattle.http1.specs.declared.server.Server.{Server}
+use Rattle.http1.specs.Conn.{after_data, data_prefix, data_refusal, data_suffix, data_text, finish_text}
+use Rattle.http1.specs.Framing.{method_kind}
+use Rattle.http1.specs.Message.{ReadsRequestMessage, known_of}
+use Rattle.http1.specs.Server.{is_head, peer_method, writing, with_writing, after_end, after_response}
+use Rattle.http1.specs.Server.{planned_response, response_refusal, IsClosed}
+use Rattle.http1_typed.specs.Parts.{reason_of}
+use Rattle.http_server.specs.declared.response.Response.{Response}
+use Rattle.http_server.specs.declared.state.State.{State}
+use Rattle.http_server.specs.declared.state.State.TheVariants.{Open, Closing, Aborted}
+use Rattle.http_server.specs.declared.state.Reason.TheVariants.{Asked}
+use Rattle.http_server.specs.Encoding.{Encodes, answering, size_of, after_body, final_text}
+use Rattle.http_server.specs.Encoding as Whole
+use Rattle.http_server.specs.Exchange.{ArePartsOf, Call, Chain, Exchanges, IsAnswer, ReadsCall, Serves, keeps_open}
+use Rattle.http_server.specs.History.{History, IsServed, output}
+use Rattle.http_server.specs.Machine.{Core, HasRequest, HasResponse, IsRunning}
+use Rattle.http_server.proofs.AnswerLemmas.{body_is_taken, final_answer, starts_over}
+use Rattle.http_server.proofs.ReplyLemmas.{closes, goes_on}
+use Rattle.http_server.proofs.StreamLemmas.{Serves-push}
+use Rattle.server_connection.specs.declared.piece.Piece.{Piece}
+use Rattle.server_connection.specs.declared.plan.Plan.{Plan}
+use Rattle.server_connection.specs.Encoding.{Frames, after_content, after_head, content_len, head_text, plan_size}
+use Rattle.server_connection.specs.Encoding.{plan_fields, prefix_of, size_for}
+use Rattle.server_connection.specs.Literal.{IsLater, IsLiteral, SendsCall}
+use Rattle.server_connection.specs.Machine.{Account, IsLaid, IsSending, Sends, View}
+use Rattle.server_connection.specs.Pieces.{Advances, Gives}
+use Rattle.server_connection.specs.Pieces.Advances.{stays}
+use Rattle.server_connection.specs.Plan.{Answers, IsContentOf, Plans, sent_pieces}
+use Rattle.server_connection.proofs.LiteralLemmas.{SendsCalls-push, rest_same}
+use Rattle.server_connection.proofs.PieceLemmas.{Advances-length, Advances-then}
+
+-- ---- a response with this content
+
+abbrev pub response_of : Plan → List ℕ → Response
+response_of plan content = record {
+  status = plan.status;
+  headers = plan.headers;
+  body = record { items = content; spare = 0 };
+}
+
+framed_text : (w : Writing) (content : List ℕ) → data_refusal w (length content) ≡ None
+    → data_text w content ≡ data_prefix w (length content) ++ (content ++ data_suffix w (length content))
+framed_text Writes.Head content taken = absurd (cc)
+framed_text (Writes.Body e) content taken = refl
+framed_text Writes.Done content taken = absurd (cc)
+framed_text Writes.Upgraded content taken = absurd (cc)
+framed_text Writes.Closed content taken = absurd (cc)
+
+regroup : (a b c d e : List ℕ) → (a ++ b) ++ (c ++ (d ++ e)) ≡ a ++ ((b ++ (c ++ d)) ++ e)
+regroup a b c d e = simp append_assoc
+
+-- what is sent of a content
+abbrev pub shown : Bool → List ℕ → List ℕ
+shown bodiless content = cond bodiless [] content
+
+module _ (plan : Plan) (old new : Server) (head tail content : List ℕ) (same : length content ≡ content_len plan) where
+  abbrev r : Response
+  r = response_of plan content
+
+  sized : size_of r ≡ plan_size plan
+  sized = ap size_for same
+
+  planned : planned_response old plan.status (reason_of plan.status) (size_of r) (plan_fields plan) ≡ head_text old plan
+  planned = ap (λ z. planned_response old plan.status (reason_of plan.status) z (plan_fields plan)) sized
+
+  head_same : Whole.after_head old r ≡ after_head old plan
+  head_same = ap (λ z. after_response old plan.status z (plan_fields plan)) sized
+
+  next_same : (bodiless : Bool) → after_end (after_content bodiless old plan) ≡ after_end (after_body bodiless old r)
+  next_same true = sym (ap after_end head_same)
+  next_same false =
+      sym (λ i. after_end (with_writing (head_same i) (after_data (writing (head_same i)) (same i))))
+
+  module _ (bodiless : Bool) (x : Frames bodiless plan old [] [] new head tail) where
+    valid : response_refusal old plan.status (reason_of plan.status) (size_of r) (plan_fields plan) ≡ None
+    valid = ap (λ z. response_refusal old plan.status (reason_of plan.status) z (plan_fields plan)) sized ∙ x.valid
+
+  text_for : (bodiless : Bool) → Frames bodiless plan old [] [] new head tail → bodiless ≡ is_head (peer_method old)
+      → head ++ (shown bodiless content ++ tail) ≡ final_text bodiless old r
+  text_for true x kind =
+      (λ i. x.head i ++ x.tail i) ∙ ap (λ (t : List ℕ). t ++ finish_text (writing (after_head old plan)) [])
+      (append-nil _)
+      ∙ sym (λ i. planned i ++ finish_text (writing (head_same i)) [])
+  text_for false x kind =
+      let w = writing (after_head old plan) in
+      let taken : data_refusal w (length content) ≡ None =
+      ap (λ s. data_refusal (writing s) (length content)) (sym head_same) ∙ body_is_taken old r (valid false x) kind in
+      let framed : data_text w content ≡ data_prefix w (content_len plan) ++
+      (content ++ data_suffix w (content_len plan)) =
+      framed_text w content taken ∙ ap (λ n. data_prefix w n ++ (content ++ data_suffix w n)) same in
+      let end = finish_text (writing (after_content false old plan)) [] in
+      (λ i. x.head i ++ (content ++ x.tail i))
+      ∙ regroup (head_text old plan) (data_prefix w (content_len plan)) content (data_suffix w (content_len plan)) end
+      ∙ ap (λ (t : List ℕ). head_text old plan ++ (t ++ end)) (sym framed)
+      ∙ sym (λ i. planned i ++ (data_text (writing (head_same i)) content
+      ++ finish_text (writing (with_writing (head_same i) (after_data (writing (head_same i)) (same i)))) []))
+
+  -- what `http_server` says of a response that is whole
+  pub encodes : (bodiless : Bool) → Frames bodiless plan old [] [] new head tail → bodiless ≡ is_head (peer_method old)
+      → Encodes bodiless old r [] new (head ++ (shown bodiless content ++ tail))
+  encodes bodiless x kind =
+      let other = ne_eqb plan.status 101 x.late in
+      record {
+        valid = cond-false _ _ _ other ∙ valid bodiless x;
+        short = λ _. subst (λ n. n < 2 ^ 64) (sym same) x.short;
+        text = text_for bodiless x kind ∙ sym (cond-false _ _ _ other);
+        next = x.next ∙ next_same bodiless ∙ sym (cond-false _ _ _ other);
+      }
+
+-- ---- the steps
+
+shuffle : (a b c d : List ℕ) → a ++ ((b ++ c) ++ d) ≡ (a ++ b) ++ (c ++ d)
+shuffle a b c d = simp append_assoc
+
+out_at_start : (sent pending head prefix base after : List ℕ) → sent ++ pending ≡ base → after ≡ (pending ++ head) ++
+    prefix
+    → (sent ++ after) ++ [] ≡ base ++ ((head ++ prefix) ++ [])
+out_at_start sent pending head prefix base after out is =
+    append-nil _ ∙ ap (λ (t : List ℕ). sent ++ t) is ∙ shuffle sent pending head prefix
+    ∙ ap (λ (t : List ℕ). t ++ (head ++ prefix)) out ∙ sym (ap (λ (t : List ℕ). base ++ t) (append-nil _))
+
+out_after : (sent pending lost base head front bytes : List ℕ) → lost ≡ [] → (sent ++ pending) ++ lost ≡ base ++
+    (head ++ front)
+    → (sent ++ (pending ++ bytes)) ++ [] ≡ base ++ (head ++ (front ++ bytes))
+out_after sent pending lost base head front bytes none out =
+    let before : sent ++ pending ≡ base ++ (head ++ front) =
+    sym (append-nil _) ∙ ap (λ (t : List ℕ). (sent ++ pending) ++ t) (sym none) ∙ out in
+    append-nil _ ∙ sym (append_assoc sent pending bytes) ∙ ap (λ (t : List ℕ). t ++ bytes) before
+    ∙ append_assoc base (head ++ front) bytes ∙ ap (λ (t : List ℕ). base ++ t) (append_assoc head front bytes)
+
+module _ {H : Type 0} (plans : Plans H) (gives : H → Gives) (first before now : H) where
+  pub begins : (k : Core) (x : HasRequest k) {has_head : Bool}
+      → IsLaid plans gives first before (record {
+        config = k.config;
+        state = k.history.state;
+        received = k.history.received;
+        calls = k.history.calls;
+        output = output k.history;
+        has_head = has_head;
+      })
+      → (request : Request (List ℕ)) → ArePartsOf x.message.head (head_of request)
+      → body_of request ≡ k.body → (plan : Plan) → plans before request plan now → (bodiless : Bool)
+      → bodiless ≡ is_head (method_kind x.message.head.method) → (new : Server) (after tail : List ℕ)
+      → Frames bodiless plan k.server k.history.pending [] new after tail
+      → IsSending plans gives first before now (record {
+        config = k.config;
+        history = record (k.history) { pending = after };
+        server = new;
+        tail = tail;
+        left = sent_pieces bodiless plan;
+        has_head = false;
+        body = [];
+      })
+  begins k x laid request parts body plan planned bodiless kind new after tail f =
+      let l = laid.literal in
+      let same : x.base.rest ≡ l.rest =
+      rest_same k.config k.history.calls k.history.received x.base.text l.text x.base.rest l.rest
+      (subst (λ (calls : List Call). Serves k.config k.history.received calls x.base.text x.base.rest) (sym x.calls)
+      x.base.serves) (laid.serves x.base.is_open) in
+      let none : laid.lost ≡ [] = laid.whole (λ aborted. let wrong = sym x.base.is_open ∙ aborted in cc) in
+      let out : output k.history ≡ l.text ++ l.later =
+      sym (append-nil (output k.history)) ∙ ap (λ (t : List ℕ). output k.history ++ t) (sym none) ∙ l.out in
+      let at = subst
+      (λ (r : List ℕ). (reads : ReadsRequestMessage k.config.limits r x.message k.history.unread)
+      × (k.server ≡ answering k.config.limits x.message.head reads.framing)) same (x.reads, x.server) in
+      let s = answering k.config.limits x.message.head at.0.framing in
+      let g = subst (λ t. Frames bodiless plan t k.history.pending [] new after tail) at.1 f in
+      record {
+        response = record {
+          text = l.text;
+          rest = l.rest;
+          serves = laid.serves x.base.is_open;
+          interim = l.later;
+          is_interim = subst (λ t. IsLater k.config.limits t l.rest l.later) x.base.is_open l.is_later;
+          message = x.message;
+          request = request;
+          reads = record {
+            reads = at.0;
+            parts = parts;
+            body = body ∙ x.body;
+            fits = subst (λ (t : List ℕ). length t ≤ k.config.max_body_len) x.body x.fits;
+          };
+          plan = plan;
+          planned = planned;
+          bodiless = bodiless;
+          kind = kind;
+          server = new;
+          head = head_text s plan ++ prefix_of bodiless s plan;
+          tail = tail;
+          frames =
+              record { late = g.late; short = g.short; valid = g.valid; head = refl; tail = g.tail; next = g.next };
+          front = [];
+          left = sent_pieces bodiless plan;
+          advances = stays (sent_pieces bodiless plan);
+          lost = [];
+          out = out_at_start k.history.sent k.history.pending (head_text s plan) (prefix_of bodiless s plan) _ after out
+              g.head;
+        };
+        sends = l.sends;
+        server = refl;
+        tail = refl;
+        left = λ _. refl;
+        head = refl;
+        body = refl;
+        going = λ _. refl;
+        state = inl x.base.is_open;
+      }
+
+  module _ (v : View) (x : IsSending plans gives first before now v) where
+    abbrev pub s : Sends plans gives before now v.config v.history
+    s = x.response
+
+    abbrev again : (h : History) → Serves v.config h.received h.calls s.text s.rest
+        → (reads : ReadsCall v.config s.rest s.message s.request h.unread)
+        → Frames s.bodiless s.plan (answering v.config.limits s.message.head reads.reads.framing) [] [] s.server
+        s.head s.tail
+        → (front : List ℕ) (left : List Piece) → Advances (gives now) (sent_pieces s.bodiless s.plan) front left
+        → (lost : List ℕ) → output h ++ lost ≡ (s.text ++ s.interim) ++ (s.head ++ front)
+        → Sends plans gives before now v.config h
+    again h serves reads frames front left advances lost out = record {
+      text = s.text;
+      rest = s.rest;
+      serves = serves;
+      interim = s.interim;
+      is_interim = s.is_interim;
+      message = s.message;
+      request = s.request;
+      reads = reads;
+      plan = s.plan;
+      planned = s.planned;
+      bodiless = s.bodiless;
+      kind = s.kind;
+      server = s.server;
+      head = s.head;
+      tail = s.tail;
+      frames = frames;
+      front = front;
+      left = left;
+      advances = advances;
+      lost = lost;
+      out = out;
+    }
+
+    -- pieces are put into the output
+    pub moves : v.history.state ≡ Open → (bytes : List ℕ) (left : List Piece) → Advances (gives now) v.left bytes left
+        → IsSending plans gives first before now
+        (record v { history = record (v.history) { pending = v.history.pending ++ bytes }; left = left })
+    moves is_open bytes left step = record {
+      response = again (record (v.history) { pending = v.history.pending ++ bytes }) s.serves s.reads s.frames
+          (s.front ++ bytes)
+          left
+          (Advances-then (gives now) s.advances
+          (subst (λ l. Advances (gives now) l bytes left) (x.left is_open) step)) []
+          (out_after v.history.sent v.history.pending s.lost _ s.head s.front bytes (x.going is_open) s.out);
+      sends = x.sends;
+      server = x.server;
+      tail = x.tail;
+      left = λ _. refl;
+      head = x.head;
+      body = x.body;
+      going = λ _. refl;
+      state = x.state;
+    }
+
+    -- the connection is cut off
+    pub cuts : (left : List Piece) → IsSending plans gives first before now
+        (record v { history = record (v.history) { state = Aborted; pending = [] }; left = left })
+    cuts left = record {
+      response = again (record (v.history) { state = Aborted; pending = [] }) s.serves s.reads s.frames s.front s.left
+          s.advances
+          (v.history.pending ++ s.lost)
+          (ap (λ (t : List ℕ). t ++ (v.history.pending ++ s.lost)) (append-nil v.history.sent)
+          ∙ sym (append_assoc v.history.sent v.history.pending s.lost) ∙ s.out);
+      sends = x.sends;
+      server = x.server;
+      tail = x.tail;
+      left = λ wrong. absurd (cc);
+      head = x.head;
+      body = x.body;
+      going = λ wrong. absurd (cc);
+      state = inr refl;
+    }
+
+    -- bytes of the output are written
+    pub hands_on : (sent pending : List ℕ) → sent ++ pending ≡ output v.history
+        → IsSending plans gives first before now
+        (record v { history = record (v.history) { sent = sent; pending = pending } })
+    hands_on sent pending same = record {
+      response = again (record (v.history) { sent = sent; pending = pending }) s.serves s.reads s.frames s.front
+          s.left s.advances
+          s.lost (ap (λ (t : List ℕ). t ++ s.lost) same ∙ s.out);
+      sends = x.sends;
+      server = x.server;
+      tail = x.tail;
+      left = x.left;
+      head = x.head;
+      body = x.body;
+      going = x.going;
+      state = x.state;
+    }
+
+    module _ (is_open : v.history.state ≡ Open) (none : v.left ≡ []) where
+      abbrev pub content_for : Bool → List ℕ
+      content_for bodiless = cond bodiless (replicate (content_len s.plan) 0) s.front
+
+      is_content : (bodiless : Bool) → Advances (gives now) (sent_pieces bodiless s.plan) s.front []
+          → (length (content_for bodiless) ≡ content_len s.plan) × IsContentOf bodiless (gives now) s.plan
+          (content_for bodiless)
+          × (shown bodiless (content_for bodiless) ≡ s.front)
+      is_content true step =
+          let long = length-replicate (content_len s.plan) 0 in
+          (long, long, nothing (Advances-length (gives now) step))
+        where
+          nothing : 0 ≡ length s.front + 0 → [] ≡ s.front
+          nothing same = sym (nil_from_length s.front (omega (arith, same)))
+      is_content false step =
+          let long = Advances-length (gives now) step in
+          (omega (arith, long), step, refl)
+
+      whole : Advances (gives now) (sent_pieces s.bodiless s.plan) s.front []
+      whole = subst (λ l. Advances (gives now) (sent_pieces s.bodiless s.plan) s.front l)
+          (sym (x.left is_open) ∙ none) s.advances
+
+      abbrev pub content : List ℕ
+      content = content_for s.bodiless
+
+      abbrev pub response : Response
+      response = response_of s.plan content
+
+      abbrev pub call : Call
+      call = (s.request, response)
+
+      pub answers : Answers plans gives before s.request response now
+      answers = (
+        s.plan,
+        s.planned,
+        record { status = refl; headers = refl },
+        subst (λ b. IsContentOf b (gives now) s.plan content)
+            (s.kind ∙ ap (λ (m : List ℕ). is_head (method_kind m)) (sym s.reads.parts.method))
+            (is_content s.bodiless whole).1,
+      )
+
+      -- the connection as `http_server` would have it before the response
+      abbrev at_response : Core
+      at_response = record {
+        config = v.config;
+        history = record (v.history) {
+          state = Open;
+          calls = v.history.calls ++ call ∷ [];
+          sent = s.text ++ s.interim;
+          pending = [];
+        };
+        server = answering v.config.limits s.message.head s.reads.reads.framing;
+        head = None;
+        body = [];
+      }
+
+      has_response : HasResponse at_response response s.bodiless
+      has_response = record {
+        base = record {
+          is_open = refl;
+          answered = v.history.calls;
+          text = s.text;
+          rest = s.rest;
+          serves = s.serves;
+          interim = s.interim;
+          is_interim = s.is_interim;
+          out = append-nil _;
+        };
+        called = record { call = call; calls = refl; message = s.message; request = s.reads };
+        response = refl;
+        kind = s.kind;
+        server = refl;
+        head = refl;
+        body = refl;
+      }
+
+      abbrev text : List ℕ
+      text = s.head ++ (shown s.bodiless content ++ s.tail)
+
+      did : Encodes s.bodiless at_response.server response [] s.server text
+      did = encodes s.plan at_response.server s.server s.head s.tail content (is_content s.bodiless whole).0
+          s.bodiless s.frames
+          s.kind
+
+      ended_output : (s.text ++ s.interim) ++ text ≡ v.history.sent ++ (v.history.pending ++ v.tail)
+      ended_output =
+          ap (λ (t : List ℕ). (s.text ++ s.interim) ++ (s.head ++ (t ++ s.tail))) (is_content s.bodiless whole).2
+          ∙ ap (λ (t : List ℕ). (s.text ++ s.interim) ++ t) (sym (append_assoc s.head s.front s.tail))
+          ∙ sym (append_assoc (s.text ++ s.interim) (s.head ++ s.front) s.tail)
+          ∙ ap (λ (t : List ℕ). t ++ s.tail)
+          (sym s.out ∙ ap (λ (t : List ℕ). output v.history ++ t) (x.going is_open) ∙ append-nil _)
+          ∙ ap (λ (t : List ℕ). output v.history ++ t) (sym x.tail)
+          ∙ append_assoc v.history.sent v.history.pending v.tail
+
+      abbrev pub now_history : State → History
+      now_history state = record (v.history) {
+        state = state;
+        calls = v.history.calls ++ call ∷ [];
+        pending = v.history.pending ++ v.tail;
+      }
+
+      -- the response has ended, and the connection stays open
+      pub stays_open : ¬ (IsClosed v.server) → IsRunning (record {
+        config = v.config;
+        history = now_history Open;
+        server = v.server;
+        head = None;
+        body = [];
+      })
+      stays_open going =
+          let r = goes_on at_response response s.bodiless has_response s.server text did
+          s.frames.late (λ closed. going (subst IsClosed (sym x.server) closed)) in
+          record {
+            base = record {
+              is_open = refl;
+              answered = r.base.answered;
+              text = r.base.text;
+              rest = r.base.rest;
+              serves = r.base.serves;
+              interim = r.base.interim;
+              is_interim = r.base.is_interim;
+              out = sym ended_output ∙ r.base.out;
+            };
+            calls = r.calls;
+            placed = (r.placed.0, x.server ∙ r.placed.1);
+          }
+
+      -- the response has ended, and so has the connection
+      pub closes_after : IsClosed v.server → IsServed v.config (now_history (Closing Asked))
+      closes_after closed =
+          let r = closes at_response response s.bodiless has_response s.server text did
+          s.frames.late (subst IsClosed x.server closed) in
+          record {
+            answered = r.answered;
+            text = r.text;
+            rest = r.rest;
+            serves = r.serves;
+            interim = r.interim;
+            is_interim = r.is_interim;
+            stands = (
+              r.stands.0,
+              r.stands.1,
+              r.stands.2,
+              r.stands.3,
+              r.stands.4,
+              sym ended_output ∙ r.stands.5,
+            );
+          }
+
+      -- ---- its bytes
+
+      ended_text : text ≡ final_text s.bodiless at_response.server response
+      ended_text =
+          text_for s.plan at_response.server s.server s.head s.tail content (is_content s.bodiless whole).0 s.bodiless
+          s.frames s.kind
+
+      valid_response : response_refusal at_response.server response.status (reason_of response.status)
+          (size_of response) (plan_fields s.plan) ≡ None
+      valid_response =
+          valid s.plan at_response.server s.server s.head s.tail content (is_content s.bodiless whole).0 s.bodiless
+          s.frames
+
+      next : v.server ≡ after_end (after_body s.bodiless at_response.server response)
+      next =
+          x.server ∙ s.frames.next
+          ∙ next_same s.plan at_response.server s.server s.head s.tail content (is_content s.bodiless whole).0
+          s.bodiless
+
+      read_as : (a : IsAnswer s.message.head response text)
+          × ((known_of a.message.head.fields).close ≡ not (keeps_open s.message.head response))
+      read_as =
+          subst
+          (λ (t : List ℕ). (a : IsAnswer s.message.head response t)
+          × ((known_of a.message.head.fields).close ≡ not (keeps_open s.message.head response))) (sym ended_text)
+          (final_answer at_response.server response valid_response v.config.limits s.message.head
+          s.reads.reads.framing refl s.bodiless s.kind (did.short s.frames.late))
+
+      abbrev exchanged : (on : Bool) → keeps_open s.message.head response ≡ on
+          → Exchanges v.config on s.rest call (s.interim ++ text) v.history.unread
+      exchanged on persists = record {
+        message = s.message;
+        request = s.reads;
+        interim = s.interim;
+        is_interim = s.is_interim;
+        answer = text;
+        is_answer = read_as.0;
+        joined = refl;
+        persists = persists;
+        announced = read_as.1 ∙ ap not persists;
+      }
+
+      sends_call : (on : Bool) → keeps_open s.message.head response ≡ on
+          → SendsCall plans gives v.config before now s.rest call (s.interim ++ text) v.history.unread
+      sends_call on persists = record {
+        stays = on;
+        exchange = exchanged on persists;
+        plan = s.plan;
+        planned = s.planned;
+        has_head = record { status = refl; headers = refl };
+        bodiless = s.bodiless;
+        kind = s.kind;
+        server = s.server;
+        head = s.head;
+        tail = s.tail;
+        frames = s.frames;
+        content = s.front;
+        is_content = whole;
+        body = sym (is_content s.bodiless whole).2;
+        literal = ap (λ (t : List ℕ). s.head ++ (t ++ s.tail)) (is_content s.bodiless whole).2;
+      }
+
+      abbrev pub account_after : State → Account
+      account_after state = record {
+        config = v.config;
+        state = state;
+        received = v.history.received;
+        calls = v.history.calls ++ call ∷ [];
+        output = v.history.sent ++ (v.history.pending ++ v.tail);
+        has_head = false;
+      }
+
+      abbrev literal_after : (state : State) (on : Bool) → keeps_open s.message.head response ≡ on
+          → IsLater v.config.limits state v.history.unread []
+          → IsLiteral plans gives v.config first now state v.history.received (v.history.calls ++ call ∷ [])
+          ((v.history.sent ++ (v.history.pending ++ v.tail)) ++ [])
+      literal_after state on persists is_later = record {
+        text = s.text ++ (s.interim ++ text);
+        rest = v.history.unread;
+        sends = SendsCalls-push plans gives v.config first before now v.history.calls call v.history.received s.text
+            s.rest (s.interim ++ text) v.history.unread x.sends (sends_call on persists);
+        later = [];
+        is_later = is_later;
+        out = append-nil _ ∙ sym ended_output ∙ append_assoc s.text s.interim text ∙ sym (append-nil _);
+      }
+
+      -- all that was put out is known, and nothing follows the response
+      pub laid_open : ¬ (IsClosed v.server) → IsLaid plans gives first now (account_after Open)
+      laid_open going =
+          elim (starts_over at_response.server response valid_response v.config.limits s.message.head
+          s.reads.reads.framing refl s.bodiless s.kind) [
+            | inl open_still ↦ record {
+              lost = [];
+              literal = literal_after Open true open_still.0 (inl refl);
+              whole = λ _. refl;
+              serves = λ _. Serves-push v.config v.history.calls call v.history.received s.text s.rest
+                  (s.interim ++ text) v.history.unread s.serves (exchanged true open_still.0);
+              between = λ _ _. refl;
+            }
+            | inr ends ↦ absurd (going (subst IsClosed (sym next) ends.1))
+          ]
+
+      pub laid_closed : IsClosed v.server → IsLaid plans gives first now (account_after (Closing Asked))
+      laid_closed closed =
+          elim (starts_over at_response.server response valid_response v.config.limits s.message.head
+          s.reads.reads.framing refl s.bodiless s.kind) [
+            | inl open_still ↦ let wrong = sym closed ∙ ap writing (next ∙ open_still.1) in absurd (cc)
+            | inr ends ↦ record {
+              lost = [];
+              literal = literal_after (Closing Asked) false ends.0 refl;
+              whole = λ _. refl;
+              serves = λ wrong. absurd (cc);
+              between = λ wrong _. absurd (cc);
+            }
+          ]
+
+-- one exchange more
+pub Chain-push : {S : Type 0} (answers : S → Request (List ℕ) → Response → S → Type 0) (calls : List Call)
+    (old between new : S)
+    (c : Call) → Chain answers old calls between → answers between c.0 c.1 new → Chain answers old (calls ++ c ∷ []) new
+Chain-push answers [] old between new c chain last =
+    (new, subst (λ t. answers t c.0 c.1 new) chain last, refl)
+Chain-push answers (call ∷ calls) old between new c chain last =
+    (chain.0, chain.1, Chain-push answers calls chain.0 between new c chain.2 last)

@@ -1,0 +1,16 @@
+use Rattle.std.proofs.Common.{refl}
+use Rattle.server_connection.specs.Connection.IsReached.{begun}
+use Rattle.server_connection.specs.Machine.{new_past}
+use Rattle.server_connection.proofs.TurnLemmas.{laid_first, waited}
+use Rattle.server_connection.proofs.connection.Connection.new.Goals as goal
+
+pub returns-clause-begins : goal.returns-clause-begins
+returns-clause-begins g c = λ first.
+    let plans = g.A.Application.plans in
+    let gives = g.A.Application.gives in
+    let m = c.new.result in
+    begun m c.new.ensures.config
+    (waited plans gives first first m new_past c.new.ensures.phase (
+      (first, refl, λ _. refl, laid_first plans gives first m c.new.ensures.state c.new.ensures.output),
+      c.new.ensures.holds,
+    ))

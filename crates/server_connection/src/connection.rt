@@ -1,0 +1,204 @@
+//! A connection, as its host has it.
+ghost use Rattle.std.specs.Prelude.{◌≡◌, ◌↔◌, ℕ, [], List, length, true, IfSome, OnErr, OnOk, IsTrue};
+ghost use Rattle.http_server.specs.declared.state.Config.{Config};
+ghost use Rattle.server_connection.specs.Connection.{Exchanged, HasRested, IsReached, IsSaid};
+ghost use Rattle.server_connection.specs.Machine.{IsNextRange, Moves, Offers};
+
+use crate::application::Application;
+use crate::machine::{Machine, Phase};
+use crate::piece::Extent;
+use crate::plan::Plan;
+use bytes::Bytes;
+use http::Request;
+use http_server::{Config, MAX_HEADERS, Reason, State};
+use httparse::spans::EMPTY_HEADER_SPAN;
+use std::alloc::{AllocError, Global};
+use std::hash::RandomState;
+
+/// What a connection wants of its host.
+#[derive(Clone, Copy, Debug, PartialEq, Eq)]
+pub enum Event {
+    /// `receive`, or `finish_input`.
+    NeedsInput,
+    /// Read `request`, and `respond`.
+    Request,
+    /// Write what it offers, and say so by `sent`.
+    Output,
+    /// All was sent: close.
+    Closed(Reason),
+    /// Memory ran out, or a response can't be sent to its end: close.
+    Aborted,
+    /// Ask again.
+    Busy,
+}
+
+/// One connection of a server. Ask `next` what it wants, do so, and ask again.
+#[derive(Drop)]
+pub struct Connection {
+    pub(crate) machine: Machine,
+}
+
+impl Connection {
+    /// A connection that has received nothing. It allocates nothing. The client chooses the names of header fields,
+    /// so their maps take secret keys.
+    pub fn new<A: Application>(alloc: Global, keys: RandomState, config: Config) -> Connection
+        ensures begins { (first : A) → IsReached A.plans A.gives config first result.machine first [] [] }
+        ensures phase { result.machine.phase ≡ Phase.Receiving }
+    {
+        Connection {
+            machine: Machine::new(alloc, keys, config),
+        }
+    }
+
+    /// Receives these bytes, or none if out of memory. Call it where `next` says `NeedsInput`.
+    pub fn receive<A: Application>(&mut self, bytes: &[u8]) -> Result<(), AllocError>
+        requires { self.old.machine.phase ≡ Phase.Receiving }
+        ensures ok { OnOk result ((now : A)
+            → Moves A.plans A.gives self.old.machine now bytes.now [] self.new.machine now) }
+        ensures err { OnErr result ((now : A)
+            → Moves A.plans A.gives self.old.machine now [] [] self.new.machine now) }
+        ensures phase { self.new.machine.phase ≡ Phase.Receiving }
+    {
+        if self.machine.ended {
+            return Err(AllocError);
+        }
+        self.machine.receive(bytes)
+    }
+
+    /// Says that the input ends here. Call it where `next` says `NeedsInput`.
+    pub fn finish_input<A: Application>(&mut self)
+        requires { self.old.machine.phase ≡ Phase.Receiving }
+        ensures moves { (now : A) → Moves A.plans A.gives self.old.machine now [] [] self.new.machine now }
+        ensures ended { self.new.machine.ended ≡ true }
+    {
+        self.machine.finish_input();
+    }
+
+    /// Does what needs nothing of the host, and says what the connection wants then.
+    pub fn next<A: Application>(&mut self) -> Event
+        ensures moves { (now : A) → Moves A.plans A.gives self.old.machine now [] [] self.new.machine now }
+        ensures said { IsSaid self.new.machine result }
+        ensures rests { result ≡ Event.NeedsInput → (config : Config) (first now : A) (received sent : List ℕ)
+            → IsReached A.plans A.gives config first self.old.machine now received sent
+            → HasRested A.plans A.gives first self.new.machine now received sent }
+    {
+        let mut spans = [EMPTY_HEADER_SPAN; MAX_HEADERS];
+        // A loop is proved to end, so this one counts its turns.
+        for _ in 0..u64::MAX {
+            if !self.machine.step::<A>(&mut spans) {
+                return self.event();
+            }
+        }
+        Event::Busy
+    }
+
+    fn event(&self) -> Event
+        ensures { IsSaid self.now.machine result }
+    {
+        let machine = &self.machine;
+        if machine.is_open() && self.is_asking() {
+            return Event::Request;
+        }
+        if !machine.output.is_empty() {
+            return Event::Output;
+        }
+        match machine.state {
+            State::Open => self.open_event(),
+            State::Closing(why) => Event::Closed(why),
+            _ => Event::Aborted,
+        }
+    }
+
+    fn open_event(&self) -> Event
+        requires state { self.now.machine.state ≡ State.Open }
+        requires output { self.now.machine.output.items ≡ [] }
+        ensures { IsSaid self.now.machine result }
+    {
+        match self.machine.phase {
+            Phase::Receiving => Event::NeedsInput,
+            Phase::Asking => Event::Request,
+            Phase::Responding => match self.machine.range() {
+                Some(_) => Event::Output,
+                None => Event::Busy,
+            },
+        }
+    }
+
+    /// The request that waits for its plan, with its content.
+    pub fn request(&self) -> &Request<Bytes>
+        ensures { result.now ≡ self.now.machine.request }
+    {
+        &self.machine.request
+    }
+
+    /// Answers the request that waits.
+    pub fn respond<A: Application>(&mut self, plan: Plan)
+        requires { self.old.machine.phase ≡ Phase.Asking }
+        ensures { (before now : A) → A.plans before self.old.machine.request plan now
+            → Moves A.plans A.gives self.old.machine before [] [] self.new.machine now }
+    {
+        self.machine.respond::<A>(plan);
+    }
+
+    /// What is to be written next: these bytes, or the first of them.
+    pub fn output(&self) -> &[u8]
+        ensures { result.now ≡ self.now.machine.output.items }
+    {
+        self.machine.output.as_slice()
+    }
+
+    /// What is to be written next, if there is no output: bytes of what the application has open.
+    pub fn range(&self) -> Option<Extent>
+        ensures { IfSome result (λ extent. IsNextRange self.now.machine extent) }
+    {
+        self.machine.range()
+    }
+
+    /// How many bytes it offers to be written next.
+    pub fn offered(&self) -> u64 {
+        let output = &self.machine.output;
+        if !output.is_empty() {
+            return output.len() as u64;
+        }
+        match self.machine.range() {
+            Some(extent) => extent.len,
+            None => 0,
+        }
+    }
+
+    /// Says that so many of the bytes that it offers were written. If it offered fewer, it is aborted.
+    pub fn sent<A: Application>(&mut self, count: usize)
+        ensures { (now : A) (bytes : List ℕ) → length bytes ≡ count → Offers (A.gives now) self.old.machine bytes
+            → Moves A.plans A.gives self.old.machine now [] bytes self.new.machine now }
+    {
+        self.machine.hand_out::<A>(count);
+    }
+
+    /// Whether a request waits for its plan.
+    pub fn is_asking(&self) -> bool
+        ensures { IsTrue result ↔ (self.now.machine.phase ≡ Phase.Asking) }
+    {
+        matches!(self.machine.phase, Phase::Asking)
+    }
+
+    /// Whether input may be received.
+    pub fn is_receiving(&self) -> bool
+        ensures { IsTrue result ↔ (self.now.machine.phase ≡ Phase.Receiving) }
+    {
+        matches!(self.machine.phase, Phase::Receiving)
+    }
+
+    /// Whether HTTP has nothing more to do here, and all was handed out.
+    ///
+    /// This is the theorem of the crate: whatever the history of calls, what was handed out answers what was received.
+    pub fn is_done<A: Application>(&self) -> bool
+        ensures { (config : Config) (first now : A) (received sent : List ℕ)
+            → IsReached A.plans A.gives config first self.now.machine now received sent
+            → Exchanged A.plans A.gives config first now received sent result }
+    {
+        match self.machine.state {
+            State::Closing(_) => self.machine.output.is_empty(),
+            _ => false,
+        }
+    }
+}

@@ -1,0 +1,415 @@
+-- What a connection sends in answer to a literal request.
+use Rattle.std.proofs.Common.{◌≡◌, ◌≢◌, ℕ, ◌+◌, ◌<◌, ◌≤◌, ◌⊎◌, Bool, true, false, not, List, []}
+use Rattle.std.proofs.Common.{◌∷◌, ◌++◌, length}
+use Rattle.std.proofs.Common.{cond, take, codes, Some, None, refl, sym, ap, subst, ◌∙◌, arith, append-nil}
+use Rattle.std.proofs.Common.{inl, inr}
+use Rattle.std.proofs.Common.{zero, suc}
+use Rattle.std.specs.Prelude.{Any, slice_index_or}
+use Rattle.std.proofs.lemmas.Bool.{ne_eqb, cond-false}
+use Rattle.std.proofs.lemmas.List.{length-append}
+use Rattle.std.proofs.lemmas.List.Elements.{All-nil, All-cons}
+use Rattle.std.proofs.lemmas.List.Sums.{AllPass-from_list_all}
+use Rattle.http.specs.declared.error.Error.{Error}
+use Rattle.http.specs.declared.error.Error.TheVariants as Invalid
+use Rattle.http.specs.declared.request.Request.{Request}
+use Rattle.httparse.specs.Grammar.{RequestHead, trim_ows}
+use Rattle.httparse.proofs.GrammarLemmas.{ReadsRequest-append, request_unique}
+use Rattle.http_header.specs.FieldName.{IsFieldName}
+use Rattle.http_header.specs.FieldValue.{FieldValue, IsFieldValue}
+use Rattle.http_header.specs.HeaderMap.{Entries, RefusesAppend, value_count}
+use Rattle.http_header.specs.Token.{is_token_byte, is_value_byte}
+use Rattle.http1.specs.declared.conn.Limits.{Limits}
+use Rattle.http1.specs.declared.framing.Framing.{Framing}
+use Rattle.http1.specs.Fields.{Header, known_fields}
+use Rattle.http1.specs.Framing.{method_kind}
+use Rattle.http1.specs.Message as Wire
+use Rattle.http1.specs.Message.{AcceptsRequest, ReadsRequestMessage, known_of}
+use Rattle.http1.specs.Server.{is_head, request_of, response_refusal}
+use Rattle.http1.specs.Text.{eq_ignore_case}
+use Rattle.http1_typed.specs.Parts.{reason_of}
+use Rattle.http_server.specs.declared.state.Config.{Config}
+use Rattle.http_server.specs.declared.state.Reason.TheVariants.{Asked, EndOfInput, Refused}
+use Rattle.http_server.specs.declared.state.Refusal.{Refusal}
+use Rattle.http_server.specs.declared.state.Refusal.TheVariants.{Truncated, Unreadable, BodyTooLarge, InvalidPart}
+use Rattle.http_server.specs.declared.state.Refusal.TheVariants.{InvalidHost, UnknownCoding, InvalidResponse}
+use Rattle.http_server.specs.declared.state.State.{State}
+use Rattle.http_server.specs.declared.state.State.TheVariants.{Open, Closing, Upgraded, Aborted}
+use Rattle.http_server.specs.Encoding.{answering, refusal_of, size_of}
+use Rattle.http_server.specs.Exchange.{Call, Chain, Exchanges, ExpectsContinue, IsAnswer, ReadsCall, Serves}
+use Rattle.http_server.specs.Exchange.{keeps_open, map_of}
+use Rattle.http_server.specs.History.{HasInvalidHost, HasInvalidPart, HasTooManyFields, HasUnknownCoding, History}
+use Rattle.http_server.specs.History.{IsPartError, Justifies, NextIs, Stands}
+use Rattle.http_server.specs.Host.{IsHostValid}
+use Rattle.http_server.specs.Response.{fields_of}
+use Rattle.server_connection.specs.Connection.{Exchanged, IsClosing}
+use Rattle.server_connection.specs.Encoding.{Frames, content_len, plan_fields, plan_size, size_for}
+use Rattle.server_connection.specs.Literal.{IsLiteral, SendsCall, SendsCalls}
+use Rattle.server_connection.specs.Pieces.{AreSent, Gives}
+use Rattle.server_connection.specs.Plan.{Answers, HasHeadOf, IsContentOf, Plans, sent_pieces}
+use Rattle.server_connection.specs.declared.plan.Plan.{Plan}
+use Rattle.server_connection.proofs.PieceLemmas.{Advances-length}
+use Rattle.server_laws.specs.Literal.{AsksForRoot, request_text, root_head}
+use Rattle.server_laws.specs.Served.{GoesOn, IsOneAnswer}
+use Rattle.server_laws.proofs.RequestLemmas.{get_asked, get_reads, get_valid, message_with, one_get}
+use Rattle.server_laws.proofs.RequestLemmas.{root_text}
+
+abbrev stream : List ℕ
+stream = request_text (codes "GET")
+
+-- ---- the request alone
+
+long : 0 < length stream
+long = omega arith
+
+empty_reads : (limits : Limits) (m : Wire.Request) (rest : List ℕ) → ¬ (ReadsRequestMessage limits [] m rest)
+empty_reads limits m rest h =
+    let more = ReadsRequest-append [] m.head h.after_head stream h.head.reads in
+    let same = request_unique stream m.head (root_head (codes "GET")) (h.after_head ++ stream) [] more get_valid in
+    let len : length (h.after_head ++ stream) ≡ 0 = ap length same.1 in
+    omega (arith, length-append h.after_head stream, len, long)
+
+abbrev message : Wire.Request
+message = message_with (codes "GET")
+
+-- each whole request that the stream begins with is this one
+next_is : (limits : Limits) (rest : List ℕ) (P : Wire.Request → Type 0) → 35 ≤ limits.max_head_len
+    → (rest ≡ stream) ⊎ (rest ≡ []) → NextIs limits rest P → P message
+next_is limits rest P room at next =
+    elim at [
+      | inl is ↦
+          next [] message []
+          (subst (λ (s : List ℕ). ReadsRequestMessage limits s message []) (sym (append-nil rest ∙ is))
+          (get_reads limits room))
+      | inr is ↦
+          next stream message []
+          (subst (λ (s : List ℕ). ReadsRequestMessage limits s message []) (ap (λ (s : List ℕ). s ++ stream) (sym is))
+          (get_reads limits room))
+    ]
+
+few_fields : ¬ (HasTooManyFields message)
+few_fields why = elim why [ inl fields ↦ omega (arith, fields) | inr trailers ↦ omega (arith, trailers) ]
+
+host_is_valid : ¬ (HasInvalidHost message)
+unfolding trim_ows
+host_is_valid why = why (All-cons IsHostValid _ [] (λ named. refl) (All-nil IsHostValid))
+
+coding_is_known : ¬ (HasUnknownCoding message)
+unfolding known_fields eq_ignore_case trim_ows
+coding_is_known why = cc
+
+waits_for_nothing : (limits : Limits) → ¬ (ExpectsContinue limits stream)
+unfolding known_fields eq_ignore_case trim_ows
+waits_for_nothing limits why =
+    let same = request_unique stream why.0 (root_head (codes "GET")) why.2 [] why.3.reads get_valid in
+    let asked = subst (λ (h : RequestHead). (request_of h why.1).expects_continue ≡ true) same.0 why.4 in
+    not_waiting why.1 asked
+  where
+    not_waiting : (framing : Framing) → (request_of (root_head (codes "GET")) framing).expects_continue ≡ true → ⊥
+    not_waiting framing asked = cc
+
+-- ---- the parts of the request are valid
+
+abbrev headers : List Header
+headers = (codes "Host", codes "a.example") ∷ []
+
+any_at : {X : Type 0} (P : X → Type 0) (h : X) (k : ℕ) (x : X) → k < 1 → slice_index_or (h ∷ []) k x ≡ x → P x → P h
+any_at P h zero x low is p = subst P (sym is) p
+any_at P h (suc k) x low is p = absurd (omega (arith, low))
+
+any_one : {X : Type 0} (P : X → Type 0) (h : X) → Any P (h ∷ []) → P h
+any_one P h why = any_at P h why.0 why.1 why.2 why.3 why.4
+
+take_none : (n : ℕ) → take {A = Header} n [] ≡ []
+take_none zero = refl
+take_none (suc n) = refl
+
+no_room : (name : List ℕ) (m : Entries FieldValue) → length m ≤ 1 → value_count m ≤ 1 → ¬ (RefusesAppend m name)
+no_room name m few small why =
+    elim why [
+      | inl full ↦ omega (arith, full, small)
+      | inr new ↦ elim new.1 [ inl names ↦ omega (arith, names, few) | inr values ↦ omega (arith, values, small) ]
+    ]
+
+no_room_at : (count : ℕ) (name : List ℕ) → ¬ (RefusesAppend (map_of (take count headers)) name)
+no_room_at zero name = no_room name [] (omega arith) (omega arith)
+no_room_at (suc n) name =
+    subst (λ (l : List Header). ¬ (RefusesAppend (map_of ((codes "Host", codes "a.example") ∷ l)) name))
+    (sym (take_none n)) (no_room name (map_of headers) (omega arith) (omega arith))
+
+no_part_error : (e : Error) → ¬ (IsPartError e (codes "GET") headers)
+unfolding is_token_byte
+no_part_error Invalid.StatusCode why = why
+no_part_error Invalid.Method why = why (omega arith, AllPass-from_list_all is_token_byte (codes "GET") refl)
+no_part_error (Invalid.Uri e) why = why
+no_part_error (Invalid.UriParts e) why = why
+no_part_error Invalid.HeaderName why =
+    any_one (λ (h : Header). ¬ (IsFieldName h.0)) (codes "Host", codes "a.example") why
+    ((omega arith, AllPass-from_list_all is_token_byte (codes "Host") refl), omega arith)
+no_part_error Invalid.HeaderValue why =
+    any_one (λ (h : Header). ¬ (IsFieldValue h.1)) (codes "Host", codes "a.example") why
+    (AllPass-from_list_all is_value_byte (codes "a.example") refl)
+no_part_error Invalid.MaxSizeReached why = no_room_at why.0 why.1 why.2
+no_part_error Invalid.OutOfMemory why = why
+
+parts_are_valid : (e : Error) → ¬ (HasInvalidPart e message)
+unfolding trim_ows
+parts_are_valid e why =
+    elim why [ inl target ↦ target None None (codes "/") root_text | inr other ↦ no_part_error e other ]
+
+-- ---- the connection
+
+module _ {H : Type 0} (plans : Plans H) (gives : H → Gives) (config : Config) (room : 35 ≤ config.limits.max_head_len)
+    (first : H) where
+  abbrev pub GoOn : Type 0
+  GoOn =
+      (request : Request (List ℕ)) (plan : Plan) (after : H) → AsksForRoot (codes "GET") request
+      → plans first request plan after → GoesOn config.limits (root_head (codes "GET")) plan
+
+  -- ---- what was read
+
+  abbrev Progress : List Call → List ℕ → Type 0
+  Progress answered rest =
+      ((answered ≡ []) × (rest ≡ stream)) ⊎ ((c : Call) × (answered ≡ c ∷ []) × (rest ≡ []))
+
+  ends : (stays : Bool) (c : Call) (text after : List ℕ) → Exchanges config stays stream c text after → after ≡ []
+  ends stays c text after e = (get_asked config e.message c.0 after e.request).1
+
+  not_on_empty : (stays : Bool) (c : Call) (text after : List ℕ) → ¬ (Exchanges config stays [] c text after)
+  not_on_empty stays c text after e = empty_reads config.limits e.message after e.request.reads
+
+  progress : (answered : List Call) (text rest : List ℕ) → Serves config stream answered text rest
+      → Progress answered rest
+  progress [] text rest h = inl (refl, sym h.0)
+  progress (c ∷ []) text rest h = inr (c, refl, sym h.5.0 ∙ ends true c h.0 h.1 h.4)
+  progress (c ∷ d ∷ more) text rest h =
+      let done : h.1 ≡ [] = ends true c h.0 h.1 h.4 in
+      absurd
+      (not_on_empty true d h.5.0 h.5.1
+      (subst (λ (s : List ℕ). Exchanges config true s d h.5.0 h.5.1) done h.5.4))
+
+  module _ (good : GoOn) (last : H) where
+    -- ---- the response
+
+    record IsPlannedCall (c : Call) : Type 0 where
+      plan : Plan
+      planned : plans first c.0 plan last
+      has_head : HasHeadOf plan c.1
+      content : AreSent (gives last) plan.pieces.items c.1.body.items
+      goes : GoesOn config.limits (root_head (codes "GET")) plan
+
+    called : (c : Call) → AsksForRoot (codes "GET") c.0 → Chain (Answers plans gives) first (c ∷ []) last
+        → IsPlannedCall c
+    called c asks chain =
+        let next = chain.0 in
+        let answer : Answers plans gives first c.0 c.1 last =
+        subst (λ (h : H). Answers plans gives first c.0 c.1 h) (sym chain.2) chain.1 in
+        record {
+          plan = answer.0;
+          planned = answer.1;
+          has_head = answer.2;
+          content =
+              subst
+              (λ (m : List ℕ). IsContentOf (is_head (method_kind m)) (gives last) answer.0 c.1.body.items) asks.method
+              answer.3;
+          goes = good c.0 answer.0 last asks answer.1;
+        }
+
+    fields_same : (c : Call) (p : IsPlannedCall c) → fields_of c.1 ≡ plan_fields p.plan
+    fields_same c p = p.has_head.headers
+
+    size_same : (c : Call) (p : IsPlannedCall c) → size_of c.1 ≡ plan_size p.plan
+    size_same c p =
+        let len : content_len p.plan ≡ length c.1.body.items + 0 = Advances-length (gives last) p.content in
+        ap size_for (omega (arith, len))
+
+    -- what refuses the response refuses the plan
+    refusal_same : (c : Call) (p : IsPlannedCall c) (framing : Framing)
+        → refusal_of (answering config.limits (root_head (codes "GET")) framing) c.1
+        ≡ response_refusal (answering config.limits (root_head (codes "GET")) framing) p.plan.status
+        (reason_of p.plan.status) (plan_size p.plan) (plan_fields p.plan)
+    refusal_same c p framing =
+        let server = answering config.limits (root_head (codes "GET")) framing in
+        let late : c.1.status ≢ 101 = λ is. p.goes.late (sym p.has_head.status ∙ is) in
+        cond-false _ _ _ (ne_eqb c.1.status 101 late)
+        ∙ (λ i. response_refusal server (p.has_head.status i) (reason_of (p.has_head.status i)) (size_same c p i)
+        (fields_same c p i))
+
+    keeps : (c : Call) (p : IsPlannedCall c) → keeps_open (root_head (codes "GET")) c.1 ≡ true
+    unfolding known_fields eq_ignore_case trim_ows
+    keeps c p =
+        ap (λ (hs : List Header). not (known_fields hs).close) (fields_same c p)
+        ∙ ap not p.goes.stays
+
+    -- ---- how it ended
+
+    module _ (h : History) (chain : Chain (Answers plans gives) first h.calls last) where
+      chained : (calls : List Call) → h.calls ≡ calls → Chain (Answers plans gives) first calls last
+      chained calls is = subst (λ (l : List Call). Chain (Answers plans gives) first l last) is chain
+
+      abbrev At : List Call → List ℕ → Type 0
+      At answered rest = ((answered ≡ []) × (rest ≡ stream)) ⊎ (rest ≡ [])
+
+      place : (answered : List Call) (rest : List ℕ) → At answered rest → (rest ≡ stream) ⊎ (rest ≡ [])
+      place answered rest at = elim at [ inl is ↦ inl is.1 | inr is ↦ inr is ]
+
+      -- the connection refused nothing
+      refuses : (why : Refusal) (answered : List Call) (rest : List ℕ) → At answered rest
+          → Justifies why config h answered rest → ⊥
+      refuses Truncated answered rest at x =
+          elim at [
+            | inl is ↦
+                x.3 message []
+                (subst (λ (s : List ℕ). ReadsRequestMessage config.limits s message []) (sym is.1)
+                (get_reads config.limits room))
+            | inr is ↦ x.2 is
+          ]
+      refuses (Unreadable e) answered rest at x =
+          few_fields (next_is config.limits rest HasTooManyFields room (place answered rest at) x.1)
+      refuses BodyTooLarge answered rest at x =
+          let large =
+          next_is config.limits rest (λ m. config.max_body_len < length m.body.bytes) room (place answered rest at)
+          x.1 in
+          omega (arith, large)
+      refuses (InvalidPart e) answered rest at x =
+          parts_are_valid e (next_is config.limits rest (HasInvalidPart e) room (place answered rest at) x.1)
+      refuses InvalidHost answered rest at x =
+          host_is_valid (next_is config.limits rest HasInvalidHost room (place answered rest at) x.1)
+      refuses UnknownCoding answered rest at x =
+          coding_is_known (next_is config.limits rest HasUnknownCoding room (place answered rest at) x.1)
+      refuses (InvalidResponse e) answered rest at x =
+          elim at [
+            | inl is ↦
+                let c = x.1.call in
+                let m = x.1.message in
+                let read : ReadsCall config stream m c.0 x.0 =
+                subst (λ (s : List ℕ). ReadsCall config s m c.0 x.0) is.1 x.1.request in
+                let asks = (get_asked config m c.0 x.0 read).0 in
+                let calls : h.calls ≡ c ∷ [] = x.1.calls ∙ ap (λ (l : List Call). l ++ c ∷ []) is.0 in
+                let p = called c asks (chained (c ∷ []) calls) in
+                let head = (one_get config.limits m x.0 read.reads).head in
+                let framing = x.1.request.reads.framing in
+                let server = answering config.limits (root_head (codes "GET")) framing in
+                let none = p.goes.accepted framing in
+                let refusal : response_refusal server p.plan.status (reason_of p.plan.status) (plan_size p.plan)
+                (plan_fields p.plan) ≡ Some e =
+                sym (refusal_same c p framing)
+                ∙ ap (λ (r : RequestHead). refusal_of (answering config.limits r framing) c.1) (sym head)
+                ∙ x.2 in
+                cc (none, refusal)
+            | inr is ↦
+                empty_reads config.limits x.1.message x.0
+                (subst (λ (s : List ℕ). ReadsRequestMessage config.limits s x.1.message x.0) is x.1.request.reads)
+          ]
+
+      abbrev Result : List ℕ → Type 0
+      Result sent = IsOneAnswer plans gives config.limits (root_head (codes "GET")) first last sent
+
+      by_call : (c : Call) (text after : List ℕ) → SendsCall plans gives config first last stream c text after
+          → Result text
+      by_call c text after s =
+          let e = s.exchange in
+          let asks = (get_asked config e.message c.0 after e.request).0 in
+          let head = (one_get config.limits e.message after e.request.reads).head in
+          let framing = e.request.reads.framing in
+          let quiet : e.interim ≡ [] =
+          elim e.is_interim [ inl none ↦ none | inr waits ↦ absurd (waits_for_nothing config.limits waits.1) ] in
+          let text_is : text ≡ e.answer = e.joined ∙ ap (λ (l : List ℕ). l ++ e.answer) quiet in
+          let bodied : s.bodiless ≡ false =
+          s.kind ∙ ap (λ (r : RequestHead). is_head (method_kind r.method)) head in
+          let pieces : AreSent (gives last) s.plan.pieces.items s.content =
+          subst (λ (b : Bool). AreSent (gives last) (sent_pieces b s.plan) s.content) bodied s.is_content in
+          let body : s.content ≡ c.1.body.items = s.body ∙ ap (λ (b : Bool). cond b [] c.1.body.items) bodied in
+          record {
+            request = c.0;
+            asks = asks;
+            plan = s.plan;
+            planned = s.planned;
+            response = c.1;
+            has_head = s.has_head;
+            content = subst (AreSent (gives last) s.plan.pieces.items) body pieces;
+            answer =
+                subst (λ (r : RequestHead). IsAnswer r c.1 text) head
+                (subst (λ (t : List ℕ). IsAnswer e.message.head c.1 t) (sym text_is) e.is_answer);
+            framing = framing;
+            server = s.server;
+            front = s.head;
+            tail = s.tail;
+            frames =
+                subst
+                (λ (r : RequestHead).
+                Frames false s.plan (answering config.limits r framing) [] [] s.server s.head s.tail) head
+                (subst
+                (λ (b : Bool).
+                Frames b s.plan (answering config.limits e.message.head framing) [] [] s.server s.head s.tail)
+                bodied s.frames);
+            literal = text_is ∙ s.literal ∙ ap (λ (t : List ℕ). s.head ++ (t ++ s.tail)) body;
+          }
+
+      one_sent : (c : Call) (text rest : List ℕ)
+          → SendsCalls plans gives config first last stream (c ∷ []) text rest → Result text
+      one_sent c text rest x =
+          let alone : text ≡ x.1 = x.4 ∙ ap (λ (l : List ℕ). x.1 ++ l) x.6.2 ∙ append-nil x.1 in
+          subst Result (sym alone)
+          (by_call c x.1 x.2
+          (subst (λ (next : H). SendsCall plans gives config first next stream c x.1 x.2) (sym x.6.0) x.5))
+
+      by_state : (state : State) (answered : List Call) (text interim rest sent : List ℕ) → IsClosing state
+          → Progress answered rest → IsLiteral plans gives config first last state stream h.calls sent
+          → Stands state config h answered text interim rest → Result sent
+      by_state Open answered text interim rest sent closing at literal x = absurd closing
+      by_state Upgraded answered text interim rest sent closing at literal x = absurd closing
+      by_state Aborted answered text interim rest sent closing at literal x = absurd closing
+      by_state (Closing Asked) answered text interim rest sent closing at literal x =
+          let c = x.0 in
+          let ex = x.3 in
+          absurd
+          (elim at [
+            | inl is ↦
+                let e : Exchanges config false stream c x.1 x.2 =
+                subst (λ (s : List ℕ). Exchanges config false s c x.1 x.2) is.1 ex in
+                let asks = (get_asked config e.message c.0 x.2 e.request).0 in
+                let calls : h.calls ≡ c ∷ [] = x.4 ∙ ap (λ (l : List Call). l ++ c ∷ []) is.0 in
+                let p = called c asks (chained (c ∷ []) calls) in
+                let head = (one_get config.limits e.message x.2 e.request.reads).head in
+                let wrong : false ≡ true =
+                sym e.persists ∙ ap (λ (r : RequestHead). keeps_open r c.1) head ∙ keeps c p in
+                cc wrong
+            | inr one ↦
+                not_on_empty false c x.1 x.2
+                (subst (λ (s : List ℕ). Exchanges config false s c x.1 x.2) one.2 ex)
+          ])
+      by_state (Closing EndOfInput) answered text interim rest sent closing at literal x =
+          elim at [
+            | inl is ↦
+                let none : stream ≡ [] = sym is.1 ∙ x.2 in
+                let len : length stream ≡ 0 = ap length none in
+                absurd (omega (arith, len))
+            | inr one ↦
+                let all : sent ≡ literal.text =
+                literal.out ∙ ap (λ (t : List ℕ). literal.text ++ t) literal.is_later ∙ append-nil literal.text in
+                subst Result (sym all)
+                (one_sent one.0 literal.text literal.rest
+                (subst
+                (λ (calls : List Call).
+                SendsCalls plans gives config first last stream calls literal.text literal.rest) (x.0 ∙ one.1)
+                literal.sends))
+          ]
+      by_state (Closing (Refused why)) answered text interim rest sent closing at literal x =
+          absurd (refuses why answered rest (elim at [ inl is ↦ inl is | inr one ↦ inr one.2 ]) x.0)
+
+  -- a whole connection that got this request sent its response
+  pub one_answer : GoOn → (now : H) (sent : List ℕ) → Exchanged plans gives config first now stream sent true
+      → IsOneAnswer plans gives config.limits (root_head (codes "GET")) first now sent
+  one_answer good now sent e =
+      let h = e.history in
+      let s = e.ended.0 in
+      let closing = e.ended.1 in
+      let at = progress s.answered s.text s.rest
+      (subst (λ (r : List ℕ). Serves config r s.answered s.text s.rest) e.is_received s.serves) in
+      let literal : IsLiteral plans gives config first e.last h.state stream h.calls sent =
+      subst (λ (r : List ℕ). IsLiteral plans gives config first e.last h.state r h.calls sent) e.is_received
+      (subst (λ (t : List ℕ). IsLiteral plans gives config first e.last h.state h.received h.calls t) e.is_sent
+      e.literal) in
+      subst
+      (λ (l : H). IsOneAnswer plans gives config.limits (root_head (codes "GET")) first l sent) e.ended.3
+      (by_state good e.last h e.answered h.state s.answered s.text s.interim s.rest sent closing at literal s.stands)

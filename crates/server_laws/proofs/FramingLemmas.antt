@@ -1,0 +1,408 @@
+-- A response whose length is known is sent, unless its fields state another one.
+use Rattle.std.proofs.Common.{◌≡◌, ◌≢◌, ℕ, ◌+◌, ◌^◌, ◌<◌, ◌≤◌, ◌⊎◌, min, Bool, true, false, not, cond, eqb, ◌&&◌, ◌||◌}
+use Rattle.std.proofs.Common.{List, [], ◌∷◌, ◌++◌, codes, None, Result, Ok, Err, refl, sym, ap, ◌∙◌, subst, arith}
+use Rattle.std.proofs.Common.{All, append_assoc, append-nil, inl, inr, nat_lt}
+use Rattle.std.specs.List.{list_all}
+use Rattle.std.specs.Str.Parse.{digits_value}
+use Rattle.std.proofs.lemmas.Bool.{and_parts, and_from, ne_eqb, eq-eqb, cond-true, cond-false, cases_Bool, eqb-true}
+use Rattle.std.proofs.lemmas.Bool.{le-leb, not-true, or_cases}
+use Rattle.std.proofs.lemmas.Bool.Decides.{nat_tests}
+use Rattle.std.proofs.lemmas.Grind.{flat_map-append}
+use Rattle.std.proofs.lemmas.List.Elements.{All-head, All-tail}
+use Rattle.std.proofs.lemmas.List.Folds.{list_all-append}
+use Rattle.std.proofs.lemmas.List.Recursion.{is_count_by}
+use Rattle.std.proofs.Math.Bool.{and-false}
+use Rattle.httparse.specs.Grammar.{RequestHead, is_token_byte}
+use Rattle.http1.specs.declared.conn.BodySize.{BodySize}
+use Rattle.http1.specs.declared.conn.BodySize.TheVariants.{Empty, Known}
+use Rattle.http1.specs.declared.conn.Limits.{Limits}
+use Rattle.http1.specs.declared.error.WriteError.{WriteError}
+use Rattle.http1.specs.declared.error.WriteError.TheVariants as Refusal
+use Rattle.http1.specs.declared.fields.ContentLength.TheVariants as Length
+use Rattle.http1.specs.declared.fields.TransferEncoding.TheVariants as Coding
+use Rattle.http1.specs.declared.fields.KnownFields.{KnownFields}
+use Rattle.http1.specs.declared.framing.Framing.{Framing}
+use Rattle.http1.specs.declared.framing.Framing.TheVariants.{NoBody, Length as Sized, UntilClose}
+use Rattle.http1.specs.declared.framing.FramingError.TheVariants.{UnexpectedTransferEncoding}
+use Rattle.http1.specs.declared.framing.MethodKind.TheVariants as Method
+use Rattle.http1.specs.declared.server.Request.{Request}
+use Rattle.http1.specs.Text.{eq_ignore_case, numeral}
+use Rattle.http1.specs.Fields.{Header, content_length, elements, elements_named, values_named, frames_plainly}
+use Rattle.http1.specs.Fields.{is_framing_field, is_named, is_plain_chunked, is_plain_number, known_fields}
+use Rattle.http1.specs.Fields.{transfer_encoding}
+use Rattle.http1.specs.Framing.{by_fields, is_bodiless_status, has_no_body, response_framing, method_kind}
+use Rattle.http1.specs.Conn.{Plan, connection_header, fits, is_coded, is_connect, is_plain, length_header}
+use Rattle.http1.specs.Conn.{plan_refusal, size_headers, states_framing, states_no_content, with_framing}
+use Rattle.http1.specs.Head.{are_headers, head_refusal, is_field_value, is_header, is_status_line, is_trimmed_value}
+use Rattle.http1.specs.Server.{connection_headers, is_205_with_content, is_coded_304, is_sized, plan_fields}
+use Rattle.http1.specs.Server.{plan_stated, response_plan, response_refusal, stays_open}
+use Rattle.http1.proofs.NumeralLemmas.{decimal_is_number, decimal_is_plain, decimal_is_trimmed, numeral_reads_back}
+use Rattle.http_server.specs.Encoding.{answering}
+use Rattle.http1_typed.specs.Parts.{reason_of}
+use Rattle.server_connection.specs.Encoding.{content_len, plan_fields as plan_fields_of, plan_size, size_for}
+use Rattle.server_connection.specs.declared.plan.Plan.{Plan as ResponsePlan}
+use Rattle.server_laws.specs.Sendable.{IsFinal, IsOrdinary, StatesLength, length_fields}
+
+-- ---- what fields say of the framing
+
+-- how many of the field lines pass the test
+abbrev pub tally : (Header → Bool) → List Header → ℕ
+tally p [] = 0
+tally p (x ∷ xs) = cond (p x) (1 + tally p xs) (tally p xs)
+
+-- each field line is ordinary, but for one that states the length, if that is stated
+pub record States (n : ℕ) (stated : Bool) (hs : List Header) : Type 0 where
+  pub valid : list_all is_header hs ≡ true
+  pub codings : elements_named (codes "transfer-encoding") hs ≡ []
+  pub lengths : values_named (codes "content-length") hs ≡ cond stated (numeral 10 n ∷ []) []
+  pub count : tally is_framing_field hs ≡ cond stated 1 0
+  pub plain : list_all frames_plainly hs ≡ true
+
+pub states_none : (n : ℕ) → States n false []
+states_none n = record { valid = refl; codings = refl; lengths = refl; count = refl; plain = refl }
+
+abbrev frames_coding : Header → Bool
+frames_coding h = cond (is_named (codes "transfer-encoding") h) (is_plain_chunked h.1) true
+
+pub states_ordinary : (n : ℕ) (h : Header) → IsOrdinary h → States n false (h ∷ [])
+states_ordinary n h x = record {
+  valid = and_from _ _ x.header refl;
+  codings = ap (λ (b : Bool). cond b (elements h.1) [] ++ []) x.uncoded;
+  lengths = ap (λ (b : Bool). cond b (h.1 ∷ []) [] ++ []) x.unsized;
+  count = λ i. tally (λ _. x.unsized i || x.uncoded i) (h ∷ []);
+  plain =
+      ap (λ (b : Bool). cond b (is_plain_number h.1) (frames_coding h) && true) x.unsized
+      ∙ ap (λ (b : Bool). cond b (is_plain_chunked h.1) true && true) x.uncoded;
+}
+
+tally-append : (p : Header → Bool) (xs ys : List Header) → tally p (xs ++ ys) ≡ tally p xs + tally p ys
+tally-append p [] ys = omega arith
+tally-append p (x ∷ xs) ys = by_test (p x) (tally-append p xs ys)
+  where
+    by_test : (t : Bool) → tally p (xs ++ ys) ≡ tally p xs + tally p ys
+        → cond t (1 + tally p (xs ++ ys)) (tally p (xs ++ ys)) ≡ cond t (1 + tally p xs) (tally p xs) + tally p ys
+    by_test true e = omega (arith, e)
+    by_test false e = e
+
+module _ (n : ℕ) (xs ys : List Header) where
+  joined : (a b c : Bool) → States n a xs → States n b ys
+      → cond a (numeral 10 n ∷ []) [] ++ cond b (numeral 10 n ∷ []) [] ≡ cond c (numeral 10 n ∷ []) []
+      → cond a 1 0 + cond b 1 0 ≡ cond c 1 0 → States n c (xs ++ ys)
+  joined a b c x y lengths count = record {
+    valid = list_all-append is_header xs ys ∙ and_from _ _ x.valid y.valid;
+    codings = flat_map-append _ xs ys ∙ (λ i. x.codings i ++ y.codings i);
+    lengths = flat_map-append _ xs ys ∙ (λ i. x.lengths i ++ y.lengths i) ∙ lengths;
+    count = tally-append is_framing_field xs ys ∙ (λ i. x.count i + y.count i) ∙ count;
+    plain = list_all-append frames_plainly xs ys ∙ and_from _ _ x.plain y.plain;
+  }
+
+  pub states_then : (b : Bool) → States n false xs → States n b ys → States n b (xs ++ ys)
+  states_then b x y = joined false b b x y refl (omega arith)
+
+  pub states_before : (a : Bool) → States n a xs → States n false ys → States n a (xs ++ ys)
+  states_before true x y = joined true false true x y refl refl
+  states_before false x y = joined false false false x y refl refl
+
+pub states_length : (n : ℕ) → n < 2 ^ 64 → States n true (length_header n ∷ [])
+unfolding eq_ignore_case is_token_byte
+states_length n short = record {
+  valid = and_from _ _ (decimal_is_trimmed n) refl;
+  codings = refl;
+  lengths = refl;
+  count = refl;
+  plain = and_from _ _ (decimal_is_plain n short) refl;
+}
+
+states_all : (n : ℕ) (hs : List Header) → All IsOrdinary hs → States n false hs
+states_all n [] all = states_none n
+states_all n (h ∷ hs) all =
+    states_then n (h ∷ []) hs false (states_ordinary n h (All-head IsOrdinary h hs all))
+    (states_all n hs (All-tail IsOrdinary h hs all))
+
+states_by : (n : ℕ) (stated : Bool) (hs : List Header) → n < 2 ^ 64 → StatesLength n stated hs → States n stated hs
+states_by n stated hs short x =
+    subst (States n stated) (sym x.are)
+    (states_then n x.before (length_fields stated n ++ x.after) stated (states_all n x.before x.first)
+    (states_before n (length_fields stated n) x.after stated (middle stated) (states_all n x.after x.last)))
+  where
+    middle : (b : Bool) → States n b (length_fields b n)
+    middle true = states_length n short
+    middle false = states_none n
+
+states_option : (n : ℕ) (option : List ℕ) → is_trimmed_value option ≡ true
+    → States n false (connection_header option ∷ [])
+unfolding eq_ignore_case is_token_byte
+states_option n option trimmed =
+    states_ordinary n (connection_header option) (record { header = trimmed; unsized = refl; uncoded = refl })
+
+states_connection : (n : ℕ) (r : Request) (k : KnownFields) (keep : Bool) → States n false (connection_headers r k keep)
+states_connection n r k true = by_test ((eqb r.minor 0) && not k.keep_alive)
+  where
+    by_test : (t : Bool) → States n false (cond t (connection_header (codes "keep-alive") ∷ []) [])
+    by_test true = states_option n (codes "keep-alive") refl
+    by_test false = states_none n
+states_connection n r k false = by_test (not k.close)
+  where
+    by_test : (t : Bool) → States n false (cond t (connection_header (codes "close") ∷ []) [])
+    by_test true = states_option n (codes "close") refl
+    by_test false = states_none n
+
+-- the summary of such fields
+record Knows (n : ℕ) (stated : Bool) (k : KnownFields) : Type 0 where
+  coding : k.transfer_encoding ≡ Coding.Absent
+  len : k.content_length ≡ cond stated (Length.Value n) Length.Absent
+  count : k.framing_fields ≡ cond stated 1 0
+  plain : k.plain_framing ≡ true
+
+length_of : (n : ℕ) (stated : Bool) → n < 2 ^ 64
+    → content_length (cond stated (numeral 10 n ∷ []) []) ≡ cond stated (Length.Value n) Length.Absent
+length_of n true short =
+    ap (λ (b : Bool). cond (b && true) (Length.Value (digits_value 10 (numeral 10 n))) Length.Invalid)
+    (decimal_is_number n short)
+    ∙ ap Length.Value (numeral_reads_back 10 n (omega arith) (omega arith)).value
+length_of n false short = refl
+
+least : (stated : Bool) → min (cond stated 1 0) 2 ≡ cond stated 1 0
+least true = refl
+least false = refl
+
+knows : (n : ℕ) (stated : Bool) (hs : List Header) → n < 2 ^ 64 → States n stated hs → Knows n stated (known_fields hs)
+unfolding known_fields
+knows n stated hs short x = record {
+  coding = ap transfer_encoding x.codings;
+  len = ap content_length x.lengths ∙ length_of n stated short;
+  count =
+      ap (λ (c : ℕ). min c 2)
+      (sym (is_count_by (tally is_framing_field) is_framing_field refl (λ _ _. refl) hs) ∙ x.count) ∙ least stated;
+  plain = x.plain;
+}
+
+-- ---- the plan
+
+size_stated : (minor n : ℕ) → size_headers minor (size_for n) ≡ length_header n ∷ []
+size_stated minor n = by_test (eqb n 0) refl
+  where
+    by_test : (t : Bool) → eqb n 0 ≡ t → size_headers minor (cond t Empty (Known n)) ≡ length_header n ∷ []
+    by_test true zero = ap (λ (m : ℕ). length_header m ∷ []) (sym (eqb-true n 0 zero))
+    by_test false some = refl
+
+sized_fits : (n : ℕ) → fits (Sized n) (size_for n) ≡ true
+sized_fits n = by_test (eqb n 0) refl
+  where
+    by_test : (t : Bool) → eqb n 0 ≡ t → fits (Sized n) (cond t Empty (Known n)) ≡ true
+    by_test true zero = zero
+    by_test false some = eq-eqb n n refl
+
+empty_fits : (n : ℕ) → n ≡ 0 → fits NoBody (size_for n) ≡ true
+empty_fits n zero = ap (λ (m : ℕ). fits NoBody (size_for m)) zero
+
+framing_is : (bodiless : Bool) (minor n : ℕ) (stated : Bool) (k : KnownFields) → Knows n stated k
+    → cond bodiless (Ok NoBody) (by_fields minor UntilClose (Ok UntilClose) k.transfer_encoding k.content_length)
+    ≡ Ok (cond bodiless NoBody (cond stated (Sized n) UntilClose))
+framing_is true minor n stated k x = refl
+framing_is false minor n true k x =
+    λ i. by_fields minor UntilClose (Ok UntilClose) (x.coding i) (x.len i)
+framing_is false minor n false k x =
+    λ i. by_fields minor UntilClose (Ok UntilClose) (x.coding i) (x.len i)
+
+-- the plan is made, and its field lines are valid
+abbrev pub IsPlanned : List Header → Result Plan WriteError → Type 0
+IsPlanned hs planned = (p : Plan) × (planned ≡ Ok p) × (list_all is_header (hs ++ p.extra) ≡ true)
+
+module _ (r : Request) (status n : ℕ) (hs : List Header) (short : n < 2 ^ 64) where
+  abbrev size : BodySize
+  size = size_for n
+
+  -- the plan of fields to which these were added
+  abbrev plan_with : List Header → Result Plan WriteError
+  plan_with first =
+      let k = known_fields (hs ++ first) in
+      cond (eqb status 204 && states_framing k) (Err Refusal.BodySize)
+      (cond (is_205_with_content r status size k) (Err Refusal.BodySize)
+      (cond (is_coded_304 r status k) (Err (Refusal.Framing UnexpectedTransferEncoding))
+      (plan_stated r status size hs first (response_framing Method.Other status r.minor k))))
+
+  module _ (first : List Header) (stated : Bool) (x : States n stated (hs ++ first)) where
+    abbrev k : KnownFields
+    k = known_fields (hs ++ first)
+
+    told : Knows n stated k
+    told = knows n stated (hs ++ first) short x
+
+    states : states_framing k ≡ stated
+    states = ap (nat_lt 0) told.count ∙ by_test stated
+      where
+        by_test : (t : Bool) → nat_lt 0 (cond t 1 0) ≡ t
+        by_test true = refl
+        by_test false = refl
+
+    module _ (framing : Framing) (fit : fits framing size ≡ true) where
+      abbrev second : List Header
+      second = connection_headers r k (stays_open r k framing)
+
+      abbrev all : List Header
+      all = hs ++ (first ++ second)
+
+      all_stated : States n stated all
+      all_stated =
+          subst (States n stated) (append_assoc hs first second)
+          (states_before n (hs ++ first) second stated x (states_connection n r k (stays_open r k framing)))
+
+      all_told : Knows n stated (known_fields all)
+      all_told = knows n stated all short all_stated
+
+      all_plain : is_plain (known_fields all) ≡ true
+      all_plain = and_from _ _ (ap (λ (c : ℕ). nat_lt c 2) all_told.count ∙ by_test stated) all_told.plain
+        where
+          by_test : (t : Bool) → nat_lt (cond t 1 0) 2 ≡ true
+          by_test true = refl
+          by_test false = refl
+
+      abbrev last : Plan
+      last = record {
+        extra = first ++ second;
+        framing = cond (has_no_body r.method status) NoBody (cond stated (Sized n) UntilClose);
+        keep_alive = stays_open r k framing;
+      }
+
+      plan_made : plan_stated r status size hs first (Ok framing) ≡ Ok last
+      plan_made =
+          cond-false _ _ _ (ap (λ (b : Bool). is_sized r size && not b) fit ∙ and-false _)
+          ∙ cond-false _ _ _ (ap not all_plain)
+          ∙ ap (with_framing (first ++ second) (stays_open r k framing))
+          (framing_is (has_no_body r.method status) r.minor n stated (known_fields all) all_told)
+
+    planned_with : status ≢ 205 → (eqb status 204 && stated) ≡ false
+        → fits (cond (is_bodiless_status status) NoBody (cond stated (Sized n) UntilClose)) size ≡ true
+        → IsPlanned hs (plan_with first)
+    planned_with other late fit =
+        let framing = cond (is_bodiless_status status) NoBody (cond stated (Sized n) UntilClose) in (
+          last framing fit,
+          cond-false _ _ _ (ap (λ (b : Bool). eqb status 204 && b) states ∙ late)
+              ∙ cond-false _ _ _
+              (ap (λ (b : Bool). b && (is_sized r size && not (states_no_content k))) (ne_eqb status 205 other))
+              ∙ cond-false _ _ _ (ap (λ c. eqb status 304 && (eqb r.minor 0 && is_coded c)) told.coding
+              ∙ ap (λ (b : Bool). eqb status 304 && b) (and-false _) ∙ and-false _)
+              ∙ ap (plan_stated r status size hs first) (framing_is (is_bodiless_status status) r.minor n stated k told)
+              ∙ plan_made framing fit,
+          (all_stated framing fit).valid,
+        )
+
+  module _ (stated : Bool) (x : States n stated hs) (s : IsFinal r.method status n stated) where
+    abbrev test : Bool
+    test =
+        is_sized r size && (not (eqb status 204) && (not (eqb status 304) && not (states_framing (known_fields hs))))
+
+    bare : States n stated (hs ++ [])
+    bare = subst (States n stated) (sym (append-nil hs)) x
+
+    states_bare : states_framing (known_fields hs) ≡ stated
+    states_bare =
+        ap (λ (l : List Header). states_framing (known_fields l)) (sym (append-nil hs)) ∙ states [] stated bare
+
+    is_bodiless : is_bodiless_status status ≡ (eqb status 204 || eqb status 304)
+    is_bodiless = let low = s.least in grind (arith, nat_tests)
+
+    -- nothing is added
+    kept : (b : Bool) → is_bodiless_status status ≡ b
+        → fits (cond b NoBody (cond stated (Sized n) UntilClose)) size ≡ true
+    kept true is = empty_fits n (s.bodiless (bodiless_by is)).0
+      where
+        bodiless_by : is_bodiless_status status ≡ true → (status ≡ 204) ⊎ (status ≡ 304)
+        bodiless_by is =
+            elim (or_cases (eqb status 204) (eqb status 304) (sym is_bodiless ∙ is)) [
+              | inl e ↦ inl (eqb-true status 204 e)
+              | inr e ↦ inr (eqb-true status 304 e)
+            ]
+    kept false is = by_stated stated
+      where
+        by_stated : (t : Bool) → fits (cond t (Sized n) UntilClose) size ≡ true
+        by_stated true = sized_fits n
+        by_stated false = refl
+
+    late : (eqb status 204 && stated) ≡ false
+    late =
+        elim (cases_Bool (eqb status 204)) [
+          | inl e ↦ ap (λ (b : Bool). eqb status 204 && b) (s.bodiless (inl (eqb-true status 204 e))).1 ∙ and-false _
+          | inr e ↦ ap (λ (b : Bool). b && stated) e
+        ]
+
+    planned_by : (t : Bool) → test ≡ t → IsPlanned hs (plan_fields r status size hs)
+    unfolding plan_fields
+    planned_by false is =
+        subst (λ (first : List Header). IsPlanned hs (plan_with first))
+        (sym (cond-false test (size_headers r.minor size) [] is))
+        (planned_with [] stated bare s.other late (kept (is_bodiless_status status) refl))
+    planned_by true is =
+        let one = and_parts (is_sized r size) _ is in
+        let two = and_parts (not (eqb status 204)) _ one.1 in
+        let three = and_parts (not (eqb status 304)) _ two.1 in
+        let has_content : eqb status 204 ≡ false = not-true _ two.0 in
+        let is_sent : eqb status 304 ≡ false = not-true _ three.0 in
+        let silent : stated ≡ false = sym states_bare ∙ not-true _ three.1 in
+        let body : is_bodiless_status status ≡ false = is_bodiless ∙ (λ i. has_content i || is_sent i) in
+        let added = states_then n hs (length_header n ∷ []) true
+        (subst (λ (b : Bool). States n b hs) silent x) (states_length n short) in
+        subst (λ (first : List Header). IsPlanned hs (plan_with first))
+        (sym (cond-true test (size_headers r.minor size) [] is ∙ size_stated r.minor n))
+        (planned_with (length_header n ∷ []) true added s.other (ap (λ (b : Bool). b && true) has_content)
+        (ap (λ (b : Bool). fits (cond b NoBody (Sized n)) size) body ∙ sized_fits n))
+
+    abbrev framing : Framing
+    framing = cond (is_bodiless_status status) NoBody (cond stated (Sized n) UntilClose)
+
+    -- where the fields state the length, the connection adds only what it says of itself
+    pub planned_stated : stated ≡ true
+        → (p : Plan) × (plan_fields r status size hs ≡ Ok p)
+        × (p.extra ≡ connection_headers r (known_fields (hs ++ [])) (stays_open r (known_fields (hs ++ [])) framing))
+        × (p.framing ≡ cond (has_no_body r.method status) NoBody (cond stated (Sized n) UntilClose))
+    unfolding plan_fields planned_with
+    planned_stated says =
+        let whole = planned_with [] stated bare s.other late (kept (is_bodiless_status status) refl) in
+        let silent : test ≡ false =
+        ap (λ (b : Bool). is_sized r size && (not (eqb status 204) && (not (eqb status 304) && not b)))
+        (states_bare ∙ says)
+        ∙ ap (λ (b : Bool). is_sized r size && (not (eqb status 204) && b)) (and-false _)
+        ∙ ap (λ (b : Bool). is_sized r size && b) (and-false _) ∙ and-false _ in
+        (whole.0, ap plan_with (cond-false test (size_headers r.minor size) [] silent) ∙ whole.1, refl, refl)
+
+    pub planned : IsPlanned hs (plan_fields r status size hs)
+    planned = planned_by test refl
+
+-- ---- the response
+
+valid_line : (minor status : ℕ) (reason : List ℕ) → minor ≤ 1 → 100 ≤ status → status ≤ 999
+    → is_field_value reason ≡ true → is_status_line minor status reason ≡ true
+valid_line minor status reason old low high text =
+    and_from _ _ (le-leb minor 1 old)
+    (and_from _ _ (le-leb 100 status low) (and_from _ _ (le-leb status 999 high) text))
+
+accepted : (line : Bool) (hs : List Header) → line ≡ true → list_all is_header hs ≡ true → head_refusal line hs ≡ None
+unfolding are_headers
+accepted line hs valid all = cond-true _ _ _ valid ∙ cond-true _ _ _ all
+
+-- a response with such a status and such fields is sent
+pub response_sent : (limits : Limits) (h : RequestHead) (framing : Framing) (status n : ℕ) (reason : List ℕ)
+    (hs : List Header) (stated : Bool) → n < 2 ^ 64 → h.minor ≤ 1 → is_field_value reason ≡ true
+    → States n stated hs → IsFinal (method_kind h.method) status n stated
+    → response_refusal (answering limits h framing) status reason (size_for n) hs ≡ None
+response_sent limits h framing status n reason hs stated short old text x s =
+    let server = answering limits h framing in
+    let p = planned server.request status n hs short stated x s in
+    let low : nat_lt status 200 ≡ false = (let e = s.least in grind (arith, nat_tests)) in
+    let is : response_plan server status (size_for n) hs ≡ Ok p.0 =
+    cond-false _ _ _ (λ i. low i || s.connect i) ∙ p.1 in
+    ap (λ q. plan_refusal q (is_status_line h.minor status reason) hs) is
+    ∙ accepted (is_status_line h.minor status reason) (hs ++ p.0.extra)
+    (valid_line h.minor status reason old (let e = s.least in omega (arith, e)) s.greatest text) p.2
+
+-- the same, of what field lines say of a length
+pub plan_sent : (limits : Limits) (h : RequestHead) (framing : Framing) (plan : ResponsePlan) (stated : Bool)
+    → content_len plan < 2 ^ 64 → h.minor ≤ 1 → is_field_value (reason_of plan.status) ≡ true
+    → StatesLength (content_len plan) stated (plan_fields_of plan)
+    → IsFinal (method_kind h.method) plan.status (content_len plan) stated
+    → response_refusal (answering limits h framing) plan.status (reason_of plan.status) (plan_size plan)
+    (plan_fields_of plan) ≡ None
+plan_sent limits h framing plan stated short old text x s =
+    response_sent limits h framing plan.status (content_len plan) (reason_of plan.status) (plan_fields_of plan) stated
+    short old text (states_by (content_len plan) stated (plan_fields_of plan) short x) s

@@ -1,0 +1,176 @@
+-- The head of a response that is written out.
+use Rattle.std.proofs.Common.{◌≡◌, ℕ, ◌+◌, ◌^◌, ◌<◌, Bool, true, false, not, ◌&&◌, ◌||◌, List, [], ◌∷◌, ◌++◌, map}
+use Rattle.std.proofs.Common.{codes, Option}
+use Rattle.std.proofs.Common.{Some, None, Result, Ok, Err, refl, sym, ap, subst, ◌∙◌, arith, append-nil, cond, eqb, inl}
+use Rattle.std.proofs.Common.{inr}
+use Rattle.std.proofs.Common.{nat_lt}
+use Rattle.std.specs.Char.{digit_char}
+use Rattle.std.specs.Int.Digits.{AllBelowBase, digits_of}
+use Rattle.std.specs.List.{list_all}
+use Rattle.std.specs.Prelude.{decimal}
+use Rattle.std.proofs.lemmas.Bool.{and_parts, and_from, cond-false, eqb-false, eqb-true}
+use Rattle.std.proofs.lemmas.Bool.Decides.{nat_tests}
+use Rattle.std.proofs.lemmas.Fmt.{decimal-digits_of, decimal_digit}
+use Rattle.std.proofs.lemmas.Int.Digits.{all_below_base_digits_of}
+use Rattle.std.proofs.lemmas.List.Folds.{list_all-append}
+use Rattle.httparse.specs.Grammar.{RequestHead, print_response, trim_ows}
+use Rattle.http1.specs.declared.conn.Limits.{Limits}
+use Rattle.http1.specs.declared.error.WriteError.{WriteError}
+use Rattle.http1.specs.declared.framing.Framing.{Framing}
+use Rattle.http1.specs.declared.framing.Framing.TheVariants.{NoBody, Length as Sized, UntilClose}
+use Rattle.http1.specs.declared.server.Request.{Request}
+use Rattle.http1.specs.Conn.{Plan, connection_header, is_connect, keeps_alive, plan_refusal, planned_headers}
+use Rattle.http1.specs.Fields.{Header, elements, is_plain_number, known_fields}
+use Rattle.http1.specs.Framing.{has_no_body, is_bodiless_status, method_kind}
+use Rattle.http1.specs.Head.{are_headers, is_header, is_status_line, response_text}
+use Rattle.http1.specs.Message.{known_of}
+use Rattle.http1.specs.Server.{connection_headers, is_head, planned_response, response_plan, response_refusal}
+use Rattle.http1.specs.Server.{stays_open}
+use Rattle.http1.specs.Text.{eq_ignore_case, numeral}
+use Rattle.http1.proofs.HeadRoundTrip.{not_refused}
+use Rattle.http1.proofs.NumeralLemmas.{decimal_is_plain}
+use Rattle.http1_typed.specs.Parts.{reason_of}
+use Rattle.http_server.specs.Encoding.{answering}
+use Rattle.server_connection.specs.Encoding.{content_len, head_text, plan_fields, plan_size, size_for}
+use Rattle.server_connection.specs.declared.plan.Plan.{Plan as ResponsePlan}
+use Rattle.server_laws.specs.Literal.{date_text, field_text, ok_fields, ok_text}
+use Rattle.server_laws.specs.Sendable.{IsFinal}
+use Rattle.server_laws.proofs.FramingLemmas.{States, planned_stated}
+
+digit_char_is : (d : ℕ) → d < 10 → digit_char d ≡ 48 + d
+digit_char_is d small = grind (arith, nat_tests)
+
+chars_are : (ds : List ℕ) → AllBelowBase 10 ds → map digit_char ds ≡ map (λ d. 48 + d) ds
+chars_are [] below = refl
+chars_are (d ∷ ds) below = λ i. digit_char_is d below.0 i ∷ chars_are ds below.1 i
+
+-- the two ways to write a number are one
+pub decimal_is_numeral : (n : ℕ) → n < 2 ^ 64 → decimal n ≡ numeral 10 n
+unfolding numeral
+decimal_is_numeral n short = by_test (eqb n 0) refl
+  where
+    by_test : (t : Bool) → eqb n 0 ≡ t → decimal n ≡ cond t (48 ∷ []) (map digit_char (digits_of 10 n))
+    by_test true zero = ap decimal (eqb-true n 0 zero) ∙ decimal_digit 0 (omega arith)
+    by_test false some =
+        decimal-digits_of n (omega (arith, eqb-false n 0 some)) short
+        ∙ sym (chars_are (digits_of 10 n) (all_below_base_digits_of 10 n (omega arith)))
+
+-- ---- the response
+
+valid_by : (planned : Result Plan WriteError) (line : Bool) (hs : List Header) → plan_refusal planned line hs ≡ None
+    → list_all is_header hs ≡ true
+unfolding are_headers
+valid_by (Ok p) line hs none =
+    (and_parts (list_all is_header hs) (list_all is_header p.extra)
+    (sym (list_all-append is_header hs p.extra) ∙ (not_refused line (hs ++ p.extra) none).1)).0
+valid_by (Err e) line hs none = cc
+
+module _ (tag : List ℕ) (len : ℕ) (media_type : List ℕ) (short : len < 2 ^ 64) where
+  abbrev fields : Option ℕ → List Header
+  fields now = ok_fields now tag len media_type
+
+  plain : (is_plain_number (decimal len) && true) ≡ true
+  plain =
+      ap (λ (t : List ℕ). is_plain_number t && true) (decimal_is_numeral len short)
+      ∙ and_from _ _ (decimal_is_plain len short) refl
+
+  pub states : (now : Option ℕ) → list_all is_header (fields now) ≡ true → States len true (fields now)
+  unfolding eq_ignore_case
+  states None valid = record {
+    valid = valid;
+    codings = refl;
+    lengths = ap (λ (t : List ℕ). t ∷ []) (decimal_is_numeral len short);
+    count = refl;
+    plain = plain;
+  }
+  states (Some seconds) valid = record {
+    valid = valid;
+    codings = refl;
+    lengths = ap (λ (t : List ℕ). t ∷ []) (decimal_is_numeral len short);
+    count = refl;
+    plain = plain;
+  }
+
+  goes_on : (now : Option ℕ) (r : Request) → r.keep_alive ≡ true → r.expects_continue ≡ false
+      → stays_open r (known_fields (fields now ++ [])) (Sized len) ≡ true
+  unfolding known_fields eq_ignore_case
+  goes_on None r keeps waits = λ i. keeps i && (not (waits i) && true)
+  goes_on (Some seconds) r keeps waits = λ i. keeps i && (not (waits i) && true)
+
+  quiet : (r : Request) (now : Option ℕ) → r.minor ≡ 1 → r.keep_alive ≡ true → r.expects_continue ≡ false
+      → connection_headers r (known_fields (fields now ++ []))
+      (stays_open r (known_fields (fields now ++ [])) (Sized len)) ≡ []
+  quiet r now minor keeps waits =
+      ap (connection_headers r (known_fields (fields now ++ []))) (goes_on now r keeps waits)
+      ∙ silent (known_fields (fields now ++ [])).keep_alive
+    where
+      silent : (asked : Bool) → cond (eqb r.minor 0 && not asked) (connection_header (codes "keep-alive") ∷ []) [] ≡ []
+      silent asked = ap (λ (m : ℕ). cond (eqb m 0 && not asked) (connection_header (codes "keep-alive") ∷ []) []) minor
+
+  abbrev with_last : Option ℕ → List ℕ → List ℕ
+  with_last now last =
+      codes "HTTP/1.1 200 OK\r\n" ++ ((date_text now ++ (codes "x-content-type-options: nosniff\r\n"
+      ++ (field_text (codes "etag") tag ++ (codes "accept-ranges: bytes\r\n"
+      ++ (field_text (codes "content-length") (decimal len) ++ last))))) ++ codes "\r\n")
+
+  in_lines : (now : Option ℕ) → response_text 1 200 (reason_of 200) (fields now ++ [])
+      ≡ with_last now (field_text (codes "content-type") media_type ++ [])
+  unfolding print_response
+  in_lines None = refl
+  in_lines (Some seconds) = refl
+
+  printed : (now : Option ℕ) → response_text 1 200 (reason_of 200) (fields now ++ []) ≡ ok_text now tag len media_type
+  printed now = in_lines now ∙ ap (with_last now) (append-nil _)
+
+  module _ (limits : Limits) (h : RequestHead) (framing : Framing) (minor : h.minor ≡ 1)
+      (keeps : keeps_alive h.minor (known_of h.fields) ≡ true) (other : is_connect (method_kind h.method) ≡ false) where
+    abbrev request : Request
+    request = (answering limits h framing).request
+
+    final : IsFinal (method_kind h.method) 200 len true
+    final = record {
+      least = omega arith;
+      greatest = omega arith;
+      other = λ is. omega (arith, is);
+      bodiless = λ is. absurd (elim is [ inl a ↦ omega (arith, a) | inr b ↦ omega (arith, b) ]);
+      connect = ap (λ (b : Bool). b && nat_lt 200 300) other;
+    }
+
+    -- the plan of the response, if it is sent at all
+    pub ok_planned : (now : Option ℕ)
+        → response_refusal (answering limits h framing) 200 (reason_of 200) (size_for len) (fields now) ≡ None
+        → (p : Plan) × (response_plan (answering limits h framing) 200 (size_for len) (fields now) ≡ Ok p)
+        × (p.extra ≡ []) × (p.framing ≡ cond (has_no_body (method_kind h.method) 200) NoBody (Sized len))
+    ok_planned now none =
+        let hs = fields now in
+        let planned = response_plan (answering limits h framing) 200 (size_for len) hs in
+        let valid = valid_by planned (is_status_line h.minor 200 (reason_of 200)) hs none in
+        let p = planned_stated request 200 len hs short true (states now valid) final refl in
+        let late : (false || (is_connect (method_kind h.method) && nat_lt 200 300)) ≡ false = final.connect in
+        (p.0, cond-false _ _ _ late ∙ p.1, p.2 ∙ quiet request now minor keeps refl, p.3)
+
+    -- the head of the response, if it is sent at all
+    pub ok_written : (now : Option ℕ)
+        → response_refusal (answering limits h framing) 200 (reason_of 200) (size_for len) (fields now) ≡ None
+        → planned_response (answering limits h framing) 200 (reason_of 200) (size_for len) (fields now)
+        ≡ ok_text now tag len media_type
+    ok_written now none =
+        let hs = fields now in
+        let p = ok_planned now none in
+        ap (λ q. response_text h.minor 200 (reason_of 200) (planned_headers q hs)) p.1
+        ∙ (λ i. response_text (minor i) 200 (reason_of 200) (hs ++ p.2 i)) ∙ printed now
+
+-- the same, of a plan
+pub head_written : (limits : Limits) (h : RequestHead) (framing : Framing) (plan : ResponsePlan) (now : Option ℕ)
+    (tag media_type : List ℕ) → plan.status ≡ 200 → content_len plan < 2 ^ 64
+    → plan_fields plan ≡ ok_fields now tag (content_len plan) media_type → h.minor ≡ 1
+    → keeps_alive h.minor (known_of h.fields) ≡ true → is_connect (method_kind h.method) ≡ false
+    → response_refusal (answering limits h framing) plan.status (reason_of plan.status) (plan_size plan)
+    (plan_fields plan) ≡ None
+    → head_text (answering limits h framing) plan ≡ ok_text now tag (content_len plan) media_type
+head_written limits h framing plan now tag media_type status short fields minor keeps other none =
+    let server = answering limits h framing in
+    let n = content_len plan in
+    (λ i. planned_response server (status i) (reason_of (status i)) (size_for n) (fields i))
+    ∙ ok_written tag n media_type short limits h framing minor keeps other now
+    ((λ i. response_refusal server (sym status i) (reason_of (sym status i)) (size_for n) (sym fields i)) ∙ none)

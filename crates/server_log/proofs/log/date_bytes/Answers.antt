@@ -1,0 +1,12 @@
+use Rattle.std.proofs.Common.{sym, ◌∙◌, ap}
+use Rattle.httpdate.specs.Valid.{IsValid}
+use Rattle.headers.specs.Date.{fixdate}
+use Rattle.headers_syntax.proofs.DateLemmas.{fixdate-is}
+use Rattle.server_log.proofs.log.date_bytes.Goals as goal
+
+pub returns : goal.returns
+returns c =
+    let d = c.in-Ok.date in
+    let valid : IsValid d.parts = (d.civil, d.time, d.right_day) in
+    c.to_bytes.ensures
+    ∙ sym (ap fixdate (sym (c.in-Ok.ensures.value ∙ c.unix_secs.ensures.value)) ∙ fixdate-is d.parts valid)

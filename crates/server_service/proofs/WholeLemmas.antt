@@ -1,0 +1,488 @@
+-- A GET that makes no condition and asks for no range gets the content.
+use Rattle.std.proofs.Common.{◌≡◌, ℕ, ◌<◌, Bool, true, false, not, ◌&&◌, List, [], ◌∷◌, length, cond}
+use Rattle.std.proofs.Common.{Option, Some, None, refl, sym, subst, ◌∙◌, ap, inl, inr, arith, lit<, map}
+use Rattle.std.specs.Prelude.{bytes_eq, codes, find, is_some, nat_lt, option_map, slice_get, string_bytes}
+use Rattle.std.specs.Global.{Vec}
+use Rattle.http.specs.declared.request.Request.{Request}
+use Rattle.http.specs.Request.{head_of}
+use Rattle.http_header.specs.FieldValue.{FieldValue}
+use Rattle.http_uri.specs.Uri.{uri_path}
+use Rattle.headers.specs.LineMap.{Field, LineMap, lines_at}
+use Rattle.headers.specs.Lines.{Line}
+use Rattle.server_connection.specs.Pieces.{AreSent}
+use Rattle.server_connection.specs.declared.piece.Piece.{Piece}
+use Rattle.server_connection.specs.declared.piece.Piece.TheVariants.{Range}
+use Rattle.server_connection.specs.declared.plan.Plan.{Plan as Response}
+use Rattle.rfc_fields.specs.Scan.{Member}
+use Rattle.gateway_messages.specs.Expectations.{has_known_expectation}
+use Rattle.gateway_messages.specs.Requests.{has_host}
+use Rattle.gateway_messages.specs.declared.protocol.Protocol.{Protocol}
+use Rattle.decide_negotiation.specs.Choice.{Picks, first_place}
+use Rattle.decide_negotiation.specs.Codings.{encoding_quality}
+use Rattle.decide_negotiation.specs.Languages.{language_says}
+use Rattle.decide_negotiation.specs.MediaRanges.{media_type_says}
+use Rattle.decide_negotiation.specs.Qualities.{quality_by, quality_in, rank}
+use Rattle.decide_negotiation.specs.declared.acceptability.Quality.{Quality}
+use Rattle.decide_negotiation.proofs.ChoiceLemmas.{picks_one}
+use Rattle.decide_preconditions.specs.Plans.{IsPlan, IsPlanned, IsSamePlan}
+use Rattle.decide_preconditions.specs.Responses.{IsAnswered}
+use Rattle.decide_preconditions.specs.Selection.{Selects}
+use Rattle.decide_preconditions.specs.declared.part.Part.{Part}
+use Rattle.decide_preconditions.specs.declared.plan.Plan.{Plan}
+use Rattle.decide_preconditions.specs.declared.plan.Plan.TheVariants.{Full, Multiple}
+use Rattle.decide_preconditions.specs.declared.response.Response.{Response as Planning}
+use Rattle.decide_preconditions.specs.declared.selection.Selection.TheVariants.{Whole}
+use Rattle.decide_preconditions.proofs.OnePlanLemmas.{one_plan}
+use Rattle.decide_preconditions.proofs.PreconditionLemmas.{unconditional}
+use Rattle.decide_resource.specs.Answers.{GivesIf, Goes, GoesOn, IsAnswer, IsSelected, at_place, is_admitted, is_sent}
+use Rattle.decide_resource.specs.Answers.{place_of, status_sent}
+use Rattle.decide_resource.specs.Applies.{applies, exceeds, is_misdirected, is_unacceptable}
+use Rattle.decide_resource.specs.Applies.{is_unsized, rule_for}
+use Rattle.decide_resource.specs.Representations.{are_unacceptable, coding_of, joined, rank_by, score}
+use Rattle.decide_resource.specs.Requests.{Request as Asked}
+use Rattle.decide_resource.specs.declared.answer.Answer.{Answer}
+use Rattle.decide_resource.specs.declared.answer.Sends.{Sends}
+use Rattle.decide_resource.specs.declared.answer.Sends.TheVariants.{Planned}
+use Rattle.decide_resource.specs.declared.reason.Reason.{Reason}
+use Rattle.decide_resource.specs.declared.reason.Reason.TheVariants.{InvalidHost, Misdirected, UnknownMethod}
+use Rattle.decide_resource.specs.declared.reason.Reason.TheVariants.{MethodNotAllowed, Options, UnmetExpectation}
+use Rattle.decide_resource.specs.declared.reason.Reason.TheVariants.{PartialContent}
+use Rattle.decide_resource.specs.declared.reason.Reason.TheVariants.{Moved, Gone, NotFound, LengthRequired}
+use Rattle.decide_resource.specs.declared.reason.Reason.TheVariants.{ContentTooLarge, UnsupportedMediaType}
+use Rattle.decide_resource.specs.declared.reason.Reason.TheVariants.{UnsupportedCoding, NotAcceptable}
+use Rattle.decide_resource.specs.declared.reason.Reason.TheVariants.{PreconditionRequired, Admitted}
+use Rattle.decide_resource.specs.declared.representation.Negotiation.{Negotiation}
+use Rattle.decide_resource.specs.declared.representation.Representation.{Representation}
+use Rattle.decide_resource.specs.declared.request.RequestContent.{RequestContent}
+use Rattle.decide_resource.specs.declared.request.RequestContent.TheVariants.{Absent}
+use Rattle.decide_resource.specs.declared.resource.MethodRule.{MethodRule}
+use Rattle.decide_resource.specs.declared.resource.Resource.{Resource}
+use Rattle.decide_resource.specs.declared.resource.State.{State}
+use Rattle.decide_resource.specs.declared.resource.State.TheVariants.{Current}
+use Rattle.decide_resource.proofs.PickLemmas.{picks_alike}
+use Rattle.server_service.specs.Answer.{AsksForAll, Decides, IsAnswerAt, clock}
+use Rattle.server_service.specs.Answer.{is_several, pieces_for, pieces_of, pieces_sent, sends_several}
+use Rattle.server_service.specs.Answer.{source_of, source_sent, status_for}
+use Rattle.server_service.specs.Asked.{Asks}
+use Rattle.server_service.specs.File.{current_of, gives_of, len_of, limits_of, representation_of, validators_of}
+use Rattle.server_service.specs.Found.{FindsEntry, FindsListing, HasListing, LeadsTo, listed_file}
+use Rattle.server_service.specs.Multipart.{multipart}
+use Rattle.server_files.specs.Listings.{listing_page}
+use Rattle.server_files.specs.Path.{Names, ends_in_slash}
+use Rattle.server_service.specs.Sites.{IsSite}
+use Rattle.server_service.specs.declared.file.Entry.{Entry}
+use Rattle.server_service.specs.declared.file.Entry.TheVariants.{Listed, Readable}
+use Rattle.server_service.specs.declared.file.File.{File}
+use Rattle.server_service.specs.declared.found.Found.{Found}
+use Rattle.server_files.specs.declared.kept.Kept.{Kept}
+use Rattle.server_files.specs.declared.listing.Listing.{Listing}
+use Rattle.server_service.specs.declared.settings.Site.{Site}
+use Rattle.server_service.specs.declared.source.Source.{Source}
+use Rattle.server_service.specs.declared.source.Source.TheVariants.{Kept as InMemory}
+use Rattle.server_service.proofs.ContentLemmas.{sent_whole}
+use Rattle.server_service.proofs.OneResponseLemmas.{asked_once}
+use Rattle.server_service.proofs.PlanLemmas.{same_by_plan}
+use Rattle.server_service.proofs.RepresentationLemmas.{contents_own}
+
+abbrev get : List ℕ
+get = codes "GET"
+
+-- one piece, which is all of the source
+abbrev pub all_of : Source → List Piece
+all_of source = Range (record { start = 0; len = len_of source }) ∷ []
+
+-- ---- the plan
+
+-- the plan is that of a whole file
+record IsWholePlan (own : File) (plan : Plan) : Type 0 where
+  one : is_several plan ≡ false
+  pieces : (divider : List ℕ) → pieces_sent divider own plan ≡ all_of own.source
+
+module _ (negotiates : Bool) (present : ℕ) (fields : LineMap) (own : File) (all : AsksForAll negotiates fields) where
+  selects_whole : Selects present get fields (validators_of present own) (len_of own.source) (limits_of own.coding)
+      Whole
+  selects_whole = inl (λ set applies. let asked = rw all.range at applies.asked in absurd (cc asked))
+
+  full : IsPlan present get fields (current_of present own) (len_of own.source) (limits_of own.coding) Full
+  full = (
+    validators_of present own,
+    record {
+      performs =
+          unconditional present fields (current_of present own) get all.if_match all.if_none_match
+          all.if_modified_since all.if_unmodified_since;
+      is_read = inl refl;
+      is_current = refl;
+    },
+    selects_whole,
+  )
+
+  abbrev Plans : Option Plan → Type 0
+  Plans plan = IsPlanned present get fields (current_of present own) (len_of own.source) (limits_of own.coding) plan
+
+  same : (plan : Option Plan) → Plans plan → IsSamePlan plan (Some Full)
+  same plan h =
+      one_plan present get fields (current_of present own) (len_of own.source) (limits_of own.coding) plan (Some Full) h
+      full
+
+  module _ (plan : Plan) (h : Plans (Some plan)) where
+    by_plan : {X : Type 0} (of_plan : Plan → X) (several : List Part → X)
+        → ((parts : _) → of_plan (Multiple parts) ≡ several parts.items) → of_plan plan ≡ of_plan Full
+    by_plan of_plan several same_parts =
+        same_by_plan present get fields (current_of present own) (len_of own.source) (limits_of own.coding) of_plan
+        several same_parts plan Full h full (same (Some plan) h)
+
+    whole_plan : IsWholePlan own plan
+    whole_plan = record {
+      one = by_plan is_several (λ _. true) (λ _. refl);
+      pieces = λ divider. by_plan (pieces_sent divider own) (multipart divider own) (λ _. refl);
+    }
+
+-- ---- the representation
+
+abbrev top : ℕ
+top = joined 1001 1001 1001
+
+rank_top : (gives : List Member → List ℕ → Quality) (used : Bool) (lines : List Line) (offer : Option Line)
+    → (used ≡ true → lines ≡ []) → rank_by gives used lines offer ≡ 1001
+rank_top gives used lines None silent = refl
+rank_top gives false lines (Some offer) silent = refl
+rank_top gives true lines (Some offer) silent = ap (λ (ls : List Line). rank (quality_in gives ls offer)) (silent refl)
+
+-- where nothing is asked, all are liked alike
+score_top : (negotiation : Negotiation) (fields : LineMap) (x : Representation) → negotiation.media_type ≡ false
+    → negotiation.language ≡ false → (negotiation.coding ≡ true → fields (codes "accept-encoding") ≡ [])
+    → score negotiation fields x ≡ top
+unfolding score
+score_top negotiation fields x media_type language coding =
+    let media_offer : Option Line = option_map (λ (v : FieldValue). v.bytes) x.content.media_type in
+    let language_offer : Option Line = option_map (λ (v : FieldValue). v.bytes) x.language in
+    let media_rank : ℕ = rank_by (quality_by media_type_says) negotiation.media_type (fields (codes "accept"))
+    media_offer in
+    let language_rank : ℕ = rank_by (quality_by language_says) negotiation.language
+    (fields (codes "accept-language")) language_offer in
+    let coding_rank : ℕ = rank_by encoding_quality negotiation.coding (fields (codes "accept-encoding"))
+    (Some (coding_of x)) in
+    let first : media_rank ≡ 1001 =
+    rank_top (quality_by media_type_says) negotiation.media_type (fields (codes "accept")) media_offer
+    (λ used. absurd (cc (used, media_type))) in
+    let second : language_rank ≡ 1001 =
+    rank_top (quality_by language_says) negotiation.language (fields (codes "accept-language")) language_offer
+    (λ used. absurd (cc (used, language))) in
+    let third : coding_rank ≡ 1001 =
+    rank_top encoding_quality negotiation.coding (fields (codes "accept-encoding")) (Some (coding_of x)) coding in
+    ap (λ (n : ℕ). joined n language_rank coding_rank) first
+    ∙ ap (λ (n : ℕ). joined 1001 n coding_rank) second
+    ∙ ap (λ (n : ℕ). joined 1001 1001 n) third
+
+-- of things of one score the first is picked
+picks_first : {A : Type 0} (n : ℕ) (xs : List A) → 0 < n → Picks (λ (x : A). n) xs (first_place xs)
+picks_first n [] some = λ k other low. absurd (omega (arith, low))
+picks_first n (x ∷ xs) some =
+    record {
+      within = omega arith;
+      positive = λ other. some;
+      greatest = λ k other low. omega arith;
+      first = λ k other low. absurd (omega (arith, low));
+    }
+
+-- ---- the reason
+
+rule_found : (rules : List MethodRule) (rule : MethodRule) → rules ≡ rule ∷ [] → rule.method ≡ get
+    → rule_for rules get ≡ Some rule
+unfolding rule_for
+rule_found rules rule e m =
+    ap (find (λ (r : MethodRule). bytes_eq r.method get)) e
+    ∙ ap (λ (name : List ℕ). cond (bytes_eq name get) (Some rule) None) m
+
+abbrev reading : Protocol → Option Line → LineMap → Asked
+reading protocol authority fields =
+    record { protocol = protocol; method = get; authority = authority; content = Absent; fields = fields }
+
+module _ (site : Resource) (divider : List ℕ) (is_site : IsSite divider site) (v : Vec Representation)
+    (protocol : Protocol) (authority : Option Line) (fields : LineMap)
+    (host : has_host protocol (fields (codes "host")) ≡ true)
+    (own_host : is_misdirected site (reading protocol authority fields) ≡ false)
+    (expects : has_known_expectation (fields (codes "expect")) ≡ true) where
+  abbrev file : Resource
+  file = record site { state = Current; representations = v }
+
+  abbrev asked : Asked
+  asked = reading protocol authority fields
+
+  rule : rule_for site.rules.items get ≡ Some is_site.rule
+  rule = rule_found site.rules.items is_site.rule is_site.rules is_site.is_read.method
+
+  acceptable : is_unacceptable file asked ≡ false
+  unfolding is_unacceptable
+  acceptable =
+      ap
+      (λ (strict : Bool). strict && (nat_lt 0 (length v.items)
+      && are_unacceptable site.negotiation fields v.items)) is_site.lenient
+
+  never : (b : Bool) (reason : Reason) → b ≡ true → b ≡ false → reason ≡ Admitted
+  never b reason t f = absurd (cc (t, f))
+
+  admitted : (reason : Reason) → applies file asked reason ≡ true → reason ≡ Admitted
+  admitted InvalidHost t = never _ InvalidHost t (ap not host)
+  admitted Misdirected t = never _ Misdirected t own_host
+  admitted UnknownMethod t = never _ UnknownMethod t refl
+  admitted MethodNotAllowed t = never _ MethodNotAllowed t (ap (λ (r : Option MethodRule). not (is_some r)) rule)
+  admitted Options t = never _ Options t refl
+  admitted UnmetExpectation t = never _ UnmetExpectation t (ap not expects)
+  admitted PartialContent t = never _ PartialContent t refl
+  admitted Moved t = never _ Moved t refl
+  admitted Gone t = never _ Gone t refl
+  admitted NotFound t = never _ NotFound t refl
+  admitted LengthRequired t =
+      never _ LengthRequired t (ap (λ (b : Bool). b && is_unsized Absent) is_site.needs_length)
+  admitted ContentTooLarge t = never _ ContentTooLarge t (ap (λ (l : Option ℕ). exceeds l Absent) is_site.limit)
+  admitted UnsupportedMediaType t = never _ UnsupportedMediaType t refl
+  admitted UnsupportedCoding t = never _ UnsupportedCoding t refl
+  admitted NotAcceptable t = never _ NotAcceptable t acceptable
+  admitted PreconditionRequired t = never _ PreconditionRequired t refl
+  admitted Admitted t = refl
+
+  -- ---- the answer
+
+  -- the answer sends all of the file
+  record IsWhole (own : File) (why : Reason) (code : Option ℕ) (sent : Sends) : Type 0 where
+    plan : Plan
+    admits : why ≡ Admitted
+    status : code ≡ Some 200
+    sends : sent ≡ Planned (Some 0) plan
+    whole : IsWholePlan own plan
+
+  module _ (present : ℕ) (own : File) (others : List File) (all : AsksForAll site.negotiation.coding fields)
+      (items : v.items ≡ representation_of present own ∷ map (representation_of present) others) where
+    abbrev mine : Representation
+    mine = representation_of present own
+
+    first_selected : (place : Option ℕ) → IsSelected file fields place → place ≡ Some 0
+    first_selected place h =
+        let choice =
+        picks_one (λ (x : Representation). top) v.items h.choice (first_place v.items)
+        (picks_alike (score site.negotiation fields) (λ x. top)
+        (λ x. score_top site.negotiation fields x is_site.media_type is_site.language all.accept_encoding) v.items
+        h.choice h.picks) (picks_first top v.items (lit< tt)) in
+        h.is ∙ ap (place_of v.items) choice
+        ∙ ap (λ (xs : List Representation). place_of xs (first_place xs)) items
+
+    planned : (status : Option ℕ) (sent : Sends) (response : Option Planning)
+        → IsAnswered present get fields (current_of present own) mine.content site.boundary response
+        → status ≡ status_sent response → sent ≡ is_sent (Some 0) response → IsWhole own Admitted status sent
+    planned status sent None h same_status same_sent =
+        absurd (same site.negotiation.coding present fields own all None h)
+    planned status sent (Some response) h same_status same_sent =
+        let plan = h.plan in
+        record {
+          plan = response.plan;
+          admits = refl;
+          status =
+              same_status
+              ∙ ap Some (h.status ∙ (same site.negotiation.coding present fields own all (Some response.plan) plan).0);
+          sends = same_sent;
+          whole = whole_plan site.negotiation.coding present fields own all response.plan plan;
+        }
+
+    goes_whole : (status : Option ℕ) (sent : Sends) (given : List Field)
+        → Goes present file asked status sent given → IsWhole own Admitted status sent
+    goes_whole status sent given h =
+        let place = first_selected h.place h.selected in
+        let goes : GoesOn present file asked (Some 0) (Some mine) status sent given =
+        subst
+        (λ (xs : List Representation). GoesOn present file asked (Some 0) (slice_get xs 0) status sent given) items
+        (subst
+        (λ (at : Option ℕ). GoesOn present file asked at (at_place v.items at) status sent given) place h.goes) in
+        planned status sent goes.response goes.answered goes.has_status goes.sends
+
+    answer_whole : (answer : Answer) → IsAnswer present file asked answer
+        → IsWhole own answer.reason answer.status answer.sends
+    answer_whole answer h =
+        let reason = admitted answer.reason h.first.is in
+        let gives : GivesIf true present file asked Admitted answer.status answer.sends h.own =
+        subst (λ (r : Reason). GivesIf (is_admitted r) present file asked r answer.status answer.sends h.own) reason
+        h.gives in
+        let whole = goes_whole answer.status answer.sends h.own gives in
+        record {
+          plan = whole.plan;
+          admits = reason;
+          status = whole.status;
+          sends = whole.sends;
+          whole = whole.whole;
+        }
+
+    decided_whole : (by : List ℕ) (files : List File) (answer : Answer) → Decides present by files file asked answer
+        → IsWhole own answer.reason answer.status answer.sends
+    decided_whole by files answer x =
+        elim x [
+          | inl h ↦ answer_whole answer h.1
+          | inr h ↦
+              let whole = answer_whole h.0 h.2 in
+              let one = ap sends_several whole.sends ∙ whole.whole.one in
+              absurd (h.1 (λ several. absurd (cc (one, several))))
+        ]
+
+-- ---- the response
+
+-- 200, with all of the source
+record HasAll (own : Source) (response : Response) (source : Option Source) : Type 0 where
+  status : response.status ≡ 200
+  pieces : response.pieces.items ≡ all_of own
+  opens : source ≡ Some own
+
+-- of a file in memory its content is sent
+all_sent : (own : Source) (source : Option Source) (response : Response) (kept : Kept) (sent : List ℕ)
+    → HasAll own response source → own ≡ InMemory kept → AreSent (gives_of source) response.pieces.items sent
+    → sent ≡ kept.content
+all_sent own source response kept sent has memory h =
+    sent_whole kept sent
+    (subst (λ (s : Source). AreSent (gives_of (Some s)) (all_of s) sent) memory
+    (subst (λ (s : Option Source). AreSent (gives_of s) (all_of own) sent) has.opens
+    (subst (λ (l : List Piece). AreSent (gives_of source) l sent) has.pieces h)))
+
+found_entry : (negotiates : Bool) (look : List ℕ → Entry) (request : Request (List ℕ)) (named : List ℕ) (entry : Entry)
+    (found : Found) → Names (uri_path (head_of request).uri) (Some named) → look named ≡ entry
+    → LeadsTo negotiates (λ path entry. entry ≡ look path) (head_of request).uri found
+    → FindsEntry negotiates (λ path entry. entry ≡ look path) (head_of request).uri named entry found
+found_entry negotiates look request named entry found names stands x =
+    elim x [
+      | inl h ↦
+          let same : h.0 ≡ named = h.1.is_named ∙ sym names.is_named in
+          let is : h.2.0 ≡ entry = h.2.1 ∙ ap look same ∙ stands in
+          subst
+          (λ (p : List ℕ). FindsEntry negotiates (λ path e. e ≡ look path) (head_of request).uri p entry found) same
+          (subst
+          (λ (e : Entry). FindsEntry negotiates (λ path o. o ≡ look path) (head_of request).uri h.0 e found) is
+          h.2.2)
+      | inr h ↦ absurd (h.0 named names)
+    ]
+
+module _ (now : Option ℕ) (left : ℕ) (site : Site) (divider : List ℕ) (look : List ℕ → Entry)
+    (request : Request (List ℕ)) (response : Response) (source : Option Source) (asked : Asked) where
+  -- all of the first content is sent, and it exists
+  get_has_all : IsSite divider site.resource → Asks request asked
+      → has_host asked.protocol (asked.fields (codes "host")) ≡ true → is_misdirected site.resource asked ≡ false
+      → has_known_expectation (asked.fields (codes "expect")) ≡ true → (head_of request).method ≡ get
+      → AsksForAll site.resource.negotiation.coding (lines_at (head_of request).headers)
+      → (x : IsAnswerAt now left site (λ path entry. entry ≡ look path) request response source)
+      → (own : File) (others : List File) → x.found.state ≡ Current → x.found.files.items ≡ own ∷ others
+      → HasAll own.source response source
+  get_has_all is_site asks host own_host expects method all x own others current contents =
+      let present : ℕ = clock now in
+      let by : List ℕ = string_bytes site.divider in
+      let reads : x.asked ≡ reading asked.protocol asked.authority asked.fields =
+      sym (asked_once request asked x.asked asks x.asks)
+      ∙ ap
+      (λ (m : List ℕ).
+      record {
+        protocol = asked.protocol;
+        method = m;
+        authority = asked.authority;
+        content = asked.content;
+        fields = asked.fields;
+      }) (asks.2.method ∙ method)
+      ∙ ap
+      (λ (c : RequestContent).
+      record {
+        protocol = asked.protocol;
+        method = get;
+        authority = asked.authority;
+        content = c;
+        fields = asked.fields;
+      }) asks.2.content in
+      let described = x.described in
+      let resource : x.resource ≡ record site.resource {
+        state = Current;
+        representations = described.representations;
+      } =
+      described.is
+      ∙ ap
+      (λ (s : State). record site.resource { state = s; representations = described.representations })
+      current in
+      let items =
+      described.are ∙ ap (map (representation_of present)) contents in
+      let whole =
+      decided_whole site.resource divider is_site described.representations asked.protocol asked.authority
+      asked.fields host own_host expects present own others
+      (subst (λ (f : LineMap). AsksForAll site.resource.negotiation.coding f) (sym asks.2.fields) all) items by
+      x.found.files.items x.answer
+      (subst
+      (λ (r : Resource).
+      Decides present by x.found.files.items r (reading asked.protocol asked.authority asked.fields) x.answer) resource
+      (subst (λ (q : Asked). Decides present by x.found.files.items x.resource q x.answer) reads x.decides)) in
+      let carries = x.carries in
+      let status =
+      ap (λ (r : Reason). status_for x.found.status r x.answer.status) whole.admits
+      ∙ ap (λ (s : Option ℕ). status_for x.found.status Admitted s) whole.status in
+      record {
+        status = carries.status ∙ status;
+        pieces =
+            carries.pieces
+            ∙ ap
+            (pieces_for by site.pages.items x.found.files.items
+            (status_for x.found.status x.answer.reason x.answer.status))
+            whole.sends
+            ∙ ap (λ (l : List File). pieces_of by (slice_get l 0) whole.plan) contents
+            ∙ whole.whole.pieces by;
+        opens =
+            x.opens
+            ∙ ap (source_sent x.found.files.items) whole.sends
+            ∙ ap (λ (l : List File). source_of (slice_get l 0)) contents;
+      }
+
+pub get_whole : (now : Option ℕ) (left : ℕ) (site : Site) (divider : List ℕ) (look : List ℕ → Entry)
+    (request : Request (List ℕ)) (named : List ℕ) (file : File) (response : Response) (source : Option Source)
+    (asked : Asked)
+    → IsSite divider site.resource → Asks request asked
+    → has_host asked.protocol (asked.fields (codes "host")) ≡ true → is_misdirected site.resource asked ≡ false
+    → has_known_expectation (asked.fields (codes "expect")) ≡ true
+    → (head_of request).method ≡ codes "GET"
+    → Names (uri_path (head_of request).uri) (Some named) → look named ≡ Readable file
+    → AsksForAll site.resource.negotiation.coding (lines_at (head_of request).headers)
+    → IsAnswerAt now left site (λ path entry. entry ≡ look path) request response source
+    → (response.status ≡ 200)
+    × ((kept : Kept) (sent : List ℕ) → file.source ≡ InMemory kept
+    → AreSent (gives_of source) response.pieces.items sent → sent ≡ kept.content)
+get_whole now left site divider look request named file response source asked is_site asks host own_host expects method
+    names stands all x =
+    let finds =
+    found_entry site.resource.negotiation.coding look request named (Readable file) x.found names stands x.leads in
+    let contents =
+    contents_own site.resource.negotiation.coding (λ path entry. entry ≡ look path) named file x.found.files.items
+    finds.2 in
+    let has =
+    get_has_all now left site divider look request response source asked is_site asks host own_host expects method all x
+    contents.0 contents.1 finds.0 contents.2 in (
+      has.status,
+      λ kept sent memory. all_sent contents.0.source source response kept sent has (contents.3 ∙ memory),
+    )
+
+has_listing : (path : List ℕ) (listing : Listing) (found : Found) → FindsListing path listing found
+    → ends_in_slash path ≡ true → HasListing listing found
+has_listing path listing found x slash = elim x [ inl h ↦ h.1 | inr h ↦ let no = h.0 in absurd (cc (no, slash)) ]
+
+pub get_listing : (now : Option ℕ) (left : ℕ) (site : Site) (divider : List ℕ) (look : List ℕ → Entry)
+    (request : Request (List ℕ)) (named : List ℕ) (listing : Listing) (response : Response)
+    (source : Option Source) (asked : Asked)
+    → IsSite divider site.resource → Asks request asked
+    → has_host asked.protocol (asked.fields (codes "host")) ≡ true → is_misdirected site.resource asked ≡ false
+    → has_known_expectation (asked.fields (codes "expect")) ≡ true
+    → (head_of request).method ≡ codes "GET"
+    → Names (uri_path (head_of request).uri) (Some named) → look named ≡ Listed listing
+    → ends_in_slash (uri_path (head_of request).uri) ≡ true
+    → AsksForAll site.resource.negotiation.coding (lines_at (head_of request).headers)
+    → IsAnswerAt now left site (λ path entry. entry ≡ look path) request response source
+    → (response.status ≡ 200)
+    × ((sent : List ℕ) → AreSent (gives_of source) response.pieces.items sent
+    → sent ≡ listing_page (string_bytes listing.folder) (map string_bytes listing.names.items))
+get_listing now left site divider look request named listing response source asked is_site asks host own_host expects
+    method names stands slash all x =
+    let finds =
+    found_entry site.resource.negotiation.coding look request named (Listed listing) x.found names stands x.leads in
+    let lists = has_listing (uri_path (head_of request).uri) listing x.found finds.1 slash in
+    let has =
+    get_has_all now left site divider look request response source asked is_site asks host own_host expects method all x
+    (listed_file listing) [] lists.state lists.files in (
+      has.status,
+      λ sent h. all_sent (InMemory listing.page) source response listing.page sent has refl h ∙ listing.is_page,
+    )

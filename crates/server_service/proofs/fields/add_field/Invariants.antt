@@ -1,0 +1,9 @@
+use Rattle.std.proofs.Common.{◌≡◌, ◌++◌}
+use Rattle.headers.specs.Lines.{lines_of}
+use Rattle.server_service.specs.Response.{fields_of, lines_under}
+use Rattle.server_service.proofs.fields.add_field.Given as goal
+
+abbrev pub invariant-loop-line : goal.invariant-loop-line
+invariant-loop-line l =
+    (fields_of l.response ≡ fields_of l.fn.response ++ lines_under (l.fn.field.name, lines_of l.yielded))
+    × (l.response.status ≡ l.fn.response.status) × (l.response.pieces.items ≡ l.fn.response.pieces.items)

@@ -1,0 +1,39 @@
+//! A store served over one connection.
+ghost use Rattle.std.specs.Prelude.{◌≡◌, ◌-◌, ℕ, List, is_ok};
+ghost use Rattle.std.specs.Io.KnownBytes.{Appends, Consumes};
+ghost use Rattle.server_connection.specs.Connection.{Exchanged};
+ghost use Rattle.server_service.specs.Answer.{IsAnswer, IsSameSite};
+ghost use Rattle.server_service.specs.File.{gives_of};
+
+use crate::service::FileService;
+use crate::store::Store;
+use http_server::Config;
+use server_connection::serve_exchanges;
+use std::hash::RandomState;
+use std::io;
+use std::io::{Read, Write};
+
+/// Reads requests, answers them from a store and writes the responses, until the connection is done.
+/// The keys are for the header maps, whose names the other end chooses.
+///
+/// What is written is, request by request, a response that `IsAnswer` says, with the bytes of the file
+/// that was opened for it. A file is read while it is sent. If it ends before its length, or reading it
+/// fails, the connection ends there, with an error, and so it does when out of memory.
+pub fn serve_store<S: Store, R: Read, W: Write>(
+    keys: RandomState,
+    config: Config,
+    service: &mut FileService<S>,
+    reader: &mut R,
+    writer: &mut W,
+) -> io::Result<()>
+    ensures { (received : List ℕ) × (sent : List ℕ)
+        × Consumes (R.remaining reader.old) (R.remaining reader.new) received
+        × Appends (W.contents writer.old) (W.contents writer.new) sent
+        × Exchanged
+        (λ before request plan after.
+        IsAnswer (S.tells before.store) before.left before.site (S.has before.store) request plan after.source
+        × IsSameSite before.site after.site × (after.store ≡ before.store) × (after.left ≡ before.left - 1))
+        (λ now. gives_of now.source) config service.old service.new received sent (is_ok result) }
+{
+    serve_exchanges(service.alloc, keys, config, service, reader, writer)
+}

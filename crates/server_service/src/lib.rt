@@ -1,0 +1,33 @@
+//! Answers requests from a store of files, with conditional requests and ranges (RFC 9110, sections
+//! 13 and 14), over any reader and writer. A file is read while it is sent, and only what is sent of it.
+#![tactic(auto)]
+
+mod answer;
+mod asked;
+mod cache;
+mod connection;
+mod fields;
+mod file;
+mod found;
+pub mod laws;
+mod memory;
+mod multipart;
+mod page;
+mod representation;
+mod service;
+mod settings;
+mod site;
+mod source;
+mod store;
+
+pub use crate::connection::serve_store;
+pub use crate::file::{Entry, File};
+pub use crate::memory::Memory;
+pub use crate::service::FileService;
+pub use crate::settings::{Divider, Page, Settings, Site};
+pub use crate::source::{Opened, Source};
+pub use crate::store::Store;
+pub use server_files::{
+    Coding, Kept, Listing, ends_in_slash, folder_of, index_location, is_plain, media_type_of,
+    status_page, store_path,
+};

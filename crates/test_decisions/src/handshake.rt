@@ -1,0 +1,64 @@
+//! Calls of the opening handshake. Fields are written as those of a map, with the blanks that a section loses.
+use crate::store::{method, status};
+use decide_handshake::{Answer as Response, Checked, Origins, accept, check};
+use headers::{HeaderMap, HeaderValue, set_all};
+use http::Version;
+use test_rows::{Answer, Arguments, Calls, Failure};
+
+/// The calls of the opening handshake.
+pub struct Handshake;
+
+// `accept METHOD HTTP/1.1 FIELDS`, and `accept_with` with a subprotocol of the server before them: the status of the
+// answer, the fault, and its fields.
+fn show_answer(
+    own: &[HeaderValue],
+    arguments: &mut Arguments<'_>,
+    answer: &mut Answer,
+) -> Result<(), Failure> {
+    let alloc = arguments.alloc();
+    let method = method(arguments)?;
+    if arguments.word()? != "HTTP/1.1" {
+        return Err(Failure::NoCall);
+    }
+    let request = arguments.map()?;
+    let response = accept(
+        alloc,
+        &method,
+        Version::HTTP_11,
+        &request,
+        own,
+        &Origins::Any,
+    )?;
+    answer.word(response.status().as_u16())?;
+    if let Response::BadRequest(fault) = &response {
+        answer.word(format_args!("{fault:?}"))?;
+    }
+    let mut map = HeaderMap::new(alloc);
+    set_all(&mut map, response.fields(alloc)?).map_err(|_| Failure::Memory)?;
+    answer.map(&map)
+}
+
+// `check SENT (/) STATUS RESPONSE`: what a client that sent these fields finds in a response.
+fn show_check(arguments: &mut Arguments<'_>, answer: &mut Answer) -> Result<(), Failure> {
+    let sent = arguments.map()?;
+    let status = status(arguments)?;
+    match check(&sent, status, &arguments.map()?) {
+        Checked::Open => answer.word("open")?,
+        Checked::Fail(flaw) => answer.word(format_args!("{flaw:?}"))?,
+    }
+    Ok(())
+}
+
+impl Calls for Handshake {
+    fn make(name: &str, arguments: &mut Arguments<'_>, answer: &mut Answer) -> Result<(), Failure> {
+        match name {
+            "accept" => show_answer(&[], arguments, answer),
+            "accept_with" => {
+                let own = HeaderValue::from_str(arguments.alloc(), arguments.word()?)?;
+                show_answer(&[own], arguments, answer)
+            }
+            "check" => show_check(arguments, answer),
+            _ => Err(Failure::NoCall),
+        }
+    }
+}

@@ -1,0 +1,159 @@
+//! The resources of routes: `note` at `/note`, `page` at `/pages/{name}`, and `report` at all that is below `/reports/`.
+//!
+//! `note` is a JSON document of `a.example`, which scripts of `https://app.example` may use. `page` is HTML in English,
+//! in German, and in English with gzip; a client that accepts none of them gets the first. `report` is a PDF document.
+//! Each has 20 bytes.
+use decide_cors::{Allowed, CorsPolicy, CorsRules};
+use decide_preconditions::{Boundary, Content, RangeLimits, Validators};
+use decide_resource::{MethodRule, Negotiation, Representation, Resource, State};
+use decide_routes::{Routes, nowhere};
+use headers::{ETag, HeaderMap, HeaderValue, Origin, decode_values};
+use http::Method;
+use matchit::Router;
+use std::alloc::Global;
+use test_rows::Failure;
+
+fn value(alloc: Global, text: Option<&str>) -> Result<Option<HeaderValue>, Failure> {
+    match text {
+        Some(text) => Ok(Some(HeaderValue::from_str(alloc, text)?)),
+        None => Ok(None),
+    }
+}
+
+fn representation(
+    alloc: Global,
+    media_type: &str,
+    coding: Option<&str>,
+    language: Option<&str>,
+    tag: &str,
+) -> Result<Representation, Failure> {
+    Ok(Representation {
+        coding: value(alloc, coding)?,
+        language: value(alloc, language)?,
+        content: Content {
+            len: Some(20),
+            media_type: value(alloc, Some(media_type))?,
+            ranges: Some(RangeLimits::usual()),
+        },
+        validators: Validators {
+            etag: Some(ETag::from_str(alloc, tag)?),
+            last_modified: None,
+            is_date_strong: false,
+        },
+    })
+}
+
+// The rule of a method that takes any content.
+fn rule(alloc: Global, method: Method) -> MethodRule {
+    MethodRule {
+        method,
+        takes: HeaderMap::new(alloc),
+        creates: false,
+        needs_condition: false,
+        takes_parts: false,
+    }
+}
+
+// A resource with GET for any host.
+fn open_resource(
+    alloc: Global,
+    representations: Vec<Representation>,
+    is_strict: bool,
+) -> Result<Resource, Failure> {
+    let boundary = Boundary::new(alloc, "THIS_STRING_SEPARATES")?;
+    let mut rules = Vec::new(alloc);
+    rules.push(rule(alloc, Method::GET))?;
+    Ok(Resource {
+        hosts: None,
+        rules,
+        state: State::Current,
+        representations,
+        negotiation: Negotiation {
+            media_type: true,
+            language: true,
+            coding: true,
+            is_strict,
+        },
+        boundary,
+        needs_length: false,
+        limit: None,
+        cors: None,
+    })
+}
+
+fn policy(alloc: Global) -> Result<CorsPolicy, Failure> {
+    let mut origins = Vec::new(alloc);
+    let line = HeaderValue::from_static("https://app.example");
+    let origin: Origin = decode_values(alloc, &[line])?;
+    origins.push(origin)?;
+    match CorsPolicy::new(alloc, CorsRules::new(alloc, Allowed::Listed(origins))) {
+        Ok(policy) => Ok(policy),
+        Err(_) => Err(Failure::Memory),
+    }
+}
+
+fn own_hosts(alloc: Global) -> Result<Vec<HeaderValue>, Failure> {
+    let mut hosts = Vec::new(alloc);
+    hosts.push(HeaderValue::from_static("a.example"))?;
+    Ok(hosts)
+}
+
+fn note(alloc: Global) -> Result<Resource, Failure> {
+    let mut notes = Vec::new(alloc);
+    notes.push(representation(alloc, "application/json", None, None, "\"n1\"")?)?;
+    let mut note = open_resource(alloc, notes, true)?;
+    for method in [Method::PUT, Method::DELETE, Method::PATCH] {
+        note.rules.push(rule(alloc, method))?;
+    }
+    note.hosts = Some(own_hosts(alloc)?);
+    note.cors = Some(policy(alloc)?);
+    note.negotiation.language = false;
+    note.negotiation.coding = false;
+    Ok(note)
+}
+
+fn page(alloc: Global) -> Result<Resource, Failure> {
+    let html = "text/html";
+    let mut pages = Vec::new(alloc);
+    pages.push(representation(alloc, html, None, Some("en"), "\"en\"")?)?;
+    pages.push(representation(alloc, html, None, Some("de"), "\"de\"")?)?;
+    pages.push(representation(alloc, html, Some("gzip"), Some("en"), "\"gz\"")?)?;
+    open_resource(alloc, pages, false)
+}
+
+fn report(alloc: Global) -> Result<Resource, Failure> {
+    let mut reports = Vec::new(alloc);
+    reports.push(representation(alloc, "application/pdf", None, None, "\"r1\"")?)?;
+    open_resource(alloc, reports, true)
+}
+
+/// The routes.
+pub fn routes(alloc: Global) -> Result<Routes<&'static str>, Failure> {
+    let mut router = Router::new(alloc);
+    for (route, name) in [
+        ("/note", "note"),
+        ("/pages/{name}", "page"),
+        ("/reports/{*path}", "report"),
+    ] {
+        if router.insert(route, name).is_err() {
+            return Err(Failure::Memory);
+        }
+    }
+    let boundary = Boundary::new(alloc, "THIS_STRING_SEPARATES")?;
+    let nowhere = nowhere(
+        alloc,
+        Some(own_hosts(alloc)?),
+        boundary,
+        Some(policy(alloc)?),
+    )?;
+    Ok(Routes { router, nowhere })
+}
+
+/// The resource of this name.
+pub fn resource_named(alloc: Global, name: &str) -> Result<Resource, Failure> {
+    match name {
+        "note" => note(alloc),
+        "page" => page(alloc),
+        _ => report(alloc),
+    }
+}

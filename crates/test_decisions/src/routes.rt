@@ -1,0 +1,90 @@
+//! Answers by the path of a request, and the stage of a reason.
+use crate::resources::{resource_named, routes};
+use crate::store::method;
+use decide_preconditions::Plan;
+use decide_resource::{Answer as Made, Reason, RequestContent, RequestHead, Sends};
+use gateway_messages::Protocol;
+use headers::{HeaderMap, set_all};
+use http::Method;
+use test_rows::{Answer, Arguments, Calls, Failure};
+
+/// The time of rows: the start of 2026.
+const PRESENT: u64 = 1_767_225_600;
+
+/// The calls of routes.
+pub struct Routing;
+
+// Why, the status, what is sent, and the fields.
+fn add_outcome(made: Made, answer: &mut Answer) -> Result<(), Failure> {
+    let reason = made.reason;
+    answer.word(format_args!("{reason:?}"))?;
+    answer.option(made.status.map(|status| status.as_u16()))?;
+    match made.sends {
+        Sends::Nothing => answer.word("nothing")?,
+        Sends::Planned(Some(place), Plan::Full) => answer.word(format_args!("{place} whole"))?,
+        _ => return Err(Failure::NoCall),
+    }
+    let mut map = HeaderMap::new(answer.alloc());
+    set_all(&mut map, made.fields).map_err(|_| Failure::Memory)?;
+    answer.map(&map)
+}
+
+// A request of HTTP/1.1 without content.
+fn plain_head<'a>(method: &'a Method, fields: &'a HeaderMap) -> RequestHead<'a> {
+    let authority = None;
+    RequestHead {
+        protocol: Protocol::Http11,
+        method,
+        authority,
+        content: RequestContent::Absent,
+        fields,
+    }
+}
+
+// `route PATH METHOD FIELDS`: the reason, the status or `(none)`, what is sent, and the fields, for a request of HTTP/1.1
+// without content by its path, among the routes of `resources.rt`.
+fn call_route(arguments: &mut Arguments<'_>, answer: &mut Answer) -> Result<(), Failure> {
+    let alloc = arguments.alloc();
+    let path = arguments.word()?;
+    let method = method(arguments)?;
+    let fields = arguments.map()?;
+    let request = plain_head(&method, &fields);
+    let made = routes(alloc)?.answer_at(alloc, path, &request, PRESENT, |name, _| {
+        resource_named(alloc, name)
+    })?;
+    add_outcome(made, answer)
+}
+
+fn read_reason(arguments: &mut Arguments<'_>) -> Result<Reason, Failure> {
+    Ok(match arguments.word()? {
+        "InvalidHost" => Reason::InvalidHost,
+        "Misdirected" => Reason::Misdirected,
+        "UnknownMethod" => Reason::UnknownMethod,
+        "MethodNotAllowed" => Reason::MethodNotAllowed,
+        "Options" => Reason::Options,
+        "UnmetExpectation" => Reason::UnmetExpectation,
+        "PartialContent" => Reason::PartialContent,
+        "Moved" => Reason::Moved,
+        "Gone" => Reason::Gone,
+        "NotFound" => Reason::NotFound,
+        "LengthRequired" => Reason::LengthRequired,
+        "ContentTooLarge" => Reason::ContentTooLarge,
+        "UnsupportedMediaType" => Reason::UnsupportedMediaType,
+        "UnsupportedCoding" => Reason::UnsupportedCoding,
+        "NotAcceptable" => Reason::NotAcceptable,
+        "PreconditionRequired" => Reason::PreconditionRequired,
+        "Admitted" => Reason::Admitted,
+        _ => return Err(Failure::NoCall),
+    })
+}
+
+impl Calls for Routing {
+    fn make(name: &str, arguments: &mut Arguments<'_>, answer: &mut Answer) -> Result<(), Failure> {
+        match name {
+            "route" => call_route(arguments, answer),
+            // `stage REASON`: its stage.
+            "stage" => Ok(answer.word(read_reason(arguments)?.stage())?),
+            _ => Err(Failure::NoCall),
+        }
+    }
+}

@@ -1,0 +1,155 @@
+//! Iterators that hint wrongly at how much is left, and lines that mean harm.
+use crate::replay::{Getters, show};
+use crate::writing::written;
+use headers::{Error, Header, HeaderName, HeaderValue, Refused, decode_values};
+use http::Method;
+use std::alloc::Global;
+use test_rows::{Answer, Arguments, Failure};
+
+/// What an iterator says of how much is left, whatever is.
+#[derive(Clone, Copy, Drop)]
+pub enum Hint {
+    /// Nothing.
+    Unknown,
+    /// 2^64 - 1 elements at most.
+    TooMuch,
+}
+
+/// Gives elements, and hints as it is told.
+#[derive(Drop)]
+pub struct Hinted<T: Drop> {
+    elements: std::vec::IntoIter<T>,
+    hint: Hint,
+}
+
+impl<T: Drop> Iterator for Hinted<T> {
+    type Item = T;
+
+    ghost can_next = { λ s. ⟦<std::vec::IntoIter<T> as Iterator>⟧.can_next s.elements };
+
+    ghost next_gives = { λ s r t. ⟦<std::vec::IntoIter<T> as Iterator>⟧.next_gives s.elements r t.elements };
+
+    ghost remaining = { λ s. ⟦<std::vec::IntoIter<T> as Iterator>⟧.remaining s.elements };
+
+    fn next(&mut self) -> Option<T> {
+        self.elements.next()
+    }
+
+    fn size_hint(&self) -> (usize, Option<usize>) {
+        let (_, upper) = self.elements.size_hint();
+        match self.hint {
+            Hint::Unknown => (0, None),
+            Hint::TooMuch => (0, upper.map(|_| usize::MAX)),
+        }
+    }
+}
+
+// The next word, as a hint.
+fn read_hint(arguments: &mut Arguments<'_>) -> Result<Hint, Failure> {
+    match arguments.word()? {
+        "unknown" => Ok(Hint::Unknown),
+        "too-much" => Ok(Hint::TooMuch),
+        _ => Err(Failure::NoCall),
+    }
+}
+
+/// The next word as a hint, and all words that are left as names.
+pub fn hinted_names(arguments: &mut Arguments<'_>) -> Result<Hinted<HeaderName>, Failure> {
+    let hint = read_hint(arguments)?;
+    let elements = arguments.names()?;
+    Ok(Hinted { elements, hint })
+}
+
+/// The next word as a hint, and all words that are left as methods.
+pub fn hinted_methods(arguments: &mut Arguments<'_>) -> Result<Hinted<Method>, Failure> {
+    let hint = read_hint(arguments)?;
+    let elements = arguments.methods()?;
+    Ok(Hinted { elements, hint })
+}
+
+/// Adds the least and the greatest number of elements that such an iterator hints at.
+pub fn size_hint(arguments: &mut Arguments<'_>, answer: &mut Answer) -> Result<(), Failure> {
+    let (least, greatest) = hinted_names(arguments)?.size_hint();
+    answer.word(least)?;
+    Ok(answer.option(greatest)?)
+}
+
+// The header of lines from an iterator with this hint.
+fn decoded<H: Header>(
+    alloc: Global,
+    lines: &[HeaderValue],
+    hint: Hint,
+) -> Result<Result<H, Refused<Error>>, Failure> {
+    let lines: Vec<&HeaderValue> = lines.iter().collect(alloc)?;
+    let elements = lines.into_iter();
+    Ok(H::decode(alloc, &mut Hinted { elements, hint }))
+}
+
+/// Adds the header of the lines after the first word, from an iterator with the hint of that word.
+pub fn decode_hinted<H: Header + Getters<P>, P>(
+    arguments: &mut Arguments<'_>,
+    answer: &mut Answer,
+) -> Result<(), Failure> {
+    let hint = read_hint(arguments)?;
+    let lines = arguments.lines()?;
+    let header: H = decoded(arguments.alloc(), &lines, hint)??;
+    show(&header, answer)
+}
+
+// The lines that are written of what was read, or none if it was refused.
+fn rewritten<H: Header>(
+    alloc: Global,
+    answer: Result<H, Refused<Error>>,
+) -> Result<Option<Vec<HeaderValue>>, Failure> {
+    match answer {
+        Ok(header) => Ok(Some(written(alloc, &header)?)),
+        Err(Refused::Invalid(_)) => Ok(None),
+        Err(Refused::Memory(_)) => Err(Failure::Memory),
+    }
+}
+
+// The words are a text, how often it stands in each line, and how many lines there are.
+fn repeated(arguments: &mut Arguments<'_>) -> Result<Vec<HeaderValue>, Failure> {
+    let alloc = arguments.alloc();
+    let text = arguments.bytes()?;
+    let length = usize::try_from(arguments.number()?).map_err(|_| Failure::NoCall)?;
+    let line = text.repeat(alloc, length)?;
+    let mut lines = Vec::new(alloc);
+    for _ in 0..arguments.number()? {
+        let value = HeaderValue::from_bytes(alloc, &line)?;
+        lines.push(value)?;
+    }
+    Ok(lines)
+}
+
+/// Adds whether such lines are a header or refused, whatever the iterator hints, and whether what is
+/// written of it reads as it.
+pub fn harmless<H: Header>(
+    arguments: &mut Arguments<'_>,
+    answer: &mut Answer,
+) -> Result<(), Failure> {
+    let alloc = arguments.alloc();
+    let lines = repeated(arguments)?;
+    let wanted = rewritten::<H>(alloc, decode_values(alloc, &lines))?;
+    let unhinted = rewritten::<H>(alloc, decoded(alloc, &lines, Hint::Unknown)?)?;
+    let overhinted = rewritten::<H>(alloc, decoded(alloc, &lines, Hint::TooMuch)?)?;
+    let mut is_harmless = unhinted == wanted && overhinted == wanted;
+    if let Some(written) = &wanted {
+        let again = rewritten::<H>(alloc, decode_values(alloc, written))?;
+        is_harmless &= again == wanted;
+    }
+    Ok(answer.word(is_harmless)?)
+}
+
+/// Adds the lengths of the lines that are written of the header that such lines read.
+pub fn lengths<H: Header>(
+    arguments: &mut Arguments<'_>,
+    answer: &mut Answer,
+) -> Result<(), Failure> {
+    let alloc = arguments.alloc();
+    let header: H = decode_values(alloc, &repeated(arguments)?)?;
+    for line in written(alloc, &header)?.iter() {
+        answer.word(line.len())?;
+    }
+    Ok(())
+}

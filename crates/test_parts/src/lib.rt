@@ -1,0 +1,61 @@
+//! The calls of rows on what stands below the headers and above them: lists, texts, entity tags, errors,
+//! maps, the program `headers_canon`, and a header of a user's own.
+#![tactic(auto)]
+
+mod canon;
+mod errors;
+mod items;
+mod map;
+mod streams;
+mod texts;
+mod user;
+
+use crate::canon::call_canon;
+use crate::errors::{display, formats};
+use crate::items::{call_comma, call_list};
+use crate::map::call_map;
+use crate::texts::{call_tag, call_tag_range, call_text};
+use crate::user::call_user;
+use headers_items::SemiColon;
+use headers_user::MaxForwards;
+use test_each::{call, size_hint};
+use test_rows::{Answer, Arguments, Calls, Failure};
+
+/// The calls on what stands below the headers and above them.
+pub struct Parts;
+
+fn call_part(
+    name: &str,
+    word: &str,
+    arguments: &mut Arguments<'_>,
+    answer: &mut Answer,
+) -> Result<(), Failure> {
+    match name {
+        "canon" => call_canon(word, arguments, answer),
+        "Comma" => call_comma(word, arguments, answer),
+        "SemiColon" => call_list::<SemiColon>(word, arguments, answer),
+        "EntityTag" => call_tag(word, arguments, answer),
+        "EntityTagRange" => call_tag_range(word, arguments, answer),
+        "map" => call_map(word, arguments, answer),
+        "MaxForwards" => call::<MaxForwards, _>(word, arguments, answer),
+        "text" => call_text(word, arguments, answer),
+        "user" => call_user(word, arguments, answer),
+        _ => Err(Failure::NoCall),
+    }
+}
+
+impl Calls for Parts {
+    // A name is a word of its own, or a part, a dot and a word.
+    fn make(name: &str, arguments: &mut Arguments<'_>, answer: &mut Answer) -> Result<(), Failure> {
+        match name {
+            "display" => return display(arguments, answer),
+            "formats" => return formats(arguments, answer),
+            "size_hint" => return size_hint(arguments, answer),
+            _ => {}
+        }
+        match name.split_once('.') {
+            Some((name, word)) => call_part(name, word, arguments, answer),
+            None => Err(Failure::NoCall),
+        }
+    }
+}

@@ -1,0 +1,108 @@
+//! Calls of a user's own header and credentials. Fields are written as those of a map.
+use crate::Parts;
+use crate::map::same_lines;
+use headers::authorization::Authorization;
+use headers::{HeaderMapExt, InsertError, encoding};
+use headers_user::{ForwardError, Forwarded, MaxForwards, forward, key_of};
+use std::alloc::{AllocError, Global};
+use test_each::{Getters, Replay, eq, show};
+use test_rows::{Answer, Arguments, Failure};
+
+impl Getters<Parts> for MaxForwards {
+    fn getters(&self, answer: &mut Answer) -> Result<(), Failure> {
+        Ok(answer.option(self.hops())?)
+    }
+
+    fn copy(&self, _alloc: Global) -> Result<MaxForwards, AllocError> {
+        Ok(*self)
+    }
+}
+
+impl Replay<Parts> for MaxForwards {
+    fn call(call: &str, arguments: &mut Arguments<'_>, answer: &mut Answer) -> Result<(), Failure> {
+        match call {
+            "eq" => eq::<MaxForwards, _>(arguments, answer),
+            "new" => show(&MaxForwards::new(arguments.number()?), answer),
+            "none" => show(&MaxForwards::none(), answer),
+            "insert_none" => insert_none(arguments, answer),
+            _ => Err(Failure::NoCall),
+        }
+    }
+}
+
+// The map that a typed insert of no limit leaves.
+fn insert_none(arguments: &mut Arguments<'_>, answer: &mut Answer) -> Result<(), Failure> {
+    let alloc = arguments.alloc();
+    let text = arguments.rest();
+    let mut map = Arguments::new(alloc, text).map()?;
+    let before = Arguments::new(alloc, text).map()?;
+    match map.typed_insert(alloc, MaxForwards::none()) {
+        Ok(()) => {}
+        Err(InsertError::Memory) if same_lines(&map, &before) => {
+            return Err(Failure::Memory);
+        }
+        Err(_) => answer.word("(left)")?,
+    }
+    answer.map(&map)
+}
+
+// What becomes of a request with these fields, and its fields then.
+fn show_forwarded(arguments: &mut Arguments<'_>, answer: &mut Answer) -> Result<(), Failure> {
+    let alloc = arguments.alloc();
+    let text = arguments.rest();
+    let mut map = Arguments::new(alloc, text).map()?;
+    let before = Arguments::new(alloc, text).map()?;
+    match forward(alloc, &mut map) {
+        Ok(Forwarded::Stop) => answer.word("stop")?,
+        Ok(Forwarded::Passed(hops)) => answer.word(format_args!("passed {hops}"))?,
+        Ok(Forwarded::Unlimited) => answer.word("unlimited")?,
+        Err(ForwardError::BadHops) => answer.word(ForwardError::BadHops)?,
+        Err(ForwardError::Memory) if same_lines(&map, &before) => {
+            return Err(Failure::Memory);
+        }
+        Err(ForwardError::Memory) => answer.word("(left)")?,
+    }
+    answer.map(&map)
+}
+
+// The key in these fields, and the lines that are written of it.
+fn show_key(arguments: &mut Arguments<'_>, answer: &mut Answer) -> Result<(), Failure> {
+    let alloc = arguments.alloc();
+    let map = arguments.map()?;
+    let Some(key) = key_of(alloc, &map)? else {
+        return Ok(answer.none()?);
+    };
+    answer.bytes(key.key().as_bytes())?;
+    let encoded = encoding(alloc, &Authorization(key))?;
+    for line in &encoded.lines {
+        answer.line(line)?;
+    }
+    Ok(())
+}
+
+// How an error is printed: plainly, at a width and a precision, and for a programmer.
+fn show_error(error: ForwardError, answer: &mut Answer) -> Result<(), Failure> {
+    let alloc = answer.alloc();
+    answer.bytes(format!(in alloc; "{error}")?.as_bytes())?;
+    answer.bytes(format!(in alloc; "{error:>40.3}")?.as_bytes())?;
+    Ok(answer.bytes(format!(in alloc; "{error:?}")?.as_bytes())?)
+}
+
+/// Adds the answer of a call of a user's crate: `forward FIELD..`, `key_of FIELD..`, and
+/// `formats NAME`, how an error of `forward` is printed.
+pub fn call_user(
+    call: &str,
+    arguments: &mut Arguments<'_>,
+    answer: &mut Answer,
+) -> Result<(), Failure> {
+    match call {
+        "forward" => show_forwarded(arguments, answer),
+        "key_of" => show_key(arguments, answer),
+        "formats" => match arguments.word()? {
+            "BadHops" => show_error(ForwardError::BadHops, answer),
+            "Memory" => show_error(ForwardError::Memory, answer),
+            _ => Err(Failure::NoCall),
+        },
+        _ => Err(Failure::NoCall),
+    }
+}

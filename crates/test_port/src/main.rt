@@ -1,0 +1,16 @@
+//! Makes the calls of the rows in the files that it is given, and prints those that are answered
+//! otherwise than is wanted.
+#![tactic(auto)]
+
+use std::process::ExitCode;
+use test_http::Http;
+use test_parts::Parts;
+use test_rows::replay_files;
+use test_web::Web;
+
+/// The calls of the port.
+type Port = (Http, (Web, Parts));
+
+fn main(rt: HostRuntime) -> anyhow::Result<ExitCode> {
+    replay_files::<Port, _>(&rt)
+}
