@@ -289,8 +289,8 @@ struct typed_headers_stored {
 struct typed_headers_looked_up {
     /* What is told of the stored response, if `action` is about one; else 0. */
     struct typed_headers_stored stored;
-    /* Its place under the target, for the calls that take one, until a call changes what is stored; else 0. */
-    size_t place;
+    /* Its number, for the calls that take one; else 0. */
+    uint64_t number;
     /* What is done, one of `typed_headers_decision` but SERVE_STALE. */
     uint8_t action;
 };
@@ -330,13 +330,10 @@ enum typed_headers_outcome {
     TYPED_HEADERS_UPDATED_ONCE = 3
 };
 
-/* The place, under any target, of a response that answers once, until a later 304 answers a request. */
-#define TYPED_HEADERS_ONCE SIZE_MAX
-
-/* What a 304 makes of stored responses, and where the answer is. */
+/* What a 304 makes of stored responses, and which one is the answer. */
 struct typed_headers_freshened {
-    /* The place of the answer: TYPED_HEADERS_ONCE if it is stored no longer, 0 if there is none. */
-    size_t place;
+    /* The number of the answer, which is new; 0 if there is none. */
+    uint64_t number;
     /* One of `typed_headers_outcome`. */
     uint8_t outcome;
 };
@@ -418,262 +415,6 @@ enum typed_headers_flaw {
     /* Sec-WebSocket-Protocol has several lines, or a subprotocol that wasn't asked for. */
     TYPED_HEADERS_UNASKED_PROTOCOL = 7
 };
-
-/*
- * The canonical text of a header section (RFC 9112, section 5). `section` is read up to its first empty line: each
- * line before it is a name, a colon and a value. The text has each name once, in lower case, at its first appearance,
- * with its lines as the typed header of that name writes them. The lines of an unknown name are as they came, without
- * blanks at their ends. A name whose lines are refused stands as the line `! NAME`: the status is
- * TYPED_HEADERS_MARKED then.
- *
- * Refused: a line before the first empty one is no field. Too large: the section has more than 8,388,608 bytes, or
- * more names than a map has room for (24,576).
- */
-uint8_t typed_headers_canonical(const uint8_t *section, size_t section_length, const struct typed_headers_keys *keys,
-                                uint8_t *room, size_t room_length, size_t *written);
-
-/*
- * The canonical field lines of a header: what the typed header of this name writes of the value that the lines say,
- * each line with a LF. `name` is the name of a field, in any case: of the 51 headers of the library. The lines of
- * `authorization` and `proxy-authorization` are read as credentials of Basic, or else of Bearer. The lines of a name
- * that no header has are as they came.
- *
- * Refused: the name is no field name, or the header rejects the lines. Memory: the name is no standard one.
- */
-uint8_t typed_headers_field(const uint8_t *name, size_t name_length, const uint8_t *lines, size_t lines_length,
-                            uint8_t *room, size_t room_length, size_t *written);
-
-/*
- * The seconds of `age`: the only line, a number below 2^64 (RFC 9111, section 5.1). Refused: there are several lines,
- * or the line is no number.
- */
-uint8_t typed_headers_age(const uint8_t *lines, size_t lines_length, uint64_t *seconds);
-
-/*
- * The bytes of `content-length`: all lines, each of which is the same number below 2^64 (RFC 9110, section 8.6).
- * Refused: a line is no number, or two differ.
- */
-uint8_t typed_headers_content_length(const uint8_t *lines, size_t lines_length, uint64_t *length);
-
-/*
- * The dates of `date`, `expires` and `last-modified`, as seconds since the start of 1970: the only line, in one of the
- * three formats of RFC 9110, section 5.6.7, up to the year 9999. Refused: there are several lines, or the line is no
- * such date.
- */
-uint8_t typed_headers_date(const uint8_t *lines, size_t lines_length, uint64_t *second);
-uint8_t typed_headers_expires(const uint8_t *lines, size_t lines_length, uint64_t *second);
-uint8_t typed_headers_last_modified(const uint8_t *lines, size_t lines_length, uint64_t *second);
-
-/*
- * The canonical text of the media type of `content-type`: its first line (RFC 9110, section 8.3). Type, subtype and
- * the names of parameters are in lower case, each parameter stands after a semicolon and a space. Refused: the line is
- * no media type.
- */
-uint8_t typed_headers_media_type(const uint8_t *lines, size_t lines_length, uint8_t *room, size_t room_length,
-                                 size_t *written);
-
-/* Type and subtype of that media type, as `text/html`: its canonical text up to the first semicolon. */
-uint8_t typed_headers_essence(const uint8_t *lines, size_t lines_length, uint8_t *room, size_t room_length,
-                              size_t *written);
-
-/*
- * Whether two entity tags are equal (RFC 9110, section 8.8.3.2): `*equal` is 1 if they are, 0 if not. Tags are strongly
- * equal if neither is weak and their opaque parts are the same, and weakly equal if their opaque parts are the same.
- * Each text is one line. Refused or absent: one of the texts is no entity tag, or has no line.
- */
-uint8_t typed_headers_strong_eq(const uint8_t *one, size_t one_length, const uint8_t *other, size_t other_length,
-                                uint8_t *equal);
-uint8_t typed_headers_weak_eq(const uint8_t *one, size_t one_length, const uint8_t *other, size_t other_length,
-                              uint8_t *equal);
-
-/*
- * The directives of `cache-control`: the entries of all lines (RFC 9111, section 5.2, and RFC 8246). Names go by ASCII
- * case; the last entry that carries a number gives it. Refused: an entry carries one of the four numbers, and it is
- * none below 2^64.
- */
-uint8_t typed_headers_cache_control(const uint8_t *lines, size_t lines_length,
-                                    struct typed_headers_cache_directives *directives);
-
-/*
- * The ranges that a representation of `length` bytes can satisfy of those that `range` asks for: its first line, in
- * order (RFC 9110, section 14.1.2). Each has its last position below the length. A part of the line that is no range,
- * or covers no position, is skipped. The room and `*written` count ranges. None is written if no range can be
- * satisfied. Refused: the line isn't text that begins with `bytes=`.
- */
-uint8_t typed_headers_ranges(const uint8_t *lines, size_t lines_length, uint64_t length,
-                             struct typed_headers_bytes_range *room, size_t room_length, size_t *written);
-
-/*
- * The date of a second since the start of 1970, as IMF-fixdate, 29 bytes (RFC 9110, section 5.6.7). Refused: the date
- * lies past the year 9999. Memory: it is valid.
- */
-uint8_t typed_headers_format_date(uint64_t second, uint8_t *room, size_t room_length, size_t *written);
-
-/*
- * The line of `content-range` for a range, for the length of the whole, or for both (RFC 9110, section 14.4). Refused:
- * the first position is past the last, the last isn't below the length, or neither a range nor a length is said.
- * Memory: it is valid.
- */
-uint8_t typed_headers_format_content_range(const struct typed_headers_content_range *range, uint8_t *room,
-                                           size_t room_length, size_t *written);
-
-/*
- * The entity tag with this opaque part: in quotes, and behind `W/` if it is weak (RFC 9110, section 8.8.3). Refused:
- * the opaque part has a quote, a space, or a control byte. Memory: it is valid.
- */
-uint8_t typed_headers_format_etag(bool is_weak, const uint8_t *opaque, size_t opaque_length, uint8_t *room,
-                                  size_t room_length, size_t *written);
-
-/*
- * What the preconditions of a request come to (RFC 9110, section 13.2.2): `*answer` is 0 if the method is to be
- * performed, 304 or 412. Of the section the fields If-Match, If-None-Match, If-Modified-Since and If-Unmodified-Since
- * count. `etag` is the entity tag of the target, or empty if it has none. A server asks this once it would otherwise
- * answer with success, and before it performs the method.
- *
- * Refused: the method is no token, a line of the section before the first empty one is no field, `etag` is no entity
- * tag, or the date lies past the year 9999. Too large: the section has more names than a map has room for (24,576).
- */
-uint8_t typed_headers_evaluate(const uint8_t *method, size_t method_length, const uint8_t *section,
-                               size_t section_length, const struct typed_headers_keys *keys, const uint8_t *etag,
-                               size_t etag_length, const struct typed_headers_target *target, uint16_t *answer);
-
-/*
- * Which part of the target's representation, of `length` bytes, a request selects (RFC 9110, sections 13.2.2 and 14.2):
- * `*answer` is 200 if all of it, 206 if the ranges that are written, 416 if none. The ranges are in order, and more
- * than 80 positions lie between two of them. Range is ignored if there are more than 100 ranges, or if 512 bytes for
- * each of several are more than `length`: so no answer is longer than twice the representation. Of the section the
- * fields Range and If-Range count. The room and `*written` count ranges; `*answer` is given also if they don't fit. A
- * server asks this once `typed_headers_evaluate` gave 0.
- *
- * Absent: the target has no representation. Refused and too large: as for `typed_headers_evaluate`. Memory: Range
- * applies.
- */
-uint8_t typed_headers_select(const uint8_t *method, size_t method_length, const uint8_t *section,
-                             size_t section_length, const struct typed_headers_keys *keys, const uint8_t *etag,
-                             size_t etag_length, const struct typed_headers_target *target, uint64_t length,
-                             uint16_t *answer, struct typed_headers_bytes_range *room, size_t room_length,
-                             size_t *written);
-
-/*
- * The response to a GET or a HEAD of the target's current representation, by its preconditions and its ranges, and to
- * any request whose preconditions are false (RFC 9110, sections 13.2.2 and 14.2): its status, the ranges that it sends
- * unless it sends all, and its lines, each `name: value` and a LF, names in lower case. It sends ranges within the
- * limits of `typed_headers_select`. A HEAD is answered as a GET without Range, but for the content.
- *
- * Six fields are the response's alone, and are to be taken off first: etag, last-modified, accept-ranges,
- * content-range, content-length and content-type. So is content-encoding, unless `response->keeps_encoding`. Several
- * ranges are sent as multipart/byteranges with this boundary: 1 to 70 letters, digits, or `'`, `+`, `-`, `.`, `_`. No
- * range that is sent may hold it.
- *
- * `*written` and `*parts_written` are given also if one of them doesn't fit, and so is `*response`. What fits is
- * written then.
- *
- * Refused: the method is no token, a line of the section before the first empty one is no field, `etag` is no entity
- * tag, the date lies past the year 9999, the media type is no line, or the boundary is none. Too large: the section has
- * more names than a map has room for (24,576). Memory: the media type isn't empty, or the boundary is one.
- */
-uint8_t typed_headers_respond(const uint8_t *method, size_t method_length, const uint8_t *section,
-                              size_t section_length, const struct typed_headers_keys *keys, const uint8_t *etag,
-                              size_t etag_length, const struct typed_headers_target *target,
-                              const struct typed_headers_content *content, const uint8_t *boundary,
-                              size_t boundary_length, struct typed_headers_response *response,
-                              struct typed_headers_bytes_range *parts, size_t parts_length, size_t *parts_written,
-                              uint8_t *room, size_t room_length, size_t *written);
-
-/*
- * Which of a server's offers a request is served, by the lines of its `accept`, `accept-encoding` or `accept-language`
- * (RFC 9110, section 12.5): `*place` counts from 0. `offers` has one offer a line, the most wanted first: media types
- * with their parameters, values of Content-Encoding (`identity` for none), language tags. Of those of the greatest
- * quality the first is chosen, and without the field the first of all.
- *
- * Absent: none is acceptable. Refused: a line of a text can't be one.
- */
-uint8_t typed_headers_choose_type(const uint8_t *lines, size_t lines_length, const uint8_t *offers,
-                                  size_t offers_length, size_t *place);
-uint8_t typed_headers_choose_coding(const uint8_t *lines, size_t lines_length, const uint8_t *offers,
-                                    size_t offers_length, size_t *place);
-uint8_t typed_headers_choose_language(const uint8_t *lines, size_t lines_length, const uint8_t *offers,
-                                      size_t offers_length, size_t *place);
-
-/*
- * Which of a server's language tags lookup finds (RFC 4647, section 3.4): where `en-GB` is asked for, `en` is found.
- * Else as `typed_headers_choose_language`.
- */
-uint8_t typed_headers_look_up_language(const uint8_t *lines, size_t lines_length, const uint8_t *offers,
-                                       size_t offers_length, size_t *place);
-
-/*
- * How acceptable an offer is, by the lines of `accept`, `accept-encoding` or `accept-language` (RFC 9110, section
- * 12.5). Without the field each has the weight 1000. Refused: a line can't be one.
- */
-uint8_t typed_headers_type_quality(const uint8_t *lines, size_t lines_length, const uint8_t *offer,
-                                   size_t offer_length, struct typed_headers_quality *quality);
-uint8_t typed_headers_coding_quality(const uint8_t *lines, size_t lines_length, const uint8_t *offer,
-                                     size_t offer_length, struct typed_headers_quality *quality);
-uint8_t typed_headers_language_quality(const uint8_t *lines, size_t lines_length, const uint8_t *offer,
-                                       size_t offer_length, struct typed_headers_quality *quality);
-
-/*
- * What `sec-websocket-accept` answers to `sec-websocket-key`, 28 bytes: the only line (RFC 6455, section 4.2.2).
- * Refused: there are several lines, or the line isn't the base64 of sixteen bytes.
- */
-uint8_t typed_headers_websocket_accept(const uint8_t *lines, size_t lines_length, uint8_t *room, size_t room_length,
-                                       size_t *written);
-
-/*
- * What a server answers to a client's opening handshake (RFC 6455, sections 4.2.1 and 4.2.2). `version` is that of the
- * request: 10 for HTTP/1.0, 11, 20 or 30. `protocols` has the server's own subprotocols, one a line, the most wanted
- * first: the first that the request asks for is taken. `origins` has the origins whose scripts may open a connection,
- * one a line, or the line `*` for any; a request without Origin is no script's, and is let in.
- *
- * The text is the lines of the answer, each `name: value` and a LF. sec-websocket-protocol and sec-websocket-extensions
- * are to be taken off a 101 first. Refused: the method is no token, the version is another number, a line of a text
- * can't be one, or a line of the section before its first empty one is no field. Memory: the answer has lines.
- */
-uint8_t typed_headers_websocket_respond(const uint8_t *method, size_t method_length, uint8_t version,
-                                        const uint8_t *section, size_t section_length,
-                                        const struct typed_headers_keys *keys, const uint8_t *protocols,
-                                        size_t protocols_length, const uint8_t *origins, size_t origins_length,
-                                        struct typed_headers_handshake *handshake, uint8_t *room, size_t room_length,
-                                        size_t *written);
-
-/*
- * A client's opening handshake (RFC 6455, section 4.1). Each line is `name: value` and a LF. `nonce` is sixteen bytes
- * at random, others for each handshake. The caller adds Host, and what it offers in sec-websocket-protocol and
- * sec-websocket-extensions. Refused: the nonce hasn't sixteen bytes. Memory: it is valid.
- */
-uint8_t typed_headers_websocket_request(const uint8_t *nonce, size_t nonce_length, uint8_t *room, size_t room_length,
-                                        size_t *written);
-
-/*
- * What a client that sent the section `sent` finds in a response (RFC 6455, section 4.1): `*flaw` is one of
- * `typed_headers_flaw`. Refused: the status is no number from 100 to 999, or a line of a section before its first
- * empty one is no field.
- */
-uint8_t typed_headers_websocket_check(const uint8_t *sent, size_t sent_length, uint16_t status,
-                                      const uint8_t *response, size_t response_length,
-                                      const struct typed_headers_keys *keys, uint8_t *flaw);
-
-/*
- * What a server with these rules answers a request from another origin (Fetch standard, "CORS protocol"). `request` and
- * `response` are header sections: the request's, and that of the response as its handler left it, of which the field
- * Vary counts.
- *
- * The text is the lines of the answer, each `name: value` and a LF, names in lower case. Six fields are the rules'
- * alone, and are to be taken off the response first: access-control-allow-origin, -allow-credentials,
- * -expose-headers, -allow-methods, -allow-headers and access-control-max-age. If the text has lines of `vary`, they
- * stand in place of the response's own. A preflight is answered with a status from 200 to 299.
- *
- * Refused: the rules have a line that is no origin, method or name; they have `*` in a list of several methods or
- * names, or any origin, method or name with credentials, which no browser reads so; the method is no token; or a line
- * of a section before its first empty one is no field. Too large: a section has more names than a map has room for
- * (24,576). Memory: nothing is rejected. Whether rules are refused shows with the method GET and two empty sections.
- */
-uint8_t typed_headers_cors_answer(const struct typed_headers_cors_rules *rules, const uint8_t *method,
-                                  size_t method_length, const uint8_t *request, size_t request_length,
-                                  const uint8_t *response, size_t response_length,
-                                  const struct typed_headers_keys *keys, struct typed_headers_cors_facts *facts,
-                                  uint8_t *room, size_t room_length, size_t *written);
 
 /* What the target of a request is. */
 enum typed_headers_resource_state {
@@ -837,206 +578,6 @@ struct typed_headers_resource_facts {
     uint8_t has_place;
 };
 
-/*
- * The whole answer of a resource to a request (RFC 9110, sections 7.4 to 15): by its host, its method, its content,
- * negotiation, preconditions, ranges, and the rules for other origins. `representations` are the current ones, the most
- * wanted first. `rules` count if `resource->has_cors`. `target` is that of the request line: if it is in
- * absolute-form, its host counts, else that of Host; it may be empty. There may be no representation to show though the
- * state is current, if the server makes them only as it performs GET.
- *
- * The text is the lines of the answer, each `name: value` and a LF, names in lower case. They are all that the response
- * has of the fields that these decisions own. If the status is 0, the server performs the method and sets the lines in
- * the response that comes of it: lines of `vary` stand in place of the response's own, and if `rules` count, the six
- * fields of `typed_headers_cors_answer` are taken off first. The ranges and their limits are those of
- * `typed_headers_respond`. Both rooms, their counts and `*facts` are given as there.
- *
- * Refused: a line of a text can't be a field line; a method is no token; a list has more lines than there are methods
- * or representations; the state or the version is another number; the location is empty; the boundary or an entity tag
- * is none; a date lies past the year 9999; the rules count and are refused; the target is in absolute-form without a
- * host; or a line of the section before its first empty one is no field. Too large: the section has more names than a
- * map has room for (24,576). Memory: the boundary is one.
- */
-uint8_t typed_headers_resource_answer(const struct typed_headers_resource *resource,
-                                      const struct typed_headers_representation *representations,
-                                      size_t representations_length, const struct typed_headers_cors_rules *rules,
-                                      const struct typed_headers_resource_request *request, const uint8_t *method,
-                                      size_t method_length, const uint8_t *target, size_t target_length,
-                                      const uint8_t *section, size_t section_length,
-                                      const struct typed_headers_keys *keys,
-                                      struct typed_headers_resource_facts *facts,
-                                      struct typed_headers_bytes_range *parts, size_t parts_length,
-                                      size_t *parts_written, uint8_t *room, size_t room_length, size_t *written);
-
-/*
- * Whether a cache may store the response to a request (RFC 9111, sections 3 and 3.5): `*answer` is 1 if it may, 0 if
- * not. `is_shared` is true for a cache of several users, as a proxy's, and false for that of one, as a browser's.
- *
- * Refused: the method is no token, the status is no number from 100 to 999, or a line of a section before its first
- * empty one is no field. Too large, here and below: a section has more names than a map has room for (24,576).
- */
-uint8_t typed_headers_may_store(const uint8_t *method, size_t method_length, const uint8_t *request,
-                                size_t request_length, uint16_t status, const uint8_t *response,
-                                size_t response_length, const struct typed_headers_keys *keys, bool is_shared,
-                                uint8_t *answer);
-
-/*
- * For how many seconds a response is fresh by what its origin says (RFC 9111, section 4.2.1): `s-maxage` in a shared
- * cache, else `max-age`, else Expires less Date. `received` is when it came, and stands for a Date that is missing or
- * can't be read.
- *
- * Absent: the origin doesn't say. Refused: a line of the section before its first empty one is no field.
- */
-uint8_t typed_headers_lifetime(const uint8_t *response, size_t response_length, const struct typed_headers_keys *keys,
-                               uint64_t received, bool is_shared, uint64_t *seconds);
-
-/*
- * For how many seconds a response may be taken as fresh if its origin doesn't say so: a tenth of the time from its last
- * modification to its Date (RFC 9111, section 4.2.2). `received` is as above. A cache bounds this, as to a day.
- *
- * Absent: the origin says so, the status and `cache-control` let no cache guess, or no last modification is known.
- * Refused: the status is no number from 100 to 999, or a line of the section before its first empty one is no field.
- */
-uint8_t typed_headers_heuristic_lifetime(uint16_t status, const uint8_t *response, size_t response_length,
-                                         const struct typed_headers_keys *keys, uint64_t received, bool is_shared,
-                                         uint64_t *seconds);
-
-/*
- * How many seconds old a stored response is (RFC 9111, section 4.2.3). Refused: a line of the section before its first
- * empty one is no field.
- */
-uint8_t typed_headers_current_age(const uint8_t *response, size_t response_length,
-                                  const struct typed_headers_keys *keys, const struct typed_headers_moments *moments,
-                                  uint64_t *seconds);
-
-/*
- * What a cache does with a request, by a response that it has stored to the same URI (RFC 9111, section 4, and RFC
- * 5861): `*decision` is one of `typed_headers_decision`. `stored_method` and `stored` are the method and the section of
- * the request that the response answered. A request whose method isn't safe is always to be fetched. Refused: a method
- * is no token, or a line of a section before its first empty one is no field.
- */
-uint8_t typed_headers_decide(const uint8_t *stored_method, size_t stored_method_length, const uint8_t *stored,
-                             size_t stored_length, const uint8_t *method, size_t method_length,
-                             const uint8_t *request, size_t request_length, const uint8_t *response,
-                             size_t response_length, const struct typed_headers_keys *keys,
-                             const struct typed_headers_moments *moments, bool is_shared, uint8_t *decision);
-
-/*
- * The fields by which the origin is asked whether a stored response is still good (RFC 9111, section 4.3.1): its
- * entity tag as a line of `if-none-match`, and the date of its last modification as one of `if-modified-since`, each
- * with a LF. `received` is when the response came, in seconds since 1970; it resolves a year of two digits. A validator
- * that the response doesn't have, or that is no single entity tag or date, has no line. The lines stand in
- * place of the request's own two fields, which are to be taken off first. Refused: a line of the section before its
- * first empty one is no field.
- */
-uint8_t typed_headers_validators(const uint8_t *response, size_t response_length, uint64_t received,
-                                 const struct typed_headers_keys *keys, uint8_t *room, size_t room_length,
-                                 size_t *written);
-
-/*
- * Opens a closed cache, with an empty store in bounded memory (RFC 9111). It copies the keys. Refused: it is open.
- * Such a cache has memory until it is closed again. Absent, of each other call on a cache: it is closed. On a failure
- * of parsing what is passed, a cache is as it was. Memory: the cache is closed.
- */
-uint8_t typed_headers_cache_new(struct typed_headers_cache *cache, const struct typed_headers_cache_options *options,
-                                const struct typed_headers_keys *keys);
-
-/*
- * Opens a closed cache as `typed_headers_cache_new` does, with extensions. Refused: it is open, or a line of the
- * targeted fields is no field name. Memory: the cache is closed. Since 1.1.
- */
-uint8_t typed_headers_cache_new_with(struct typed_headers_cache *cache,
-                                     const struct typed_headers_cache_options *options,
-                                     const struct typed_headers_cache_extensions *extensions,
-                                     const struct typed_headers_keys *keys);
-
-/* Closes a cache, and gives its memory back. It may be closed before, or null. The status is TYPED_HEADERS_DONE. */
-uint8_t typed_headers_cache_free(struct typed_headers_cache *cache);
-
-/*
- * What a cache does with a request, by its store (RFC 9111, section 4). `now` is the present. Where the origin states
- * no lifetime, at most `guess` seconds are guessed (section 4.2.2), none if it is 0. The target becomes the most
- * recently used. The text is, by `facts->action`:
- *
- * - SERVE and SERVE_AND_REVALIDATE: the field lines of the stored response, with its present Age in place of its own.
- *   They are sent with its status and its content.
- * - REVALIDATE and REVALIDATE_OR_SERVE: the fields by which the origin is asked, as `typed_headers_validators` writes
- *   them. The request is sent with them in place of its own two fields.
- * - UNAVAILABLE and FETCH: empty.
- *
- * Refused, here and below: the target is no UTF-8, a method is no token, a status is no number from 100 to 999, or a
- * line of a section before its first empty one is no field. Memory: nothing is rejected.
- */
-uint8_t typed_headers_cache_lookup(struct typed_headers_cache *cache,
-                                   const struct typed_headers_cache_request *request, uint64_t now, uint64_t guess,
-                                   struct typed_headers_looked_up *facts, uint8_t *room, size_t room_length,
-                                   size_t *written);
-
-/*
- * What is told of the stored response at a place of a target, and its field lines with its Age at the present `now`.
- * Places count from 0 in the order of storing. Absent: no response is at the place. Memory: a response is
- * there.
- */
-uint8_t typed_headers_cache_response(struct typed_headers_cache *cache, const uint8_t *target, size_t target_length,
-                                     size_t place, uint64_t now, struct typed_headers_stored *facts, uint8_t *room,
-                                     size_t room_length, size_t *written);
-
-/*
- * The content of the stored response at a place of a target, from a position on: as much of it as fits. So content is
- * sent in pieces, with no call between them that changes what is stored. Absent: no response is at the place.
- */
-uint8_t typed_headers_cache_content(struct typed_headers_cache *cache, const uint8_t *target, size_t target_length,
-                                    size_t place, size_t from, uint8_t *room, size_t room_length, size_t *written);
-
-/*
- * How the stored response at a place answers the conditions and the ranges of a request that it may answer (RFC 9111,
- * section 4.3.2). `ranges` says whether a part is sent. Absent: no response is at the place. Memory: a 200
- * is there.
- */
-uint8_t typed_headers_cache_answer(struct typed_headers_cache *cache,
-                                   const struct typed_headers_cache_request *request, size_t place, uint64_t now,
-                                   bool ranges, struct typed_headers_stored_answer *facts);
-
-/*
- * Stores the response to a request, if a cache may (RFC 9111, section 3): `*stored` is 1 if it did, 0 if not. If there
- * is too little room, older responses of its target go first, and then the targets that weren't used for the longest
- * time. If there is no memory, some of these may be gone, and nothing is stored that wasn't before. Memory: the
- * content isn't empty, or the response may be stored. Too large also if the map of the response has no room for the
- * fields that change before it is stored.
- */
-uint8_t typed_headers_cache_store(struct typed_headers_cache *cache, const struct typed_headers_cache_request *request,
-                                  const struct typed_headers_cache_response *response, uint8_t *stored);
-
-/*
- * Updates stored responses by a 304 to a request, with this section (RFC 9111, section 4.3.4). If there is no memory to
- * update them, nothing is stored under the target. Memory: the 304 is about a stored response. Too large also if the map
- * of one that is stored under the target has no room for the fields of the 304: then nothing is stored there.
- */
-uint8_t typed_headers_cache_freshen(struct typed_headers_cache *cache,
-                                    const struct typed_headers_cache_request *request, const uint8_t *section,
-                                    size_t section_length, uint64_t requested, uint64_t received,
-                                    struct typed_headers_freshened *facts);
-
-/*
- * Updates stored responses to GET by a 200 to a HEAD, with this section, and removes those that it isn't about (RFC
- * 9111, section 4.3.5). If there is no memory for that, nothing is stored under the target. Memory: something is
- * stored under the target. Too large also if the map of a response there has no room for the fields of the 200: then
- * nothing is stored there.
- */
-uint8_t typed_headers_cache_freshen_by_head(struct typed_headers_cache *cache,
-                                            const struct typed_headers_cache_request *request,
-                                            const uint8_t *section, size_t section_length, uint64_t requested,
-                                            uint64_t received);
-
-/*
- * Removes what is stored under a target, if the response to a request with this method and this status invalidates it:
- * the method isn't safe, and the status is 2xx or 3xx (RFC 9111, section 4.4).
- */
-uint8_t typed_headers_cache_invalidate(struct typed_headers_cache *cache, const uint8_t *target, size_t target_length,
-                                       const uint8_t *method, size_t method_length, uint16_t status);
-
-/* Removes what is stored under a target, as one that Location or Content-Location names (RFC 9111, section 4.4). */
-uint8_t typed_headers_cache_remove(struct typed_headers_cache *cache, const uint8_t *target, size_t target_length);
-
 /* What a gateway or proxy is to the messages that pass it. */
 struct typed_headers_gateway {
     /* Its name in Via: a token (RFC 9110, section 7.6.3). A request whose Via has it is rejected as a loop. */
@@ -1182,60 +723,6 @@ struct typed_headers_framing_outcome {
     uint8_t reason;
 };
 
-/*
- * What a gateway does with a request, and the lines that it sends on its next connection (RFC 9110, section 7.6; RFC
- * 9112, sections 3.2 and 6; RFC 7239). `version` is that of the request: 10 for HTTP/1.0, or 11. `authority` is the
- * host and the port of a target in absolute-form, which takes the place of Host, or empty for any other target.
- *
- * The text is all lines of the section to send, each `name: value` and a LF, names in lower case; the empty line that
- * ends a section isn't among them. It is empty unless the request is forwarded. Fields of one connection go no
- * further. Via, Content-Length, Transfer-Encoding, Connection, TE, Forwarded and X-Forwarded-* are the gateway's own.
- * Max-Forwards of TRACE and OPTIONS is one less. `*outcome` is given also if the text doesn't fit.
- *
- * Refused: the gateway's name or the method is no token, a protected name is no field name, a node is none, a version
- * is another number, `authority` is no line, or a line of the section before its first empty one is no field. Too
- * large, here and below: the section has more names than a map has room for (24,576). Memory: the gateway's name
- * is a token.
- */
-uint8_t typed_headers_forward_request(const struct typed_headers_gateway *gateway,
-                                      const struct typed_headers_hop *hop, const uint8_t *method,
-                                      size_t method_length, uint8_t version, const uint8_t *authority,
-                                      size_t authority_length, const uint8_t *section, size_t section_length,
-                                      const struct typed_headers_keys *keys,
-                                      struct typed_headers_request_outcome *outcome, uint8_t *room,
-                                      size_t room_length, size_t *written);
-
-/*
- * What a gateway does with a response, and the lines that it sends to the client (RFC 9110, sections 6.6.1, 7.6 and
- * 15.2; RFC 9112, section 6.3). `version` is that of the response; `method` and `client_version` are those of the
- * client's request. `received` is when the response came, in seconds since the start of 1970: the date of one that has
- * none. The text is as above, without a Connection of the gateway's own. `*outcome` is given also if it doesn't fit.
- *
- * Refused: the gateway's name or the method is no token, a protected name is no field name, the status is no number
- * from 100 to 999, a version is another number, the date lies past the year 9999, or a line of the section before its
- * first empty one is no field. Memory: the gateway's name is a token.
- */
-uint8_t typed_headers_forward_response(const struct typed_headers_gateway *gateway, uint16_t status, uint8_t version,
-                                       const uint8_t *section, size_t section_length,
-                                       const struct typed_headers_keys *keys, const uint8_t *method,
-                                       size_t method_length, uint8_t client_version, uint64_t received,
-                                       struct typed_headers_response_outcome *outcome, uint8_t *room,
-                                       size_t room_length, size_t *written);
-
-/*
- * How the content of a message is delimited (RFC 9112, section 6.3). `status` is that of a response, or 0 if the
- * message is a request. `method` is that of the request, and `version` that of the message: 10 for HTTP/1.0, or 11.
- * What recipients are known to delimit in different ways is rejected.
- *
- * Refused: the method is no token, the status is neither 0 nor a number from 100 to 999, the version is another number,
- * or a line of the section before its first empty one is no field.
- */
-uint8_t typed_headers_framing(const uint8_t *method, size_t method_length, uint16_t status, uint8_t version,
-                              const uint8_t *section, size_t section_length, const struct typed_headers_keys *keys,
-                              struct typed_headers_framing_outcome *outcome);
-
-/* ---- Typed values of fields, since version 1.1 */
-
 /* The number of a port. */
 struct typed_headers_port {
     /* The number, or 0 if there is no port. */
@@ -1278,6 +765,552 @@ enum typed_headers_disposition {
     /* It is a part of a form (RFC 7578, section 4.2). */
     TYPED_HEADERS_FORM_DATA = 3
 };
+
+/*
+ * A handle: closed, or open with what it was opened with. Zero bytes are a closed one, as TYPED_HEADERS_CLOSED. An open
+ * one has memory until it is closed again, and what it has never changes. Its members are the library's: a program
+ * changes none, and copies none but of a closed one. Two calls on one handle may not run at once, also if both only
+ * read it. Another thread may make the next one, if the two are ordered, as by a lock. Threads that read at the same
+ * time have a handle each.
+ *
+ * Absent, of each call that reads a handle: it is closed, or is that of another struct.
+ */
+struct typed_headers_section {
+    void *place;
+    bool is_open;
+};
+
+/* A policy for requests from other origins: the same, with a server's rules. */
+struct typed_headers_cors_policy {
+    void *place;
+    bool is_open;
+};
+
+/* A resource: the same, with what a server knows of the target of a request. */
+struct typed_headers_resource_handle {
+    void *place;
+    bool is_open;
+};
+
+#define TYPED_HEADERS_CLOSED {0}
+
+/* ---- Written by tools/c_calls from calls.txt. ---- */
+
+/*
+ * The canonical text of a header section (RFC 9112, section 5). `section` is read up to its first empty line: each line
+ * before it is a name, a colon and a value. The text has each name once, in lower case, at its first appearance, with
+ * its lines as the typed header of that name writes them. The lines of an unknown name are as they came, without blanks
+ * at their ends. A name whose lines are refused stands as the line `! NAME`: the status is TYPED_HEADERS_MARKED then.
+ *
+ * Refused: a line before the first empty one is no field. Too large: the section has more than 8,388,608 bytes, or more
+ * names than a map has room for (24,576).
+ */
+uint8_t typed_headers_canonical(const uint8_t *section, size_t section_length, const struct typed_headers_keys *keys,
+                                uint8_t *room, size_t room_length, size_t *written);
+
+/*
+ * The canonical field lines of a header: what the typed header of this name writes of the value that the lines say,
+ * each line with a LF. `name` is the name of a field, in any case: of the 51 headers of the library. The lines of
+ * `authorization` and `proxy-authorization` are read as credentials of Basic, or else of Bearer. The lines of a name
+ * that no header has are as they came.
+ *
+ * Refused: the name is no field name, or the header rejects the lines. Memory: the name is no standard one.
+ */
+uint8_t typed_headers_field(const uint8_t *name, size_t name_length, const uint8_t *lines, size_t lines_length,
+                            uint8_t *room, size_t room_length, size_t *written);
+
+/*
+ * The seconds of `age`: the only line, a number below 2^64 (RFC 9111, section 5.1). Refused: there are several lines,
+ * or the line is no number.
+ */
+uint8_t typed_headers_age(const uint8_t *lines, size_t lines_length, uint64_t *seconds);
+
+/*
+ * The bytes of `content-length`: all lines, each of which is the same number below 2^64 (RFC 9110, section 8.6).
+ * Refused: a line is no number, or two differ.
+ */
+uint8_t typed_headers_content_length(const uint8_t *lines, size_t lines_length, uint64_t *length);
+
+/*
+ * The dates of `date`, `expires` and `last-modified`, as seconds since the start of 1970: the only line, in one of the
+ * three formats of RFC 9110, section 5.6.7, up to the year 9999. Refused: there are several lines, or the line is no
+ * such date.
+ */
+uint8_t typed_headers_date(const uint8_t *lines, size_t lines_length, uint64_t *second);
+uint8_t typed_headers_expires(const uint8_t *lines, size_t lines_length, uint64_t *second);
+uint8_t typed_headers_last_modified(const uint8_t *lines, size_t lines_length, uint64_t *second);
+
+/*
+ * The canonical text of the media type of `content-type`: its first line (RFC 9110, section 8.3). Type, subtype and the
+ * names of parameters are in lower case, each parameter stands after a semicolon and a space. Refused: the line is no
+ * media type.
+ */
+uint8_t typed_headers_media_type(const uint8_t *lines, size_t lines_length, uint8_t *room, size_t room_length,
+                                 size_t *written);
+
+/* Type and subtype of that media type, as `text/html`: its canonical text up to the first semicolon. */
+uint8_t typed_headers_essence(const uint8_t *lines, size_t lines_length, uint8_t *room, size_t room_length,
+                              size_t *written);
+
+/*
+ * Whether two entity tags are equal (RFC 9110, section 8.8.3.2): `*equal` is 1 if they are, 0 if not. Tags are strongly
+ * equal if neither is weak and their opaque parts are the same, and weakly equal if their opaque parts are the same.
+ * Each text is one line. Refused or absent: one of the texts is no entity tag, or has no line.
+ */
+uint8_t typed_headers_strong_eq(const uint8_t *one, size_t one_length, const uint8_t *other, size_t other_length,
+                                uint8_t *equal);
+uint8_t typed_headers_weak_eq(const uint8_t *one, size_t one_length, const uint8_t *other, size_t other_length,
+                              uint8_t *equal);
+
+/*
+ * The directives of `cache-control`: the entries of all lines (RFC 9111, section 5.2, and RFC 8246). Names go by ASCII
+ * case; the last entry that carries a number gives it. Refused: an entry carries one of the four numbers, and it is
+ * none below 2^64.
+ */
+uint8_t typed_headers_cache_control(const uint8_t *lines, size_t lines_length,
+                                    struct typed_headers_cache_directives *directives);
+
+/*
+ * The ranges that a representation of `length` bytes can satisfy of those that `range` asks for: its first line, in
+ * order (RFC 9110, section 14.1.2). Each has its last position below the length. A part of the line that is no range,
+ * or covers no position, is skipped. The room and `*written` count ranges. None is written if no range can be
+ * satisfied. Refused: the line isn't text that begins with `bytes=`.
+ */
+uint8_t typed_headers_ranges(const uint8_t *lines, size_t lines_length, uint64_t length,
+                             struct typed_headers_bytes_range *room, size_t room_length, size_t *written);
+
+/*
+ * The date of a second since the start of 1970, as IMF-fixdate, 29 bytes (RFC 9110, section 5.6.7). Refused: the date
+ * lies past the year 9999. Memory: it is valid.
+ */
+uint8_t typed_headers_format_date(uint64_t second, uint8_t *room, size_t room_length, size_t *written);
+
+/*
+ * The line of `content-range` for a range, for the length of the whole, or for both (RFC 9110, section 14.4). Refused:
+ * the first position is past the last, the last isn't below the length, or neither a range nor a length is said.
+ * Memory: it is valid.
+ */
+uint8_t typed_headers_format_content_range(const struct typed_headers_content_range *range, uint8_t *room,
+                                           size_t room_length, size_t *written);
+
+/*
+ * The entity tag with this opaque part: in quotes, and behind `W/` if it is weak (RFC 9110, section 8.8.3). Refused:
+ * the opaque part has a quote, a space, or a control byte. Memory: it is valid.
+ */
+uint8_t typed_headers_format_etag(bool is_weak, const uint8_t *opaque, size_t opaque_length, uint8_t *room,
+                                  size_t room_length, size_t *written);
+
+/*
+ * What the preconditions of a request come to (RFC 9110, section 13.2.2): `*answer` is 0 if the method is to be
+ * performed, 304 or 412. Of the section the fields If-Match, If-None-Match, If-Modified-Since and If-Unmodified-Since
+ * count. `etag` is the entity tag of the target, or empty if it has none. A server asks this once it would otherwise
+ * answer with success, and before it performs the method.
+ *
+ * Refused: the method is no token, a line of the section before the first empty one is no field, `etag` is no entity
+ * tag, or the date lies past the year 9999. Too large: the section has more names than a map has room for (24,576).
+ */
+uint8_t typed_headers_evaluate(const uint8_t *method, size_t method_length, const uint8_t *section,
+                               size_t section_length, const struct typed_headers_keys *keys, const uint8_t *etag,
+                               size_t etag_length, const struct typed_headers_target *target, uint16_t *answer);
+
+/*
+ * Which part of the target's representation, of `length` bytes, a request selects (RFC 9110, sections 13.2.2 and 14.2):
+ * `*answer` is 200 if all of it, 206 if the ranges that are written, 416 if none. The ranges are in order, and more
+ * than 80 positions lie between two of them. Range is ignored if there are more than 100 ranges, or if 512 bytes for
+ * each of several are more than `length`: so no answer is longer than twice the representation. Of the section the
+ * fields Range and If-Range count. The room and `*written` count ranges; `*answer` is given also if they don't fit. A
+ * server asks this once `typed_headers_evaluate` gave 0.
+ *
+ * Absent: the target has no representation. Refused and too large: as for `typed_headers_evaluate`. Memory: Range
+ * applies.
+ */
+uint8_t typed_headers_select(const uint8_t *method, size_t method_length, const uint8_t *section,
+                             size_t section_length, const struct typed_headers_keys *keys, const uint8_t *etag,
+                             size_t etag_length, const struct typed_headers_target *target, uint64_t length,
+                             uint16_t *answer, struct typed_headers_bytes_range *room, size_t room_length,
+                             size_t *written);
+
+/*
+ * The response to a GET or a HEAD of the target's current representation, by its preconditions and its ranges, and to
+ * any request whose preconditions are false (RFC 9110, sections 13.2.2 and 14.2): its status, the ranges that it sends
+ * unless it sends all, and its lines, each `name: value` and a LF, names in lower case. It sends ranges within the
+ * limits of `typed_headers_select`. A HEAD is answered as a GET without Range, but for the content.
+ *
+ * Six fields are the response's alone, and are to be taken off first: etag, last-modified, accept-ranges,
+ * content-range, content-length and content-type. So is content-encoding, unless `response->keeps_encoding`, and so are
+ * content-digest and content-md5, unless the status is 200 or 0. Several ranges are sent as multipart/byteranges with
+ * this boundary: 1 to 70 letters, digits, or `'`, `+`, `-`, `.`, `_`. No range that is sent may hold it.
+ *
+ * `*written` and `*parts_written` are given also if one of them doesn't fit, and so is `*response`. What fits is
+ * written then.
+ *
+ * Refused: the method is no token, a line of the section before the first empty one is no field, `etag` is no entity
+ * tag, the date lies past the year 9999, the media type is no line, or the boundary is none. Too large: the section has
+ * more names than a map has room for (24,576). Memory: the media type isn't empty, or the boundary is one.
+ */
+uint8_t typed_headers_respond(const uint8_t *method, size_t method_length, const uint8_t *section,
+                              size_t section_length, const struct typed_headers_keys *keys, const uint8_t *etag,
+                              size_t etag_length, const struct typed_headers_target *target,
+                              const struct typed_headers_content *content, const uint8_t *boundary,
+                              size_t boundary_length, struct typed_headers_response *response,
+                              struct typed_headers_bytes_range *parts, size_t parts_length, size_t *parts_written,
+                              uint8_t *room, size_t room_length, size_t *written);
+
+/*
+ * Which of a server's offers a request is served, by the lines of its `accept`, `accept-encoding` or `accept-language`
+ * (RFC 9110, section 12.5): `*place` counts from 0. `offers` has one offer a line, the most wanted first: media types
+ * with their parameters, values of Content-Encoding (`identity` for none), language tags. Of those of the greatest
+ * quality the first is chosen, and without the field the first of all.
+ *
+ * Absent: none is acceptable. Refused: a line of a text can't be one.
+ */
+uint8_t typed_headers_choose_type(const uint8_t *lines, size_t lines_length, const uint8_t *offers,
+                                  size_t offers_length, size_t *place);
+uint8_t typed_headers_choose_coding(const uint8_t *lines, size_t lines_length, const uint8_t *offers,
+                                    size_t offers_length, size_t *place);
+uint8_t typed_headers_choose_language(const uint8_t *lines, size_t lines_length, const uint8_t *offers,
+                                      size_t offers_length, size_t *place);
+
+/*
+ * Which of a server's language tags lookup finds (RFC 4647, section 3.4): where `en-GB` is asked for, `en` is found.
+ * Else as `typed_headers_choose_language`.
+ */
+uint8_t typed_headers_look_up_language(const uint8_t *lines, size_t lines_length, const uint8_t *offers,
+                                       size_t offers_length, size_t *place);
+
+/*
+ * How acceptable an offer is, by the lines of `accept`, `accept-encoding` or `accept-language` (RFC 9110, section
+ * 12.5). Without the field each has the weight 1000. Refused: a line can't be one.
+ */
+uint8_t typed_headers_type_quality(const uint8_t *lines, size_t lines_length, const uint8_t *offer,
+                                   size_t offer_length, struct typed_headers_quality *quality);
+uint8_t typed_headers_coding_quality(const uint8_t *lines, size_t lines_length, const uint8_t *offer,
+                                     size_t offer_length, struct typed_headers_quality *quality);
+uint8_t typed_headers_language_quality(const uint8_t *lines, size_t lines_length, const uint8_t *offer,
+                                       size_t offer_length, struct typed_headers_quality *quality);
+
+/*
+ * What `sec-websocket-accept` answers to `sec-websocket-key`, 28 bytes: the only line (RFC 6455, section 4.2.2).
+ * Refused: there are several lines, or the line isn't the base64 of sixteen bytes.
+ */
+uint8_t typed_headers_websocket_accept(const uint8_t *lines, size_t lines_length, uint8_t *room, size_t room_length,
+                                       size_t *written);
+
+/*
+ * What a server answers to a client's opening handshake (RFC 6455, sections 4.2.1 and 4.2.2). `version` is that of the
+ * request: 10 for HTTP/1.0, 11, 20 or 30. `protocols` has the server's own subprotocols, one a line, the most wanted
+ * first: the first that the request asks for is taken. `origins` has the origins whose scripts may open a connection,
+ * one a line, or the line `*` for any; a request without Origin is no script's, and is let in.
+ *
+ * The text is the lines of the answer, each `name: value` and a LF. sec-websocket-protocol and sec-websocket-extensions
+ * are to be taken off a 101 first. Refused: the method is no token, the version is another number, a line of a text
+ * can't be one, or a line of the section before its first empty one is no field. Memory: the answer has lines.
+ */
+uint8_t typed_headers_websocket_respond(const uint8_t *method, size_t method_length, uint8_t version,
+                                        const uint8_t *section, size_t section_length,
+                                        const struct typed_headers_keys *keys, const uint8_t *protocols,
+                                        size_t protocols_length, const uint8_t *origins, size_t origins_length,
+                                        struct typed_headers_handshake *handshake, uint8_t *room, size_t room_length,
+                                        size_t *written);
+
+/*
+ * A client's opening handshake (RFC 6455, section 4.1). Each line is `name: value` and a LF. `nonce` is sixteen bytes
+ * at random, others for each handshake. The caller adds Host, and what it offers in sec-websocket-protocol and
+ * sec-websocket-extensions. Refused: the nonce hasn't sixteen bytes. Memory: it is valid.
+ */
+uint8_t typed_headers_websocket_request(const uint8_t *nonce, size_t nonce_length, uint8_t *room, size_t room_length,
+                                        size_t *written);
+
+/*
+ * What a client that sent the section `sent` finds in a response (RFC 6455, section 4.1): `*flaw` is one of
+ * `typed_headers_flaw`. Refused: the status is no number from 100 to 999, or a line of a section before its first empty
+ * one is no field.
+ */
+uint8_t typed_headers_websocket_check(const uint8_t *sent, size_t sent_length, uint16_t status,
+                                      const uint8_t *response, size_t response_length,
+                                      const struct typed_headers_keys *keys, uint8_t *flaw);
+
+/*
+ * What a server with these rules answers a request from another origin (Fetch standard, "CORS protocol"). `request` and
+ * `response` are header sections: the request's, and that of the response as its handler left it, of which the field
+ * Vary counts.
+ *
+ * The text is the lines of the answer, each `name: value` and a LF, names in lower case. Six fields are the rules'
+ * alone, and are to be taken off the response first: access-control-allow-origin, -allow-credentials, -expose-headers,
+ * -allow-methods, -allow-headers and access-control-max-age. If the text has lines of `vary`, they stand in place of
+ * the response's own. A preflight is answered with a status from 200 to 299.
+ *
+ * Refused: the rules have a line that is no origin, method or name; they have `*` in a list of several methods or
+ * names, or any origin, method or name with credentials, which no browser reads so; the method is no token; or a line
+ * of a section before its first empty one is no field. Too large: a section has more names than a map has room for
+ * (24,576). Memory: nothing is rejected. Whether rules are refused shows with the method GET and two empty sections.
+ */
+uint8_t typed_headers_cors_answer(const struct typed_headers_cors_rules *rules, const uint8_t *method,
+                                  size_t method_length, const uint8_t *request, size_t request_length,
+                                  const uint8_t *response, size_t response_length,
+                                  const struct typed_headers_keys *keys, struct typed_headers_cors_facts *facts,
+                                  uint8_t *room, size_t room_length, size_t *written);
+
+/*
+ * The whole answer of a resource to a request (RFC 9110, sections 7.4 to 15): by its host, its method, its content,
+ * negotiation, preconditions, ranges, and the rules for other origins. `representations` are the current ones, the most
+ * wanted first. `rules` count if `resource->has_cors`. `target` is that of the request line: if it is in absolute-form,
+ * its host counts, else that of Host; it may be empty. There may be no representation to show though the state is
+ * current, if the server makes them only as it performs GET.
+ *
+ * The text is the lines of the answer, each `name: value` and a LF, names in lower case. They are all that the response
+ * has of the fields that these decisions own. If the status is 0, the server performs the method and sets the lines in
+ * the response that comes of it: lines of `vary` stand in place of the response's own, and if `rules` count, the six
+ * fields of `typed_headers_cors_answer` are taken off first. The ranges and their limits are those of
+ * `typed_headers_respond`. Both rooms, their counts and `*facts` are given as there.
+ *
+ * Refused: a line of a text can't be a field line; a method is no token; a list has more lines than there are methods
+ * or representations; the state or the version is another number; the location is empty; the boundary or an entity tag
+ * is none; a date lies past the year 9999; the rules count and are refused; the target is in absolute-form without a
+ * host; or a line of the section before its first empty one is no field. Too large: the section has more names than a
+ * map has room for (24,576). Memory: the boundary is one.
+ */
+uint8_t typed_headers_resource_answer(const struct typed_headers_resource *resource,
+                                      const struct typed_headers_representation *representations,
+                                      size_t representations_length, const struct typed_headers_cors_rules *rules,
+                                      const struct typed_headers_resource_request *request, const uint8_t *method,
+                                      size_t method_length, const uint8_t *target, size_t target_length,
+                                      const uint8_t *section, size_t section_length,
+                                      const struct typed_headers_keys *keys,
+                                      struct typed_headers_resource_facts *facts,
+                                      struct typed_headers_bytes_range *parts, size_t parts_length,
+                                      size_t *parts_written, uint8_t *room, size_t room_length, size_t *written);
+
+/*
+ * Whether a cache may store the response to a request (RFC 9111, sections 3 and 3.5): `*answer` is 1 if it may, 0 if
+ * not. `is_shared` is true for a cache of several users, as a proxy's, and false for that of one, as a browser's.
+ *
+ * Refused: the method is no token, the status is no number from 100 to 999, or a line of a section before its first
+ * empty one is no field. Too large, here and below: a section has more names than a map has room for (24,576).
+ */
+uint8_t typed_headers_may_store(const uint8_t *method, size_t method_length, const uint8_t *request,
+                                size_t request_length, uint16_t status, const uint8_t *response,
+                                size_t response_length, const struct typed_headers_keys *keys, bool is_shared,
+                                uint8_t *answer);
+
+/*
+ * For how many seconds a response is fresh by what its origin says (RFC 9111, section 4.2.1): `s-maxage` in a shared
+ * cache, else `max-age`, else Expires less Date. `received` is when it came, and stands for a Date that is missing or
+ * can't be read.
+ *
+ * Absent: the origin doesn't say. Refused: a line of the section before its first empty one is no field.
+ */
+uint8_t typed_headers_lifetime(const uint8_t *response, size_t response_length,
+                               const struct typed_headers_keys *keys, uint64_t received, bool is_shared,
+                               uint64_t *seconds);
+
+/*
+ * For how many seconds a response may be taken as fresh if its origin doesn't say so: a tenth of the time from its last
+ * modification to its Date (RFC 9111, section 4.2.2). `received` is as above. A cache bounds this, as to a day.
+ *
+ * Absent: the origin says so, the status and `cache-control` let no cache guess, or no last modification is known.
+ * Refused: the status is no number from 100 to 999, or a line of the section before its first empty one is no field.
+ */
+uint8_t typed_headers_heuristic_lifetime(uint16_t status, const uint8_t *response, size_t response_length,
+                                         const struct typed_headers_keys *keys, uint64_t received, bool is_shared,
+                                         uint64_t *seconds);
+
+/*
+ * How many seconds old a stored response is (RFC 9111, section 4.2.3). Refused: a line of the section before its first
+ * empty one is no field.
+ */
+uint8_t typed_headers_current_age(const uint8_t *response, size_t response_length,
+                                  const struct typed_headers_keys *keys, const struct typed_headers_moments *moments,
+                                  uint64_t *seconds);
+
+/*
+ * What a cache does with a request, by a response that it has stored to the same URI (RFC 9111, section 4, and RFC
+ * 5861): `*decision` is one of `typed_headers_decision`. `stored_method` and `stored` are the method and the section of
+ * the request that the response answered. A request whose method isn't safe is always to be fetched. Refused: a method
+ * is no token, or a line of a section before its first empty one is no field.
+ */
+uint8_t typed_headers_decide(const uint8_t *stored_method, size_t stored_method_length, const uint8_t *stored,
+                             size_t stored_length, const uint8_t *method, size_t method_length,
+                             const uint8_t *request, size_t request_length, const uint8_t *response,
+                             size_t response_length, const struct typed_headers_keys *keys,
+                             const struct typed_headers_moments *moments, bool is_shared, uint8_t *decision);
+
+/*
+ * The fields by which the origin is asked whether a stored response is still good (RFC 9111, section 4.3.1): its entity
+ * tag as a line of `if-none-match`, and the date of its last modification as one of `if-modified-since`, each with a
+ * LF. `received` is when the response came, in seconds since 1970; it resolves a year of two digits. A validator that
+ * the response doesn't have, or that is no single entity tag or date, has no line. The lines stand in place of the
+ * request's own two fields, which are to be taken off first. Refused: a line of the section before its first empty one
+ * is no field.
+ */
+uint8_t typed_headers_validators(const uint8_t *response, size_t response_length, uint64_t received,
+                                 const struct typed_headers_keys *keys, uint8_t *room, size_t room_length,
+                                 size_t *written);
+
+/*
+ * Opens a closed cache, with an empty store in bounded memory (RFC 9111). It copies the keys. Refused: it is open. Such
+ * a cache has memory until it is closed again. Absent, of each other call on a cache: it is closed. On a failure of
+ * parsing what is passed, a cache is as it was. Memory: the cache is closed.
+ */
+uint8_t typed_headers_cache_new(struct typed_headers_cache *cache, const struct typed_headers_cache_options *options,
+                                const struct typed_headers_keys *keys);
+
+/*
+ * Opens a closed cache as `typed_headers_cache_new` does, with extensions. Refused: it is open, or a line of the
+ * targeted fields is no field name. Memory: the cache is closed. Since 1.1.
+ */
+uint8_t typed_headers_cache_new_with(struct typed_headers_cache *cache,
+                                     const struct typed_headers_cache_options *options,
+                                     const struct typed_headers_cache_extensions *extensions,
+                                     const struct typed_headers_keys *keys);
+
+/* Closes a cache, and gives its memory back. It may be closed before, or null. The status is TYPED_HEADERS_DONE. */
+uint8_t typed_headers_cache_free(struct typed_headers_cache *cache);
+
+/*
+ * What a cache does with a request, by its store (RFC 9111, section 4). `now` is the present. Where the origin states
+ * no lifetime, at most `guess` seconds are guessed (section 4.2.2), none if it is 0. The target becomes the most
+ * recently used. The text is, by `facts->action`:
+ *
+ * - SERVE and SERVE_AND_REVALIDATE: the field lines of the stored response, with its present Age in place of its own.
+ *   They are sent with its status and its content.
+ * - REVALIDATE and REVALIDATE_OR_SERVE: the fields by which the origin is asked, as `typed_headers_validators` writes
+ *   them. The request is sent with them in place of its own two fields.
+ * - UNAVAILABLE and FETCH: empty.
+ *
+ * Refused, here and below: the target is no UTF-8, a method is no token, a status is no number from 100 to 999, or a
+ * line of a section before its first empty one is no field. Memory: nothing is rejected.
+ */
+uint8_t typed_headers_cache_lookup(struct typed_headers_cache *cache,
+                                   const struct typed_headers_cache_request *request, uint64_t now, uint64_t guess,
+                                   struct typed_headers_looked_up *facts, uint8_t *room, size_t room_length,
+                                   size_t *written);
+
+/*
+ * What is told of the stored response with a number, and its field lines with its Age at the present `now`. A number
+ * names one response of a cache, with its status, its fields and its content, and is never used again: 0 names none.
+ * Absent: the response isn't stored under the target any more. Memory: it is.
+ *
+ * A response that answers once (UPDATED_ONCE) is Absent under any other target, and after the next call that changes
+ * the cache: `store`, `freshen`, `freshen_by_head`, `invalidate` and `remove`, where they can parse what is passed.
+ */
+uint8_t typed_headers_cache_response(struct typed_headers_cache *cache, const uint8_t *target, size_t target_length,
+                                     uint64_t number, uint64_t now, struct typed_headers_stored *facts,
+                                     uint8_t *room, size_t room_length, size_t *written);
+
+/*
+ * The content of the stored response with a number, from a position on: as much of it as fits. So content is sent in
+ * pieces: each is of this response, or Absent, if it isn't stored under the target any more.
+ */
+uint8_t typed_headers_cache_content(struct typed_headers_cache *cache, const uint8_t *target, size_t target_length,
+                                    uint64_t number, size_t from, uint8_t *room, size_t room_length,
+                                    size_t *written);
+
+/*
+ * How the stored response with a number answers the conditions and the ranges of a request that it may answer (RFC
+ * 9111, section 4.3.2). `ranges` says whether a part is sent. Absent: it isn't stored under the target any more.
+ * Memory: it is a 200.
+ */
+uint8_t typed_headers_cache_answer(struct typed_headers_cache *cache,
+                                   const struct typed_headers_cache_request *request, uint64_t number, uint64_t now,
+                                   bool ranges, struct typed_headers_stored_answer *facts);
+
+/*
+ * Stores the response to a request, if a cache may (RFC 9111, section 3): `*number` is its number, 0 if not. If there
+ * is too little room, older responses of its target go first, and then the targets that weren't used for the longest
+ * time. If there is no memory, some of these may be gone, and nothing is stored that wasn't before. Memory: the content
+ * isn't empty, or the response may be stored. Too large also if the map of the response has no room for the fields that
+ * change before it is stored.
+ */
+uint8_t typed_headers_cache_store(struct typed_headers_cache *cache,
+                                  const struct typed_headers_cache_request *request,
+                                  const struct typed_headers_cache_response *response, uint64_t *number);
+
+/*
+ * Updates stored responses by a 304 to a request, with this section (RFC 9111, section 4.3.4). If there is no memory to
+ * update them, nothing is stored under the target. Memory: the 304 is about a stored response. Too large also if the
+ * map of one that is stored under the target has no room for the fields of the 304: then nothing is stored there.
+ */
+uint8_t typed_headers_cache_freshen(struct typed_headers_cache *cache,
+                                    const struct typed_headers_cache_request *request, const uint8_t *section,
+                                    size_t section_length, uint64_t requested, uint64_t received,
+                                    struct typed_headers_freshened *facts);
+
+/*
+ * Updates stored responses to GET by a 200 to a HEAD, with this section, and removes those that it isn't about (RFC
+ * 9111, section 4.3.5). If there is no memory for that, nothing is stored under the target. Memory: something is stored
+ * under the target. Too large also if the map of a response there has no room for the fields of the 200: then nothing
+ * is stored there.
+ */
+uint8_t typed_headers_cache_freshen_by_head(struct typed_headers_cache *cache,
+                                            const struct typed_headers_cache_request *request,
+                                            const uint8_t *section, size_t section_length, uint64_t requested,
+                                            uint64_t received);
+
+/*
+ * Removes what is stored under a target, if the response to a request with this method and this status invalidates it:
+ * the method isn't safe, and the status is 2xx or 3xx (RFC 9111, section 4.4).
+ */
+uint8_t typed_headers_cache_invalidate(struct typed_headers_cache *cache, const uint8_t *target,
+                                       size_t target_length, const uint8_t *method, size_t method_length,
+                                       uint16_t status);
+
+/* Removes what is stored under a target, as one that Location or Content-Location names (RFC 9111, section 4.4). */
+uint8_t typed_headers_cache_remove(struct typed_headers_cache *cache, const uint8_t *target, size_t target_length);
+
+/*
+ * What a gateway does with a request, and the lines that it sends on its next connection (RFC 9110, section 7.6; RFC
+ * 9112, sections 3.2 and 6; RFC 7239). `version` is that of the request: 10 for HTTP/1.0, or 11. `authority` is the
+ * host and the port of a target in absolute-form, which takes the place of Host, or empty for any other target.
+ *
+ * The text is all lines of the section to send, each `name: value` and a LF, names in lower case; the empty line that
+ * ends a section isn't among them. It is empty unless the request is forwarded. Fields of one connection go no further.
+ * Via, Content-Length, Transfer-Encoding, Connection, TE, Forwarded and X-Forwarded-* are the gateway's own.
+ * Max-Forwards of TRACE and OPTIONS is one less. `*outcome` is given also if the text doesn't fit.
+ *
+ * Refused: the gateway's name or the method is no token, a protected name is no field name, a node is none, a version
+ * is another number, `authority` is no line, or a line of the section before its first empty one is no field. Too
+ * large, here and below: the section has more names than a map has room for (24,576). Memory: the gateway's name is a
+ * token.
+ */
+uint8_t typed_headers_forward_request(const struct typed_headers_gateway *gateway,
+                                      const struct typed_headers_hop *hop, const uint8_t *method,
+                                      size_t method_length, uint8_t version, const uint8_t *authority,
+                                      size_t authority_length, const uint8_t *section, size_t section_length,
+                                      const struct typed_headers_keys *keys,
+                                      struct typed_headers_request_outcome *outcome, uint8_t *room,
+                                      size_t room_length, size_t *written);
+
+/*
+ * What a gateway does with a response, and the lines that it sends to the client (RFC 9110, sections 6.6.1, 7.6 and
+ * 15.2; RFC 9112, section 6.3). `version` is that of the response; `method` and `client_version` are those of the
+ * client's request. `received` is when the response came, in seconds since the start of 1970: the date of one that has
+ * none. The text is as above, without a Connection of the gateway's own. `*outcome` is given also if it doesn't fit.
+ *
+ * Refused: the gateway's name or the method is no token, a protected name is no field name, the status is no number
+ * from 100 to 999, a version is another number, the date lies past the year 9999, or a line of the section before its
+ * first empty one is no field. Memory: the gateway's name is a token.
+ */
+uint8_t typed_headers_forward_response(const struct typed_headers_gateway *gateway, uint16_t status, uint8_t version,
+                                       const uint8_t *section, size_t section_length,
+                                       const struct typed_headers_keys *keys, const uint8_t *method,
+                                       size_t method_length, uint8_t client_version, uint64_t received,
+                                       struct typed_headers_response_outcome *outcome, uint8_t *room,
+                                       size_t room_length, size_t *written);
+
+/*
+ * How the content of a message is delimited (RFC 9112, section 6.3). `status` is that of a response, or 0 if the
+ * message is a request. `method` is that of the request, and `version` that of the message: 10 for HTTP/1.0, or 11.
+ * What recipients are known to delimit in different ways is rejected.
+ *
+ * Refused: the method is no token, the status is neither 0 nor a number from 100 to 999, the version is another number,
+ * or a line of the section before its first empty one is no field.
+ */
+uint8_t typed_headers_framing(const uint8_t *method, size_t method_length, uint16_t status, uint8_t version,
+                              const uint8_t *section, size_t section_length, const struct typed_headers_keys *keys,
+                              struct typed_headers_framing_outcome *outcome);
+
+/* ---- Typed values of fields, since version 1.1 ---- */
 
 /*
  * The user name and the password of Basic, by the first line of `authorization` or of `proxy-authorization` (RFC 7617,
@@ -1373,46 +1406,18 @@ uint8_t typed_headers_has_member(const uint8_t *lines, size_t lines_length, cons
 
 /* ---- sections and policies: what several calls are asked of is parsed once, behind a handle. Since 1.1. ---- */
 
-/*
- * A handle: closed, or open with what it was opened with. Zero bytes are a closed one, as TYPED_HEADERS_CLOSED. An open
- * one has memory until it is closed again, and what it has never changes. Its members are the library's: a program
- * changes none, and copies none but of a closed one. Two calls on one handle may not run at once, also if both only
- * read it. Another thread may make the next one, if the two are ordered, as by a lock. Threads that read at the same
- * time have a handle each.
- *
- * Absent, of each call that reads a handle: it is closed, or is that of another struct.
- */
-struct typed_headers_section {
-    void *place;
-    bool is_open;
-};
-
-/* A policy for requests from other origins: the same, with a server's rules. */
-struct typed_headers_cors_policy {
-    void *place;
-    bool is_open;
-};
-
-/* A resource: the same, with what a server knows of the target of a request. */
-struct typed_headers_resource_handle {
-    void *place;
-    bool is_open;
-};
-
-#define TYPED_HEADERS_CLOSED {0}
-
 /* Closes a handle, and gives its memory back. It may be closed before, or null. The status is TYPED_HEADERS_DONE. */
 uint8_t typed_headers_section_free(struct typed_headers_section *fields);
 uint8_t typed_headers_cors_policy_free(struct typed_headers_cors_policy *policy);
 uint8_t typed_headers_resource_handle_free(struct typed_headers_resource_handle *handle);
 
 /*
- * Opens the handle of a section with its fields (RFC 9112, section 5). Refused: the handle is open, or a line of
- * the section before its first empty one is no field. Too large: the section has more than 8,388,608 bytes, or more
- * names than a map has room for (24,576). Memory: the handle is closed.
+ * Opens the handle of a section with its fields (RFC 9112, section 5). Refused: the handle is open, or a line of the
+ * section before its first empty one is no field. Too large: the section has more than 8,388,608 bytes, or more names
+ * than a map has room for (24,576). Memory: the handle is closed.
  */
-uint8_t typed_headers_section_new(struct typed_headers_section *fields, const uint8_t *section, size_t section_length,
-                                  const struct typed_headers_keys *keys);
+uint8_t typed_headers_section_new(struct typed_headers_section *fields, const uint8_t *section,
+                                  size_t section_length, const struct typed_headers_keys *keys);
 
 /*
  * What `typed_headers_field` gives for the lines of a name. Absent also: the section has none. Refused: the name is no
@@ -1433,8 +1438,8 @@ uint8_t typed_headers_section_evaluate(struct typed_headers_section *fields, con
  * What `typed_headers_select` gives for these fields. Absent also: the target has no representation. Refused: as for
  * `typed_headers_section_evaluate`. Memory: Range applies.
  */
-uint8_t typed_headers_section_select(struct typed_headers_section *fields, const uint8_t *method, size_t method_length,
-                                     const uint8_t *etag, size_t etag_length,
+uint8_t typed_headers_section_select(struct typed_headers_section *fields, const uint8_t *method,
+                                     size_t method_length, const uint8_t *etag, size_t etag_length,
                                      const struct typed_headers_target *target, uint64_t length, uint16_t *answer,
                                      struct typed_headers_bytes_range *room, size_t room_length, size_t *written);
 
@@ -1462,8 +1467,8 @@ uint8_t typed_headers_section_choose_language(struct typed_headers_section *fiel
                                               size_t offers_length, size_t *place);
 
 /*
- * Opens the handle of a policy with a server's rules. Refused: the handle is open, or
- * `typed_headers_cors_answer` refuses the rules. Memory: the handle is closed.
+ * Opens the handle of a policy with a server's rules. Refused: the handle is open, or `typed_headers_cors_answer`
+ * refuses the rules. Memory: the handle is closed.
  */
 uint8_t typed_headers_cors_policy_new(struct typed_headers_cors_policy *policy,
                                       const struct typed_headers_cors_rules *rules);
@@ -1481,8 +1486,8 @@ uint8_t typed_headers_cors_policy_answer(struct typed_headers_cors_policy *polic
                                          size_t *written);
 
 /*
- * Opens the handle of a resource. Refused: the handle is open, or
- * `typed_headers_resource_answer` refuses the resource, its representations or the rules. Memory: the handle is closed.
+ * Opens the handle of a resource. Refused: the handle is open, or `typed_headers_resource_answer` refuses the resource,
+ * its representations or the rules. Memory: the handle is closed.
  */
 uint8_t typed_headers_resource_handle_new(struct typed_headers_resource_handle *handle,
                                           const struct typed_headers_resource *resource,
@@ -1502,6 +1507,8 @@ uint8_t typed_headers_resource_handle_answer(struct typed_headers_resource_handl
                                              struct typed_headers_bytes_range *parts, size_t parts_length,
                                              size_t *parts_written, uint8_t *room, size_t room_length,
                                              size_t *written);
+
+/* ---- The end of what it writes. ---- */
 
 #ifdef __cplusplus
 }

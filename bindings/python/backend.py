@@ -1,8 +1,8 @@
 """Builds the wheel and the source distribution, as pip asks for them. It needs no other package and no network.
 
-If the extension or the library is in the package's folder, the wheel has it, and a tag that says which systems it runs
-on. Else the wheel is for any system, and uses the library that is installed there. The same files give the same bytes:
-the times in both archives are SOURCE_DATE_EPOCH, or 1980.
+The wheel has the extension of the package's folder. If there is none, it is compiled: with the library in the folder
+that the environment variable TYPED_HEADERS names, else with the one that pkg-config finds. A tag says which systems it
+runs on. The same files give the same bytes: the times in both archives are SOURCE_DATE_EPOCH, or 1980.
 
     backend.py HEADER LIBRARY TO
 
@@ -15,22 +15,30 @@ import hashlib
 import io
 import os
 import re
+import shlex
+import shutil
 import subprocess
 import sys
 import sysconfig
 import tarfile
+import tempfile
 import time
 import zipfile
 from pathlib import Path
-from typing import Any, Dict, List, Optional
+from typing import Any, Dict, List, Optional, Tuple
 
 HERE = Path(__file__).resolve().parent
 PACKAGE = HERE / "typed_headers"
-LIBRARY = "libtyped_headers.so.1"
 EXTENSION = "_native.abi3.so"
+HEADER = "typed_headers.h"
 #: The files of the source distribution beside the package and the tests.
-SOURCES = ("README.md", "backend.py", "native.c", "pyproject.toml")
+SOURCES = ("README.md", "backend.py", "calls.h", "native.c", "pyproject.toml")
 EPOCH_OF_ZIP = 315532800
+HELP = (
+    "The package's extension in C is compiled. That needs a C compiler, Python.h (on Debian: python3-dev), and the "
+    "library's files for development: libtyped-headers-dev, or a folder with them in TYPED_HEADERS. A wheel of the "
+    "release needs none of them."
+)
 
 METADATA = """\
 Metadata-Version: 2.1
@@ -53,7 +61,7 @@ Description-Content-Type: text/markdown
 WHEEL = """\
 Wheel-Version: 1.0
 Generator: typed-headers
-Root-Is-Purelib: {is_pure}
+Root-Is-Purelib: false
 {tags}"""
 ENTRY_POINTS = """\
 [console_scripts]
@@ -101,7 +109,7 @@ def digest_of(content: bytes) -> str:
 
 def modules() -> Dict[str, bytes]:
     """The package's own files, by their place in an archive."""
-    names = sorted(it for it in PACKAGE.iterdir() if it.suffix == ".py" or it.name == "py.typed")
+    names = sorted(it for it in PACKAGE.iterdir() if it.suffix in (".py", ".pyi") or it.name == "py.typed")
     return {f"typed_headers/{it.name}": it.read_bytes() for it in names}
 
 
@@ -110,17 +118,16 @@ def build_wheel(
 ) -> str:
     """Writes the wheel, and returns its name."""
     files = modules()
-    python, tags = "py3-none", ["any"]
-    for name in (EXTENSION, LIBRARY):
-        made = PACKAGE / name
-        if made.exists():
-            files[f"typed_headers/{name}"] = made.read_bytes()
-            python, tags = "cp38-abi3" if name == EXTENSION else "py3-none", tags_of(made)
-            break
+    made = PACKAGE / EXTENSION
+    if made.exists():
+        files[f"typed_headers/{EXTENSION}"], tags = made.read_bytes(), tags_of(made)
+    else:
+        files[f"typed_headers/{EXTENSION}"], tags = compiled()
+    python = "cp38-abi3"
     info = f"typed_headers-{version()}.dist-info"
     lines = "".join(f"Tag: {python}-{tag}\n" for tag in tags)
     files[f"{info}/METADATA"] = metadata()
-    files[f"{info}/WHEEL"] = WHEEL.format(is_pure=str(tags == ["any"]).lower(), tags=lines).encode()
+    files[f"{info}/WHEEL"] = WHEEL.format(tags=lines).encode()
     files[f"{info}/entry_points.txt"] = ENTRY_POINTS.encode()
     files[f"{info}/licenses/LICENSE"] = license_text()
     proved = PACKAGE / "PROVED.txt"
@@ -133,7 +140,7 @@ def build_wheel(
         for place, content in files.items():
             entry = zipfile.ZipInfo(place, time.gmtime(epoch())[:6])
             entry.compress_type = zipfile.ZIP_DEFLATED
-            mode = 0o755 if place.endswith((EXTENSION, LIBRARY)) else 0o644
+            mode = 0o755 if place.endswith(EXTENSION) else 0o644
             entry.external_attr = (0o100000 | mode) << 16
             archive.writestr(entry, content)
     return name
@@ -159,14 +166,41 @@ def build_sdist(sdist_directory: str, config_settings: Optional[Dict[str, Any]] 
     return path.name
 
 
-def build_extension(header: Path, library: Path, to: Path) -> None:
-    """Compiles the extension, with the folder of typed_headers.h and the library, static or shared."""
+def compiled() -> Tuple[bytes, List[str]]:
+    """The extension, compiled with a library of this system, and the platforms that it runs on."""
+    folder = os.environ.get("TYPED_HEADERS")
+    with tempfile.TemporaryDirectory() as work:
+        made = Path(work, EXTENSION)
+        if folder:
+            headers = [it for it in (Path(folder), Path(folder).parent / "include") if (it / HEADER).exists()]
+            library = Path(folder, "libtyped_headers.a")
+            if not headers or not library.exists():
+                raise SystemExit(f"backend: TYPED_HEADERS is {folder}, which isn't a folder of the library. {HELP}")
+            build_extension(headers[0], library, made)
+            return made.read_bytes(), tags_of(made)
+        words = ["pkg-config", "--cflags", "--libs", f"typed_headers >= {version().rpartition('.')[0]}"]
+        found = subprocess.run(words, stdout=subprocess.PIPE, text=True) if shutil.which(words[0]) else None
+        if found is None or found.returncode:
+            raise SystemExit(f"backend: there is no installed {words[-1]} that pkg-config knows. {HELP}")
+        compile_extension(made, shlex.split(found.stdout))
+        return made.read_bytes(), [f"linux_{os.uname().machine}"]
+
+
+def compile_extension(to: Path, words: List[str]) -> None:
+    """Compiles the extension, with what names the library and its header to the compiler."""
     include = sysconfig.get_path("include")
     if not Path(include, "Python.h").exists():
-        raise SystemExit(f"backend: there is no Python.h in {include}: install python3-dev")
+        raise SystemExit(f"backend: there is no Python.h in {include}. {HELP}")
+    if not shutil.which("cc"):
+        raise SystemExit(f"backend: there is no C compiler. {HELP}")
     options = ["-std=c11", "-O2", "-fPIC", "-shared", "-Wall", "-Wextra", "-Werror", "-Wl,-z,relro,-z,now"]
-    sources = [str(HERE / "native.c"), str(library), "-Wl,--no-as-needed", "-lc"]
-    subprocess.run(["cc", *options, f"-I{include}", f"-I{header}", "-o", str(to), *sources], check=True)
+    sources = [str(HERE / "native.c"), *words, "-Wl,--no-as-needed", "-lc"]
+    subprocess.run(["cc", *options, f"-I{include}", "-o", str(to), *sources], check=True)
+
+
+def build_extension(header: Path, library: Path, to: Path) -> None:
+    """Compiles the extension, with the folder of typed_headers.h and the library, static or shared."""
+    compile_extension(to, [f"-I{header}", str(library)])
 
 
 if __name__ == "__main__":

@@ -1,6 +1,6 @@
 /*
- * The calls of the library for Python, over its stable ABI. Each returns the status first, and is declared in
- * typed_headers/_foreign.py, which has the same calls over ctypes.
+ * The calls of the library for Python, over its stable ABI, as typed_headers/_native.pyi declares them. calls.h, which
+ * tools/c_calls writes, describes each to `make`. A few others follow, which make values of the package's own classes.
  */
 #define Py_LIMITED_API 0x03080000
 #define PY_SSIZE_T_CLEAN
@@ -39,28 +39,6 @@ static PyObject *use_keys(PyObject *module, PyObject *arguments) {
 static PyObject *version(PyObject *module, PyObject *arguments) {
     (void)module, (void)arguments;
     return PyUnicode_FromString(typed_headers_version());
-}
-
-/* A number of seconds, or None. */
-static PyObject *optional(uint64_t number, bool is_set) {
-    if (!is_set) {
-        Py_RETURN_NONE;
-    }
-    return PyLong_FromUnsignedLongLong(number);
-}
-
-/* Whether an argument is None, or a number, which is put into `number`. */
-static bool read_optional(PyObject *argument, uint64_t *number, bool *is_set) {
-    *number = 0;
-    *is_set = argument != Py_None;
-    if (*is_set) {
-        *number = PyLong_AsUnsignedLongLong(argument);
-    }
-    return !PyErr_Occurred();
-}
-
-static PyObject *with_number(uint8_t status, uint64_t number) {
-    return Py_BuildValue("BK", status, (unsigned long long)number);
 }
 
 /*
@@ -188,113 +166,425 @@ static bool read_line_or_lines(PyObject *given, struct lines *lines) {
     return is_read;
 }
 
-/* Reads the field lines that are the only argument. */
-static bool read_only_lines(PyObject *arguments, struct lines *lines) {
-    PyObject *given;
-    return PyArg_ParseTuple(arguments, "O", &given) && read_lines(given, lines);
-}
+/*
+ * Each call has a slot for each parameter but the keys. calls.h describes the parameters (CALL) and the structs (SHAPE).
+ * `make` reads the slots that Python passes, makes the call with the slots, and returns the status and what it gave.
+ */
 
-/* Numbers of field lines. */
+enum kind { U8, U16, U64, SIZE, BOOL, A_TEXT, A_STRUCT };
 
-typedef uint8_t number_call(const uint8_t *, size_t, uint64_t *);
-
-static PyObject *number(number_call *call, PyObject *arguments) {
-    struct lines lines = NO_LINES;
-    uint64_t found = 0;
-    if (!read_only_lines(arguments, &lines)) {
-        free_lines(&lines);
-        return NULL;
-    }
-    uint8_t status = lines.is_rejected ? TYPED_HEADERS_REFUSED : call(BYTES(lines.text), &found);
-    free_lines(&lines);
-    return with_number(status, found);
-}
-
-#define NUMBER(name)                                                                                                   \
-    static PyObject *name(PyObject *module, PyObject *arguments) {                                                     \
-        (void)module;                                                                                                  \
-        return number(typed_headers_##name, arguments);                                                                \
-    }
-NUMBER(age)
-NUMBER(content_length)
-NUMBER(date)
-NUMBER(expires)
-NUMBER(last_modified)
-
-/* Texts. A call writes into a room on the stack, and if the text doesn't fit, into one of its length. */
-
-typedef uint8_t text_call(const void *given, uint8_t *room, size_t room_length, size_t *written);
-
-static PyObject *written_text(text_call *call, const void *given, uint8_t *status) {
-    uint8_t few[SHORT_TEXT], *room = few;
-    size_t length = sizeof few, written = 0;
-    while ((*status = call(given, room, length, &written)) == TYPED_HEADERS_NO_ROOM) {
-        if (room != few) {
-            PyMem_Free(room);
-        }
-        length = written;
-        room = PyMem_Malloc(length);
-        if (!room) {
-            return PyErr_NoMemory();
-        }
-    }
-    bool is_there = *status == TYPED_HEADERS_DONE || *status == TYPED_HEADERS_MARKED;
-    PyObject *found = PyBytes_FromStringAndSize((const char *)room, is_there ? (Py_ssize_t)written : 0);
-    if (room != few) {
-        PyMem_Free(room);
-    }
-    return found;
-}
-
-static PyObject *with_text(text_call *call, const void *given) {
-    uint8_t status;
-    PyObject *found = written_text(call, given, &status);
-    return found ? Py_BuildValue("BN", status, found) : NULL;
-}
-
-static PyObject *text_of_lines(text_call *call, PyObject *arguments) {
-    struct lines lines = NO_LINES;
-    PyObject *found = NULL;
-    if (read_only_lines(arguments, &lines)) {
-        found = lines.is_rejected ? Py_BuildValue("By", TYPED_HEADERS_REFUSED, "") : with_text(call, &lines.text);
-    }
-    free_lines(&lines);
-    return found;
-}
-
-#define TEXT_OF_LINES(name)                                                                                            \
-    static uint8_t write_##name(const void *given, uint8_t *room, size_t room_length, size_t *written) {               \
-        const struct text *lines = given;                                                                              \
-        return typed_headers_##name(BYTES(*lines), room, room_length, written);                                        \
-    }                                                                                                                  \
-    static PyObject *name(PyObject *module, PyObject *arguments) {                                                     \
-        (void)module;                                                                                                  \
-        return text_of_lines(write_##name, arguments);                                                                 \
-    }
-TEXT_OF_LINES(media_type)
-TEXT_OF_LINES(essence)
-TEXT_OF_LINES(websocket_accept)
-
-struct named_lines {
-    struct text name;
-    struct text lines;
+/* Of a struct: its values, each with its place, and with that of the member which says whether it counts. */
+struct member {
+    enum kind kind;
+    size_t place, flag;
+    const struct shape *shape;
 };
 
-static uint8_t write_field(const void *given, uint8_t *room, size_t room_length, size_t *written) {
-    const struct named_lines *it = given;
-    return typed_headers_field(BYTES(it->name), BYTES(it->lines), room, room_length, written);
+/* A struct is a tuple of its values, and its value if it has a single one. */
+struct shape {
+    size_t size;
+    Py_ssize_t count;
+    const struct member *members;
+};
+
+#define COUNT(array) (sizeof(array) / sizeof *(array))
+#define PLACE(of, name) offsetof(struct typed_headers_##of, name)
+#define MEMBER(of, name, kind) {kind, PLACE(of, name), 0, NULL}
+#define FLAGGED(of, name, kind, flag) {kind, PLACE(of, name), PLACE(of, flag), NULL}
+#define INNER(of, name, shape) {A_STRUCT, PLACE(of, name), 0, &shape##_shape}
+#define SHAPE(name, ...)                                                                                               \
+    static const struct member name##_members[] = {__VA_ARGS__};                                                       \
+    static const struct shape name##_shape = {sizeof(struct typed_headers_##name), COUNT(name##_members),              \
+                                              name##_members};
+
+/* A handle is a capsule, which is closed once nothing refers to it. The interpreter's lock is held during a call, so a
+   handle is in one call at a time. Zero bytes are a closed one. */
+struct handle {
+    const char *name;
+    size_t size;
+    void (*free)(PyObject *);
+};
+
+#define HANDLE(kind)                                                                                                   \
+    static void free_##kind(PyObject *capsule) {                                                                       \
+        void *handle = PyCapsule_GetPointer(capsule, "typed_headers." #kind);                                          \
+        typed_headers_##kind##_free(handle);                                                                           \
+        PyMem_Free(handle);                                                                                            \
+    }                                                                                                                  \
+    static const struct handle kind##_handle = {"typed_headers." #kind, sizeof(struct typed_headers_##kind),           \
+                                                free_##kind};
+
+/* Room on the stack, and if what is written doesn't fit, in memory. */
+struct room {
+    void *at;
+    size_t length, written;
+    union {
+        uint8_t text[SHORT_TEXT];
+        struct typed_headers_bytes_range ranges[FEW_RANGES];
+    } few;
+};
+
+enum role { LINES, GIVEN_TEXT, NUMBER, IN_STRUCT, LIST_STRUCT, OPENED, NEW, OUT_NUMBER, OUT_STRUCT, ROOM_OF_BYTES,
+            ROOM_OF_STRUCTS, PIECE };
+
+struct parameter {
+    enum role role;
+    enum kind kind;
+    const struct shape *shape;
+    const struct handle *handle;
+};
+
+union slot;
+
+struct call {
+    const char *name;
+    uint8_t (*make)(union slot *at);
+    unsigned may;
+    size_t count;
+    const struct parameter *parameters;
+};
+
+static PyObject *make(const struct call *call, PyObject *arguments);
+
+/* What a slot may be beside a struct. */
+#define SLOT                                                                                                           \
+    struct lines lines;                                                                                                \
+    struct typed_headers_text text;                                                                                    \
+    struct room room;                                                                                                  \
+    struct {                                                                                                           \
+        void *at;                                                                                                      \
+        size_t length;                                                                                                 \
+    } list;                                                                                                            \
+    struct {                                                                                                           \
+        void *at;                                                                                                      \
+        struct typed_headers_section own;                                                                              \
+    } handle;                                                                                                          \
+    uint8_t u8;                                                                                                        \
+    uint16_t u16;                                                                                                      \
+    uint64_t u64;                                                                                                      \
+    size_t size;                                                                                                       \
+    bool flag;
+
+#define PLAIN(role) {role, U64, NULL, NULL}
+#define OF_KIND(role, kind) {role, kind, NULL, NULL}
+#define OF_SHAPE(role, shape) {role, U64, &shape##_shape, NULL}
+#define OF_HANDLE(role, handle) {role, U64, NULL, &handle##_handle}
+#define FIELD(slot) BYTES((slot).lines.text)
+#define TEXT_OF(slot) (slot).text.bytes, (slot).text.length
+#define ROOM(slot) (slot).room.at, (slot).room.length, &(slot).room.written
+#define MAY(status) 1U << TYPED_HEADERS_##status
+#define CALL(name, may, passed, ...)                                                                                   \
+    static uint8_t pass_##name(union slot *at) { return typed_headers_##name passed; }                                 \
+    static const struct parameter name##_parameters[] = {__VA_ARGS__};                                                 \
+    static const struct call name##_call = {#name, pass_##name, may, COUNT(name##_parameters), name##_parameters};     \
+    static PyObject *call_##name(PyObject *module, PyObject *arguments) {                                              \
+        (void)module;                                                                                                  \
+        return make(&name##_call, arguments);                                                                          \
+    }
+
+#include "calls.h"
+
+/* Reading what is passed. Numbers are parsed as Python's integers, so that none wraps. */
+
+static bool read_number(PyObject *given, enum kind kind, void *place) {
+    const uint64_t number = kind == BOOL ? (uint64_t)PyObject_IsTrue(given) : PyLong_AsUnsignedLongLong(given);
+    const uint64_t most = kind == U8 ? UINT8_MAX : kind == U16 ? UINT16_MAX : kind == SIZE ? SIZE_MAX : UINT64_MAX;
+    if (PyErr_Occurred()) {
+        return false;
+    }
+    if (number > most) {
+        PyErr_SetString(PyExc_OverflowError, "the number is too large");
+        return false;
+    }
+    switch (kind) {
+    case BOOL: *(bool *)place = number != 0; break;
+    case U8: *(uint8_t *)place = (uint8_t)number; break;
+    case U16: *(uint16_t *)place = (uint16_t)number; break;
+    case SIZE: *(size_t *)place = (size_t)number; break;
+    default: *(uint64_t *)place = number;
+    }
+    return true;
 }
 
-static PyObject *field(PyObject *module, PyObject *arguments) {
-    struct named_lines it;
-    struct lines lines = NO_LINES;
-    PyObject *given, *found = NULL;
-    (void)module;
-    if (PyArg_ParseTuple(arguments, TEXT "O", INTO(it.name), &given) && read_lines(given, &lines)) {
-        it.lines = lines.text;
-        found = lines.is_rejected ? Py_BuildValue("By", TYPED_HEADERS_REFUSED, "") : with_text(write_field, &it);
+static bool read_text(PyObject *given, struct typed_headers_text *text) {
+    char *bytes;
+    Py_ssize_t length;
+    if (PyBytes_AsStringAndSize(given, &bytes, &length)) {
+        return false;
     }
-    free_lines(&lines);
+    *text = (struct typed_headers_text){(const uint8_t *)bytes, (size_t)length};
+    return true;
+}
+
+/* Reads the values of a struct, whose bytes are zero. */
+static bool read_struct(PyObject *given, const struct shape *shape, char *at) {
+    if (!PyTuple_Check(given) || PyTuple_Size(given) != shape->count) {
+        PyErr_SetString(PyExc_TypeError, "expected the values of a struct");
+        return false;
+    }
+    for (Py_ssize_t place = 0; place < shape->count; place++) {
+        const struct member *member = &shape->members[place];
+        PyObject *value = PyTuple_GetItem(given, place);
+        if (member->flag && value == Py_None) {
+            continue;
+        }
+        if (!(member->kind == A_TEXT ? read_text(value, (void *)(at + member->place))
+                                     : read_number(value, member->kind, at + member->place))) {
+            return false;
+        }
+        if (member->flag) {
+            at[member->flag] = 1;
+        }
+    }
+    return true;
+}
+
+/* Reads a tuple of structs into memory, of which there is some also for none. */
+static bool read_list(PyObject *given, const struct shape *shape, union slot *slot) {
+    const Py_ssize_t count = PyTuple_Size(given);
+    slot->list.at = count < 0 ? NULL : PyMem_Calloc((size_t)count + 1, shape->size);
+    if (!slot->list.at) {
+        return PyErr_Occurred() ? false : (PyErr_NoMemory(), false);
+    }
+    slot->list.length = (size_t)count;
+    for (Py_ssize_t place = 0; place < count; place++) {
+        char *at = (char *)slot->list.at + (size_t)place * shape->size;
+        if (!read_struct(PyTuple_GetItem(given, place), shape, at)) {
+            return false;
+        }
+    }
+    return true;
+}
+
+/* Reads an open handle. In place of that of a section its bytes may be given: they are parsed for this call. */
+static bool read_handle(PyObject *given, const struct handle *handle, union slot *slot, uint8_t *status) {
+    struct typed_headers_text text;
+    if (handle != &section_handle || PyCapsule_IsValid(given, handle->name)) {
+        slot->handle.at = PyCapsule_GetPointer(given, handle->name);
+        return slot->handle.at != NULL;
+    }
+    slot->handle.at = &slot->handle.own;
+    if (!read_text(given, &text)) {
+        return false;
+    }
+    *status = typed_headers_section_new(&slot->handle.own, text.bytes, text.length, &keys);
+    return true;
+}
+
+static bool read_slot(PyObject *given, const struct parameter *it, union slot *slot, uint8_t *status) {
+    switch (it->role) {
+    case LINES:
+        *status = read_lines(given, &slot->lines) && slot->lines.is_rejected ? TYPED_HEADERS_REFUSED : *status;
+        return !PyErr_Occurred();
+    case GIVEN_TEXT: return read_text(given, &slot->text);
+    case NUMBER: return read_number(given, it->kind, &slot->u64);
+    case IN_STRUCT: return read_struct(given, it->shape, (char *)&slot->any);
+    case LIST_STRUCT: return read_list(given, it->shape, slot);
+    case OPENED: return read_handle(given, it->handle, slot, status);
+    default: break;
+    }
+    /* (a piece has the length that is given, whatever is there) */
+    if (!read_number(given, SIZE, &slot->room.length)) {
+        return false;
+    }
+    slot->room.at = slot->room.length < PY_SSIZE_T_MAX ? PyMem_Malloc(slot->room.length + 1) : NULL;
+    return slot->room.at ? true : (PyErr_NoMemory(), false);
+}
+
+/* Prepares a slot. False if there is no memory for it. */
+static bool clear_slot(const struct parameter *it, union slot *slot) {
+    switch (it->role) {
+    case LINES: clear_lines(&slot->lines); break;
+    case LIST_STRUCT: slot->list.at = NULL; break;
+    case OPENED: memset(&slot->handle, 0, sizeof slot->handle); break;
+    case NEW: slot->handle.at = PyMem_Calloc(1, it->handle->size); break;
+    case PIECE: slot->room.at = NULL, slot->room.written = 0; break;
+    case ROOM_OF_BYTES:
+    case ROOM_OF_STRUCTS:
+        slot->room.at = &slot->room.few, slot->room.written = 0;
+        slot->room.length = it->role == ROOM_OF_BYTES ? SHORT_TEXT : FEW_RANGES;
+        break;
+    case IN_STRUCT:
+    case OUT_STRUCT: memset(&slot->any, 0, it->shape->size); break;
+    default: slot->u64 = 0;
+    }
+    return it->role != NEW || slot->handle.at ? true : (PyErr_NoMemory(), false);
+}
+
+static void free_slot(const struct parameter *it, union slot *slot) {
+    switch (it->role) {
+    case LINES: free_lines(&slot->lines); break;
+    case LIST_STRUCT: PyMem_Free(slot->list.at); break;
+    case OPENED: typed_headers_section_free(&slot->handle.own); break;
+    case NEW: PyMem_Free(slot->handle.at); break;
+    case PIECE: PyMem_Free(slot->room.at); break;
+    case ROOM_OF_BYTES:
+    case ROOM_OF_STRUCTS:
+        if (slot->room.at != &slot->room.few) {
+            PyMem_Free(slot->room.at);
+        }
+        break;
+    default: break;
+    }
+}
+
+/* Gives a room the size of what didn't fit. */
+static bool grow(const struct parameter *it, struct room *room) {
+    const size_t size = it->role == ROOM_OF_BYTES ? 1 : it->shape->size;
+    if (room->written <= room->length) {
+        return true;
+    }
+    if (room->at != &room->few) {
+        PyMem_Free(room->at);
+    }
+    room->length = room->written;
+    room->at = room->length <= PY_SSIZE_T_MAX / size ? PyMem_Malloc(room->length * size) : NULL;
+    return room->at ? true : (PyErr_NoMemory(), false);
+}
+
+/* Making what is given. */
+
+static PyObject *given_struct(const struct shape *shape, const char *at);
+
+static PyObject *given_value(enum kind kind, const struct shape *shape, const char *at) {
+    switch (kind) {
+    case U8: return PyLong_FromUnsignedLong(*(const uint8_t *)at);
+    case U16: return PyLong_FromUnsignedLong(*(const uint16_t *)at);
+    case SIZE: return PyLong_FromSize_t(*(const size_t *)at);
+    case A_STRUCT: return given_struct(shape, at);
+    default: return PyLong_FromUnsignedLongLong(*(const uint64_t *)at);
+    }
+}
+
+/* Adds a value to a tuple, which is freed if there is none. */
+static bool put(PyObject **tuple, Py_ssize_t place, PyObject *value) {
+    if (!value || PyTuple_SetItem(*tuple, place, value)) {
+        Py_CLEAR(*tuple);
+    }
+    return *tuple != NULL;
+}
+
+static PyObject *given_struct(const struct shape *shape, const char *at) {
+    PyObject *found = shape->count > 1 ? PyTuple_New(shape->count) : NULL;
+    for (Py_ssize_t place = 0; place < shape->count && (found || shape->count == 1); place++) {
+        const struct member *member = &shape->members[place];
+        PyObject *value = Py_None;
+        if (member->flag && !at[member->flag]) {
+            Py_INCREF(value);
+        } else {
+            value = given_value(member->kind, member->shape, at + member->place);
+        }
+        if (shape->count == 1) {
+            return value;
+        }
+        put(&found, place, value);
+    }
+    return found;
+}
+
+static PyObject *given_list(const struct shape *shape, const struct room *room) {
+    PyObject *found = PyList_New((Py_ssize_t)room->written);
+    for (size_t place = 0; found && place < room->written; place++) {
+        PyObject *value = given_struct(shape, (const char *)room->at + place * shape->size);
+        if (!value || PyList_SetItem(found, (Py_ssize_t)place, value)) {
+            Py_CLEAR(found);
+        }
+    }
+    return found;
+}
+
+static PyObject *given_handle(const struct handle *handle, union slot *slot) {
+    PyObject *capsule = PyCapsule_New(slot->handle.at, handle->name, handle->free);
+    if (capsule) {
+        slot->handle.at = NULL;
+    }
+    return capsule;
+}
+
+static PyObject *given_slot(const struct parameter *it, union slot *slot) {
+    switch (it->role) {
+    case NEW: return given_handle(it->handle, slot);
+    case OUT_NUMBER: return given_value(it->kind, NULL, (const char *)&slot->u64);
+    case OUT_STRUCT: return given_struct(it->shape, (const char *)&slot->any);
+    case ROOM_OF_STRUCTS: return given_list(it->shape, &slot->room);
+    default: return PyBytes_FromStringAndSize(slot->room.at, (Py_ssize_t)slot->room.written);
+    }
+}
+
+static bool is_taken(enum role role) { return role <= OPENED || role == PIECE; }
+
+static bool is_given(enum role role) { return role > OPENED; }
+
+static bool is_room(enum role role) { return role == ROOM_OF_BYTES || role == ROOM_OF_STRUCTS; }
+
+/* The status, and behind it what the call gives. */
+static PyObject *result(const struct call *call, union slot *at, uint8_t status) {
+    Py_ssize_t count = 1, next = 1;
+    for (size_t place = 0; place < call->count; place++) {
+        count += is_given(call->parameters[place].role);
+    }
+    PyObject *found = count > 1 ? PyTuple_New(count) : NULL;
+    if (!found) {
+        return count > 1 ? NULL : PyLong_FromLong(status);
+    }
+    put(&found, 0, PyLong_FromLong(status));
+    for (size_t place = 0; found && place < call->count; place++) {
+        if (is_given(call->parameters[place].role)) {
+            put(&found, next++, given_slot(&call->parameters[place], &at[place]));
+        }
+    }
+    return found;
+}
+
+/* Makes a call with rooms that suffice, and leaves in them nothing that it didn't write. */
+static bool pass(const struct call *call, union slot *at, uint8_t *status) {
+    while ((*status = call->make(at)) == TYPED_HEADERS_NO_ROOM) {
+        for (size_t place = 0; place < call->count; place++) {
+            if (is_room(call->parameters[place].role) && !grow(&call->parameters[place], &at[place].room)) {
+                return false;
+            }
+        }
+    }
+    if (*status != TYPED_HEADERS_DONE && !(call->may >> *status & 1)) {
+        PyErr_Format(PyExc_SystemError, "%s ended with status %d, which it never has", call->name, *status);
+        return false;
+    }
+    for (size_t place = 0; place < call->count; place++) {
+        if (is_room(call->parameters[place].role) && *status != TYPED_HEADERS_DONE &&
+            *status != TYPED_HEADERS_MARKED) {
+            at[place].room.written = 0;
+        }
+    }
+    return true;
+}
+
+static PyObject *make(const struct call *call, PyObject *arguments) {
+    union slot at[MOST_SLOTS];
+    PyObject *found = NULL;
+    Py_ssize_t next = 0, wanted = 0;
+    uint8_t status = TYPED_HEADERS_DONE;
+    bool is_read = true;
+    size_t cleared = 0;
+    for (; is_read && cleared < call->count; cleared++) {
+        is_read = clear_slot(&call->parameters[cleared], &at[cleared]);
+        wanted += is_taken(call->parameters[cleared].role);
+    }
+    if (is_read && PyTuple_Size(arguments) != wanted) {
+        PyErr_Format(PyExc_TypeError, "%s takes %zd arguments", call->name, wanted);
+        is_read = false;
+    }
+    for (size_t place = 0; is_read && place < call->count; place++) {
+        if (is_taken(call->parameters[place].role)) {
+            PyObject *given = PyTuple_GetItem(arguments, next++);
+            is_read = read_slot(given, &call->parameters[place], &at[place], &status);
+        }
+    }
+    if (is_read && (status != TYPED_HEADERS_DONE || pass(call, at, &status))) {
+        found = result(call, at, status);
+    }
+    for (size_t place = 0; place < cleared; place++) {
+        free_slot(&call->parameters[place], &at[place]);
+    }
     return found;
 }
 
@@ -303,7 +593,7 @@ static PyObject *field(PyObject *module, PyObject *arguments) {
  * the class declares.
  */
 
-enum member { OPAQUE, WEAK, FIRST, LAST, RANGE, LENGTH, TYPE, SUBTYPE, PARAMETERS, MEMBERS };
+enum member_name { OPAQUE, WEAK, FIRST, LAST, RANGE, LENGTH, TYPE, SUBTYPE, PARAMETERS, MEMBERS };
 
 static const char *const MEMBER_TEXTS[MEMBERS] = {"opaque", "weak", "first",   "last",      "range",
                                                   "length", "type", "subtype", "parameters"};
@@ -319,7 +609,7 @@ static bool make_member_names(void) {
     return true;
 }
 
-static bool set_member(PyObject *value, enum member name, PyObject *member) {
+static bool set_member(PyObject *value, enum member_name name, PyObject *member) {
     bool is_set = member && PyObject_GenericSetAttr(value, member_names[name], member) == 0;
     Py_XDECREF(member);
     return is_set;
@@ -383,45 +673,6 @@ static PyObject *etag(PyObject *module, PyObject *arguments) {
     return found;
 }
 
-static PyObject *range_value(PyObject *type, const struct typed_headers_content_range *it) {
-    if (!it->has_range) {
-        Py_RETURN_NONE;
-    }
-    PyObject *range = new_value(type);
-    if (range && (!set_member(range, FIRST, PyLong_FromUnsignedLongLong(it->first)) ||
-                  !set_member(range, LAST, PyLong_FromUnsignedLongLong(it->last)))) {
-        Py_CLEAR(range);
-    }
-    return range;
-}
-
-static PyObject *content_range_value(PyObject *type, PyObject *range_type,
-                                     const struct typed_headers_content_range *it) {
-    PyObject *value = new_value(type), *range = range_value(range_type, it);
-    if (!value) {
-        Py_XDECREF(range);
-    } else if (!set_member(value, RANGE, range) || !set_member(value, LENGTH, optional(it->length, it->has_length))) {
-        Py_CLEAR(value);
-    }
-    return value;
-}
-
-static PyObject *content_range(PyObject *module, PyObject *arguments) {
-    struct lines lines = NO_LINES;
-    struct typed_headers_content_range it;
-    PyObject *type, *range_type, *given, *found = NULL;
-    uint8_t status = TYPED_HEADERS_REFUSED;
-    (void)module;
-    if (PyArg_ParseTuple(arguments, "OOO", &type, &range_type, &given) && read_lines(given, &lines)) {
-        if (!lines.is_rejected) {
-            status = typed_headers_content_range(BYTES(lines.text), &it);
-        }
-        found = status == TYPED_HEADERS_DONE ? content_range_value(type, range_type, &it) : PyLong_FromLong(status);
-    }
-    free_lines(&lines);
-    return found;
-}
-
 /* Where a parameter's value ends: at a semicolon that isn't between quotes. */
 static const char *value_end(const char *at, const char *end) {
     for (bool is_quoted = false; at < end && (is_quoted || *at != ';'); at++) {
@@ -472,20 +723,105 @@ static PyObject *media_type_value(PyObject *type, PyObject *text) {
     return value;
 }
 
-static PyObject *media_type_as(PyObject *module, PyObject *arguments) {
-    struct lines lines = NO_LINES;
-    PyObject *type, *given, *text = NULL, *found = NULL;
-    uint8_t status = TYPED_HEADERS_REFUSED;
-    (void)module;
-    if (PyArg_ParseTuple(arguments, "OO", &type, &given) && read_lines(given, &lines)) {
-        text = lines.is_rejected ? PyBytes_FromString("") : written_text(write_media_type, &lines.text, &status);
-        if (text) {
-            found = status == TYPED_HEADERS_DONE ? media_type_value(type, text) : PyLong_FromLong(status);
-        }
-        Py_XDECREF(text);
-    }
-    free_lines(&lines);
+/* Makes a call of one argument. */
+static PyObject *make_with(const struct call *call, PyObject *argument) {
+    PyObject *alone = PyTuple_Pack(1, argument), *found = alone ? make(call, alone) : NULL;
+    Py_XDECREF(alone);
     return found;
+}
+
+/* Calls whose values are instances of a class of the package: each gives one, or the status if it isn't DONE. */
+
+/* What a call gives after the status, if that is DONE. Else the status is put into `found`, unless there is an error. */
+static PyObject *given_by(PyObject *result, PyObject **found) {
+    PyObject *status = result ? PyTuple_GetItem(result, 0) : NULL, *value = NULL;
+    *found = NULL;
+    if (status && PyLong_AsLong(status) == TYPED_HEADERS_DONE) {
+        value = PyTuple_GetItem(result, 1);
+        Py_XINCREF(value);
+    } else if (status) {
+        *found = status;
+        Py_INCREF(status);
+    }
+    Py_XDECREF(result);
+    return value;
+}
+
+/* A value of two members, taken from a tuple. */
+static PyObject *pair_value(PyObject *type, PyObject *pair, enum member_name first, enum member_name second) {
+    PyObject *value = new_value(type), *one = PyTuple_GetItem(pair, 0), *other = PyTuple_GetItem(pair, 1);
+    Py_XINCREF(one);
+    Py_XINCREF(other);
+    if (!value) {
+        Py_XDECREF(one);
+        Py_XDECREF(other);
+    } else if (!set_member(value, first, one)) {
+        Py_XDECREF(other);
+        Py_CLEAR(value);
+    } else if (!set_member(value, second, other)) {
+        Py_CLEAR(value);
+    }
+    return value;
+}
+
+static PyObject *content_range_as(PyObject *module, PyObject *arguments) {
+    PyObject *type, *range_type, *lines, *found, *range = Py_None;
+    unsigned long long first, last;
+    PyObject *length;
+    int has_range;
+    (void)module;
+    if (!PyArg_ParseTuple(arguments, "OOO", &type, &range_type, &lines)) {
+        return NULL;
+    }
+    PyObject *given = given_by(make_with(&content_range_call, lines), &found);
+    if (given && PyArg_ParseTuple(given, "KKOi", &first, &last, &length, &has_range)) {
+        Py_INCREF(range);
+        if (has_range) {
+            Py_DECREF(range);
+            range = pair_value(range_type, given, FIRST, LAST);
+        }
+        PyObject *both = range ? Py_BuildValue("NO", range, length) : NULL;
+        found = both ? pair_value(type, both, RANGE, LENGTH) : NULL;
+        Py_XDECREF(both);
+    }
+    Py_XDECREF(given);
+    return found;
+}
+
+static PyObject *media_type_as(PyObject *module, PyObject *arguments) {
+    PyObject *type, *lines, *found;
+    (void)module;
+    if (!PyArg_ParseTuple(arguments, "OO", &type, &lines)) {
+        return NULL;
+    }
+    PyObject *given = given_by(make_with(&media_type_call, lines), &found);
+    if (given) {
+        found = media_type_value(type, given);
+        Py_DECREF(given);
+    }
+    return found;
+}
+
+static PyObject *ranges_as(PyObject *module, PyObject *arguments) {
+    PyObject *type, *found;
+    (void)module;
+    if (PyTuple_Size(arguments) != 3 || !(type = PyTuple_GetItem(arguments, 0))) {
+        PyErr_SetString(PyExc_TypeError, "ranges_as takes 3 arguments");
+        return NULL;
+    }
+    PyObject *rest = PyTuple_GetSlice(arguments, 1, 3);
+    PyObject *given = rest ? given_by(make(&ranges_call, rest), &found) : NULL;
+    Py_XDECREF(rest);
+    if (!rest || !given) {
+        return rest ? found : NULL;
+    }
+    for (Py_ssize_t place = 0; given && place < PyList_Size(given); place++) {
+        PyObject *range = pair_value(type, PyList_GetItem(given, place), FIRST, LAST);
+        if (!range || PyList_SetItem(given, place, range)) {
+            Py_CLEAR(given);
+        }
+    }
+    return given;
 }
 
 /* A header section. */
@@ -545,1490 +881,11 @@ static PyObject *section(PyObject *module, PyObject *arguments) {
     return found;
 }
 
-/* Values, formatted. */
-
-static uint8_t write_date(const void *given, uint8_t *room, size_t room_length, size_t *written) {
-    return typed_headers_format_date(*(const uint64_t *)given, room, room_length, written);
-}
-
-static PyObject *format_date(PyObject *module, PyObject *arguments) {
-    PyObject *given;
-    uint64_t second;
-    (void)module;
-    if (!PyArg_ParseTuple(arguments, "O", &given)) {
-        return NULL;
-    }
-    second = PyLong_AsUnsignedLongLong(given);
-    return PyErr_Occurred() ? NULL : with_text(write_date, &second);
-}
-
-static uint8_t write_content_range(const void *given, uint8_t *room, size_t room_length, size_t *written) {
-    return typed_headers_format_content_range(given, room, room_length, written);
-}
-
-static PyObject *format_content_range(PyObject *module, PyObject *arguments) {
-    struct typed_headers_content_range it = {0};
-    PyObject *range, *length;
-    bool has_length;
-    (void)module;
-    if (!PyArg_ParseTuple(arguments, "OO", &range, &length) || !read_optional(length, &it.length, &has_length)) {
-        return NULL;
-    }
-    unsigned long long first = 0, last = 0;
-    it.has_length = has_length;
-    it.has_range = range != Py_None;
-    if (it.has_range && !PyArg_ParseTuple(range, "KK", &first, &last)) {
-        return NULL;
-    }
-    it.first = first;
-    it.last = last;
-    return with_text(write_content_range, &it);
-}
-
-static uint8_t write_etag(const void *given, uint8_t *room, size_t room_length, size_t *written) {
-    const struct tag_parts *it = given;
-    return typed_headers_format_etag(it->is_weak, BYTES(it->opaque), room, room_length, written);
-}
-
-static PyObject *format_etag(PyObject *module, PyObject *arguments) {
-    struct tag_parts it;
-    (void)module;
-    return PyArg_ParseTuple(arguments, "p" TEXT, &it.is_weak, INTO(it.opaque)) ? with_text(write_etag, &it) : NULL;
-}
-
-static uint8_t write_canonical(const void *given, uint8_t *room, size_t room_length, size_t *written) {
-    const struct text *section = given;
-    return typed_headers_canonical(BYTES(*section), &keys, room, room_length, written);
-}
-
-static PyObject *canonical(PyObject *module, PyObject *arguments) {
-    struct text section;
-    (void)module;
-    return PyArg_ParseTuple(arguments, TEXT, INTO(section)) ? with_text(write_canonical, &section) : NULL;
-}
-
-/* Entity tags. */
-
-typedef uint8_t tags_call(const uint8_t *, size_t, const uint8_t *, size_t, uint8_t *);
-
-static PyObject *compare(tags_call *call, PyObject *arguments) {
-    struct lines one = NO_LINES, other = NO_LINES;
-    PyObject *texts[2], *found = NULL;
-    uint8_t equal = 0, status = TYPED_HEADERS_REFUSED;
-    if (PyArg_ParseTuple(arguments, "OO", &texts[0], &texts[1]) && read_lines(texts[0], &one) &&
-        read_lines(texts[1], &other)) {
-        if (!one.is_rejected && !other.is_rejected) {
-            status = call(BYTES(one.text), BYTES(other.text), &equal);
-        }
-        found = with_number(status, equal);
-    }
-    free_lines(&one);
-    free_lines(&other);
-    return found;
-}
-
-static PyObject *strong_eq(PyObject *module, PyObject *arguments) {
-    (void)module;
-    return compare(typed_headers_strong_eq, arguments);
-}
-
-static PyObject *weak_eq(PyObject *module, PyObject *arguments) {
-    (void)module;
-    return compare(typed_headers_weak_eq, arguments);
-}
-
-static PyObject *cache_control(PyObject *module, PyObject *arguments) {
-    struct lines lines = NO_LINES;
-    struct typed_headers_cache_directives it = {0};
-    (void)module;
-    if (!read_only_lines(arguments, &lines)) {
-        free_lines(&lines);
-        return NULL;
-    }
-    uint8_t status = lines.is_rejected ? TYPED_HEADERS_REFUSED : typed_headers_cache_control(BYTES(lines.text), &it);
-    free_lines(&lines);
-    return Py_BuildValue("B(NNNN)(BBBBBBBBBB)", status, optional(it.max_age.seconds, it.max_age.is_set),
-                         optional(it.max_stale.seconds, it.max_stale.is_set),
-                         optional(it.min_fresh.seconds, it.min_fresh.is_set),
-                         optional(it.s_maxage.seconds, it.s_maxage.is_set), it.no_cache, it.no_store, it.no_transform,
-                         it.only_if_cached, it.must_revalidate, it.must_understand, it.is_public, it.is_private,
-                         it.immutable, it.proxy_revalidate);
-}
-
-/* Ranges, as the calls for texts. */
-
-typedef uint8_t ranges_call(const void *given, struct typed_headers_bytes_range *room, size_t room_length,
-                            size_t *written);
-
-/* A range as a pair of numbers, or as an instance of a frozen dataclass. */
-static PyObject *one_range(PyObject *type, const struct typed_headers_bytes_range *range) {
-    if (!type) {
-        return Py_BuildValue("KK", (unsigned long long)range->first, (unsigned long long)range->last);
-    }
-    PyObject *value = new_value(type);
-    if (value && (!set_member(value, FIRST, PyLong_FromUnsignedLongLong(range->first)) ||
-                  !set_member(value, LAST, PyLong_FromUnsignedLongLong(range->last)))) {
-        Py_CLEAR(value);
-    }
-    return value;
-}
-
-static PyObject *written_ranges(ranges_call *call, const void *given, PyObject *type, uint8_t *status) {
-    struct typed_headers_bytes_range few[FEW_RANGES], *room = few;
-    size_t length = FEW_RANGES, written = 0;
-    while ((*status = call(given, room, length, &written)) == TYPED_HEADERS_NO_ROOM) {
-        if (room != few) {
-            PyMem_Free(room);
-        }
-        length = written;
-        room = length <= PY_SSIZE_T_MAX / sizeof *room ? PyMem_Malloc(length * sizeof *room) : NULL;
-        if (!room) {
-            return PyErr_NoMemory();
-        }
-    }
-    PyObject *found = PyList_New(0);
-    for (size_t place = 0; found && *status == TYPED_HEADERS_DONE && place < written; place++) {
-        PyObject *range = one_range(type, &room[place]);
-        if (!range || PyList_Append(found, range)) {
-            Py_CLEAR(found);
-        }
-        Py_XDECREF(range);
-    }
-    if (room != few) {
-        PyMem_Free(room);
-    }
-    return found;
-}
-
-struct ranges_of {
-    struct text lines;
-    uint64_t length;
-};
-
-static uint8_t write_ranges(const void *given, struct typed_headers_bytes_range *room, size_t room_length,
-                            size_t *written) {
-    const struct ranges_of *it = given;
-    return typed_headers_ranges(BYTES(it->lines), it->length, room, room_length, written);
-}
-
-/* Numbers are parsed as Python's integers, so that none wraps. */
-static bool read_number(PyObject *argument, uint64_t *number) {
-    *number = PyLong_AsUnsignedLongLong(argument);
-    return !PyErr_Occurred();
-}
-
-static PyObject *ranges(PyObject *module, PyObject *arguments) {
-    struct lines lines = NO_LINES;
-    struct ranges_of it;
-    PyObject *given, *length, *found = NULL;
-    uint8_t status = TYPED_HEADERS_REFUSED;
-    (void)module;
-    if (PyArg_ParseTuple(arguments, "OO", &given, &length) && read_number(length, &it.length) &&
-        read_lines(given, &lines)) {
-        it.lines = lines.text;
-        found = lines.is_rejected ? PyList_New(0) : written_ranges(write_ranges, &it, NULL, &status);
-    }
-    free_lines(&lines);
-    return found ? Py_BuildValue("BN", status, found) : NULL;
-}
-
-static PyObject *ranges_as(PyObject *module, PyObject *arguments) {
-    struct lines lines = NO_LINES;
-    struct ranges_of it;
-    PyObject *type, *given, *length, *found = NULL;
-    uint8_t status = TYPED_HEADERS_REFUSED;
-    (void)module;
-    if (PyArg_ParseTuple(arguments, "OOO", &type, &given, &length) && read_number(length, &it.length) &&
-        read_lines(given, &lines)) {
-        it.lines = lines.text;
-        found = lines.is_rejected ? PyList_New(0) : written_ranges(write_ranges, &it, type, &status);
-    }
-    free_lines(&lines);
-    if (found && status != TYPED_HEADERS_DONE) {
-        Py_DECREF(found);
-        found = PyLong_FromLong(status);
-    }
-    return found;
-}
-
-/* Conditional requests. */
-
-struct request {
-    struct text method, section, etag;
-    struct typed_headers_target target;
-    uint64_t length;
-    uint16_t *answer;
-};
-
-static bool read_request(PyObject *arguments, bool has_length, struct request *it) {
-    PyObject *last_modified, *present, *length = NULL;
-    int exists, is_date_strong;
-    if (!PyArg_ParseTuple(arguments, has_length ? TEXT TEXT TEXT "OOppO" : TEXT TEXT TEXT "OOpp", INTO(it->method),
-                          INTO(it->section), INTO(it->etag), &last_modified, &present, &exists, &is_date_strong,
-                          &length)) {
-        return false;
-    }
-    it->target.exists = exists;
-    it->target.is_date_strong = is_date_strong;
-    return read_optional(last_modified, &it->target.last_modified, &it->target.has_last_modified) &&
-           read_number(present, &it->target.present) && (!has_length || read_number(length, &it->length));
-}
-
-static PyObject *evaluate(PyObject *module, PyObject *arguments) {
-    struct request it;
-    uint16_t answer = 0;
-    (void)module;
-    if (!read_request(arguments, false, &it)) {
-        return NULL;
-    }
-    uint8_t status = typed_headers_evaluate(BYTES(it.method), BYTES(it.section), &keys, BYTES(it.etag), &it.target,
-                                            &answer);
-    return with_number(status, answer);
-}
-
-static uint8_t write_selection(const void *given, struct typed_headers_bytes_range *room, size_t room_length,
-                               size_t *written) {
-    const struct request *it = given;
-    return typed_headers_select(BYTES(it->method), BYTES(it->section), &keys, BYTES(it->etag), &it->target, it->length,
-                                it->answer, room, room_length, written);
-}
-
-/* (`select` is a call of the system) */
-static PyObject *select_part(PyObject *module, PyObject *arguments) {
-    uint16_t answer = 0;
-    struct request it = {.answer = &answer};
-    uint8_t status;
-    (void)module;
-    if (!read_request(arguments, true, &it)) {
-        return NULL;
-    }
-    PyObject *found = written_ranges(write_selection, &it, NULL, &status);
-    return found ? Py_BuildValue("BHN", status, answer, found) : NULL;
-}
-
-/* Caches. */
-
-static PyObject *may_store(PyObject *module, PyObject *arguments) {
-    struct text method, request, response;
-    unsigned short status_code;
-    int is_shared;
-    uint8_t answer = 0;
-    (void)module;
-    if (!PyArg_ParseTuple(arguments, TEXT TEXT "H" TEXT "p", INTO(method), INTO(request), &status_code, INTO(response),
-                          &is_shared)) {
-        return NULL;
-    }
-    uint8_t status = typed_headers_may_store(BYTES(method), BYTES(request), status_code, BYTES(response), &keys,
-                                             is_shared, &answer);
-    return with_number(status, answer);
-}
-
-static PyObject *lifetime(PyObject *module, PyObject *arguments) {
-    struct text response;
-    PyObject *received;
-    uint64_t at, seconds = 0;
-    int is_shared;
-    (void)module;
-    if (!PyArg_ParseTuple(arguments, TEXT "Op", INTO(response), &received, &is_shared) || !read_number(received, &at)) {
-        return NULL;
-    }
-    uint8_t status = typed_headers_lifetime(BYTES(response), &keys, at, is_shared, &seconds);
-    return with_number(status, seconds);
-}
-
-static PyObject *heuristic_lifetime(PyObject *module, PyObject *arguments) {
-    struct text response;
-    PyObject *received;
-    uint64_t at, seconds = 0;
-    unsigned short code;
-    int is_shared;
-    (void)module;
-    if (!PyArg_ParseTuple(arguments, "H" TEXT "Op", &code, INTO(response), &received, &is_shared) ||
-        !read_number(received, &at)) {
-        return NULL;
-    }
-    uint8_t status = typed_headers_heuristic_lifetime(code, BYTES(response), &keys, at, is_shared, &seconds);
-    return with_number(status, seconds);
-}
-
-static bool read_moments(PyObject *const *times, struct typed_headers_moments *moments) {
-    return read_number(times[0], &moments->request) && read_number(times[1], &moments->response) &&
-           read_number(times[2], &moments->now);
-}
-
-static PyObject *current_age(PyObject *module, PyObject *arguments) {
-    struct text response;
-    PyObject *times[3];
-    struct typed_headers_moments moments;
-    uint64_t seconds = 0;
-    (void)module;
-    if (!PyArg_ParseTuple(arguments, TEXT "OOO", INTO(response), &times[0], &times[1], &times[2]) ||
-        !read_moments(times, &moments)) {
-        return NULL;
-    }
-    uint8_t status = typed_headers_current_age(BYTES(response), &keys, &moments, &seconds);
-    return with_number(status, seconds);
-}
-
-static PyObject *decide(PyObject *module, PyObject *arguments) {
-    struct text stored_method, stored, method, request, response;
-    PyObject *times[3];
-    struct typed_headers_moments moments;
-    int is_shared;
-    uint8_t decision = 0;
-    (void)module;
-    if (!PyArg_ParseTuple(arguments, TEXT TEXT TEXT TEXT TEXT "OOOp", INTO(stored_method), INTO(stored), INTO(method),
-                          INTO(request), INTO(response), &times[0], &times[1], &times[2], &is_shared) ||
-        !read_moments(times, &moments)) {
-        return NULL;
-    }
-    uint8_t status = typed_headers_decide(BYTES(stored_method), BYTES(stored), BYTES(method), BYTES(request),
-                                          BYTES(response), &keys, &moments, is_shared, &decision);
-    return with_number(status, decision);
-}
-
-struct validators_of {
-    struct text response;
-    uint64_t received;
-};
-
-static uint8_t write_validators(const void *given, uint8_t *room, size_t room_length, size_t *written) {
-    const struct validators_of *it = given;
-    return typed_headers_validators(BYTES(it->response), it->received, &keys, room, room_length, written);
-}
-
-static PyObject *validators(PyObject *module, PyObject *arguments) {
-    struct validators_of it;
-    PyObject *received;
-    (void)module;
-    if (!PyArg_ParseTuple(arguments, TEXT "O", INTO(it.response), &received) || !read_number(received, &it.received)) {
-        return NULL;
-    }
-    return with_text(write_validators, &it);
-}
-
-/* A cache behind a handle: a capsule, whose cache is closed once nothing refers to it. */
-
-static const char CACHE_NAME[] = "typed_headers.cache";
-
-static void free_cache(PyObject *capsule) {
-    struct typed_headers_cache *cache = PyCapsule_GetPointer(capsule, CACHE_NAME);
-    typed_headers_cache_free(cache);
-    PyMem_Free(cache);
-}
-
-static struct typed_headers_text as_text(struct text text) {
-    return (struct typed_headers_text){text.bytes, (size_t)text.length};
-}
-
-static PyObject *cache_new(PyObject *module, PyObject *arguments) {
-    unsigned long long variants, responses, content;
-    struct text targets;
-    int is_shared, immutable;
-    (void)module;
-    if (!PyArg_ParseTuple(arguments, "KKKp" TEXT "p", &variants, &responses, &content, &is_shared, INTO(targets),
-                          &immutable)) {
-        return NULL;
-    }
-    struct typed_headers_cache *cache = PyMem_Malloc(sizeof *cache);
-    if (!cache) {
-        return PyErr_NoMemory();
-    }
-    *cache = (struct typed_headers_cache)TYPED_HEADERS_CLOSED_CACHE;
-    const struct typed_headers_cache_options options = {(size_t)variants, (size_t)responses, (size_t)content,
-                                                        is_shared};
-    const struct typed_headers_cache_extensions extensions = {as_text(targets), immutable};
-    uint8_t status = typed_headers_cache_new_with(cache, &options, &extensions, &keys);
-    PyObject *capsule = PyCapsule_New(cache, CACHE_NAME, free_cache);
-    if (!capsule) {
-        typed_headers_cache_free(cache);
-        PyMem_Free(cache);
-        return NULL;
-    }
-    return Py_BuildValue("BN", status, capsule);
-}
-
-static int into_cache(PyObject *capsule, void *cache) {
-    *(struct typed_headers_cache **)cache = PyCapsule_GetPointer(capsule, CACHE_NAME);
-    return *(struct typed_headers_cache **)cache != NULL;
-}
-
-/* How PyArg_ParseTuple reads a cache, and the parts of a request to it, and where. */
-#define CACHE "O&"
-#define INTO_CACHE(cache) into_cache, &(cache)
-#define REQUEST TEXT TEXT TEXT
-
-struct cache_texts {
-    struct text target, method, section;
-};
-
-#define INTO_REQUEST(it) INTO((it).target), INTO((it).method), INTO((it).section)
-
-static struct typed_headers_cache_request as_request(const struct cache_texts *it) {
-    return (struct typed_headers_cache_request){as_text(it->target), as_text(it->method), as_text(it->section)};
-}
-
-/* The facts of a stored response: its status, its age, its times and the length of its content. */
-#define STORED "HKKKK"
-#define OF_STORED(it)                                                                                                  \
-    (it).status, (unsigned long long)(it).age, (unsigned long long)(it).requested, (unsigned long long)(it).received,  \
-        (unsigned long long)(it).length
-
-struct cache_lookup_of {
-    struct typed_headers_cache *cache;
-    struct typed_headers_cache_request request;
-    unsigned long long now, guess;
-    struct typed_headers_looked_up *facts;
-};
-
-static uint8_t write_cache_lookup(const void *given, uint8_t *room, size_t room_length, size_t *written) {
-    const struct cache_lookup_of *it = given;
-    return typed_headers_cache_lookup(it->cache, &it->request, it->now, it->guess, it->facts, room, room_length,
-                                      written);
-}
-
-static PyObject *cache_lookup(PyObject *module, PyObject *arguments) {
-    struct cache_texts texts;
-    struct typed_headers_looked_up facts = {{0, 0, 0, 0, 0}, 0, 0};
-    struct cache_lookup_of it = {.facts = &facts};
-    uint8_t status;
-    (void)module;
-    if (!PyArg_ParseTuple(arguments, CACHE REQUEST "KK", INTO_CACHE(it.cache), INTO_REQUEST(texts), &it.now,
-                          &it.guess)) {
-        return NULL;
-    }
-    it.request = as_request(&texts);
-    PyObject *found = written_text(write_cache_lookup, &it, &status);
-    return found ? Py_BuildValue("BBK(" STORED ")N", status, facts.action, (unsigned long long)facts.place,
-                                 OF_STORED(facts.stored), found)
-                 : NULL;
-}
-
-struct cache_response_of {
-    struct typed_headers_cache *cache;
-    struct text target;
-    unsigned long long place, now;
-    struct typed_headers_stored *facts;
-};
-
-static uint8_t write_cache_response(const void *given, uint8_t *room, size_t room_length, size_t *written) {
-    const struct cache_response_of *it = given;
-    return typed_headers_cache_response(it->cache, BYTES(it->target), (size_t)it->place, it->now, it->facts, room,
-                                        room_length, written);
-}
-
-static PyObject *cache_response(PyObject *module, PyObject *arguments) {
-    struct typed_headers_stored facts = {0, 0, 0, 0, 0};
-    struct cache_response_of it = {.facts = &facts};
-    uint8_t status;
-    (void)module;
-    if (!PyArg_ParseTuple(arguments, CACHE TEXT "KK", INTO_CACHE(it.cache), INTO(it.target), &it.place, &it.now)) {
-        return NULL;
-    }
-    PyObject *found = written_text(write_cache_response, &it, &status);
-    return found ? Py_BuildValue("B(" STORED ")N", status, OF_STORED(facts), found) : NULL;
-}
-
-static PyObject *cache_content(PyObject *module, PyObject *arguments) {
-    struct typed_headers_cache *cache;
-    struct text target;
-    unsigned long long place, from;
-    Py_ssize_t most;
-    size_t written = 0;
-    (void)module;
-    if (!PyArg_ParseTuple(arguments, CACHE TEXT "KKn", INTO_CACHE(cache), INTO(target), &place, &from, &most)) {
-        return NULL;
-    }
-    uint8_t *room = PyMem_Malloc(most > 0 ? (size_t)most : 1);
-    if (!room) {
-        return PyErr_NoMemory();
-    }
-    uint8_t status = typed_headers_cache_content(cache, BYTES(target), (size_t)place, (size_t)from, room,
-                                                 most > 0 ? (size_t)most : 0, &written);
-    PyObject *found = PyBytes_FromStringAndSize((const char *)room, (Py_ssize_t)written);
-    PyMem_Free(room);
-    return found ? Py_BuildValue("BN", status, found) : NULL;
-}
-
-static PyObject *cache_answer(PyObject *module, PyObject *arguments) {
-    struct typed_headers_cache *cache;
-    struct cache_texts texts;
-    struct typed_headers_stored_answer facts = {0, 0, 0};
-    unsigned long long place, now;
-    int ranges;
-    (void)module;
-    if (!PyArg_ParseTuple(arguments, CACHE REQUEST "KKp", INTO_CACHE(cache), INTO_REQUEST(texts), &place, &now,
-                          &ranges)) {
-        return NULL;
-    }
-    const struct typed_headers_cache_request request = as_request(&texts);
-    uint8_t status = typed_headers_cache_answer(cache, &request, (size_t)place, now, ranges, &facts);
-    return Py_BuildValue("BBKK", status, facts.kind, (unsigned long long)facts.first, (unsigned long long)facts.last);
-}
-
-static PyObject *cache_store(PyObject *module, PyObject *arguments) {
-    struct typed_headers_cache *cache;
-    struct cache_texts texts;
-    struct text section, content;
-    unsigned short code;
-    unsigned long long requested, received;
-    int is_complete;
-    uint8_t stored = 0;
-    (void)module;
-    if (!PyArg_ParseTuple(arguments, CACHE REQUEST "H" TEXT TEXT "KKp", INTO_CACHE(cache), INTO_REQUEST(texts), &code,
-                          INTO(section), INTO(content), &requested, &received, &is_complete)) {
-        return NULL;
-    }
-    const struct typed_headers_cache_request request = as_request(&texts);
-    const struct typed_headers_cache_response response = {as_text(section), as_text(content), requested,
-                                                          received,         code,             is_complete};
-    uint8_t status = typed_headers_cache_store(cache, &request, &response, &stored);
-    return with_number(status, stored);
-}
-
-/* What the calls over a validating response take. */
-struct update_of {
-    struct typed_headers_cache *cache;
-    struct typed_headers_cache_request request;
-    struct text section;
-    unsigned long long requested, received;
-};
-
-static bool read_update(PyObject *arguments, struct update_of *it) {
-    struct cache_texts texts;
-    if (!PyArg_ParseTuple(arguments, CACHE REQUEST TEXT "KK", INTO_CACHE(it->cache), INTO_REQUEST(texts),
-                          INTO(it->section), &it->requested, &it->received)) {
-        return false;
-    }
-    it->request = as_request(&texts);
-    return true;
-}
-
-static PyObject *cache_freshen(PyObject *module, PyObject *arguments) {
-    struct update_of it;
-    struct typed_headers_freshened facts = {0, 0};
-    (void)module;
-    if (!read_update(arguments, &it)) {
-        return NULL;
-    }
-    uint8_t status = typed_headers_cache_freshen(it.cache, &it.request, BYTES(it.section), it.requested, it.received,
-                                                 &facts);
-    return Py_BuildValue("BBK", status, facts.outcome, (unsigned long long)facts.place);
-}
-
-static PyObject *cache_freshen_by_head(PyObject *module, PyObject *arguments) {
-    struct update_of it;
-    (void)module;
-    if (!read_update(arguments, &it)) {
-        return NULL;
-    }
-    return PyLong_FromLong(
-        typed_headers_cache_freshen_by_head(it.cache, &it.request, BYTES(it.section), it.requested, it.received));
-}
-
-static PyObject *cache_invalidate(PyObject *module, PyObject *arguments) {
-    struct typed_headers_cache *cache;
-    struct text target, method;
-    unsigned short code;
-    (void)module;
-    if (!PyArg_ParseTuple(arguments, CACHE TEXT TEXT "H", INTO_CACHE(cache), INTO(target), INTO(method), &code)) {
-        return NULL;
-    }
-    return PyLong_FromLong(typed_headers_cache_invalidate(cache, BYTES(target), BYTES(method), code));
-}
-
-static PyObject *cache_remove(PyObject *module, PyObject *arguments) {
-    struct typed_headers_cache *cache;
-    struct text target;
-    (void)module;
-    if (!PyArg_ParseTuple(arguments, CACHE TEXT, INTO_CACHE(cache), INTO(target))) {
-        return NULL;
-    }
-    return PyLong_FromLong(typed_headers_cache_remove(cache, BYTES(target)));
-}
-
-static PyObject *cache_free(PyObject *module, PyObject *arguments) {
-    struct typed_headers_cache *cache;
-    (void)module;
-    if (!PyArg_ParseTuple(arguments, CACHE, INTO_CACHE(cache))) {
-        return NULL;
-    }
-    return PyLong_FromLong(typed_headers_cache_free(cache));
-}
-
-/* The whole response. */
-
-static PyObject *range_list(const struct typed_headers_bytes_range *parts, size_t count) {
-    PyObject *ranges = PyList_New(0);
-    for (size_t place = 0; ranges && place < count; place++) {
-        PyObject *range = one_range(NULL, &parts[place]);
-        if (!range || PyList_Append(ranges, range)) {
-            Py_CLEAR(ranges);
-        }
-        Py_XDECREF(range);
-    }
-    return ranges;
-}
-
-/* Two rooms, of ranges and of bytes, into which a call writes. */
-struct rooms {
-    struct typed_headers_bytes_range few[FEW_RANGES], *parts;
-    uint8_t short_text[SHORT_TEXT], *room;
-    size_t parts_length, room_length, count, written;
-};
-
-typedef uint8_t (*write_both)(const void *given, struct rooms *rooms);
-
-static void free_rooms(struct rooms *it) {
-    if (it->parts != it->few) {
-        PyMem_Free(it->parts);
-    }
-    if (it->room != it->short_text) {
-        PyMem_Free(it->room);
-    }
-}
-
-/* Makes a call with rooms that suffice. They grow at most once: neither the ranges nor the text change. */
-static bool into_rooms(write_both write, const void *given, struct rooms *it, uint8_t *status) {
-    it->parts = it->few;
-    it->room = it->short_text;
-    it->parts_length = FEW_RANGES;
-    it->room_length = SHORT_TEXT;
-    it->count = it->written = 0;
-    while ((*status = write(given, it)) == TYPED_HEADERS_NO_ROOM) {
-        it->parts_length = it->count;
-        it->room_length = it->written;
-        it->parts = PyMem_Malloc((it->count + 1) * sizeof *it->parts);
-        it->room = PyMem_Malloc(it->written + 1);
-        if (!it->parts || !it->room) {
-            PyErr_NoMemory();
-            return false;
-        }
-    }
-    if (*status != TYPED_HEADERS_DONE) {
-        it->count = it->written = 0;
-    }
-    return true;
-}
-
-struct response_of {
-    struct request request;
-    struct typed_headers_content content;
-    struct text boundary;
-    struct typed_headers_response *response;
-};
-
-static uint8_t write_whole_response(const void *given, struct rooms *rooms) {
-    const struct response_of *it = given;
-    return typed_headers_respond(BYTES(it->request.method), BYTES(it->request.section), &keys, BYTES(it->request.etag),
-                                 &it->request.target, &it->content, BYTES(it->boundary), it->response, rooms->parts,
-                                 rooms->parts_length, &rooms->count, rooms->room, rooms->room_length, &rooms->written);
-}
-
-/* What a call that gives a response gives. */
-static PyObject *responded(write_both write, const void *given, const struct typed_headers_response *response) {
-    PyObject *found = NULL;
-    struct rooms rooms;
-    uint8_t status;
-    if (into_rooms(write, given, &rooms, &status)) {
-        PyObject *ranges = range_list(rooms.parts, rooms.count);
-        if (ranges) {
-            found = Py_BuildValue("BHBNy#", status, response->status, response->keeps_encoding, ranges,
-                                  (const char *)rooms.room, (Py_ssize_t)rooms.written);
-        }
-    }
-    free_rooms(&rooms);
-    return found;
-}
-
-static PyObject *respond(PyObject *module, PyObject *arguments) {
-    struct typed_headers_response response = {0, 0};
-    struct response_of it = {.response = &response};
-    struct text media_type;
-    PyObject *last_modified, *present, *length;
-    int exists, is_date_strong, sends_ranges;
-    (void)module;
-    if (!PyArg_ParseTuple(arguments, TEXT TEXT TEXT "OOpp" TEXT "Op" TEXT, INTO(it.request.method),
-                          INTO(it.request.section), INTO(it.request.etag), &last_modified, &present, &exists,
-                          &is_date_strong, INTO(media_type), &length, &sends_ranges, INTO(it.boundary)) ||
-        !read_optional(last_modified, &it.request.target.last_modified, &it.request.target.has_last_modified) ||
-        !read_number(present, &it.request.target.present) ||
-        !read_optional(length, &it.content.length, &it.content.has_length)) {
-        return NULL;
-    }
-    it.request.target.exists = exists;
-    it.request.target.is_date_strong = is_date_strong;
-    it.content.media_type = as_text(media_type);
-    it.content.sends_ranges = sends_ranges;
-    return responded(write_whole_response, &it, &response);
-}
-
-/* The whole answer of a resource. */
-
-enum { RESOURCE_TEXTS = 12, RESOURCE_FLAGS = 5 };
-
-struct resource_of {
-    struct typed_headers_resource resource;
-    struct typed_headers_representation *representations;
-    size_t count;
-    struct typed_headers_cors_rules rules;
-};
-
-/* Reads a tuple of texts into the places of as many. */
-static bool read_texts(PyObject *tuple, struct typed_headers_text *const *places, Py_ssize_t count) {
-    for (Py_ssize_t place = 0; place < count; place++) {
-        char *bytes;
-        Py_ssize_t length;
-        PyObject *text = PyTuple_GetItem(tuple, place);
-        if (!text || PyBytes_AsStringAndSize(text, &bytes, &length)) {
-            return false;
-        }
-        *places[place] = (struct typed_headers_text){(const uint8_t *)bytes, (size_t)length};
-    }
-    return true;
-}
-
-static bool read_resource(PyObject *texts, PyObject *flags, PyObject *limit, struct typed_headers_resource *it) {
-    struct typed_headers_text *places[RESOURCE_TEXTS] = {
-        &it->hosts,    &it->methods,     &it->creating,  &it->guarded, &it->accept, &it->accept_encoding,
-        &it->location, &it->media_types, &it->languages, &it->codings, &it->etags,  &it->boundary};
-    bool *flag_places[RESOURCE_FLAGS] = {&it->by_media_type, &it->by_language, &it->by_coding, &it->is_strict,
-                                         &it->needs_length};
-    for (Py_ssize_t place = 0; place < RESOURCE_FLAGS; place++) {
-        PyObject *flag = PyTuple_GetItem(flags, place);
-        int is_set = flag ? PyObject_IsTrue(flag) : -1;
-        if (is_set < 0) {
-            return false;
-        }
-        *flag_places[place] = is_set;
-    }
-    return read_texts(texts, places, RESOURCE_TEXTS) && read_optional(limit, &it->limit, &it->has_limit);
-}
-
-static bool read_rules(PyObject *given, struct resource_of *it) {
-    struct typed_headers_cors_rules *rules = &it->rules;
-    struct typed_headers_text *places[] = {&rules->origins, &rules->methods, &rules->headers, &rules->exposed};
-    PyObject *max_age;
-    it->resource.has_cors = given != Py_None;
-    if (!it->resource.has_cors) {
-        return true;
-    }
-    max_age = PyTuple_GetItem(given, 4);
-    PyObject *credentials = PyTuple_GetItem(given, 5);
-    if (!max_age || !credentials) {
-        return false;
-    }
-    rules->credentials = PyObject_IsTrue(credentials) == 1;
-    return read_texts(given, places, 4) && read_optional(max_age, &rules->max_age, &rules->has_max_age);
-}
-
-/* Reads the representations into memory that is given back with PyMem_Free. */
-static bool read_representations(PyObject *given, struct resource_of *it) {
-    Py_ssize_t count = PyTuple_Size(given);
-    if (count < 0) {
-        return false;
-    }
-    it->count = (size_t)count;
-    it->representations = PyMem_Malloc((it->count + 1) * sizeof *it->representations);
-    if (!it->representations) {
-        PyErr_NoMemory();
-        return false;
-    }
-    for (Py_ssize_t place = 0; place < count; place++) {
-        struct typed_headers_representation *one = &it->representations[place];
-        PyObject *length, *last_modified;
-        int sends_ranges, is_date_strong;
-        if (!PyArg_ParseTuple(PyTuple_GetItem(given, place), "OOpp", &length, &last_modified, &sends_ranges,
-                              &is_date_strong) ||
-            !read_optional(length, &one->length, &one->has_length) ||
-            !read_optional(last_modified, &one->last_modified, &one->has_last_modified)) {
-            return false;
-        }
-        one->sends_ranges = sends_ranges;
-        one->is_date_strong = is_date_strong;
-    }
-    return true;
-}
-
-static PyObject *resource_facts(uint8_t status, const struct typed_headers_resource_facts *facts, PyObject *ranges,
-                                const uint8_t *room, size_t written) {
-    PyObject *place = optional(facts->place, facts->has_place);
-    return Py_BuildValue("BHBBNNy#", status, facts->status, facts->reason, facts->sends, place, ranges,
-                         (const char *)room, (Py_ssize_t)written);
-}
-
-/* Content negotiation, by media types, codings, languages, or lookup. */
-
-static PyObject *choose(PyObject *module, PyObject *arguments) {
-    static uint8_t (*const calls[])(const uint8_t *, size_t, const uint8_t *, size_t, size_t *) = {
-        typed_headers_choose_type, typed_headers_choose_coding, typed_headers_choose_language,
-        typed_headers_look_up_language};
-    struct lines lines = NO_LINES;
-    struct text offers;
-    PyObject *given, *found = NULL;
-    uint8_t status = TYPED_HEADERS_REFUSED;
-    size_t place = 0;
-    int dimension;
-    (void)module;
-    if (PyArg_ParseTuple(arguments, "iO" TEXT, &dimension, &given, INTO(offers)) && read_lines(given, &lines)) {
-        if (!lines.is_rejected) {
-            status = calls[dimension & 3](BYTES(lines.text), BYTES(offers), &place);
-        }
-        found = with_number(status, place);
-    }
-    free_lines(&lines);
-    return found;
-}
-
-static PyObject *rate(PyObject *module, PyObject *arguments) {
-    static uint8_t (*const calls[])(const uint8_t *, size_t, const uint8_t *, size_t,
-                                    struct typed_headers_quality *) = {
-        typed_headers_type_quality, typed_headers_coding_quality, typed_headers_language_quality};
-    struct lines lines = NO_LINES;
-    struct typed_headers_quality quality = {0, 0};
-    struct text offer;
-    PyObject *given, *found = NULL;
-    uint8_t status = TYPED_HEADERS_REFUSED;
-    int dimension;
-    (void)module;
-    if (PyArg_ParseTuple(arguments, "iO" TEXT, &dimension, &given, INTO(offer)) && read_lines(given, &lines)) {
-        if (!lines.is_rejected) {
-            status = calls[(unsigned)dimension % 3](BYTES(lines.text), BYTES(offer), &quality);
-        }
-        found = Py_BuildValue("BHB", status, quality.weight, quality.is_acceptable);
-    }
-    free_lines(&lines);
-    return found;
-}
-
-/* Both ends of an opening handshake. */
-
-struct handshake_of {
-    struct text method, request, protocols, origins;
-    uint8_t version;
-    struct typed_headers_handshake *handshake;
-};
-
-static uint8_t write_handshake(const void *given, uint8_t *room, size_t room_length, size_t *written) {
-    const struct handshake_of *it = given;
-    return typed_headers_websocket_respond(BYTES(it->method), it->version, BYTES(it->request), &keys,
-                                           BYTES(it->protocols), BYTES(it->origins), it->handshake, room, room_length,
-                                           written);
-}
-
-static PyObject *websocket_respond(PyObject *module, PyObject *arguments) {
-    struct typed_headers_handshake handshake = {0, 0};
-    struct handshake_of it = {.handshake = &handshake};
-    uint8_t status;
-    (void)module;
-    if (!PyArg_ParseTuple(arguments, TEXT "B" TEXT TEXT TEXT, INTO(it.method), &it.version, INTO(it.request),
-                          INTO(it.protocols), INTO(it.origins))) {
-        return NULL;
-    }
-    PyObject *found = written_text(write_handshake, &it, &status);
-    return found ? Py_BuildValue("BHBN", status, handshake.status, handshake.fault, found) : NULL;
-}
-
-static uint8_t write_offer(const void *given, uint8_t *room, size_t room_length, size_t *written) {
-    const struct text *nonce = given;
-    return typed_headers_websocket_request(BYTES(*nonce), room, room_length, written);
-}
-
-static PyObject *websocket_request(PyObject *module, PyObject *arguments) {
-    struct text nonce;
-    (void)module;
-    return PyArg_ParseTuple(arguments, TEXT, INTO(nonce)) ? with_text(write_offer, &nonce) : NULL;
-}
-
-static PyObject *websocket_check(PyObject *module, PyObject *arguments) {
-    struct text sent, response;
-    unsigned short code;
-    uint8_t flaw = 0;
-    (void)module;
-    if (!PyArg_ParseTuple(arguments, TEXT "H" TEXT, INTO(sent), &code, INTO(response))) {
-        return NULL;
-    }
-    uint8_t status = typed_headers_websocket_check(BYTES(sent), code, BYTES(response), &keys, &flaw);
-    return with_number(status, flaw);
-}
-
-/* Gateways. */
-
-/* How PyArg_ParseTuple reads a gateway and a hop. */
-#define GATEWAY "(" TEXT TEXT "p)"
-#define HOP "(" TEXT "H" TEXT "HBppppppp)"
-
-struct gateway_of {
-    struct text name, protected_fields;
-    int consumes_credentials;
-};
-
-static struct typed_headers_gateway gateway_of(const struct gateway_of *it) {
-    return (struct typed_headers_gateway){
-        {BYTES(it->name)}, {BYTES(it->protected_fields)}, it->consumes_credentials != 0};
-}
-
-struct forwarding_of {
-    struct typed_headers_gateway gateway;
-    struct typed_headers_hop hop;
-    struct text method, authority, section;
-    struct typed_headers_request_outcome *request;
-    struct typed_headers_response_outcome *response;
-    uint64_t received;
-    unsigned short code;
-    uint8_t version, client_version;
-};
-
-static uint8_t write_request(const void *given, uint8_t *room, size_t room_length, size_t *written) {
-    const struct forwarding_of *it = given;
-    return typed_headers_forward_request(&it->gateway, &it->hop, BYTES(it->method), it->version, BYTES(it->authority),
-                                         BYTES(it->section), &keys, it->request, room, room_length, written);
-}
-
-static PyObject *forward_request(PyObject *module, PyObject *arguments) {
-    struct typed_headers_request_outcome outcome = {{0, 0}, 0, 0, 0, 0};
-    struct forwarding_of it = {.request = &outcome};
-    struct gateway_of gateway;
-    struct text client, interface_node;
-    int flags[7];
-    uint8_t status;
-    (void)module;
-    if (!PyArg_ParseTuple(arguments, GATEWAY HOP TEXT "B" TEXT TEXT, INTO(gateway.name),
-                          INTO(gateway.protected_fields), &gateway.consumes_credentials, INTO(client),
-                          &it.hop.client_port, INTO(interface_node), &it.hop.interface_port, &it.hop.server_version,
-                          &flags[0], &flags[1], &flags[2], &flags[3], &flags[4], &flags[5], &flags[6],
-                          INTO(it.method), &it.version, INTO(it.authority), INTO(it.section))) {
-        return NULL;
-    }
-    it.gateway = gateway_of(&gateway);
-    it.hop.client = (struct typed_headers_text){BYTES(client)};
-    it.hop.interface_node = (struct typed_headers_text){BYTES(interface_node)};
-    bool *const places[] = {&it.hop.is_secure,          &it.hop.is_trusted, &it.hop.writes_forwarded,
-                            &it.hop.writes_x_forwarded, &it.hop.tells_host, &it.hop.closes,
-                            &it.hop.accepts_trailers};
-    for (int place = 0; place < 7; place++) {
-        *places[place] = flags[place];
-    }
-    PyObject *found = written_text(write_request, &it, &status);
-    return found ? Py_BuildValue("BBKHBBBN", status, outcome.framing.kind, (unsigned long long)outcome.framing.length,
-                                 outcome.status, outcome.action, outcome.reason, outcome.sends_continue, found)
-                 : NULL;
-}
-
-static uint8_t write_response(const void *given, uint8_t *room, size_t room_length, size_t *written) {
-    const struct forwarding_of *it = given;
-    return typed_headers_forward_response(&it->gateway, it->code, it->version, BYTES(it->section), &keys,
-                                          BYTES(it->method), it->client_version, it->received, it->response, room,
-                                          room_length, written);
-}
-
-static PyObject *forward_response(PyObject *module, PyObject *arguments) {
-    struct typed_headers_response_outcome outcome = {{0, 0}, {0, 0}, 0, 0, 0};
-    struct forwarding_of it = {.response = &outcome};
-    struct gateway_of gateway;
-    PyObject *received;
-    uint8_t status;
-    (void)module;
-    if (!PyArg_ParseTuple(arguments, GATEWAY "HB" TEXT TEXT "BO", INTO(gateway.name), INTO(gateway.protected_fields),
-                          &gateway.consumes_credentials, &it.code, &it.version, INTO(it.section), INTO(it.method),
-                          &it.client_version, &received) ||
-        !read_number(received, &it.received)) {
-        return NULL;
-    }
-    it.gateway = gateway_of(&gateway);
-    PyObject *found = written_text(write_response, &it, &status);
-    return found ? Py_BuildValue("BBKBKHBBN", status, outcome.received.kind,
-                                 (unsigned long long)outcome.received.length, outcome.sent.kind,
-                                 (unsigned long long)outcome.sent.length, outcome.status, outcome.action,
-                                 outcome.reason, found)
-                 : NULL;
-}
-
-static PyObject *framing(PyObject *module, PyObject *arguments) {
-    struct typed_headers_framing_outcome outcome = {{0, 0}, 0, 0};
-    struct text method, section;
-    unsigned short code;
-    uint8_t version;
-    (void)module;
-    if (!PyArg_ParseTuple(arguments, TEXT "HB" TEXT, INTO(method), &code, &version, INTO(section))) {
-        return NULL;
-    }
-    uint8_t status = typed_headers_framing(BYTES(method), code, version, BYTES(section), &keys, &outcome);
-    return Py_BuildValue("BBKHB", status, outcome.framing.kind, (unsigned long long)outcome.framing.length,
-                         outcome.status, outcome.reason);
-}
-
-/* Typed calls: what the field lines encode, after the status. */
-
-TEXT_OF_LINES(bearer)
-TEXT_OF_LINES(cookies)
-TEXT_OF_LINES(members)
-
-/* What is told of a text beside it. */
-struct told_of {
-    struct text lines;
-    size_t length;
-    struct typed_headers_port port;
-    bool is_null;
-};
-
-static uint8_t write_basic(const void *given, uint8_t *room, size_t room_length, size_t *written) {
-    struct told_of *it = *(struct told_of *const *)given;
-    return typed_headers_basic(BYTES(it->lines), &it->length, room, room_length, written);
-}
-
-static uint8_t write_host(const void *given, uint8_t *room, size_t room_length, size_t *written) {
-    struct told_of *it = *(struct told_of *const *)given;
-    return typed_headers_host(BYTES(it->lines), &it->port, room, room_length, written);
-}
-
-static uint8_t write_origin(const void *given, uint8_t *room, size_t room_length, size_t *written) {
-    struct told_of *it = *(struct told_of *const *)given;
-    struct typed_headers_origin_parts parts = {0, {0, 0}, 0};
-    const uint8_t status = typed_headers_origin(BYTES(it->lines), &parts, room, room_length, written);
-    it->length = parts.scheme_length, it->port = parts.port, it->is_null = parts.is_null;
-    return status;
-}
-
-/* The text of a call that tells something beside it. */
-static PyObject *told_text(text_call *call, PyObject *arguments, struct told_of *it, uint8_t *status) {
-    struct lines lines = NO_LINES;
-    PyObject *found = NULL;
-    *it = (struct told_of){{NULL, 0}, 0, {0, 0}, false};
-    *status = TYPED_HEADERS_REFUSED;
-    if (read_only_lines(arguments, &lines)) {
-        it->lines = lines.text;
-        found = lines.is_rejected ? PyBytes_FromString("") : written_text(call, &it, status);
-    }
-    free_lines(&lines);
-    return found;
-}
-
-static PyObject *basic(PyObject *module, PyObject *arguments) {
-    struct told_of it;
-    uint8_t status;
-    PyObject *found = told_text(write_basic, arguments, &it, &status);
-    (void)module;
-    return found ? Py_BuildValue("BnN", status, (Py_ssize_t)it.length, found) : NULL;
-}
-
-static PyObject *host(PyObject *module, PyObject *arguments) {
-    struct told_of it;
-    uint8_t status;
-    PyObject *found = told_text(write_host, arguments, &it, &status);
-    (void)module;
-    return found ? Py_BuildValue("BNN", status, optional(it.port.number, it.port.is_set), found) : NULL;
-}
-
-static PyObject *origin(PyObject *module, PyObject *arguments) {
-    struct told_of it;
-    uint8_t status;
-    PyObject *found = told_text(write_origin, arguments, &it, &status);
-    (void)module;
-    return found ? Py_BuildValue("BnNNN", status, (Py_ssize_t)it.length, optional(it.port.number, it.port.is_set),
-                                 PyBool_FromLong(it.is_null), found)
-                 : NULL;
-}
-
-static uint8_t write_cookie(const void *given, uint8_t *room, size_t room_length, size_t *written) {
-    const struct named_lines *it = given;
-    return typed_headers_cookie(BYTES(it->lines), BYTES(it->name), room, room_length, written);
-}
-
-static PyObject *cookie(PyObject *module, PyObject *arguments) {
-    struct named_lines it;
-    struct lines lines = NO_LINES;
-    PyObject *given, *found = NULL;
-    (void)module;
-    if (PyArg_ParseTuple(arguments, "O" TEXT, &given, INTO(it.name)) && read_lines(given, &lines)) {
-        it.lines = lines.text;
-        found = lines.is_rejected ? Py_BuildValue("By", TYPED_HEADERS_REFUSED, "") : with_text(write_cookie, &it);
-    }
-    free_lines(&lines);
-    return found;
-}
-
-static PyObject *strict_transport_security(PyObject *module, PyObject *arguments) {
-    struct lines lines = NO_LINES;
-    struct typed_headers_transport_security it = {0, 0};
-    uint8_t status = TYPED_HEADERS_REFUSED;
-    const bool is_read = read_only_lines(arguments, &lines);
-    (void)module;
-    if (is_read && !lines.is_rejected) {
-        status = typed_headers_strict_transport_security(BYTES(lines.text), &it);
-    }
-    free_lines(&lines);
-    return is_read ? Py_BuildValue("BKN", status, (unsigned long long)it.max_age,
-                                   PyBool_FromLong(it.include_subdomains))
-                   : NULL;
-}
-
-static PyObject *retry_after(PyObject *module, PyObject *arguments) {
-    struct lines lines = NO_LINES;
-    struct typed_headers_retry_time it = {0, 0};
-    uint8_t status = TYPED_HEADERS_REFUSED;
-    const bool is_read = read_only_lines(arguments, &lines);
-    (void)module;
-    if (is_read && !lines.is_rejected) {
-        status = typed_headers_retry_after(BYTES(lines.text), &it);
-    }
-    free_lines(&lines);
-    return is_read ? Py_BuildValue("BKN", status, (unsigned long long)it.seconds, PyBool_FromLong(it.is_date)) : NULL;
-}
-
-static PyObject *content_disposition(PyObject *module, PyObject *arguments) {
-    struct lines lines = NO_LINES;
-    uint8_t status = TYPED_HEADERS_REFUSED, disposition = 0;
-    const bool is_read = read_only_lines(arguments, &lines);
-    (void)module;
-    if (is_read && !lines.is_rejected) {
-        status = typed_headers_content_disposition(BYTES(lines.text), &disposition);
-    }
-    free_lines(&lines);
-    return is_read ? with_number(status, disposition) : NULL;
-}
-
-static PyObject *has_member(PyObject *module, PyObject *arguments) {
-    struct lines lines = NO_LINES;
-    struct text member;
-    uint8_t status = TYPED_HEADERS_REFUSED, has = 0;
-    PyObject *given;
-    int any_case;
-    (void)module;
-    const bool is_read = PyArg_ParseTuple(arguments, "O" TEXT "p", &given, INTO(member), &any_case) &&
-                         read_lines(given, &lines);
-    if (is_read && !lines.is_rejected) {
-        status = typed_headers_has_member(BYTES(lines.text), BYTES(member), any_case != 0, &has);
-    }
-    free_lines(&lines);
-    return is_read ? with_number(status, has) : NULL;
-}
-
-/* ---- sections and policies: handles, each a capsule, which is closed once nothing refers to it. The interpreter's
-   lock is held during a call, so a handle is in one call at a time. ---- */
-
-#define HANDLE(kind, name)                                                                                             \
-    static const char name[] = "typed_headers." #kind;                                                                 \
-    static void free_##kind(PyObject *capsule) {                                                                       \
-        struct typed_headers_##kind *handle = PyCapsule_GetPointer(capsule, name);                                     \
-        typed_headers_##kind##_free(handle);                                                                           \
-        PyMem_Free(handle);                                                                                            \
-    }                                                                                                                  \
-    static struct typed_headers_##kind *new_##kind(void) {                                                             \
-        struct typed_headers_##kind *handle = PyMem_Malloc(sizeof *handle);                                            \
-        if (handle) {                                                                                                  \
-            *handle = (struct typed_headers_##kind)TYPED_HEADERS_CLOSED;                                               \
-        } else {                                                                                                       \
-            PyErr_NoMemory();                                                                                          \
-        }                                                                                                              \
-        return handle;                                                                                                 \
-    }                                                                                                                  \
-    /* The status of the call that was to open the handle, and the handle. */                                          \
-    static PyObject *with_##kind(uint8_t status, struct typed_headers_##kind *handle) {                                \
-        PyObject *capsule = PyCapsule_New(handle, name, free_##kind);                                                  \
-        if (!capsule) {                                                                                                \
-            typed_headers_##kind##_free(handle);                                                                       \
-            PyMem_Free(handle);                                                                                        \
-            return NULL;                                                                                               \
-        }                                                                                                              \
-        return Py_BuildValue("BN", status, capsule);                                                                   \
-    }                                                                                                                  \
-    static int into_##kind(PyObject *capsule, void *handle) {                                                          \
-        *(struct typed_headers_##kind **)handle = PyCapsule_GetPointer(capsule, name);                                 \
-        return *(struct typed_headers_##kind **)handle != NULL;                                                        \
-    }
-
-HANDLE(section, SECTION_NAME)
-HANDLE(cors_policy, POLICY_NAME)
-HANDLE(resource_handle, RESOURCE_NAME)
-
-static PyObject *section_new(PyObject *module, PyObject *arguments) {
-    struct text text;
-    (void)module;
-    if (!PyArg_ParseTuple(arguments, TEXT, INTO(text))) {
-        return NULL;
-    }
-    struct typed_headers_section *fields = new_section();
-    return fields ? with_section(typed_headers_section_new(fields, BYTES(text), &keys), fields) : NULL;
-}
-
-struct field_of_section {
-    struct typed_headers_section *fields;
-    struct text name;
-};
-
-static uint8_t write_section_field(const void *given, uint8_t *room, size_t room_length, size_t *written) {
-    const struct field_of_section *it = given;
-    return typed_headers_section_field(it->fields, BYTES(it->name), room, room_length, written);
-}
-
-static PyObject *section_field(PyObject *module, PyObject *arguments) {
-    struct field_of_section it;
-    (void)module;
-    if (!PyArg_ParseTuple(arguments, "O&" TEXT, into_section, &it.fields, INTO(it.name))) {
-        return NULL;
-    }
-    return with_text(write_section_field, &it);
-}
-
-/* What is asked of a section about a target. */
-struct asked {
-    struct typed_headers_section *fields;
-    struct text method, etag;
-    struct typed_headers_target target;
-    uint64_t length;
-    uint16_t *answer;
-};
-
-/* Reads what is known of the target. */
-static bool read_target(PyObject *last_modified, PyObject *present, int exists, int is_date_strong, struct asked *it) {
-    it->target.exists = exists;
-    it->target.is_date_strong = is_date_strong;
-    return read_optional(last_modified, &it->target.last_modified, &it->target.has_last_modified) &&
-           read_number(present, &it->target.present);
-}
-
-static PyObject *section_evaluate(PyObject *module, PyObject *arguments) {
-    struct asked it;
-    PyObject *last_modified, *present;
-    int exists, is_date_strong;
-    uint16_t answer = 0;
-    (void)module;
-    if (!PyArg_ParseTuple(arguments, "O&" TEXT TEXT "OOpp", into_section, &it.fields, INTO(it.method), INTO(it.etag),
-                          &last_modified, &present, &exists, &is_date_strong) ||
-        !read_target(last_modified, present, exists, is_date_strong, &it)) {
-        return NULL;
-    }
-    uint8_t status =
-        typed_headers_section_evaluate(it.fields, BYTES(it.method), BYTES(it.etag), &it.target, &answer);
-    return with_number(status, answer);
-}
-
-static uint8_t write_section_selection(const void *given, struct typed_headers_bytes_range *room, size_t room_length,
-                                       size_t *written) {
-    const struct asked *it = given;
-    return typed_headers_section_select(it->fields, BYTES(it->method), BYTES(it->etag), &it->target, it->length,
-                                        it->answer, room, room_length, written);
-}
-
-static PyObject *section_select(PyObject *module, PyObject *arguments) {
-    uint16_t answer = 0;
-    struct asked it = {.answer = &answer};
-    PyObject *last_modified, *present, *length;
-    int exists, is_date_strong;
-    uint8_t status;
-    (void)module;
-    if (!PyArg_ParseTuple(arguments, "O&" TEXT TEXT "OOppO", into_section, &it.fields, INTO(it.method), INTO(it.etag),
-                          &last_modified, &present, &exists, &is_date_strong, &length) ||
-        !read_target(last_modified, present, exists, is_date_strong, &it) || !read_number(length, &it.length)) {
-        return NULL;
-    }
-    PyObject *found = written_ranges(write_section_selection, &it, NULL, &status);
-    return found ? Py_BuildValue("BHN", status, answer, found) : NULL;
-}
-
-struct response_of_section {
-    struct asked asked;
-    struct typed_headers_content content;
-    struct text boundary;
-    struct typed_headers_response *response;
-};
-
-static uint8_t write_section_response(const void *given, struct rooms *rooms) {
-    const struct response_of_section *it = given;
-    return typed_headers_section_respond(it->asked.fields, BYTES(it->asked.method), BYTES(it->asked.etag),
-                                         &it->asked.target, &it->content, BYTES(it->boundary), it->response,
-                                         rooms->parts, rooms->parts_length, &rooms->count, rooms->room,
-                                         rooms->room_length, &rooms->written);
-}
-
-static PyObject *section_respond(PyObject *module, PyObject *arguments) {
-    struct typed_headers_response response = {0, 0};
-    struct response_of_section it = {.response = &response};
-    struct text media_type;
-    PyObject *last_modified, *present, *length;
-    int exists, is_date_strong, sends_ranges;
-    (void)module;
-    if (!PyArg_ParseTuple(arguments, "O&" TEXT TEXT "OOpp" TEXT "Op" TEXT, into_section, &it.asked.fields,
-                          INTO(it.asked.method), INTO(it.asked.etag), &last_modified, &present, &exists,
-                          &is_date_strong, INTO(media_type), &length, &sends_ranges, INTO(it.boundary)) ||
-        !read_target(last_modified, present, exists, is_date_strong, &it.asked) ||
-        !read_optional(length, &it.content.length, &it.content.has_length)) {
-        return NULL;
-    }
-    it.content.media_type = as_text(media_type);
-    it.content.sends_ranges = sends_ranges;
-    return responded(write_section_response, &it, &response);
-}
-
-static PyObject *section_choose(PyObject *module, PyObject *arguments) {
-    static uint8_t (*const calls[])(struct typed_headers_section *, const uint8_t *, size_t, size_t *) = {
-        typed_headers_section_choose_type, typed_headers_section_choose_coding, typed_headers_section_choose_language};
-    struct typed_headers_section *fields;
-    struct text offers;
-    size_t place = 0;
-    int dimension;
-    (void)module;
-    if (!PyArg_ParseTuple(arguments, "O&i" TEXT, into_section, &fields, &dimension, INTO(offers))) {
-        return NULL;
-    }
-    uint8_t status = calls[(unsigned)dimension % 3](fields, BYTES(offers), &place);
-    return with_number(status, place);
-}
-
-/* The fields of a request: those of a section that was parsed, or of a text, which is parsed for one call. */
-struct request_fields {
-    struct typed_headers_section own, *fields;
-};
-
-/* Reads these from an argument. False if it is neither; else `*status` says whether a text was parsed. */
-static bool open_fields(PyObject *given, struct request_fields *it, uint8_t *status) {
-    char *bytes;
-    Py_ssize_t length;
-    it->own = (struct typed_headers_section)TYPED_HEADERS_CLOSED;
-    *status = TYPED_HEADERS_DONE;
-    if (PyCapsule_IsValid(given, SECTION_NAME)) {
-        it->fields = PyCapsule_GetPointer(given, SECTION_NAME);
-        return true;
-    }
-    if (PyBytes_AsStringAndSize(given, &bytes, &length)) {
-        return false;
-    }
-    it->fields = &it->own;
-    *status = typed_headers_section_new(&it->own, (const uint8_t *)bytes, (size_t)length, &keys);
-    return true;
-}
-
-static PyObject *cors_policy_new(PyObject *module, PyObject *arguments) {
-    struct typed_headers_cors_rules rules;
-    struct text lists[4];
-    PyObject *max_age;
-    int credentials;
-    (void)module;
-    if (!PyArg_ParseTuple(arguments, TEXT TEXT TEXT TEXT "Op", INTO(lists[0]), INTO(lists[1]), INTO(lists[2]),
-                          INTO(lists[3]), &max_age, &credentials) ||
-        !read_optional(max_age, &rules.max_age, &rules.has_max_age)) {
-        return NULL;
-    }
-    rules.origins = as_text(lists[0]);
-    rules.methods = as_text(lists[1]);
-    rules.headers = as_text(lists[2]);
-    rules.exposed = as_text(lists[3]);
-    rules.credentials = credentials;
-    struct typed_headers_cors_policy *policy = new_cors_policy();
-    return policy ? with_cors_policy(typed_headers_cors_policy_new(policy, &rules), policy) : NULL;
-}
-
-struct cors_request {
-    struct typed_headers_cors_policy *policy;
-    struct request_fields asked;
-    struct text method, response;
-    struct typed_headers_cors_facts *facts;
-};
-
-static uint8_t write_policy_answer(const void *given, uint8_t *room, size_t room_length, size_t *written) {
-    const struct cors_request *it = given;
-    return typed_headers_cors_policy_answer(it->policy, it->asked.fields, BYTES(it->method), BYTES(it->response), &keys,
-                                            it->facts, room, room_length, written);
-}
-
-static PyObject *cors_policy_answer(PyObject *module, PyObject *arguments) {
-    struct typed_headers_cors_facts facts = {0, 0};
-    struct cors_request it = {.facts = &facts};
-    PyObject *request, *found;
-    uint8_t status;
-    (void)module;
-    if (!PyArg_ParseTuple(arguments, "O&O" TEXT TEXT, into_cors_policy, &it.policy, &request, INTO(it.method),
-                          INTO(it.response)) ||
-        !open_fields(request, &it.asked, &status)) {
-        return NULL;
-    }
-    found = status == TYPED_HEADERS_DONE ? written_text(write_policy_answer, &it, &status) : PyBytes_FromString("");
-    typed_headers_section_free(&it.asked.own);
-    return found ? Py_BuildValue("BBBN", status, facts.kind, facts.is_allowed, found) : NULL;
-}
-
-static PyObject *resource_handle_new(PyObject *module, PyObject *arguments) {
-    struct resource_of it;
-    PyObject *texts, *flags, *limit, *representations, *rules, *found = NULL;
-    (void)module;
-    memset(&it, 0, sizeof it);
-    if (PyArg_ParseTuple(arguments, "OOOHOO", &texts, &flags, &limit, &it.resource.state, &representations, &rules) &&
-        read_resource(texts, flags, limit, &it.resource) && read_rules(rules, &it) &&
-        read_representations(representations, &it)) {
-        struct typed_headers_resource_handle *handle = new_resource_handle();
-        if (handle) {
-            uint8_t status = typed_headers_resource_handle_new(handle, &it.resource, it.representations, it.count,
-                                                               &it.rules);
-            found = with_resource_handle(status, handle);
-        }
-    }
-    PyMem_Free(it.representations);
-    return found;
-}
-
-struct resource_request {
-    struct typed_headers_resource_handle *handle;
-    struct request_fields asked;
-    struct typed_headers_resource_request request;
-    struct text method, target;
-    struct typed_headers_resource_facts *facts;
-};
-
-static uint8_t write_resource_answer(const void *given, struct rooms *rooms) {
-    const struct resource_request *it = given;
-    return typed_headers_resource_handle_answer(it->handle, it->asked.fields, &it->request, BYTES(it->method),
-                                                BYTES(it->target), it->facts, rooms->parts, rooms->parts_length,
-                                                &rooms->count, rooms->room, rooms->room_length, &rooms->written);
-}
-
-static PyObject *resource_handle_answer(PyObject *module, PyObject *arguments) {
-    struct typed_headers_resource_facts facts = {0, 0, 0, 0, 0};
-    struct resource_request it = {.facts = &facts};
-    struct rooms rooms = {.parts = rooms.few, .room = rooms.short_text};
-    PyObject *request, *present, *length, *found = NULL;
-    uint8_t status;
-    (void)module;
-    if (!PyArg_ParseTuple(arguments, "O&OOBO" TEXT TEXT, into_resource_handle, &it.handle, &request, &present,
-                          &it.request.version, &length, INTO(it.method), INTO(it.target)) ||
-        !read_number(present, &it.request.present) ||
-        !read_optional(length, &it.request.length, &it.request.has_length) ||
-        !open_fields(request, &it.asked, &status)) {
-        return NULL;
-    }
-    it.request.has_content = !it.request.has_length || it.request.length;
-    if (status != TYPED_HEADERS_DONE || into_rooms(write_resource_answer, &it, &rooms, &status)) {
-        PyObject *ranges = range_list(rooms.parts, rooms.count);
-        if (ranges) {
-            found = resource_facts(status, &facts, ranges, rooms.room, rooms.written);
-        }
-    }
-    typed_headers_section_free(&it.asked.own);
-    free_rooms(&rooms);
-    return found;
-}
-
-#define METHOD(name) {#name, name, METH_VARARGS, NULL}
+#define METHOD(name) {#name, call_##name, METH_VARARGS, NULL}
+#define OWN(name) {#name, name, METH_VARARGS, NULL}
 static PyMethodDef methods[] = {
-    METHOD(age),         METHOD(cache_control), METHOD(canonical),  METHOD(content_length), METHOD(content_range),
-    METHOD(etag),        METHOD(media_type_as), METHOD(ranges_as),  METHOD(section),
-    METHOD(current_age), METHOD(date),          METHOD(decide),
-    METHOD(essence),     METHOD(evaluate),      METHOD(expires),    METHOD(field),
-    METHOD(format_content_range), METHOD(format_date), METHOD(format_etag), METHOD(last_modified),
-    METHOD(heuristic_lifetime), METHOD(lifetime), METHOD(may_store),     METHOD(media_type), METHOD(ranges),
-    METHOD(strong_eq),   METHOD(use_keys),      METHOD(validators), METHOD(version),
-    METHOD(choose),      METHOD(rate),          METHOD(respond),
-    METHOD(websocket_check), METHOD(websocket_request), METHOD(websocket_respond),
-    METHOD(cache_answer), METHOD(cache_content), METHOD(cache_free), METHOD(cache_freshen),
-    METHOD(cache_freshen_by_head), METHOD(cache_invalidate), METHOD(cache_lookup), METHOD(cache_new),
-    METHOD(cache_remove), METHOD(cache_response), METHOD(cache_store),
-    METHOD(forward_request), METHOD(forward_response), METHOD(framing),
-    METHOD(basic), METHOD(bearer), METHOD(content_disposition), METHOD(cookie), METHOD(cookies), METHOD(has_member),
-    METHOD(host), METHOD(members), METHOD(origin), METHOD(retry_after), METHOD(strict_transport_security),
-    METHOD(section_choose), METHOD(section_evaluate), METHOD(section_field), METHOD(section_new),
-    METHOD(section_respond), METHOD(section_select), METHOD(cors_policy_answer), METHOD(cors_policy_new),
-    METHOD(resource_handle_answer), METHOD(resource_handle_new),
-    METHOD(weak_eq),     METHOD(websocket_accept), {"select", select_part, METH_VARARGS, NULL}, {NULL, NULL, 0, NULL},
+    CALLS, OWN(content_range_as), OWN(etag), OWN(media_type_as), OWN(ranges_as), OWN(section), OWN(use_keys),
+    OWN(version), {NULL, NULL, 0, NULL},
 };
 
 static struct PyModuleDef definition = {

@@ -28,7 +28,7 @@ class CacheTest(unittest.TestCase):
         cache = filled()
         found = cache.lookup("GET", "/a", {}, now=1010)
         self.assertEqual(found.decision, Decision.SERVE)
-        self.assertEqual(found.stored, StoredResponse(0, 200, 10, 1000, 1000, 5))
+        self.assertEqual(found.stored, StoredResponse(1, 200, 10, 1000, 1000, 5))
         self.assertEqual(dict(found.fields)["age"], "10")
         self.assertEqual(cache.lookup("GET", "/b", {}, now=1010).stored, None)
 
@@ -45,49 +45,86 @@ class CacheTest(unittest.TestCase):
 
     def test_copies_parts_of_the_content(self) -> None:
         cache = filled(bytes(range(256)) * 100)
-        self.assertEqual(cache.content("/a", 0), bytes(range(256)) * 100)
-        self.assertEqual(cache.content("/a", 0, 25_598), b"\xfe\xff")
-        self.assertEqual(cache.content("/a", 0, 1, 2), b"\x01\x02")
-        self.assertEqual(cache.content("/a", 0, 30_000), b"")
+        self.assertEqual(cache.content("/a", 1), bytes(range(256)) * 100)
+        self.assertEqual(cache.content("/a", 1, 25_598), b"\xfe\xff")
+        self.assertEqual(cache.content("/a", 1, 1, 2), b"\x01\x02")
+        self.assertEqual(cache.content("/a", 1, 30_000), b"")
         with self.assertRaises(LookupError):
-            cache.content("/a", 1)
+            cache.content("/a", 2)
 
     def test_keeps_a_response_that_answers_once(self) -> None:
         cache = filled()
         update = {"ETag": '"a"', "Cache-Control": "no-store"}
         freshened = cache.freshen("GET", "/a", {}, update, requested=1100, received=1100)
         self.assertEqual(freshened.outcome, FreshenOutcome.UPDATED_ONCE)
-        assert freshened.place is not None
-        self.assertEqual(cache.content("/a", freshened.place), b"hello")
-        self.assertEqual(cache.response("/a", 0), None)
+        assert freshened.number is not None
+        self.assertEqual(cache.content("/a", freshened.number), b"hello")
+        self.assertEqual(cache.response("/b", freshened.number), None)
+        self.assertEqual(cache.response("/a", 1), None)
+        cache.remove("/b")
+        self.assertEqual(cache.response("/a", freshened.number), None)
+
+    def test_shows_no_other_response_under_a_number(self) -> None:
+        cache = Cache(shared=True)
+        numbers = {}
+        for user in ("alice", "bob"):
+            fields = {"Cache-Control": "max-age=10, stale-if-error=600", "Vary": "Cookie", "ETag": f'"{user}"'}
+            page, request = f"page of {user}".encode(), {"Cookie": user}
+            number = cache.store("GET", "/a", request, 200, fields, page, requested=1000, received=1000)
+            numbers[user] = number or 0
+        found = cache.lookup("GET", "/a", {"Cookie": "alice"}, now=1100).stored
+        assert found is not None
+        self.assertEqual(cache.content("/a", found.number), b"page of alice")
+        # Another request of hers is validated in the meantime. The page goes on under a new number.
+        update = {"ETag": '"alice"'}
+        renewed = cache.freshen("GET", "/a", {"Cookie": "alice"}, update, requested=1100, received=1100).number
+        assert renewed is not None
+        self.assertIsNone(cache.response("/a", found.number))
+        self.assertEqual(cache.content("/a", renewed), b"page of alice")
+        self.assertEqual(cache.content("/a", numbers["bob"]), b"page of bob")
+
+    def test_shows_what_answers_once_for_its_own_request_alone(self) -> None:
+        cache = Cache(shared=True)
+        for path, page in (("/a", b"page of a"), ("/b", b"page of b")):
+            fields = {"Cache-Control": "max-age=1", "ETag": '"1"'}
+            cache.store("GET", path, {}, 200, fields, page, requested=1000, received=1000)
+        numbers = []
+        for path, directive in (("/a", "private"), ("/b", "no-store")):
+            update = {"ETag": '"1"', "Cache-Control": directive}
+            freshened = cache.freshen("GET", path, {}, update, requested=1100, received=1100)
+            self.assertEqual(freshened.outcome, FreshenOutcome.UPDATED_ONCE)
+            numbers.append(freshened.number or 0)
+        self.assertIsNone(cache.response("/a", numbers[0]))
+        self.assertIsNone(cache.response("/a", numbers[1]))
+        self.assertEqual(cache.content("/b", numbers[1]), b"page of b")
 
     def test_says_where_a_304_is_about_nothing(self) -> None:
         freshened = filled().freshen("GET", "/b", {}, {}, requested=1100, received=1100)
-        self.assertEqual((freshened.outcome, freshened.place), (FreshenOutcome.NONE_STORED, None))
+        self.assertEqual((freshened.outcome, freshened.number), (FreshenOutcome.NONE_STORED, None))
 
     def test_answers_conditions_and_ranges(self) -> None:
         cache = filled()
-        found = cache.answer("GET", "/a", {"Range": "bytes=-2"}, 0, now=1010)
+        found = cache.answer("GET", "/a", {"Range": "bytes=-2"}, 1, now=1010)
         self.assertEqual(found and (found.kind, found.part), (CacheAnswerKind.PART, (3, 4)))
-        self.assertEqual(cache.answer("GET", "/a", {}, 1, now=1010), None)
+        self.assertEqual(cache.answer("GET", "/a", {}, 2, now=1010), None)
 
     def test_removes(self) -> None:
         cache = filled()
         cache.invalidate("POST", "/a", 500)
-        self.assertIsNotNone(cache.response("/a", 0))
+        self.assertIsNotNone(cache.response("/a", 1))
         cache.invalidate("POST", "/a", 201)
-        self.assertIsNone(cache.response("/a", 0))
+        self.assertIsNone(cache.response("/a", 1))
         cache = filled()
         cache.remove("/a")
-        self.assertIsNone(cache.response("/a", 0))
+        self.assertIsNone(cache.response("/a", 1))
 
     def test_stays_within_its_limits(self) -> None:
         cache = filled(content=8)
         self.assertFalse(cache.store("GET", "/b", {}, 200, FRESH, b"too long.", requested=1000, received=1000))
         self.assertFalse(cache.store("GET", "/b", {}, 200, FRESH, b"half", requested=1000, received=1000, complete=False))
-        self.assertIsNotNone(cache.response("/a", 0))
+        self.assertIsNotNone(cache.response("/a", 1))
         self.assertTrue(cache.store("GET", "/b", {}, 200, FRESH, b"long", requested=1000, received=1000))
-        self.assertIsNone(cache.response("/a", 0))
+        self.assertIsNone(cache.response("/a", 1))
 
     def test_serves_a_reload_of_what_is_immutable(self) -> None:
         for immutable, decision in ((False, Decision.REVALIDATE), (True, Decision.SERVE)):
@@ -102,7 +139,7 @@ class CacheTest(unittest.TestCase):
         for targets, is_stored in (((), False), (["x-cdn-control", "CDN-Cache-Control"], True)):
             cache = Cache(shared=True, targets=targets)
             stored = cache.store("GET", "/a", {}, 200, fields, b"", requested=1000, received=1000)
-            self.assertEqual(stored, is_stored)
+            self.assertEqual(stored is not None, is_stored)
 
     def test_says_what_is_wrong(self) -> None:
         cache = filled()

@@ -2,8 +2,8 @@
 
 import doctest
 import importlib
-import inspect
 import pkgutil
+import re
 import unittest
 from pathlib import Path
 
@@ -11,7 +11,7 @@ import typed_headers
 
 
 def load_tests(loader: unittest.TestLoader, tests: unittest.TestSuite, pattern: str) -> unittest.TestSuite:
-    unread = ("__main__", "_foreign", "_native")
+    unread = ("__main__", "_native")
     names = [it.name for it in pkgutil.iter_modules(typed_headers.__path__) if it.name not in unread]
     for module in (typed_headers, *(importlib.import_module(f"typed_headers.{name}") for name in names)):
         tests.addTests(doctest.DocTestSuite(module))
@@ -26,14 +26,11 @@ class Exports(unittest.TestCase):
         for name in typed_headers.__all__:
             self.assertTrue(hasattr(typed_headers, name), name)
 
-    def test_both_ways_to_the_library_have_the_same_calls(self) -> None:
-        try:
-            native = importlib.import_module("typed_headers._native")
-            foreign = importlib.import_module("typed_headers._foreign")
-        except ImportError:
-            self.skipTest("only one of both is here")
-        calls = {name for name, it in vars(foreign).items() if inspect.isfunction(it) and not name.startswith("_")}
-        self.assertEqual({name for name in dir(native) if not name.startswith("_")}, calls)
+    def test_the_types_of_the_extension_are_those_of_its_calls(self) -> None:
+        native = importlib.import_module("typed_headers._native")
+        path = Path(typed_headers.__file__).with_name("_native.pyi")
+        typed = re.findall(r"(?m)^def (\w+)\(", path.read_text("utf-8"))
+        self.assertEqual({name for name in dir(native) if not name.startswith("_")}, set(typed))
 
     def test_version(self) -> None:
         self.assertEqual(typed_headers.version().split(".")[0], typed_headers.__version__.split(".")[0])

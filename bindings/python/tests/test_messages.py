@@ -1,8 +1,10 @@
 """Header sections and decisions: what they take, and what they say of what they reject."""
 
+import pickle
 import unittest
 from datetime import datetime, timedelta, timezone
-from typing import Any
+from http.client import HTTPMessage
+from typing import Any, Dict, List, Tuple
 
 from typed_headers import (
     ByteRange,
@@ -49,11 +51,50 @@ class Sections(unittest.TestCase):
         )
         for form in forms:
             headers = Headers(form)
-            self.assertEqual(list(headers), [("age", "7"), ("vary", "a"), ("vary", "b")])
+            self.assertEqual(headers.pairs(), [("age", "7"), ("vary", "a"), ("vary", "b")])
             self.assertEqual((headers.age, headers.lines("VARY"), headers.canonical("vary")), (7, ("a", "b"), ["a, b"]))
             self.assertEqual(Headers(headers), headers)
-            self.assertEqual(hash(Headers(headers)), hash(headers))
+            self.assertEqual(dict(headers), {"age": "7", "vary": "a, b"})
         self.assertTrue("Age" in headers and "Date" not in headers)
+
+    def test_what_others_have(self) -> None:
+        class Several(Dict[str, str]):
+            """Has each name once as a mapping, as httpx and Starlette."""
+
+            def multi_items(self) -> List[Tuple[str, str]]:
+                return [("vary", "a"), ("vary", "b")]
+
+        message = HTTPMessage()
+        message["Vary"] = "a"
+        message["Vary"] = "b"
+        for given in (Several(vary="a, b"), message):
+            self.assertEqual(Headers(given).lines("vary"), ("a", "b"))
+
+    def test_a_mapping(self) -> None:
+        headers = Headers([("Vary", "a"), ("Age", "7"), ("vary", "b"), ("Set-Cookie", "a=b")])
+        self.assertEqual((len(headers), list(headers)), (3, ["vary", "age", "set-cookie"]))
+        self.assertEqual((headers["VARY"], headers.get("date"), headers.get("Age")), ("a, b", None, "7"))
+        headers["vary"] = "*"
+        headers["Date"] = "x"
+        self.assertEqual([name for name, _ in headers.pairs()], ["vary", "age", "set-cookie", "date"])
+        headers.add("Set-Cookie", "c=d")
+        self.assertEqual(headers.lines("set-cookie"), ("a=b", "c=d"))
+        del headers["AGE"], headers["date"]
+        self.assertIsNone(headers.age)
+        self.assertEqual(headers.raw()[0], (b"vary", b"*"))
+        headers.update({"Age": "8"})
+        self.assertEqual((headers.pop("age"), "age" in headers, bool(Headers())), ("8", False, False))
+        self.assertEqual(pickle.loads(pickle.dumps(headers)), headers)
+        for call in (lambda: headers["age"], lambda: headers.pop("age"), lambda: headers.__delitem__("age")):
+            with self.assertRaises(KeyError):
+                call()
+        before = headers.pairs()
+        for name, value in (("a b:", "c"), ("a", "b\nc"), ("", "a")):
+            with self.assertRaises(InvalidField):
+                headers[name] = value
+            with self.assertRaises(InvalidField):
+                headers.add(name, value)
+        self.assertEqual(headers.pairs(), before)
 
     def test_typed_reads(self) -> None:
         headers = Headers(

@@ -189,6 +189,12 @@ class Both(unittest.TestCase):
         coded = [*FIELDS, ("Content-Encoding", "gzip")]
         for answer in self.answers("GET", {"Range": "bytes=0-4,9000-9010"}, coded):
             self.assertEqual(answer.status, 200)
+        # RFC 9110, section 15.3.7: a digest of the whole is false of a part.
+        digests = [*FIELDS, ("Content-Digest", "sha-256=:AA==:"), ("Content-MD5", "AA==")]
+        for asked, status in (("bytes=0-4", 206), ("bytes=0-4,9000-9010", 206), ("bytes=10000-", 416)):
+            for answer in self.answers("GET", {"Range": asked}, digests):
+                self.assertEqual(answer.status, status)
+                self.assertFalse({"content-digest", "content-md5"} & set(answer.names))
 
     def test_unsatisfiable(self) -> None:
         for answer in self.answers("GET", {"Range": "bytes=10000-"}):

@@ -3,12 +3,13 @@
 import importlib
 import io
 import unittest
-from typing import Any, Dict, List, Optional, Tuple
+from typing import Any, AsyncIterator, Dict, List, Optional, Tuple
 from unittest import mock
 from wsgiref.util import FileWrapper, setup_testing_defaults
 from wsgiref.validate import validator
 
-from tests.test_middleware import CONTENT, Answer, by_wsgi, pieces_of
+from tests.test_middleware import CONTENT, Answer, by_asgi, by_wsgi, pieces_of
+from typed_headers import asgi
 from typed_headers import (
     Answer as ResourceAnswer,
     CorsPolicy,
@@ -228,6 +229,84 @@ class Applications(unittest.TestCase):
         self.assertEqual(ask(application).content, b"now")
         answer = ask(application, "HEAD")
         self.assertEqual((answer.content, answer.fields["content-length"]), (b"", "3"))
+
+
+class Asynchronous(unittest.TestCase):
+    """The same as an application of ASGI."""
+
+    def application(self, kind: str = "bytes") -> asgi.Serves:
+        async def later() -> AsyncIterator[bytes]:
+            try:
+                for piece in pieces_of(CONTENT, 999):
+                    yield piece
+            finally:
+                self.closed += 1
+
+        async def post(scope: asgi.Scope, receive: asgi.Receive) -> asgi.Result:
+            return asgi.Result(201, [("location", "/1")], (await receive())["body"])
+
+        async def find(scope: asgi.Scope) -> asgi.Served:
+            contents = {"bytes": CONTENT, "list": list(pieces_of(CONTENT, 999)), "later": later()}
+            shown = Representation("text/plain", len(CONTENT), '"a"')
+            methods = ["GET", Method("POST", "text/plain")]
+            return asgi.Served(Resource(methods, [shown]), lambda place: contents[kind], {"POST": post})
+
+        self.closed = 0
+        return asgi.Serves(find)
+
+    def ask(self, application: Any, method: str = "GET", **asked: str) -> Answer:
+        return by_asgi(application, method, {"Host": "a.example", **{it.replace("_", "-"): value for it, value in asked.items()}})
+
+    def test_content_of_each_kind(self) -> None:
+        for kind in ("bytes", "list", "later"):
+            application = self.application(kind)
+            with self.subTest(kind):
+                answer = self.ask(application)
+                self.assertEqual((answer.status, answer.content), (200, CONTENT))
+                self.assertEqual(answer.fields["content-length"], "10000")
+                answer = self.ask(application, Range="bytes=5000-")
+                self.assertEqual((answer.status, answer.content), (206, CONTENT[5000:]))
+                answer = self.ask(application, Range="bytes=0-9,9000-9009")
+                self.assertEqual((answer.status, len(answer.content)), (206, int(answer.fields["content-length"])))
+                self.assertEqual([it for _, it in answer.parts()], [CONTENT[:10], CONTENT[9000:9010]])
+                answer = self.ask(application, "HEAD", Range="bytes=0-9")
+                self.assertEqual((answer.status, answer.content, answer.fields["content-length"]), (200, b"", "10000"))
+                self.assertEqual(self.closed, 3 if kind == "later" else 0)
+
+    def test_what_the_resource_answers(self) -> None:
+        application = self.application()
+        cases: List[Tuple[str, Dict[str, str], int]] = [
+            ("GET", {"If_None_Match": '"a"'}, 304),
+            ("GET", {"If_Match": '"b"'}, 412),
+            ("GET", {"Range": "bytes=10000-"}, 416),
+            ("DELETE", {}, 405),
+            ("OPTIONS", {}, 204),
+            ("GET", {"Expect": "x"}, 417),
+            ("POST", {"Content_Type": "text/html", "Content_Length": "1"}, 415),
+            ("POST", {"Content_Type": "text/plain", "Content_Length": "x"}, 400),
+        ]
+        for method, asked, wanted in cases:
+            answer = self.ask(application, method, **asked)
+            self.assertEqual((answer.status, answer.content), (wanted, b""), asked)
+            self.assertEqual(answer.fields.get("content-length"), None if wanted in (204, 304) else "0", asked)
+
+    def test_methods(self) -> None:
+        async def receive() -> Dict[str, Any]:
+            return {"type": "http.request", "body": b"tea", "more_body": False}
+
+        async def application(scope: Any, _: Any, send: Any) -> None:
+            await self.application()(scope, receive, send)
+
+        answer = self.ask(application, "POST", Content_Type="text/plain", Content_Length="3")
+        self.assertEqual((answer.status, answer.content, answer.fields["location"]), (201, b"tea", "/1"))
+
+        async def find(scope: asgi.Scope) -> asgi.Served:
+            return asgi.Served(Resource(["PUT"]))
+
+        with self.assertRaises(LookupError):
+            self.ask(asgi.Serves(find), "PUT")
+        with self.assertRaises(NotImplementedError):
+            by_asgi(asgi.Serves(find), "GET", {}, {"type": "lifespan"})
 
 
 class Frameworks(unittest.TestCase):

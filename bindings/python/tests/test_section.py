@@ -71,7 +71,7 @@ class Sections(unittest.TestCase):
             section = Section(fields)
             for _ in range(2):
                 self.assertEqual(answers(section), answers(fields))
-            self.assertEqual((section, list(section)), (Headers(fields), list(Headers(fields))))
+            self.assertEqual((section, section.pairs()), (Headers(fields), Headers(fields).pairs()))
 
     def test_canonical_field_lines(self) -> None:
         section = Section(FIELDS)

@@ -4,18 +4,19 @@ import argparse
 import json
 import os
 import sys
-from dataclasses import asdict
+from collections import Counter, deque
+from concurrent.futures import Future, ProcessPoolExecutor
 from datetime import datetime
-from enum import IntEnum
-from typing import Any, Dict, List, Optional, Sequence
+from typing import Any, Deque, Dict, Iterable, Iterator, List, Optional, Sequence
 
 from . import _library
 from ._version import VERSION
+from .audit import FINDINGS, Exchange, map_partition, read_exchanges
 from .caching import Decision
 from .conditions import Precondition
 from .errors import HeaderError
 from .headers import canonical_section
-from .inspection import CacheReport, Report, inspect
+from .inspection import CacheReport, Report, inspect, report_data
 from .values import date
 
 DECISIONS = {
@@ -156,17 +157,84 @@ def validator_rows(it: Report) -> List[Sequence[str]]:
 
 
 def as_json(it: Report) -> str:
-    def plain(value: object) -> Any:
-        if isinstance(value, datetime):
-            return value.isoformat()
-        raise TypeError(type(value).__name__)
+    return json.dumps(report_data(it), indent=2)
 
-    def named(pairs: Any) -> Any:
-        return {name: value.name.lower() if isinstance(value, IntEnum) else value for name, value in pairs}
 
-    given: Dict[str, Any] = {**asdict(it, dict_factory=named), "is_valid": it.is_valid}
-    del given["head"]["section"]
-    return json.dumps(given, indent=2, default=plain)
+#: How many exchanges a process is handed at a time, and how many such batches wait for each process.
+BATCH, WAITING = 500, 4
+
+
+def judged(batches: Iterable[List[Exchange]], jobs: int) -> Iterator[List[Dict[str, Any]]]:
+    """What `map_partition` finds in each batch, in their order, by this many processes."""
+    if jobs == 1:
+        yield from map(map_partition, batches)
+        return
+    with ProcessPoolExecutor(jobs) as pool:
+        waiting: Deque["Future[List[Dict[str, Any]]]"] = deque()
+        for batch in batches:
+            waiting.append(pool.submit(map_partition, batch))
+            if len(waiting) == jobs * WAITING:
+                yield waiting.popleft().result()
+        while waiting:
+            yield waiting.popleft().result()
+
+
+class Audit:
+    """Judges the exchanges of files, and counts what it finds."""
+
+    def __init__(self, prints_each: bool) -> None:
+        self.prints_each = prints_each
+        self.count = 0
+        self.counts: "Counter[str]" = Counter()
+        self.names: "Counter[str]" = Counter()
+        self.failures: List[str] = []
+
+    def batches(self, names: Sequence[str]) -> Iterator[List[Exchange]]:
+        for name in names:
+            batch: List[Exchange] = []
+            try:
+                with open(name, "rb") if name != "-" else open(sys.stdin.fileno(), "rb", closefd=False) as file:
+                    for exchange in read_exchanges(file):
+                        batch.append(exchange)
+                        if len(batch) == BATCH:
+                            yield batch
+                            batch = []
+            except (HeaderError, OSError) as error:
+                self.failures.append(f"{name}: {error}")
+            if batch:
+                yield batch
+
+    def add(self, found: List[Dict[str, Any]]) -> None:
+        for it in found:
+            self.count += 1
+            self.counts.update(it["findings"])
+            self.names.update(field["name"] for field in it.get("fields", ()) if field["error"] is not None)
+            if self.prints_each:
+                print(json.dumps(it))
+        if sys.stderr.isatty():
+            print(f"\r{self.count:,} responses", end="", file=sys.stderr, flush=True)
+
+    def table(self) -> None:
+        print(f"{self.count:>12,}  responses")
+        for name, meaning in FINDINGS.items():
+            count = self.counts[name]
+            share = f"{100 * count / self.count:5.1f} %" if self.count else ""
+            print(f"{count:>12,}  {share:>7}  {name}: {meaning}")
+        for name, count in self.names.most_common(20):
+            print(f"{count:>12,}           malformed {shown(name)}")
+
+
+def audit(names: Sequence[str], prints_each: bool, jobs: int) -> int:
+    found = Audit(prints_each)
+    for batch in judged(found.batches(names), jobs):
+        found.add(batch)
+    if sys.stderr.isatty():
+        print(file=sys.stderr)
+    if not prints_each:
+        found.table()
+    for failure in found.failures:
+        print(f"typed-headers: {shown(failure)}", file=sys.stderr)
+    return 2 if found.failures else 1 if found.counts["malformed_line"] or found.counts["malformed_field"] else 0
 
 
 def time_of(text: str) -> datetime:
@@ -181,6 +249,13 @@ def length_of(text: str) -> int:
         return _library.to_number(int(text), "length")
     except ValueError as error:
         raise argparse.ArgumentTypeError(str(error)) from None
+
+
+def jobs_of(text: str) -> int:
+    number = length_of(text)
+    if not 1 <= number <= 1024:
+        raise argparse.ArgumentTypeError("a number of processes from 1 to 1024 is wanted")
+    return number
 
 
 def parser() -> argparse.ArgumentParser:
@@ -209,6 +284,16 @@ def parser() -> argparse.ArgumentParser:
         "rejected is printed as `! NAME`. The status is 0 if no name is, 1 if one is, and 2 if a line is no field.",
     )
     plain.add_argument("file", nargs="?", metavar="FILE", help="where the section is, instead of standard input")
+    many = commands.add_parser(
+        "audit",
+        help="judge the responses of WARC and HAR files",
+        description="Reads WARC and HAR files, and what `curl -i` prints, each also compressed by gzip, and judges each "
+        "response as inspect does: counts of what was found, or a line of JSON for each response. The status is 0 if no "
+        "field is rejected, 1 if one is, and 2 if a file can't be read to its end; the others are judged all the same.",
+    )
+    many.add_argument("files", nargs="+", metavar="FILE", help="a file, or - for standard input")
+    many.add_argument("--json", action="store_true", help="print a line of JSON for each response")
+    many.add_argument("--jobs", type=jobs_of, default=os.cpu_count() or 1, metavar="N", help="how many processes judge")
     return words
 
 
@@ -222,6 +307,8 @@ def read(name: Optional[str]) -> bytes:
 def main(words: Optional[Sequence[str]] = None) -> int:
     """Runs the command, and returns its status."""
     given = parser().parse_args(words)
+    if given.command == "audit":
+        return audit(given.files, given.json, given.jobs)
     try:
         text = read(given.file)
         if given.command == "canon":

@@ -1,7 +1,7 @@
-"""What the caching middleware for WSGI and ASGI shares: what is done with a request, without the application.
+"""What the middleware and the clients with a cache share: what is done with a request, without the origin.
 
 A `Turn` is a request on its way. It says what to ask the application, or what to reply, and stores what came. Each of
-its steps holds the cache from its first call to its last one, and remembers no place beyond it: other requests may
+its steps holds the cache from its first call to its last one, and remembers no number beyond it: other requests may
 change all that is stored between two steps.
 """
 
@@ -19,7 +19,8 @@ from .values import ByteRange, ContentRange
 VALIDATING = ("if-none-match", "if-modified-since")
 #: The fields that a 304 doesn't have, and those that a 206 has of its own.
 _OF_CONTENT = ("content-encoding", "content-length", "content-range", "content-type")
-_OF_PART = ("content-length", "content-range")
+# (a digest of the whole is false of a part: RFC 9110, section 15.3.7)
+_OF_PART = ("content-length", "content-range", "content-digest", "content-md5")
 _FAILURES = (500, 502, 503, 504)
 
 
@@ -45,11 +46,11 @@ Step = Union[Ask, Reply]
 
 
 class Rules:
-    """A shared cache, and what is being asked for it."""
+    """A cache, and what is being asked for it."""
 
-    def __init__(self, cache: Cache, guess: int, largest: int, clock: Callable[[], float]) -> None:
-        if not cache.shared:
-            raise ValueError("a private cache serves one user")
+    def __init__(self, cache: Cache, guess: int, largest: int, clock: Callable[[], float], is_shared: bool = True) -> None:
+        if cache.shared != is_shared:
+            raise ValueError("a shared cache stores nothing private" if cache.shared else "a private cache serves one user")
         self.cache, self.guess, self.largest, self.clock = cache, guess, largest, clock
         # What is asked for each target, changed only while the cache is held.
         self.asking: Dict[str, List["Turn"]] = {}
@@ -97,10 +98,14 @@ class Turn:
             return self._serve_or_ask(found.stored)
 
     def revalidate(self) -> Optional[Ask]:
-        """What is asked once a stale response was served, if that is to be validated."""
+        """What is asked once a stale response was served, if that is still to be validated and nobody else does."""
         self.revalidates = False
-        fields = [it for it in self.request if it[0].lower() != "cache-control"]
+        fields = [it for it in self.request.pairs() if it[0] != "cache-control"]
         with self.rules.cache.held():
+            if any(it.is_validating for it in self.rules.asking.get(self.target, ())):
+                return None
+            if self._lookup(self.request).decision is not Decision.SERVE_AND_REVALIDATE:
+                return None
             found = self._lookup(Headers([*fields, ("cache-control", "no-cache")]))
             if found.decision is not Decision.REVALIDATE:
                 return None
@@ -167,11 +172,13 @@ class Turn:
         cache.store(method, target, request, status, fields, content, requested=self.asked, received=now)
 
     def _is_stored(self, status: int, fields: Fields) -> bool:
-        """Whether the response may be stored. One that sets a cookie is left to the client that it is for."""
-        if self.method not in ("GET", "HEAD") or any(name.lower() == "set-cookie" for name, _ in fields):
+        """Whether the response may be stored. A shared cache leaves one that sets a cookie to the client that it is for."""
+        shared = self.rules.cache.shared
+        sets_cookie = any(name.lower() == "set-cookie" for name, _ in fields)
+        if self.method not in ("GET", "HEAD") or shared and sets_cookie:
             return False
         try:
-            return may_store(self.method, self.request, status, fields, shared=True)
+            return may_store(self.method, self.request, status, fields, shared=shared)
         except HeaderError:
             return False
 
@@ -201,9 +208,9 @@ class Turn:
         """Replies by the stored response that the 304 is about (RFC 9111, section 4.3.4)."""
         cache, now = self.rules.cache, self.rules.now()
         freshened = cache.freshen(self.method, self.target, self.request, fields, requested=self.asked, received=now)
-        if freshened.place is None:
+        if freshened.number is None:
             return None
-        found = cache.response(self.target, freshened.place, now=now)
+        found = cache.response(self.target, freshened.number, now=now)
         return None if found is None else self._serve(found[0])
 
     def _stale(self) -> Optional[Reply]:
@@ -226,9 +233,9 @@ class Turn:
     def _serve(self, stored: StoredResponse) -> Optional[Reply]:
         """Replies by a stored response, by the client's own conditions and ranges (RFC 9111, section 4.3.2): `None` if
         they are for the application alone."""
-        cache, place, now = self.rules.cache, stored.place, self.rules.now()
-        shown = cache.response(self.target, place, now=now)
-        answer = cache.answer(self.method, self.target, self.request, place, now=now)
+        cache, number, now = self.rules.cache, stored.number, self.rules.now()
+        shown = cache.response(self.target, number, now=now)
+        answer = cache.answer(self.method, self.target, self.request, number, now=now)
         if shown is None or answer is None or answer.kind is CacheAnswerKind.FORWARD:
             return None
         fields = list(shown[1])
@@ -240,12 +247,12 @@ class Turn:
             return Reply(416, [*told, unsatisfied, ("content-length", "0")], b"")
         if answer.part is not None:
             first, last = answer.part
-            content = cache.content(self.target, place, first, last - first + 1)
+            content = cache.content(self.target, number, first, last - first + 1)
             part = ("content-range", str(ContentRange(ByteRange(first, last), stored.length)))
             return Reply(206, [*_without(fields, _OF_PART), part, ("content-length", str(len(content)))], content)
         if self.method == "HEAD":
             return Reply(stored.status, fields, None)
-        return Reply(stored.status, fields, cache.content(self.target, place))
+        return Reply(stored.status, fields, cache.content(self.target, number))
 
 
 def _failure(status: int) -> Reply:

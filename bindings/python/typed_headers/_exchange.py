@@ -9,7 +9,7 @@ import secrets
 from dataclasses import dataclass, replace
 from typing import Iterable, List, Optional, Sequence, Tuple
 
-from .conditions import Precondition, Selection, Target, evaluate, select
+from .conditions import CONTENT_DIGESTS, Precondition, Selection, Target, evaluate, select
 from .errors import HeaderError, InvalidField
 from .headers import Headers, Section
 from .values import ByteRange, ContentRange, ETag
@@ -22,7 +22,14 @@ CONDITIONS = ("if-match", "if-none-match", "if-modified-since", "if-unmodified-s
 ORIGINS = ("origin", "access-control-request-method")
 
 #: The fields of a response to GET that are of its content (RFC 9110, section 8).
-_OF_CONTENT = ("accept-ranges", "content-encoding", "content-length", "content-range", "content-type")
+_OF_CONTENT = (
+    "accept-ranges",
+    "content-encoding",
+    "content-length",
+    "content-range",
+    "content-type",
+    *CONTENT_DIGESTS,
+)
 #: Those that a response without the representation doesn't have either: the freshness that an application states is
 #: that of its 200, and a cache would keep the 412 or 416 for as long.
 _OF_SUCCESS = (*_OF_CONTENT, "etag", "last-modified", "cache-control", "expires")
@@ -116,7 +123,7 @@ def _partial(
     request: Headers, given: Response, media_type: Optional[str], length: int, ranges: Sequence[ByteRange]
 ) -> Response:
     """A 206 with these ranges (RFC 9110, section 15.3.7)."""
-    fields = _without(given.fields, "accept-ranges", "content-length", "content-range")
+    fields = _without(given.fields, "accept-ranges", "content-length", "content-range", *CONTENT_DIGESTS)
     if "if-range" in request:
         # The client has the other fields already.
         fields = _without(fields, "last-modified", "content-type", "content-encoding")

@@ -1,9 +1,10 @@
 """What is handed to the calls of the library, and what comes back: texts, times and numbers, and statuses as exceptions.
 
-The calls are those of the extension `_native`, which has the library in it or is linked with it. Without the extension,
-or if the environment variable TYPED_HEADERS_LIBRARY names a library, they are made over ctypes.
+The calls are those of the extension `_native`, which has the library in it or is linked with it. If the environment
+variable TYPED_HEADERS_LIBRARY names a library, the extension calls that one.
 """
 
+import ctypes
 import operator
 import os
 import re
@@ -15,17 +16,19 @@ from ._names import FIELDS
 from .errors import HeaderError, InvalidField, InvalidSection, TooLarge
 
 if TYPE_CHECKING:
-    from . import _foreign
-    from ._foreign import Handle as Handle
+    from ._native import Handle as Handle
 
-    calls = _foreign
-elif os.environ.get("TYPED_HEADERS_LIBRARY"):
-    from . import _foreign as calls
-else:
-    try:
-        from . import _native as calls
-    except ImportError:
-        from . import _foreign as calls
+if os.environ.get("TYPED_HEADERS_LIBRARY"):
+    # (names of libraries that are loaded for all come before the extension's own)
+    ctypes.CDLL(os.environ["TYPED_HEADERS_LIBRARY"], ctypes.RTLD_GLOBAL)
+try:
+    import typed_headers._native as _native
+except ImportError as error:
+    raise ImportError(
+        f"typed_headers: the extension can't be loaded ({error}): install a wheel, or install the package with a C "
+        "compiler and the library's files for development"
+    ) from error
+calls = _native
 
 #: Text of a field. A `str` has one character for each byte (ISO 8859-1), as in WSGI and `http.client`.
 Text = Union[str, bytes, bytearray, memoryview]

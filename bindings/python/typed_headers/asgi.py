@@ -1,4 +1,5 @@
-"""Middleware for ASGI: conditional requests and ranges, requests from other origins, and a shared cache.
+"""Middleware for ASGI: conditional requests and ranges, requests from other origins, and a shared cache; and an
+application that answers for resources.
 
 >>> import asyncio
 >>> from typed_headers import CorsPolicy
@@ -17,18 +18,37 @@
 b'01234'
 """
 
+import secrets
 import time
-from typing import Any, Awaitable, Callable, Dict, Iterable, List, MutableMapping, Optional, Tuple
+from dataclasses import dataclass, field, replace
+from typing import (
+    Any,
+    AsyncGenerator,
+    AsyncIterable,
+    Awaitable,
+    Callable,
+    Dict,
+    Iterable,
+    List,
+    Mapping,
+    MutableMapping,
+    Optional,
+    Sequence,
+    Tuple,
+    Union,
+)
 from urllib.parse import quote
 
 from ._cached import Ask, Reply, Rules, Step, Turn
 from ._exchange import CONDITIONS, ORIGINS, Cutter, Fields, Response, length_of, respond, tagged
+from ._serving import DECIDING, Explanation, explained, list_alternatives, ranges
 from .caching import Cache
 from .cors import CorsKind, CorsPolicy
 from .errors import HeaderError
 from .headers import Headers
+from .resource import Answer, Resource, Sends
 
-__all__ = ["Cached", "ConditionalRequests", "Cors"]
+__all__ = ["Cached", "ConditionalRequests", "Cors", "Result", "Served", "Serves", "list_alternatives"]
 
 Message = MutableMapping[str, Any]
 Scope = MutableMapping[str, Any]
@@ -219,14 +239,14 @@ class Cached:
 
     def __init__(
         self,
-        application: Application,
+        app: Application,
         cache: Cache,
         *,
         guess: int = 0,
         largest: int = 8 * 1024 * 1024,
         clock: Callable[[], float] = time.time,
     ) -> None:
-        self.application, self.rules = application, Rules(cache, guess, largest, clock)
+        self.application, self.rules = app, Rules(cache, guess, largest, clock)
 
     async def __call__(self, scope: Scope, receive: Receive, send: Send) -> None:
         if scope["type"] != "http":
@@ -361,3 +381,166 @@ def _asking(scope: Scope, ask: Ask) -> Scope:
     extensions: Dict[str, Any] = scope.get("extensions") or {}
     kept = {name: it for name, it in extensions.items() if name not in _CONTENT_EXTENSIONS}
     return {**scope, "headers": [*fields, *_encoded(list(ask.fields))], "extensions": kept}
+
+
+#: The content of a response: all of it, or its pieces.
+Content = Union[bytes, Iterable[bytes], AsyncIterable[bytes]]
+
+
+@dataclass(frozen=True)
+class Result:
+    """What came of a method that was performed."""
+
+    status: int = 204
+    #: The fields that are the application's. Those that the resource decides are set after them.
+    fields: Sequence[Tuple[str, str]] = ()
+    content: Content = b""
+
+
+@dataclass(frozen=True)
+class Served:
+    """A resource as it is when a request comes, and what it is made of."""
+
+    resource: Resource
+    #: The content of the representation at a place.
+    content: Callable[[int], Content] = lambda place: b""
+    #: What performs each method. GET needs nothing if there are representations.
+    methods: Mapping[str, Callable[[Scope, Receive], Awaitable[Result]]] = field(default_factory=dict)
+
+
+_VERSIONS = {"1.0": 10, "2": 20, "3": 30}
+
+
+class Serves:
+    """An application that answers for resources, by the whole answer of each (RFC 9110, sections 7.4 to 15).
+
+    `find` gives the resource of a request, as it is now. The resource answers by itself with 304, 206, 405, 406, 412,
+    415 and all others of `Reason`, and to OPTIONS and preflights; its representations answer GET and HEAD. A method is
+    performed only if nothing stands in its way. `explain` gives content to an answer that sends nothing of the
+    resource; without it, a 406 lists the representations. What `find` and a method raise is the server's to answer.
+
+    >>> import asyncio
+    >>> from typed_headers import Method, Representation, Resource
+    >>> async def find(scope):
+    ...     return Served(Resource([Method("GET")], [Representation("text/plain", 4)]), lambda place: b"milk")
+    >>> async def send(message):
+    ...     print(message["status"] if message["type"] == "http.response.start" else message["body"])
+    >>> scope = {"type": "http", "method": "GET", "headers": [(b"host", b"a.example"), (b"range", b"bytes=1-2")]}
+    >>> asyncio.run(Serves(find)(scope, None, send))
+    206
+    b'il'
+    """
+
+    def __init__(
+        self,
+        find: Callable[[Scope], Awaitable[Served]],
+        explain: Callable[[Answer, Resource], Optional[Explanation]] = list_alternatives,
+    ) -> None:
+        self.find, self.explain = find, explain
+
+    async def __call__(self, scope: Scope, receive: Receive, send: Send) -> None:
+        if scope["type"] != "http":
+            raise NotImplementedError(f"resources answer http alone, not {scope['type']}")
+        method, request = scope["method"], _request(scope, (*DECIDING, "content-type", "content-length"))
+        if request is None:
+            await _answer(send, 400, [("content-length", "0")])
+            return
+        served = await self.find(scope)
+        resource = served.resource
+        if "range" in request:
+            # (no client knows it before its own response, so no content can hold it on purpose)
+            resource = replace(resource, boundary=secrets.token_hex(16))
+        try:
+            answer = resource.answer(
+                method,
+                request,
+                target=_target(scope),
+                length=_length_of_content(scope, request),
+                version=_VERSIONS.get(scope.get("http_version", ""), 11),
+            )
+        except HeaderError:
+            await _answer(send, 400, [("content-length", "0")])
+            return
+        if answer.sends is Sends.RESULT or (answer.sends is Sends.WHOLE and answer.place is None):
+            result = await _perform(served, method, scope, receive)
+            await _start(send, method, result.status, answer.apply(result.fields), result.content)
+            return
+        status, fields = answer.status or 200, list(answer.fields)
+        if answer.place is None or answer.sends in (Sends.NOTHING, Sends.ALTERNATIVES):
+            explanation = None if status in (204, 304) else self.explain(answer, resource)
+            if explanation is None:
+                await _start(send, method, status, fields, b"")
+            else:
+                await _start(send, method, status, explained(answer, explanation), explanation[1])
+        elif method == "HEAD" or answer.sends is Sends.WHOLE:
+            content = None if method == "HEAD" else served.content(answer.place)
+            await _start(send, method, status, fields, content)
+        else:
+            response = ranges(answer, resource.representations[answer.place], resource.boundary)
+            await _start(send, method, status, response.fields, served.content(answer.place), Cutter(response))
+
+
+def _target(scope: Scope) -> str:
+    """The request target as it came, or nothing if the server doesn't tell it."""
+    raw, query = bytes(scope.get("raw_path") or b"").partition(b"?")[0], bytes(scope.get("query_string") or b"")
+    return (raw + (b"?" if raw and query else b"") + (query if raw else b"")).decode("latin-1")
+
+
+def _length_of_content(scope: Scope, request: Headers) -> Optional[int]:
+    """How many bytes the content of a request has, or `None` if that isn't stated."""
+    if "content-length" in request:
+        return request.content_length
+    is_chunked = any(bytes(name).lower() == b"transfer-encoding" for name, _ in scope["headers"])
+    return None if is_chunked or scope.get("http_version", "1.1") not in ("1.0", "1.1") else 0
+
+
+async def _perform(served: Served, method: str, scope: Scope, receive: Receive) -> Result:
+    performs = served.methods.get(method)
+    if performs is None and method == "HEAD":
+        performs = served.methods.get("GET")
+    if performs is None:
+        raise LookupError(f"the resource has {method}, and nothing performs it")
+    return await performs(scope, receive)
+
+
+async def _pieces(content: Union[Iterable[bytes], AsyncIterable[bytes]]) -> AsyncGenerator[bytes, None]:
+    """The pieces of content, which is closed at the end."""
+    try:
+        if isinstance(content, AsyncIterable):
+            async for piece in content:
+                yield piece
+        else:
+            for piece in content:
+                yield piece
+    finally:
+        if hasattr(content, "aclose"):
+            await content.aclose()
+        elif hasattr(content, "close"):
+            content.close()
+
+
+async def _start(
+    send: Send, method: str, status: int, fields: Fields, content: Optional[Content], cutter: Optional[Cutter] = None
+) -> None:
+    """Sends a response, with the length of content that is bytes; of that content what the cutter cuts, if any."""
+    has_length = any(name.lower() == "content-length" for name, _ in fields)
+    is_head = method == "HEAD"
+    if isinstance(content, bytes) and not has_length and status >= 200 and status not in (204, 304):
+        fields = [*fields, ("content-length", str(len(content)))]
+    await send({"type": "http.response.start", "status": status, "headers": _encoded(fields)})
+    if content is None or isinstance(content, bytes):
+        found = b"" if is_head or content is None else content if cutter is None else cutter.cut(content)
+        await send({"type": "http.response.body", "body": found})
+        return
+    pieces, found = _pieces(content), b""
+    try:
+        async for piece in pieces:
+            found = piece if cutter is None else cutter.cut(piece)
+            if is_head or cutter is not None and cutter.is_done:
+                break
+            if found:
+                await send({"type": "http.response.body", "body": found, "more_body": True})
+            found = b""
+    finally:
+        await pieces.aclose()
+    await send({"type": "http.response.body", "body": b"" if is_head else found})

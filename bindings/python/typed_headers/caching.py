@@ -135,7 +135,7 @@ def current_age(response: HeadersLike, times: Times) -> int:
     15
     """
     given = Headers(response).section
-    status, seconds = _library.calls.current_age(given, *times._seconds())
+    status, seconds = _library.calls.current_age(given, times._seconds())
     _library.check(status, lambda: _refused(given))
     return seconds
 
@@ -165,7 +165,7 @@ def decide(
         Headers(request).section,
         Headers(response).section,
     )
-    status, decision = _library.calls.decide(*texts, *times._seconds(), shared)
+    status, decision = _library.calls.decide(*texts, times._seconds(), shared)
     _library.check(status, lambda: _refused(texts[1], texts[3], texts[4]))
     return Decision(decision)
 
@@ -182,14 +182,10 @@ def validators(response: HeadersLike, received: Optional[Time] = None) -> Tuple[
     given = Headers(response).section
     status, text = _library.calls.validators(given, _received(received))
     _library.check(status, lambda: _refused(given))
-    return tuple(Headers(text))
+    return tuple(Headers(text).pairs())
 
 
 # A cache
-
-
-#: The place of a response that answers once, until a later 304.
-_ONCE = (1 << 64) - 1
 
 
 class FreshenOutcome(IntEnum):
@@ -224,8 +220,8 @@ class CacheAnswerKind(IntEnum):
 class StoredResponse:
     """A stored response, but for its content, which `Cache.content` returns."""
 
-    #: Its place under its target, until a call changes what is stored.
-    place: int
+    #: Its number, which no other response of the cache ever has.
+    number: int
     #: Its status.
     status: int
     #: How many seconds old it is.
@@ -257,8 +253,8 @@ class Freshened:
 
     #: What becomes of them.
     outcome: FreshenOutcome
-    #: The place of the answer, if there is one, for `Cache.response` and `Cache.content`.
-    place: Optional[int]
+    #: The new number of the answer, if there is one, for `Cache.response` and `Cache.content`.
+    number: Optional[int]
 
 
 @dataclass(frozen=True)
@@ -283,8 +279,8 @@ class Cache:
 
     A request is a method, a target and its fields. The target is its URI, as a text that is made the same way each
     time. A time is that of a single clock; the present, if it isn't given. Limits are responses under one target,
-    responses in all, and bytes of content in all. A cache may be used by several threads, which hold it (`held`) for
-    calls that belong together.
+    responses in all, and bytes of content in all. A cache may be used by several threads. The number of a stored
+    response means that response for good: once it is gone, or updated under a new number, nothing has the number.
 
     With `immutable`, a fresh response with that directive isn't validated for `max-age` of a request (RFC 8246).
     `targets` are the names of targeted fields, as `CDN-Cache-Control`, the most applicable first: the first one that a
@@ -294,10 +290,10 @@ class Cache:
     ...     cache.lookup("GET", "/a", {}, now=1000).decision
     ...     cache.store("GET", "/a", {}, 200, {"Cache-Control": "max-age=60"}, b"hello", requested=1000, received=1000)
     ...     found = cache.lookup("GET", "/a", {}, now=1010)
-    ...     found.decision, found.stored.status, cache.content("/a", found.stored.place)
+    ...     found.decision, found.stored.status, cache.content("/a", found.stored.number)
     ...     found.fields
     <Decision.FETCH: 6>
-    True
+    1
     (<Decision.SERVE: 0>, 200, b'hello')
     (('cache-control', 'max-age=60'), ('date', 'Thu, 01 Jan 1970 00:16:40 GMT'), ('age', '10'))
     """
@@ -312,14 +308,10 @@ class Cache:
         immutable: bool = False,
         targets: Sequence[Text] = (),
     ) -> None:
-        status, self._handle = _library.calls.cache_new(
-            _library.to_number(variants, "variants"),
-            _library.to_number(responses, "responses"),
-            _library.to_number(content, "content"),
-            shared,
-            _library.joined(_library.to_lines("targets", targets)),
-            immutable,
-        )
+        limits = (("variants", variants), ("responses", responses), ("content", content))
+        first, second, third = (_library.to_number(number, what) for what, number in limits)
+        names = _library.joined(_library.to_lines("targets", targets))
+        status, self._handle = _library.calls.cache_new_with((first, second, third, shared), (names, immutable))
         _library.check(status, lambda: HeaderError(f"some of these is no field name: {list(targets)}"))
         #: Whether it serves several users.
         self.shared = shared
@@ -335,13 +327,12 @@ class Cache:
     def held(self) -> Iterator[None]:
         """Holds the cache for calls that belong together: those of other threads wait until the end.
 
-        A place, as that of `CacheLookup.stored`, means its response only until another call changes what is stored. So
-        hold the cache from `lookup` or `freshen` to the last call with that place.
+        A response that `lookup` or `freshen` names may go before it is read. It stays while the cache is held.
 
         >>> cache = Cache(shared=True)
         >>> with cache.held():
         ...     found = cache.lookup("GET", "/a", {}, now=1000)
-        ...     content = None if found.stored is None else cache.content("/a", found.stored.place)
+        ...     content = None if found.stored is None else cache.content("/a", found.stored.number)
         """
         with self._lock:
             yield
@@ -367,42 +358,42 @@ class Cache:
         """
         asked = _request(method, target, request)
         seconds = _library.to_number(guess, "guess")
-        status, action, place, facts, text = self._call(
-            _library.calls.cache_lookup, *asked, _present(now), seconds
+        status, (stored, number, action), text = self._call(
+            _library.calls.cache_lookup, asked, _present(now), seconds
         )
         _check(status, asked)
         decision = Decision(action)
         is_found = decision not in (Decision.UNAVAILABLE, Decision.FETCH)
-        return CacheLookup(decision, StoredResponse(place, *facts) if is_found else None, tuple(Headers(text)))
+        return CacheLookup(decision, _stored(number, stored) if is_found else None, tuple(Headers(text).pairs()))
 
     def response(
-        self, target: str, place: int, *, now: Optional[Time] = None
+        self, target: str, number: int, *, now: Optional[Time] = None
     ) -> Optional[Tuple[StoredResponse, Tuple[Tuple[str, str], ...]]]:
-        """The stored response at a place of a target and its fields, with its present Age, or `None`.
+        """The stored response with a number and its fields, with its present Age. `None` once it is gone.
 
-        Places count from 0, in the order of storing.
+        A response that answers once (`FreshenOutcome.UPDATED_ONCE`) is gone after the next change of the cache.
 
         >>> cache = Cache(shared=False)
-        >>> cache.response("/a", 0) is None
+        >>> cache.response("/a", 1) is None
         True
         """
         key = target.encode()
-        where = _library.to_number(place, "place")
-        status, facts, text = self._call(_library.calls.cache_response, key, where, _present(now))
+        where = _library.to_number(number, "number")
+        status, stored, text = self._call(_library.calls.cache_response, key, where, _present(now))
         _check(status)
-        return None if status == _library.ABSENT else (StoredResponse(place, *facts), tuple(Headers(text)))
+        return None if status == _library.ABSENT else (_stored(number, stored), tuple(Headers(text).pairs()))
 
-    def content(self, target: str, place: int, start: int = 0, length: Optional[int] = None) -> bytes:
-        """The content of the stored response at a place, or a part of it. `LookupError` if there is none."""
-        key, where = target.encode(), _library.to_number(place, "place")
+    def content(self, target: str, number: int, start: int = 0, length: Optional[int] = None) -> bytes:
+        """The content of the stored response with a number, or a part of it. `LookupError` once it is gone."""
+        key, where = target.encode(), _library.to_number(number, "number")
         begin = _library.to_number(start, "start")
         if length is None:
-            found_response = self.response(target, place)
+            found_response = self.response(target, number)
             length = 0 if found_response is None else max(found_response[0].length - begin, 0)
-        status, found = self._call(_library.calls.cache_content, key, where, begin, length)
+        status, found = self._call(_library.calls.cache_content, key, where, begin, max(length, 0))
         _check(status)
         if status == _library.ABSENT:
-            raise LookupError(f"no response is stored at place {place} of {target!r}")
+            raise LookupError(f"no response is stored under number {number} of {target!r}")
         return found
 
     def answer(
@@ -410,27 +401,26 @@ class Cache:
         method: Text,
         target: str,
         request: HeadersLike,
-        place: int,
+        number: int,
         *,
         now: Optional[Time] = None,
         ranges: bool = True,
     ) -> Optional[CacheAnswer]:
-        """How the stored response at a place answers the request's own conditions and ranges.
+        """How the stored response with a number answers the request's own conditions and ranges.
 
-        The request is one that the response may answer (RFC 9111, section 4.3.2). `None` if no response is there.
+        The request is one that the response may answer (RFC 9111, section 4.3.2). `None` once the response is gone.
 
         >>> cache = Cache(shared=True)
         >>> fields = {"Cache-Control": "max-age=60", "ETag": '"a"'}
-        >>> cache.store("GET", "/a", {}, 200, fields, b"hello", requested=1000, received=1000)
-        True
-        >>> cache.answer("GET", "/a", {"If-None-Match": '"a"'}, 0, now=1010).kind
+        >>> number = cache.store("GET", "/a", {}, 200, fields, b"hello", requested=1000, received=1000)
+        >>> cache.answer("GET", "/a", {"If-None-Match": '"a"'}, number, now=1010).kind
         <CacheAnswerKind.NOT_MODIFIED: 2>
-        >>> cache.answer("GET", "/a", {"Range": "bytes=1-2"}, 0, now=1010).part
+        >>> cache.answer("GET", "/a", {"Range": "bytes=1-2"}, number, now=1010).part
         (1, 2)
         """
-        asked, where = _request(method, target, request), _library.to_number(place, "place")
-        status, kind, first, last = self._call(
-            _library.calls.cache_answer, *asked, where, _present(now), ranges
+        asked, where = _request(method, target, request), _library.to_number(number, "number")
+        status, (first, last, kind) = self._call(
+            _library.calls.cache_answer, asked, where, _present(now), ranges
         )
         _check(status, asked)
         if status == _library.ABSENT:
@@ -449,8 +439,8 @@ class Cache:
         requested: Time,
         received: Optional[Time] = None,
         complete: bool = True,
-    ) -> bool:
-        """Stores the response to a request, if a cache may (RFC 9111, section 3), and returns whether it did.
+    ) -> Optional[int]:
+        """Stores the response to a request, if a cache may (RFC 9111, section 3), and returns its number, or `None`.
 
         `requested` is when the request was made, `received` when the response came. `complete` says whether all of its
         content came. Older responses go if there is too little room.
@@ -458,11 +448,11 @@ class Cache:
         asked, given = _request(method, target, request), Headers(response).section
         times = (_library.to_seconds(requested, "requested"), _received(received))
         code = _library.to_number(status, "status", 16)
-        ended, stored = self._call(
-            _library.calls.cache_store, *asked, code, given, bytes(content), *times, complete
+        ended, number = self._call(
+            _library.calls.cache_store, asked, (given, bytes(content), *times, code, complete)
         )
         _check(ended, asked, given)
-        return stored == 1
+        return number or None
 
     def freshen(
         self,
@@ -477,9 +467,9 @@ class Cache:
         """Updates stored responses by the fields of a 304 to a request (RFC 9111, section 4.3.4)."""
         asked, given = _request(method, target, request), Headers(update).section
         times = (_library.to_seconds(requested, "requested"), _received(received))
-        status, outcome, place = self._call(_library.calls.cache_freshen, *asked, given, *times)
+        status, (number, outcome) = self._call(_library.calls.cache_freshen, asked, given, *times)
         _check(status, asked, given)
-        return Freshened(FreshenOutcome(outcome), place if outcome >= FreshenOutcome.UPDATED else None)
+        return Freshened(FreshenOutcome(outcome), number if outcome >= FreshenOutcome.UPDATED else None)
 
     def freshen_by_head(
         self,
@@ -494,7 +484,7 @@ class Cache:
         """Updates stored responses to GET by the fields of a 200 to a HEAD (RFC 9111, section 4.3.5)."""
         asked, given = _request(method, target, request), Headers(head).section
         times = (_library.to_seconds(requested, "requested"), _received(received))
-        status = self._call(_library.calls.cache_freshen_by_head, *asked, given, *times)
+        status = self._call(_library.calls.cache_freshen_by_head, asked, given, *times)
         _check(status, asked, given)
 
     def invalidate(self, method: Text, target: str, status: int) -> None:
@@ -508,6 +498,11 @@ class Cache:
     def remove(self, target: str) -> None:
         """Removes what is stored for a target, as one that Location names (RFC 9111, section 4.4)."""
         _check(self._call(_library.calls.cache_remove, target.encode()))
+
+
+def _stored(number: int, stored: Tuple[int, int, int, int, int]) -> StoredResponse:
+    age, requested, received, length, status = stored
+    return StoredResponse(number, status, age, requested, received, length)
 
 
 def _request(method: Text, target: str, request: HeadersLike) -> Tuple[bytes, bytes, bytes]:

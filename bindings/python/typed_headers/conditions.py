@@ -84,14 +84,20 @@ class Response:
         >>> response.status, response.apply([("Content-Length", "4"), ("Vary", "Accept")])
         (304, [('Vary', 'Accept'), ('etag', '"a"')])
         """
-        removed = {*RESPONSE_FIELDS, *(() if self.keeps_encoding else ("content-encoding",))}
+        removed = {
+            *RESPONSE_FIELDS,
+            *(() if self.keeps_encoding else ("content-encoding",)),
+            *(() if self.status == 200 else CONTENT_DIGESTS),
+        }
         return [(name, value) for name, value in response if name.lower() not in removed] + list(self.fields)
 
 
+#: Digests of the content, which are false of an answer without all of it.
+CONTENT_DIGESTS = ("content-digest", "content-md5")
 #: The fields of a response that are `respond`'s alone.
 RESPONSE_FIELDS = ("etag", "last-modified", "accept-ranges", "content-range", "content-length", "content-type")
 
-_Facts = Tuple[bytes, Optional[int], int, bool, bool]
+_Facts = Tuple[bytes, Tuple[Optional[int], int, bool, bool]]
 
 _evaluate, _to_bytes = _library.calls.evaluate, _library.to_bytes
 
@@ -101,7 +107,7 @@ def _facts(target: Target, now: Optional[Time]) -> _Facts:
     tag = b"" if etag is None else _to_bytes(str(etag), "etag")
     modified = None if target.last_modified is None else _library.to_seconds(target.last_modified, "last_modified")
     present = int(time.time()) if now is None else _library.to_seconds(now, "now")
-    return tag, modified, present, target.exists, target.is_date_strong
+    return tag, (modified, present, target.exists, target.is_date_strong)
 
 
 def _refused(method: Text, request: HeadersLike, target: Target) -> HeaderError:
@@ -193,15 +199,15 @@ def respond(
     separator = _library.to_bytes(boundary, "boundary")
     verb, facts, sent = _to_bytes(method, "method"), _facts(target, now), (kind, length, content.sends_ranges)
     if isinstance(request, Section):
-        given = _library.calls.section_respond(request._handle, verb, *facts, *sent, separator)
+        given = _library.calls.section_respond(request._handle, verb, *facts, sent, separator)
     else:
-        given = _library.calls.respond(verb, section_of(request), *facts, *sent, separator)
-    status, code, keeps, found, text = given
+        given = _library.calls.respond(verb, section_of(request), *facts, sent, separator)
+    status, (code, keeps), found, text = given
     if status:
         _library.check(status, lambda: _no_response(method, request, target, kind, separator))
     if not code:
         return None
-    return Response(code, tuple(ByteRange(*it) for it in found), tuple(Headers(text)), keeps == 1)
+    return Response(code, tuple(ByteRange(*it) for it in found), tuple(Headers(text).pairs()), keeps == 1)
 
 
 def _no_response(method: Text, request: HeadersLike, target: Target, kind: bytes, boundary: bytes) -> HeaderError:

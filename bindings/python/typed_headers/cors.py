@@ -93,8 +93,8 @@ class CorsPolicy:
     max_age: Optional[int] = None
     #: Whether requests may include credentials.
     credentials: bool = False
-    # The four lists as the library takes them, and the handle of the policy that it made of them.
-    _texts: ClassVar[List[bytes]]
+    # The policy as the library takes it, and the handle that it made of that.
+    _rules: ClassVar[Tuple[bytes, bytes, bytes, bytes, Optional[int], bool]]
     _handle: "ClassVar[_library.Handle]"
 
     def __post_init__(self) -> None:
@@ -102,13 +102,11 @@ class CorsPolicy:
             given = getattr(self, name)
             object.__setattr__(self, name, (given,) if isinstance(given, str) else tuple(given))
         texts = [_library.joined(_library.to_lines(name, getattr(self, name))) for name in _LISTS]
-        object.__setattr__(self, "_texts", texts)
         if self.max_age is not None:
             object.__setattr__(self, "max_age", _library.to_number(self.max_age, "max_age"))
         origins, methods, headers, exposed = texts
-        status, handle = _library.calls.cors_policy_new(
-            origins, methods, headers, exposed, self.max_age, self.credentials
-        )
+        object.__setattr__(self, "_rules", (origins, methods, headers, exposed, self.max_age, self.credentials))
+        status, handle = _library.calls.cors_policy_new(self._rules)
         _library.check(status, self._unreadable)
         object.__setattr__(self, "_handle", handle)
 
@@ -122,9 +120,9 @@ class CorsPolicy:
         with a status from 200 to 299.
         """
         verb, asked, given = _library.to_bytes(method, "method"), asked_of(request), Headers(response).section
-        status, kind, is_allowed, text = _library.calls.cors_policy_answer(self._handle, asked, verb, given)
+        status, (kind, is_allowed), text = _library.calls.cors_policy_answer(self._handle, asked, verb, given)
         _library.check(status, lambda: _refused(verb, asked if isinstance(asked, bytes) else b"", given))
-        return CorsAnswer(CorsKind(kind), is_allowed == 1, tuple(Headers(text)))
+        return CorsAnswer(CorsKind(kind), is_allowed == 1, tuple(Headers(text).pairs()))
 
     def _unreadable(self) -> HeaderError:
         shown = ", ".join(f"{name}={list(getattr(self, name))}" for name in _LISTS if getattr(self, name))

@@ -167,7 +167,7 @@ def _version(number: int, what: str) -> int:
     return number
 
 
-def _framing(kind: int, length: int) -> Framing:
+def _framing(length: int, kind: int) -> Framing:
     return Framing(FramingKind(kind), length if kind == FramingKind.LENGTH else None)
 
 
@@ -175,13 +175,13 @@ def _reason(number: int) -> Optional[Rejection]:
     return Rejection(number) if number else None
 
 
-def _hop(hop: Hop) -> Tuple[bytes, int, bytes, int, int, bool, bool, bool, bool, bool, bool, bool]:
+def _hop(hop: Hop) -> Tuple[bytes, bytes, int, int, int, bool, bool, bool, bool, bool, bool, bool]:
     nodes = [_library.to_bytes(it or "", "node") for it in (hop.client, hop.interface)]
     ports = [_library.to_number(it or 0, "port", 16) for it in (hop.client_port, hop.interface_port)]
     return (
         nodes[0],
-        ports[0],
         nodes[1],
+        ports[0],
         ports[1],
         _version(hop.server_version, "server_version"),
         hop.is_secure,
@@ -249,15 +249,15 @@ class Gateway:
         """
         verb, section = _library.to_bytes(method, "method"), Headers(request).section
         target = b"" if authority is None else _library.to_bytes(authority, "authority")
-        status, kind, length, code, action, reason, sends_continue, text = _library.calls.forward_request(
+        status, (framed, code, action, reason, sends_continue), text = _library.calls.forward_request(
             self._parts, _hop(hop), verb, _version(version, "version"), target, section
         )
         _library.check(status, lambda: self._refused(section, verb, hop, target))
         is_rejected = action == Action.REJECT
         return RequestOutcome(
             Action(action),
-            None if is_rejected else _framing(kind, length),
-            tuple(Headers(text)),
+            None if is_rejected else _framing(*framed),
+            tuple(Headers(text).pairs()),
             code or None,
             _reason(reason),
             sends_continue == 1,
@@ -283,7 +283,7 @@ class Gateway:
         number = _library.to_number(status, "status", 16)
         second = _library.to_seconds(time.time_ns() // 10**9 if received is None else received, "received")
         versions = (_version(version, "version"), _version(client_version, "client_version"))
-        ended, kind, length, sent_kind, sent_length, code, action, reason, text = _library.calls.forward_response(
+        ended, (came, sent, code, action, reason), text = _library.calls.forward_response(
             self._parts, number, versions[0], section, verb, versions[1], second
         )
         _library.check(ended, lambda: _wrong_section(section) or HeaderError(
@@ -293,9 +293,9 @@ class Gateway:
         is_sent = action == Action.FORWARD
         return ResponseOutcome(
             Action(action),
-            _framing(kind, length) if is_sent else None,
-            _framing(sent_kind, sent_length) if is_sent else None,
-            tuple(Headers(text)),
+            _framing(*came) if is_sent else None,
+            _framing(*sent) if is_sent else None,
+            tuple(Headers(text).pairs()),
             code or None,
             _reason(reason),
         )
@@ -325,8 +325,8 @@ def framing(
     """
     verb, section = _library.to_bytes(method, "method"), Headers(fields).section
     number = 0 if status is None else _library.to_number(status, "status", 16)
-    ended, kind, length, code, reason = _library.calls.framing(verb, number, _version(version, "version"), section)
+    ended, (framed, code, reason) = _library.calls.framing(verb, number, _version(version, "version"), section)
     _library.check(ended, lambda: _wrong_section(section) or HeaderError(
         f"{_library.to_str(verb)!r} is no token, or {status} no status from 100 to 999"
     ))
-    return FramingOutcome(None if reason else _framing(kind, length), code or None, _reason(reason))
+    return FramingOutcome(None if reason else _framing(*framed), code or None, _reason(reason))

@@ -2,7 +2,7 @@
 
 import re
 from datetime import datetime
-from typing import Iterable, Iterator, List, Mapping, Optional, Sequence, Tuple, Union
+from typing import Any, Iterable, Iterator, List, Mapping, MutableMapping, Optional, Sequence, Tuple, Union
 
 from . import _library
 from ._library import Text
@@ -83,11 +83,32 @@ def _field_of(name: Text, value: Text) -> bytes:
     return field
 
 
-class Headers:
-    """The header fields of a message, to read.
+def _parse(section: bytes) -> Iterator[Tuple[str, str]]:
+    for line in section.split(b"\n"):
+        line = line[:-1] if line.endswith(b"\r") else line
+        if not line:
+            return
+        name, _, value = line.partition(b":")
+        yield _library.to_str(name).lower(), _library.to_str(value.strip(b" \t"))
 
-    It takes a header section as text, a mapping of names to values, or pairs of a name and a value, as frameworks
-    have them. A field that is absent is `None`. A field whose lines encode no value raises `InvalidField`.
+
+def _pairs_of(fields: Any) -> Iterable[Tuple[Text, Text]]:
+    """Pairs of what a framework has: a name may come several times."""
+    # (`items` of httpx and Starlette has each name once)
+    items = getattr(fields, "multi_items", None) or getattr(fields, "items", None)
+    if items is None:
+        pairs: Iterable[Tuple[Text, Text]] = fields
+        return pairs
+    return [(name, value) for name, given in items() for value in _values(given)]
+
+
+class Headers(MutableMapping[str, str]):
+    """The header fields of a message: a mapping of names, whatever their case, that keeps their order and their lines.
+
+    It takes a header section as text, a mapping of names to values, pairs of a name and a value, or what Starlette,
+    Werkzeug, httpx, requests, aiohttp and `http.client` have; `pairs` is what these take. An item is the field's value:
+    its lines, joined by commas (RFC 9110, section 5.2), so take `lines` for Set-Cookie. A typed field that is absent is
+    `None`; one whose lines encode no value raises `InvalidField`.
 
     >>> headers = Headers({"Content-Length": "42", "ETag": '"a"', "Cache-Control": "no-cache, max-age=60"})
     >>> headers.content_length
@@ -98,49 +119,96 @@ class Headers:
     60
     >>> headers.age is None
     True
-    >>> Headers("Age: 7\\r\\nAge: 8\\r\\n").lines("age")
-    ('7', '8')
+    >>> headers = Headers("Vary: Accept\\r\\nVary: Origin\\r\\n")
+    >>> headers.lines("vary"), headers["Vary"]
+    (('Accept', 'Origin'), 'Accept, Origin')
+    >>> headers["Vary"] = "*"
+    >>> headers.add("Age", "7")
+    >>> headers.pairs()
+    [('vary', '*'), ('age', '7')]
     """
 
     #: The header section as bytes: a line for each field.
     section: bytes
 
     def __init__(self, fields: "HeadersLike" = ()) -> None:
+        self._pairs: Optional[Tuple[bytes, List[Tuple[str, str]]]] = None
         if isinstance(fields, Headers):
             self.section = fields.section
         elif isinstance(fields, (str, bytes, bytearray, memoryview)):
             self.section = _library.to_bytes(fields, "the header section")
-        elif isinstance(fields, (dict, Mapping)):
-            pairs = [(name, value) for name, given in fields.items() for value in _values(given)]
-            self.section = b"".join([_field_of(name, value) for name, value in pairs])
         else:
-            self.section = b"".join([_field_of(name, value) for name, value in fields])
+            self.section = b"".join([_field_of(name, value) for name, value in _pairs_of(fields)])
 
     def __repr__(self) -> str:
-        return f"Headers({list(self)!r})"
+        return f"{type(self).__name__}({self.pairs()!r})"
 
     def __eq__(self, other: object) -> bool:
-        return isinstance(other, Headers) and list(self) == list(other)
+        return isinstance(other, Headers) and self.pairs() == other.pairs()
 
-    def __hash__(self) -> int:
-        return hash(tuple(self))
+    def __reduce__(self) -> Tuple[object, ...]:
+        return type(self), (self.section,)
 
-    def __iter__(self) -> Iterator[Tuple[str, str]]:
-        """The names, in lower case, and values, in order."""
-        for line in self.section.split(b"\n"):
-            line = line[:-1] if line.endswith(b"\r") else line
-            if not line:
-                return
-            name, _, value = line.partition(b":")
-            yield _library.to_str(name).lower(), _library.to_str(value.strip(b" \t"))
+    def __iter__(self) -> Iterator[str]:
+        """The names, in lower case, each once."""
+        return iter(dict.fromkeys(name for name, _ in self._parsed()))
+
+    def __len__(self) -> int:
+        return len({name for name, _ in self._parsed()})
 
     def __contains__(self, name: object) -> bool:
         return isinstance(name, str) and bool(self.lines(name))
 
+    def __getitem__(self, name: str) -> str:
+        lines = self.lines(name)
+        if not lines:
+            raise KeyError(name)
+        return ", ".join(lines)
+
+    def __setitem__(self, name: str, value: str) -> None:
+        """Puts a single field line where the first of that name is, or at the end."""
+        field, line = name.lower(), _field_of(name, value)
+        others, place = [], None
+        for other, given in self._parsed():
+            if other != field:
+                others.append(_field_of(other, given))
+            elif place is None:
+                place = len(others)
+        others.insert(len(others) if place is None else place, line)
+        self._change(b"".join(others))
+
+    def __delitem__(self, name: str) -> None:
+        if name not in self:
+            raise KeyError(name)
+        field = name.lower()
+        self._change(b"".join(_field_of(other, value) for other, value in self._parsed() if other != field))
+
+    def add(self, name: str, value: str) -> None:
+        """Appends a field line."""
+        line = _field_of(name, value)
+        self._change(b"".join(_field_of(*it) for it in self._parsed()) + line)
+
+    def _change(self, section: bytes) -> None:
+        self.section = section
+
+    def _parsed(self) -> List[Tuple[str, str]]:
+        section, found = self.section, self._pairs
+        if found is None or found[0] is not section:
+            found = self._pairs = section, list(_parse(section))
+        return found[1]
+
+    def pairs(self) -> Fields:
+        """The names, in lower case, and values of the field lines, in order."""
+        return list(self._parsed())
+
+    def raw(self) -> List[Tuple[bytes, bytes]]:
+        """`pairs` as bytes, as ASGI has them."""
+        return [(name.encode("latin-1"), value.encode("latin-1")) for name, value in self._parsed()]
+
     def lines(self, name: str) -> Sequence[str]:
         """The field lines of a name, without the white space at their ends."""
         field = name.lower()
-        return tuple(value for other, value in self if other == field)
+        return tuple(value for other, value in self._parsed() if other == field)
 
     def canonical(self, name: str) -> Optional[List[str]]:
         """The canonical field lines of a name, or `None` if it has none: see `canonical_field`."""
@@ -303,11 +371,8 @@ class Section(Headers):
         if status:
             _library.check(status, lambda: _library.wrong_section("the header section", self.section))
 
-    def __repr__(self) -> str:
-        return f"Section({list(self)!r})"
-
-    def __reduce__(self) -> Tuple[object, ...]:
-        return Section, (self.section,)
+    def _change(self, section: bytes) -> None:
+        raise TypeError("a Section doesn't change, as it is parsed once: change Headers(section)")
 
     def canonical(self, name: str) -> Optional[List[str]]:
         """The canonical field lines of a name, or `None` if it has none: see `canonical_field`."""

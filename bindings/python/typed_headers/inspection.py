@@ -6,19 +6,30 @@ of the library. Nothing is computed here.
 
 import re
 import time
-from dataclasses import dataclass, field
+from dataclasses import dataclass, field, fields, is_dataclass
 from datetime import datetime
-from typing import Callable, Dict, List, Optional, Tuple, TypeVar
+from enum import IntEnum
+from typing import Any, Callable, Dict, List, Optional, Tuple, TypeVar
 
 from . import _library
 from ._library import Text, Time
 from ._names import FIELDS
 from .caching import Decision, Times, current_age, decide, lifetime, may_store, validators
 from .conditions import Precondition, Selection, Target, evaluate, select
-from .errors import HeaderError, InvalidField, InvalidSection
+from .errors import HeaderError, InvalidField, InvalidSection, TooLarge
 from .headers import Headers, canonical_field
 
-__all__ = ["CacheReport", "CorsReport", "FieldReport", "Head", "Report", "ValidatorReport", "inspect", "parse_heads"]
+__all__ = [
+    "CacheReport",
+    "CorsReport",
+    "FieldReport",
+    "Head",
+    "Report",
+    "ValidatorReport",
+    "inspect",
+    "parse_heads",
+    "report_data",
+]
 
 
 @dataclass(frozen=True)
@@ -116,17 +127,23 @@ _RESPONSE = re.compile(rb"HTTP/\d(?:\.\d)? (\d{3})(?: .*)?")
 _REQUEST = re.compile(rb"([!#$%&'*+.^_`|~0-9A-Za-z-]+) \S+ HTTP/\d(?:\.\d)?")
 
 
+def _are_fields(section: bytes) -> bool:
+    try:
+        _library.canonical_text(section)
+    except (InvalidSection, TooLarge):
+        return False
+    return True
+
+
 def _head(lines: List[bytes]) -> Head:
     response, request = _RESPONSE.fullmatch(lines[0]), _REQUEST.fullmatch(lines[0])
     has_start = bool(response or request)
-    kept, wrong = [], []
-    for number, line in enumerate(lines[has_start:], 1 + has_start):
-        try:
-            _library.canonical_text(line + b"\n")
-        except InvalidSection:
-            wrong.append((number, _library.to_str(line)))
-        else:
-            kept.append(line + b"\n")
+    given = [line + b"\n" for line in lines[has_start:]]
+    kept, wrong = given, []
+    if not _are_fields(b"".join(given)):
+        kept = [line for line in given if _are_fields(line)]
+        numbered = enumerate(lines[has_start:], 1 + has_start)
+        wrong = [(number, _library.to_str(line)) for number, line in numbered if not _are_fields(line + b"\n")]
     return Head(
         method=request[1].decode("ascii") if request else None,
         status=int(response[1]) if response else None if request else 200,
@@ -173,7 +190,7 @@ def parse_heads(text: Text) -> Tuple[Optional[Head], Optional[Head]]:
 
 def _fields(headers: Headers) -> Tuple[FieldReport, ...]:
     lines_of: Dict[str, List[str]] = {}
-    for name, value in headers:
+    for name, value in headers.pairs():
         lines_of.setdefault(name, []).append(value)
     found = []
     for name, given in lines_of.items():
@@ -277,3 +294,29 @@ def inspect(text: Text, *, received: Optional[Time] = None, length: Optional[int
         precondition=precondition,
         notes=tuple(notes),
     )
+
+
+def report_data(report: Report) -> Dict[str, Any]:
+    """The report as data for JSON: enums by name, times in ISO 8601, and `is_valid`. The section's bytes are left out."""
+    given: Dict[str, Any] = {**_plain(report), "is_valid": report.is_valid}
+    del given["head"]["section"]
+    return given
+
+
+_NAMES: Dict[type, Optional[Tuple[str, ...]]] = {}
+
+
+def _plain(value: object) -> Any:
+    if value is None or isinstance(value, (str, bool)):
+        return value
+    if isinstance(value, (tuple, list)):
+        return [_plain(it) for it in value]
+    if isinstance(value, int):
+        return value.name.lower() if isinstance(value, IntEnum) else value
+    kind = type(value)
+    if kind not in _NAMES:
+        _NAMES[kind] = tuple(it.name for it in fields(value)) if is_dataclass(value) else None
+    names = _NAMES[kind]
+    if names is not None:
+        return {name: _plain(getattr(value, name)) for name in names}
+    return value.isoformat() if isinstance(value, datetime) else value

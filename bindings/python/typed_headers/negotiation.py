@@ -21,6 +21,18 @@ __all__ = [
 
 _ACCEPT, _ACCEPT_ENCODING, _ACCEPT_LANGUAGE, _LOOK_UP = range(4)
 _FIELDS = ("accept", "accept-encoding", "accept-language", "accept-language")
+_CHOICES = (
+    _library.calls.choose_type,
+    _library.calls.choose_coding,
+    _library.calls.choose_language,
+    _library.calls.look_up_language,
+)
+_CHOICES_OF_SECTION = (
+    _library.calls.section_choose_type,
+    _library.calls.section_choose_coding,
+    _library.calls.section_choose_language,
+)
+_QUALITIES = (_library.calls.type_quality, _library.calls.coding_quality, _library.calls.language_quality)
 
 
 @dataclass(frozen=True)
@@ -47,18 +59,18 @@ def _reject(dimension: int, lines: Sequence[Text], offers: List[bytes]) -> NoRet
 def _choose(dimension: int, request: HeadersLike, offers: Sequence[str]) -> Optional[str]:
     texts = _library.to_lines("offers", offers)
     if isinstance(request, Section) and dimension != _LOOK_UP:
-        status, place = _library.calls.section_choose(request._handle, dimension, _library.joined(texts))
+        status, place = _CHOICES_OF_SECTION[dimension](request._handle, _library.joined(texts))
         _library.check(status, lambda: _reject(dimension, (), texts))
     else:
         lines = _lines(dimension, request)
-        status, place = _library.calls.choose(dimension, lines, _library.joined(texts))
+        status, place = _CHOICES[dimension](lines, _library.joined(texts))
         _library.check(status, lambda: _reject(dimension, lines, texts))
     return None if status == _library.ABSENT else offers[place]
 
 
 def _rate(dimension: int, request: HeadersLike, offer: Text) -> Quality:
     lines, text = _lines(dimension, request), _library.to_bytes(offer, "offer")
-    status, weight, is_acceptable = _library.calls.rate(dimension, lines, text)
+    status, (weight, is_acceptable) = _QUALITIES[dimension](lines, text)
     _library.check(status, lambda: _reject(dimension, lines, []))
     return Quality(weight, is_acceptable == 1)
 

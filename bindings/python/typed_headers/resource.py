@@ -8,7 +8,7 @@ from typing import ClassVar, Dict, FrozenSet, Iterable, List, Optional, Sequence
 
 from . import _library
 from ._library import Text, Time
-from .conditions import RESPONSE_FIELDS
+from .conditions import CONTENT_DIGESTS, RESPONSE_FIELDS
 from .cors import CORS_FIELDS, CorsPolicy
 from .errors import HeaderError
 from .headers import Headers, HeadersLike, asked_of
@@ -160,13 +160,10 @@ class Answer:
         return [(name, value) for name, value in response if name.lower() not in self.owns] + list(self.fields)
 
 
-# What the library is handed of a resource: its texts, its flags, the limit, the state, what is known of each
-# representation, and the rules for other origins.
-_Known = Tuple[Optional[int], Optional[int], bool, bool]
-_Rules = Tuple[bytes, bytes, bytes, bytes, Optional[int], bool]
-_Given = Tuple[Tuple[bytes, ...], Tuple[bool, ...], Optional[int], int, Tuple[_Known, ...], Optional[_Rules]]
+_NO_RULES = (b"", b"", b"", b"", None, False)
 
 _TOKEN = re.compile(r"[!#$%&'*+.^_`|~0-9A-Za-z-]+")
+_VERSIONS = (10, 11, 20, 30)
 _BOUNDARY = re.compile(r"[A-Za-z0-9'+._-]{1,70}")
 
 
@@ -221,8 +218,8 @@ class Resource:
     limit: Optional[int] = None
     #: What responses say to requests from other origins, if they say anything.
     cors: Optional[CorsPolicy] = None
-    # What the library is handed of it, and the handle of the resource that it made of that.
-    _given: ClassVar[_Given]
+    # Its texts as the library takes them, and the handle of the resource that it made of them.
+    _texts: ClassVar[Sequence[bytes]]
     _handle: "ClassVar[_library.Handle]"
 
     def __post_init__(self) -> None:
@@ -233,15 +230,14 @@ class Resource:
         object.__setattr__(self, "state", State(self.state))
         if self.limit is not None:
             object.__setattr__(self, "limit", _library.to_number(self.limit, "limit"))
-        object.__setattr__(self, "_given", self._made(methods))
-        status, handle = _library.calls.resource_handle_new(*self._given)
+        status, handle = self._made(methods)
         _library.check(status, lambda: self._refused(methods))
         object.__setattr__(self, "_handle", handle)
 
     def __reduce__(self) -> Tuple[object, ...]:
         return Resource, tuple(getattr(self, it.name) for it in fields(self))
 
-    def _made(self, methods: Tuple[Method, ...]) -> _Given:
+    def _made(self, methods: Tuple[Method, ...]) -> "Tuple[int, _library.Handle]":
         shown = self.representations
         lists: Dict[str, List[str]] = {
             "hosts": list(self.hosts),
@@ -258,7 +254,8 @@ class Resource:
         }
         texts = [_library.joined(_library.to_lines(name, lines)) for name, lines in lists.items()]
         texts[6] = _library.to_bytes(self.location, "location")
-        flags = (self.by_media_type, self.by_language, self.by_coding, self.is_strict, self.needs_length)
+        object.__setattr__(self, "_texts", texts)
+        hosts, names, creating, guarded, accept, accept_encoding, location, kinds, languages, codings, etags = texts
         known = tuple(
             (
                 None if it.length is None else _library.to_number(it.length, "length"),
@@ -268,12 +265,14 @@ class Resource:
             )
             for it in shown
         )
-        rules = None
-        if self.cors is not None:
-            origins, methods_allowed, headers, exposed = self.cors._texts
-            rules = (origins, methods_allowed, headers, exposed, self.cors.max_age, self.cors.credentials)
         boundary = _library.to_bytes(self.boundary, "boundary")
-        return (*texts, boundary), flags, self.limit, int(self.state), known, rules
+        resource = (
+            hosts, names, creating, guarded, accept, accept_encoding, location, kinds, languages, codings, etags, boundary,
+            self.limit, int(self.state), self.by_media_type, self.by_language, self.by_coding, self.is_strict,
+            self.needs_length, self.cors is not None,
+        )
+        rules = _NO_RULES if self.cors is None else self.cors._rules
+        return _library.calls.resource_handle_new(resource, known, rules)
 
     def answer(
         self,
@@ -296,16 +295,17 @@ class Resource:
         section = asked_of(request)
         size = None if length is None else _library.to_number(length, "length")
         present = int(time.time()) if now is None else _library.to_seconds(now, "now")
-        status, code, reason, sends, place, ranges, text = _library.calls.resource_handle_answer(
-            self._handle, section, present, version, size, verb, asked
+        known = (present, size, version if version in _VERSIONS else 0, size != 0)
+        status, (place, code, reason, sends), ranges, text = _library.calls.resource_handle_answer(
+            self._handle, section, known, verb, asked
         )
         if status:
             text_of = section if isinstance(section, bytes) else b""
             _library.check(status, lambda: _wrong_request(verb, asked, text_of, version))
-        lines = tuple(Headers(text))
+        lines = tuple(Headers(text).pairs())
         named = {name for name, _ in lines}
         if reason == Reason.ADMITTED and code and not (sends == Sends.WHOLE and place is None):
-            named.update(RESPONSE_FIELDS, _OF_REPRESENTATION)
+            named.update(RESPONSE_FIELDS, _OF_REPRESENTATION, () if code == 200 else CONTENT_DIGESTS)
         if self.cors is not None:
             named.update(CORS_FIELDS)
         parts = tuple(ByteRange(*it) for it in ranges)
@@ -327,7 +327,7 @@ class Resource:
                     return error
         names = ("hosts", "methods", "creating", "guarded", "accept", "accept_encoding", "location", "media_types",
                  "languages", "codings", "etags")
-        for name, text in zip(names, self._given[0]):
+        for name, text in zip(names, self._texts):
             for line in text.split(b"\n"):
                 if _library.NO_VALUE.search(line):
                     return _library.rejected(name, [line])
@@ -345,7 +345,7 @@ def _wrong_request(method: bytes, target: bytes, section: bytes, version: int) -
         return error
     if not _TOKEN.fullmatch(_library.to_str(method)):
         return HeaderError(f"method: {_library.to_str(method)!r} is no token (RFC 9110, section 9.1)")
-    if version not in (10, 11, 20, 30):
+    if version not in _VERSIONS:
         return HeaderError(f"version: {version} is none of 10, 11, 20 and 30")
     shown = _library.to_str(target)
     return HeaderError(f"target: {shown!r} has no host, or one that can't be a field line (RFC 9112, section 3.2.2)")

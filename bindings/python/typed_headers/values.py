@@ -284,11 +284,11 @@ class CacheControl:
     def parse(cls, line: Text, *more: Text) -> "CacheControl":
         """The directives of all field lines."""
         lines = (line, *more)
-        status, seconds, flags = _library.calls.cache_control(lines)
+        status, found = _library.calls.cache_control(lines)
         if status:
             raise _library.failed(status, "cache-control", lines)
-        members = dict(zip(_SECONDS, seconds))
-        members.update(zip(_FLAGS, map(bool, flags)))
+        members = dict(zip(_SECONDS, found))
+        members.update(zip(_FLAGS, map(bool, found[len(_SECONDS) :])))
         return _made(cls, **members)
 
     def __str__(self) -> str:
@@ -396,7 +396,7 @@ class ContentRange:
     @classmethod
     def parse(cls, line: Text, *more: Text) -> "ContentRange":
         """The range of the first field line."""
-        found = _library.calls.content_range(cls, ByteRange, (line, *more))
+        found = _library.calls.content_range_as(cls, ByteRange, (line, *more))
         if isinstance(found, int):
             raise _library.failed(found, "content-range", (line, *more))
         return found
@@ -427,7 +427,7 @@ class RetryAfter:
     @classmethod
     def parse(cls, line: Text, *more: Text) -> "RetryAfter":
         """The delay or the time of the first field line. A delay of more than 999,999,999 days is that long."""
-        status, found, is_date = _library.calls.retry_after((line, *more))
+        status, (found, is_date) = _library.calls.retry_after((line, *more))
         if status:
             raise _library.failed(status, "retry-after", (line, *more))
         if is_date:
@@ -459,10 +459,10 @@ class StrictTransportSecurity:
     @classmethod
     def parse(cls, line: Text, *more: Text) -> "StrictTransportSecurity":
         """The policy of the only field line."""
-        status, max_age, include_subdomains = _library.calls.strict_transport_security((line, *more))
+        status, (max_age, include_subdomains) = _library.calls.strict_transport_security((line, *more))
         if status:
             raise _library.failed(status, "strict-transport-security", (line, *more))
-        return _made(cls, max_age=max_age, include_subdomains=include_subdomains)
+        return _made(cls, max_age=max_age, include_subdomains=include_subdomains == 1)
 
     def __str__(self) -> str:
         return f"max-age={self.max_age}{'; includeSubdomains' if self.include_subdomains else ''}"
@@ -659,7 +659,7 @@ class Origin:
     @classmethod
     def parse(cls, line: Text, *more: Text) -> "Origin":
         """The origin that the only field line is."""
-        status, length, port, _, found = _library.calls.origin((line, *more))
+        status, (length, port, _), found = _library.calls.origin((line, *more))
         if status:
             raise _library.failed(status, "origin", (line, *more))
         text = _library.to_str(found)

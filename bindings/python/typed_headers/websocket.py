@@ -89,12 +89,12 @@ def websocket_respond(
     verb, section = _library.to_bytes(method, "method"), Headers(request).section
     number = _library.to_number(version, "version", 8)
     own, allowed = _values("protocols", protocols), _values("origins", origins)
-    status, code, fault, text = _library.calls.websocket_respond(verb, number, section, own, allowed)
+    status, (code, fault), text = _library.calls.websocket_respond(verb, number, section, own, allowed)
     _library.check(status, lambda: _wrong_sections(section) or HeaderError(
         f"the request can't be answered: {_library.to_str(verb)!r} is no token, {version} no version of HTTP, "
         "or a byte of a protocol or an origin is none of a field value"
     ))
-    return Handshake(code, Fault(fault) if fault else None, tuple(Headers(text)))
+    return Handshake(code, Fault(fault) if fault else None, tuple(Headers(text).pairs()))
 
 
 def websocket_request(nonce: Optional[bytes] = None) -> Fields:
@@ -107,7 +107,7 @@ def websocket_request(nonce: Optional[bytes] = None) -> Fields:
     """
     status, text = _library.calls.websocket_request(os.urandom(16) if nonce is None else bytes(nonce))
     _library.check(status, lambda: HeaderError("nonce: expected sixteen bytes"))
-    return tuple(Headers(text))
+    return tuple(Headers(text).pairs())
 
 
 def websocket_check(sent: HeadersLike, status: int, response: HeadersLike) -> Optional[Flaw]:

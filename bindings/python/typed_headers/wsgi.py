@@ -36,17 +36,16 @@ from ._exchange import (
     Fields,
     Response,
     length_of,
-    multipart,
     respond,
-    size_of,
     tagged,
 )
 from ._cached import Ask, Reply, Rules, Step, Turn
+from ._serving import DECIDING, Explanation, explained, list_alternatives, ranges
 from .caching import Cache
 from .cors import CorsKind, CorsPolicy
 from .errors import HeaderError
 from .headers import Headers
-from .resource import Answer, Representation, Resource, Sends
+from .resource import Answer, Resource, Sends
 
 __all__ = ["Cached", "ConditionalRequests", "Cors", "Result", "Served", "Serves", "list_alternatives"]
 
@@ -445,30 +444,6 @@ class Served:
     methods: Mapping[str, Callable[[Environ], Result]] = field(default_factory=dict)
 
 
-#: A media type, and content of it.
-Explanation = Tuple[str, bytes]
-
-
-def list_alternatives(answer: Answer, resource: Resource) -> Optional[Explanation]:
-    """For a 406, a line for each representation: its media type, its language and its coding (RFC 9110, 15.5.7)."""
-    if answer.sends is not Sends.ALTERNATIVES:
-        return None
-    parts = ((it.media_type, it.language, it.coding) for it in resource.representations)
-    lines = (" ".join(str(part) for part in it if part is not None) + "\n" for it in parts)
-    return "text/plain", "".join(lines).encode("latin-1")
-
-
-#: The fields of a request by which a resource answers it, beside Content-Type.
-_DECIDING = (
-    "host",
-    "expect",
-    "content-encoding",
-    "accept",
-    "accept-language",
-    "accept-encoding",
-    *CONDITIONS,
-    *ORIGINS,
-)
 _VERSIONS = {"HTTP/0.9": 10, "HTTP/1.0": 10, "HTTP/2": 20, "HTTP/2.0": 20, "HTTP/3": 30, "HTTP/3.0": 30}
 
 
@@ -546,7 +521,7 @@ class Serves:
         content = served.content(answer.place)
         if answer.sends is Sends.WHOLE:
             return _start(start_response, method, status, fields, content)
-        response = _ranges(answer, resource.representations[answer.place], resource.boundary)
+        response = ranges(answer, resource.representations[answer.place], resource.boundary)
         pieces = [content] if isinstance(content, bytes) else content
         return _start(start_response, method, status, response.fields, _Parts(response, pieces))
 
@@ -557,18 +532,15 @@ class Serves:
         explanation = None if status in (204, 304) else self.explain(answer, resource)
         if explanation is None:
             return _start(start_response, method, status, list(answer.fields), b"")
-        media_type, content = explanation
-        described = [("content-type", media_type), ("content-length", str(len(content)))]
-        fields = [it for it in answer.fields if it[0] not in ("content-type", "content-length")]
-        return _start(start_response, method, status, [*fields, *described], content)
+        return _start(start_response, method, status, explained(answer, explanation), explanation[1])
 
 
 def _deciding(environ: Environ) -> Optional[Headers]:
-    request = _request(environ, _DECIDING)
+    request = _request(environ, DECIDING)
     if request is None or not environ.get("CONTENT_TYPE"):
         return request
     try:
-        return Headers([*request, ("content-type", environ["CONTENT_TYPE"])])
+        return Headers([*request.pairs(), ("content-type", environ["CONTENT_TYPE"])])
     except HeaderError:
         return None
 
@@ -587,16 +559,6 @@ def _perform(served: Served, method: str, environ: Environ) -> Result:
     if performs is None:
         raise LookupError(f"the resource has {method}, and nothing performs it")
     return performs(environ)
-
-
-def _ranges(answer: Answer, shown: Representation, boundary: str) -> Response:
-    """The parts of a 206, and its length if it has several."""
-    fields = list(answer.fields)
-    if len(answer.ranges) == 1:
-        return Response(206, fields, [(b"", answer.ranges[0])])
-    media_type = None if shown.media_type is None else str(shown.media_type)
-    parts, end = multipart(answer.ranges, media_type, shown.length or 0, boundary)
-    return Response(206, [*fields, ("content-length", str(size_of(parts, end)))], parts, end)
 
 
 def _start(

@@ -331,7 +331,7 @@ pub struct Stored {
 #[derive(Clone, Copy, Debug, Default)]
 pub struct LookedUp {
     pub stored: Stored,
-    pub place: usize,
+    pub number: u64,
     pub action: u8,
 }
 
@@ -348,8 +348,37 @@ pub struct StoredAnswer {
 #[repr(C)]
 #[derive(Clone, Copy, Debug, Default)]
 pub struct Freshened {
-    pub place: usize,
+    pub number: u64,
     pub outcome: u8,
+}
+
+#[repr(C)]
+#[derive(Clone, Copy, Debug, Default, PartialEq, Eq, Hash)]
+pub struct Port {
+    pub number: u16,
+    pub is_set: u8,
+}
+
+#[repr(C)]
+#[derive(Clone, Copy, Debug, Default, PartialEq, Eq, Hash)]
+pub struct OriginParts {
+    pub scheme_length: usize,
+    pub port: Port,
+    pub is_null: u8,
+}
+
+#[repr(C)]
+#[derive(Clone, Copy, Debug, Default, PartialEq, Eq, Hash)]
+pub struct TransportSecurity {
+    pub max_age: u64,
+    pub include_subdomains: u8,
+}
+
+#[repr(C)]
+#[derive(Clone, Copy, Debug, Default, PartialEq, Eq, Hash)]
+pub struct RetryTime {
+    pub seconds: u64,
+    pub is_date: u8,
 }
 
 /// A call that reads one number of the lines of a field.
@@ -373,6 +402,7 @@ pub type TagsCall = unsafe extern "C" fn(
     equal: *mut u8,
 ) -> u8;
 
+// Written by tools/c_calls from include/calls.txt, to the end.
 extern "C" {
     pub fn typed_headers_version() -> *const c_char;
     pub fn typed_headers_status_text(status: u8) -> *const c_char;
@@ -389,21 +419,6 @@ extern "C" {
         name_length: usize,
         lines: *const u8,
         lines_length: usize,
-        room: *mut u8,
-        room_length: usize,
-        written: *mut usize,
-    ) -> u8;
-    pub fn typed_headers_format_date(second: u64, room: *mut u8, room_length: usize, written: *mut usize) -> u8;
-    pub fn typed_headers_format_content_range(
-        range: *const ContentRange,
-        room: *mut u8,
-        room_length: usize,
-        written: *mut usize,
-    ) -> u8;
-    pub fn typed_headers_format_etag(
-        is_weak: bool,
-        opaque: *const u8,
-        opaque_length: usize,
         room: *mut u8,
         room_length: usize,
         written: *mut usize,
@@ -447,6 +462,21 @@ extern "C" {
         lines_length: usize,
         length: u64,
         room: *mut BytesRange,
+        room_length: usize,
+        written: *mut usize,
+    ) -> u8;
+    pub fn typed_headers_format_date(second: u64, room: *mut u8, room_length: usize, written: *mut usize) -> u8;
+    pub fn typed_headers_format_content_range(
+        range: *const ContentRange,
+        room: *mut u8,
+        room_length: usize,
+        written: *mut usize,
+    ) -> u8;
+    pub fn typed_headers_format_etag(
+        is_weak: bool,
+        opaque: *const u8,
+        opaque_length: usize,
+        room: *mut u8,
         room_length: usize,
         written: *mut usize,
     ) -> u8;
@@ -680,6 +710,85 @@ extern "C" {
         room_length: usize,
         written: *mut usize,
     ) -> u8;
+    pub fn typed_headers_cache_new(cache: *mut Cache, options: *const CacheOptions, keys: *const Keys) -> u8;
+    pub fn typed_headers_cache_new_with(
+        cache: *mut Cache,
+        options: *const CacheOptions,
+        extensions: *const CacheExtensions,
+        keys: *const Keys,
+    ) -> u8;
+    pub fn typed_headers_cache_free(cache: *mut Cache) -> u8;
+    pub fn typed_headers_cache_lookup(
+        cache: *mut Cache,
+        request: *const CacheRequest,
+        now: u64,
+        guess: u64,
+        facts: *mut LookedUp,
+        room: *mut u8,
+        room_length: usize,
+        written: *mut usize,
+    ) -> u8;
+    pub fn typed_headers_cache_response(
+        cache: *mut Cache,
+        target: *const u8,
+        target_length: usize,
+        number: u64,
+        now: u64,
+        facts: *mut Stored,
+        room: *mut u8,
+        room_length: usize,
+        written: *mut usize,
+    ) -> u8;
+    pub fn typed_headers_cache_content(
+        cache: *mut Cache,
+        target: *const u8,
+        target_length: usize,
+        number: u64,
+        from: usize,
+        room: *mut u8,
+        room_length: usize,
+        written: *mut usize,
+    ) -> u8;
+    pub fn typed_headers_cache_answer(
+        cache: *mut Cache,
+        request: *const CacheRequest,
+        number: u64,
+        now: u64,
+        ranges: bool,
+        facts: *mut StoredAnswer,
+    ) -> u8;
+    pub fn typed_headers_cache_store(
+        cache: *mut Cache,
+        request: *const CacheRequest,
+        response: *const CacheResponse,
+        number: *mut u64,
+    ) -> u8;
+    pub fn typed_headers_cache_freshen(
+        cache: *mut Cache,
+        request: *const CacheRequest,
+        section: *const u8,
+        section_length: usize,
+        requested: u64,
+        received: u64,
+        facts: *mut Freshened,
+    ) -> u8;
+    pub fn typed_headers_cache_freshen_by_head(
+        cache: *mut Cache,
+        request: *const CacheRequest,
+        section: *const u8,
+        section_length: usize,
+        requested: u64,
+        received: u64,
+    ) -> u8;
+    pub fn typed_headers_cache_invalidate(
+        cache: *mut Cache,
+        target: *const u8,
+        target_length: usize,
+        method: *const u8,
+        method_length: usize,
+        status: u16,
+    ) -> u8;
+    pub fn typed_headers_cache_remove(cache: *mut Cache, target: *const u8, target_length: usize) -> u8;
     pub fn typed_headers_forward_request(
         gateway: *const Gateway,
         hop: *const Hop,
@@ -722,232 +831,6 @@ extern "C" {
         keys: *const Keys,
         outcome: *mut FramingOutcome,
     ) -> u8;
-    pub fn typed_headers_cache_new(cache: *mut Cache, options: *const CacheOptions, keys: *const Keys) -> u8;
-    pub fn typed_headers_cache_new_with(
-        cache: *mut Cache,
-        options: *const CacheOptions,
-        extensions: *const CacheExtensions,
-        keys: *const Keys,
-    ) -> u8;
-    pub fn typed_headers_cache_free(cache: *mut Cache) -> u8;
-    pub fn typed_headers_cache_lookup(
-        cache: *mut Cache,
-        request: *const CacheRequest,
-        now: u64,
-        guess: u64,
-        facts: *mut LookedUp,
-        room: *mut u8,
-        room_length: usize,
-        written: *mut usize,
-    ) -> u8;
-    pub fn typed_headers_cache_response(
-        cache: *mut Cache,
-        target: *const u8,
-        target_length: usize,
-        place: usize,
-        now: u64,
-        facts: *mut Stored,
-        room: *mut u8,
-        room_length: usize,
-        written: *mut usize,
-    ) -> u8;
-    pub fn typed_headers_cache_content(
-        cache: *mut Cache,
-        target: *const u8,
-        target_length: usize,
-        place: usize,
-        from: usize,
-        room: *mut u8,
-        room_length: usize,
-        written: *mut usize,
-    ) -> u8;
-    pub fn typed_headers_cache_answer(
-        cache: *mut Cache,
-        request: *const CacheRequest,
-        place: usize,
-        now: u64,
-        ranges: bool,
-        facts: *mut StoredAnswer,
-    ) -> u8;
-    pub fn typed_headers_cache_store(
-        cache: *mut Cache,
-        request: *const CacheRequest,
-        response: *const CacheResponse,
-        stored: *mut u8,
-    ) -> u8;
-    pub fn typed_headers_cache_freshen(
-        cache: *mut Cache,
-        request: *const CacheRequest,
-        section: *const u8,
-        section_length: usize,
-        requested: u64,
-        received: u64,
-        facts: *mut Freshened,
-    ) -> u8;
-    pub fn typed_headers_cache_freshen_by_head(
-        cache: *mut Cache,
-        request: *const CacheRequest,
-        section: *const u8,
-        section_length: usize,
-        requested: u64,
-        received: u64,
-    ) -> u8;
-    pub fn typed_headers_cache_invalidate(
-        cache: *mut Cache,
-        target: *const u8,
-        target_length: usize,
-        method: *const u8,
-        method_length: usize,
-        status: u16,
-    ) -> u8;
-    pub fn typed_headers_cache_remove(cache: *mut Cache, target: *const u8, target_length: usize) -> u8;
-    // ---- sections and policies, behind handles
-    pub fn typed_headers_section_new(
-        fields: *mut Section,
-        section: *const u8,
-        section_length: usize,
-        keys: *const Keys,
-    ) -> u8;
-    pub fn typed_headers_section_free(fields: *mut Section) -> u8;
-    pub fn typed_headers_section_field(
-        fields: *mut Section,
-        name: *const u8,
-        name_length: usize,
-        room: *mut u8,
-        room_length: usize,
-        written: *mut usize,
-    ) -> u8;
-    pub fn typed_headers_section_evaluate(
-        fields: *mut Section,
-        method: *const u8,
-        method_length: usize,
-        etag: *const u8,
-        etag_length: usize,
-        target: *const Target,
-        answer: *mut u16,
-    ) -> u8;
-    pub fn typed_headers_section_select(
-        fields: *mut Section,
-        method: *const u8,
-        method_length: usize,
-        etag: *const u8,
-        etag_length: usize,
-        target: *const Target,
-        length: u64,
-        answer: *mut u16,
-        room: *mut BytesRange,
-        room_length: usize,
-        written: *mut usize,
-    ) -> u8;
-    pub fn typed_headers_section_respond(
-        fields: *mut Section,
-        method: *const u8,
-        method_length: usize,
-        etag: *const u8,
-        etag_length: usize,
-        target: *const Target,
-        content: *const Content,
-        boundary: *const u8,
-        boundary_length: usize,
-        response: *mut Response,
-        parts: *mut BytesRange,
-        parts_length: usize,
-        parts_written: *mut usize,
-        room: *mut u8,
-        room_length: usize,
-        written: *mut usize,
-    ) -> u8;
-    pub fn typed_headers_section_choose_type(
-        fields: *mut Section,
-        offers: *const u8,
-        offers_length: usize,
-        place: *mut usize,
-    ) -> u8;
-    pub fn typed_headers_section_choose_coding(
-        fields: *mut Section,
-        offers: *const u8,
-        offers_length: usize,
-        place: *mut usize,
-    ) -> u8;
-    pub fn typed_headers_section_choose_language(
-        fields: *mut Section,
-        offers: *const u8,
-        offers_length: usize,
-        place: *mut usize,
-    ) -> u8;
-    pub fn typed_headers_cors_policy_new(policy: *mut CorsPolicy, rules: *const CorsRules) -> u8;
-    pub fn typed_headers_cors_policy_free(policy: *mut CorsPolicy) -> u8;
-    pub fn typed_headers_cors_policy_answer(
-        policy: *mut CorsPolicy,
-        fields: *mut Section,
-        method: *const u8,
-        method_length: usize,
-        response: *const u8,
-        response_length: usize,
-        keys: *const Keys,
-        facts: *mut CorsFacts,
-        room: *mut u8,
-        room_length: usize,
-        written: *mut usize,
-    ) -> u8;
-    pub fn typed_headers_resource_handle_new(
-        handle: *mut ResourceHandle,
-        resource: *const Resource,
-        representations: *const Representation,
-        representations_length: usize,
-        rules: *const CorsRules,
-    ) -> u8;
-    pub fn typed_headers_resource_handle_free(handle: *mut ResourceHandle) -> u8;
-    pub fn typed_headers_resource_handle_answer(
-        handle: *mut ResourceHandle,
-        fields: *mut Section,
-        request: *const ResourceRequest,
-        method: *const u8,
-        method_length: usize,
-        target: *const u8,
-        target_length: usize,
-        facts: *mut ResourceFacts,
-        parts: *mut BytesRange,
-        parts_length: usize,
-        parts_written: *mut usize,
-        room: *mut u8,
-        room_length: usize,
-        written: *mut usize,
-    ) -> u8;
-}
-
-// Typed calls.
-
-#[repr(C)]
-#[derive(Clone, Copy, Debug, Default, PartialEq, Eq, Hash)]
-pub struct Port {
-    pub number: u16,
-    pub is_set: u8,
-}
-
-#[repr(C)]
-#[derive(Clone, Copy, Debug, Default, PartialEq, Eq, Hash)]
-pub struct OriginParts {
-    pub scheme_length: usize,
-    pub port: Port,
-    pub is_null: u8,
-}
-
-#[repr(C)]
-#[derive(Clone, Copy, Debug, Default, PartialEq, Eq, Hash)]
-pub struct TransportSecurity {
-    pub max_age: u64,
-    pub include_subdomains: u8,
-}
-
-#[repr(C)]
-#[derive(Clone, Copy, Debug, Default, PartialEq, Eq, Hash)]
-pub struct RetryTime {
-    pub seconds: u64,
-    pub is_date: u8,
-}
-
-extern "C" {
     pub fn typed_headers_basic(
         lines: *const u8,
         lines_length: usize,
@@ -1017,5 +900,117 @@ extern "C" {
         member_length: usize,
         any_case: bool,
         has: *mut u8,
+    ) -> u8;
+    pub fn typed_headers_section_free(fields: *mut Section) -> u8;
+    pub fn typed_headers_cors_policy_free(policy: *mut CorsPolicy) -> u8;
+    pub fn typed_headers_resource_handle_free(handle: *mut ResourceHandle) -> u8;
+    pub fn typed_headers_section_new(
+        fields: *mut Section,
+        section: *const u8,
+        section_length: usize,
+        keys: *const Keys,
+    ) -> u8;
+    pub fn typed_headers_section_field(
+        fields: *mut Section,
+        name: *const u8,
+        name_length: usize,
+        room: *mut u8,
+        room_length: usize,
+        written: *mut usize,
+    ) -> u8;
+    pub fn typed_headers_section_evaluate(
+        fields: *mut Section,
+        method: *const u8,
+        method_length: usize,
+        etag: *const u8,
+        etag_length: usize,
+        target: *const Target,
+        answer: *mut u16,
+    ) -> u8;
+    pub fn typed_headers_section_select(
+        fields: *mut Section,
+        method: *const u8,
+        method_length: usize,
+        etag: *const u8,
+        etag_length: usize,
+        target: *const Target,
+        length: u64,
+        answer: *mut u16,
+        room: *mut BytesRange,
+        room_length: usize,
+        written: *mut usize,
+    ) -> u8;
+    pub fn typed_headers_section_respond(
+        fields: *mut Section,
+        method: *const u8,
+        method_length: usize,
+        etag: *const u8,
+        etag_length: usize,
+        target: *const Target,
+        content: *const Content,
+        boundary: *const u8,
+        boundary_length: usize,
+        response: *mut Response,
+        parts: *mut BytesRange,
+        parts_length: usize,
+        parts_written: *mut usize,
+        room: *mut u8,
+        room_length: usize,
+        written: *mut usize,
+    ) -> u8;
+    pub fn typed_headers_section_choose_type(
+        fields: *mut Section,
+        offers: *const u8,
+        offers_length: usize,
+        place: *mut usize,
+    ) -> u8;
+    pub fn typed_headers_section_choose_coding(
+        fields: *mut Section,
+        offers: *const u8,
+        offers_length: usize,
+        place: *mut usize,
+    ) -> u8;
+    pub fn typed_headers_section_choose_language(
+        fields: *mut Section,
+        offers: *const u8,
+        offers_length: usize,
+        place: *mut usize,
+    ) -> u8;
+    pub fn typed_headers_cors_policy_new(policy: *mut CorsPolicy, rules: *const CorsRules) -> u8;
+    pub fn typed_headers_cors_policy_answer(
+        policy: *mut CorsPolicy,
+        fields: *mut Section,
+        method: *const u8,
+        method_length: usize,
+        response: *const u8,
+        response_length: usize,
+        keys: *const Keys,
+        facts: *mut CorsFacts,
+        room: *mut u8,
+        room_length: usize,
+        written: *mut usize,
+    ) -> u8;
+    pub fn typed_headers_resource_handle_new(
+        handle: *mut ResourceHandle,
+        resource: *const Resource,
+        representations: *const Representation,
+        representations_length: usize,
+        rules: *const CorsRules,
+    ) -> u8;
+    pub fn typed_headers_resource_handle_answer(
+        handle: *mut ResourceHandle,
+        fields: *mut Section,
+        request: *const ResourceRequest,
+        method: *const u8,
+        method_length: usize,
+        target: *const u8,
+        target_length: usize,
+        facts: *mut ResourceFacts,
+        parts: *mut BytesRange,
+        parts_length: usize,
+        parts_written: *mut usize,
+        room: *mut u8,
+        room_length: usize,
+        written: *mut usize,
     ) -> u8;
 }

@@ -16,7 +16,7 @@ pub use sys::Moments as Times;
 /// ```
 /// use typed_headers::{Keys, Section, may_store};
 ///
-/// let response = Section::from_bytes("Cache-Control: private, max-age=60\n");
+/// let response = Section::parse("Cache-Control: private, max-age=60\n")?;
 /// assert_eq!(may_store("GET", &Section::new(), 200, &response, true, Keys::random())?, false);
 /// # Ok::<(), typed_headers::Error>(())
 /// ```

@@ -5,7 +5,7 @@ use typed_headers_sys as sys;
 
 use crate::error::{check, Error};
 use crate::text::{written, Section};
-use crate::{ByteRange, Keys};
+use crate::{ByteRange, Keys, Timestamp};
 
 /// What a server knows of the target of a request.
 ///
@@ -39,8 +39,8 @@ impl<'a> Target<'a> {
     }
 
     /// When the representation was last modified.
-    pub const fn last_modified(self, second: u64) -> Target<'a> {
-        Target { last_modified: Some(second), ..self }
+    pub fn last_modified(self, time: impl Into<Timestamp>) -> Target<'a> {
+        Target { last_modified: Some(time.into().seconds()), ..self }
     }
 
     /// Says that this date is a strong validator (RFC 9110, section 8.8.2.2).
@@ -52,10 +52,10 @@ impl<'a> Target<'a> {
         self.etag
     }
 
-    pub(crate) fn given(&self, now: u64) -> sys::Target {
+    pub(crate) fn given(&self, now: impl Into<Timestamp>) -> sys::Target {
         sys::Target {
             last_modified: self.last_modified.unwrap_or(0),
-            present: now,
+            present: now.into().seconds(),
             exists: self.exists,
             has_last_modified: self.last_modified.is_some(),
             is_date_strong: self.is_date_strong,
@@ -97,7 +97,7 @@ impl Precondition {
 /// ```
 /// use typed_headers::{Keys, Precondition, Section, Target, evaluate};
 ///
-/// let request = Section::from_bytes("If-None-Match: \"a\"\n");
+/// let request = Section::parse("If-None-Match: \"a\"\n")?;
 /// let target = Target::new().etag(r#""a""#);
 /// let found = evaluate("GET", &request, &target, 1_767_225_600, Keys::random())?;
 /// assert_eq!(found, Precondition::NotModified);
@@ -107,7 +107,7 @@ pub fn evaluate(
     method: impl AsRef<[u8]>,
     request: &Section,
     target: &Target<'_>,
-    now: u64,
+    now: impl Into<Timestamp>,
     keys: Keys,
 ) -> Result<Precondition, Error> {
     let (method, section, mut answer) = (method.as_ref(), request.as_bytes(), 0);
@@ -157,7 +157,7 @@ impl Selection {
 /// ```
 /// use typed_headers::{ByteRange, Keys, Section, Selection, Target, select};
 ///
-/// let request = Section::from_bytes("Range: bytes=5-\n");
+/// let request = Section::parse("Range: bytes=5-\n")?;
 /// let found = select("GET", &request, &Target::new(), 10, 1_767_225_600, Keys::random())?;
 /// assert_eq!(found, Some(Selection::Parts(vec![ByteRange { first: 5, last: 9 }])));
 /// # Ok::<(), typed_headers::Error>(())
@@ -167,7 +167,7 @@ pub fn select(
     request: &Section,
     target: &Target<'_>,
     length: u64,
-    now: u64,
+    now: impl Into<Timestamp>,
     keys: Keys,
 ) -> Result<Option<Selection>, Error> {
     let (method, section, given) = (method.as_ref(), request.as_bytes(), target.given(now));

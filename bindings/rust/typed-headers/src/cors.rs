@@ -97,7 +97,7 @@ impl CorsRules<'_> {
     /// use typed_headers::{CorsRules, Keys, Section};
     ///
     /// let rules = CorsRules { origins: &["https://a.example"], ..CorsRules::default() };
-    /// let request = Section::from_bytes("Origin: https://a.example\n");
+    /// let request = Section::parse("Origin: https://a.example\n")?;
     /// let answer = rules.answer("GET", &request, &Section::new(), Keys::random())?;
     /// let fields = b"access-control-allow-origin: https://a.example\nvary: origin\n";
     /// assert_eq!((answer.is_allowed, answer.fields.as_bytes()), (true, fields.as_slice()));

@@ -1,3 +1,4 @@
+use alloc::borrow::Cow;
 use core::ffi::CStr;
 use core::fmt;
 
@@ -9,14 +10,24 @@ use typed_headers_sys as sys;
 /// use typed_headers::{Error, age};
 ///
 /// let error = age(["7 days"]).unwrap_err();
-/// assert_eq!(error, Error::Rejected);
-/// assert_eq!(error.to_string(), "an argument is not what the call reads");
+/// assert_eq!(error, Error::InvalidField { name: "age".into() });
+/// assert_eq!((error.field(), error.to_string()), (Some("age"), "age: the field lines encode no value".to_string()));
 /// ```
-#[derive(Clone, Copy, Debug, PartialEq, Eq, Hash)]
+#[derive(Clone, Debug, PartialEq, Eq, Hash)]
 #[non_exhaustive]
 pub enum Error {
-    /// An argument isn't what the call reads, as field lines that encode no value.
+    /// The field lines of this field encode no value.
+    InvalidField {
+        /// Its name, in lower case.
+        name: Cow<'static, str>,
+    },
+    /// Another argument isn't what the call reads.
     Rejected,
+    /// This line of a header section is no field. The first line is 1.
+    InvalidLine {
+        /// Its number.
+        number: usize,
+    },
     /// The library is out of memory. The same call may succeed later.
     OutOfMemory,
     /// An argument is longer, or has more names, than the call takes.
@@ -25,12 +36,32 @@ pub enum Error {
     Unknown(u8),
 }
 
+impl Error {
+    /// The name of the field whose lines encode no value, in lower case.
+    pub fn field(&self) -> Option<&str> {
+        match self {
+            Error::InvalidField { name } => Some(name),
+            _ => None,
+        }
+    }
+
+    /// The same error, of a call that reads the lines of this field.
+    pub(crate) fn of(self, name: impl Into<Cow<'static, str>>) -> Error {
+        match self {
+            Error::Rejected => Error::InvalidField { name: name.into() },
+            other => other,
+        }
+    }
+}
+
 impl fmt::Display for Error {
     fn fmt(&self, formatter: &mut fmt::Formatter<'_>) -> fmt::Result {
         let status = match self {
+            Error::InvalidField { name } => return write!(formatter, "{name}: the field lines encode no value"),
             Error::Rejected => status::REFUSED,
             Error::OutOfMemory => status::NO_MEMORY,
             Error::TooLarge => status::TOO_LARGE,
+            Error::InvalidLine { number } => return write!(formatter, "line {number} of the section is no field"),
             Error::Unknown(status) => return write!(formatter, "unknown status {status}"),
         };
         // SAFETY: each status has a text, which is never freed.

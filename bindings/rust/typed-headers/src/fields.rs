@@ -1,10 +1,12 @@
+use alloc::string::String;
 use alloc::vec::Vec;
+use core::fmt;
 
 use typed_headers_sys as sys;
 
 use crate::error::{check, status, Error};
-use crate::text::{joined, written, Section};
-use crate::{ByteRange, Keys};
+use crate::text::{joined, lower, written, Section};
+use crate::{ByteRange, Keys, Timestamp};
 
 // In this crate pointers and counts that are handed to the library are those of slices, and of values that live until
 // the call returns. None overlaps another.
@@ -20,14 +22,14 @@ where
 }
 
 macro_rules! numbers {
-    ($($(#[$comment:meta])* $name:ident = $call:ident;)*) => {$(
+    ($($(#[$comment:meta])* $name:ident = $call:ident, $field:literal;)*) => {$(
         $(#[$comment])*
         pub fn $name<I>(lines: I) -> Result<Option<u64>, Error>
         where
             I: IntoIterator,
             I::Item: AsRef<[u8]>,
         {
-            number(sys::$call, lines)
+            number(sys::$call, lines).map_err(|error| error.of($field))
         }
     )*};
 }
@@ -40,25 +42,25 @@ numbers! {
     /// assert_eq!(typed_headers::age::<[&str; 0]>([])?, None);
     /// # Ok::<(), typed_headers::Error>(())
     /// ```
-    age = typed_headers_age;
+    age = typed_headers_age, "age";
     /// The bytes of `Content-Length` (RFC 9110, section 8.6). Several field lines have to say the same.
     ///
     /// ```
     /// assert_eq!(typed_headers::content_length(["5", "5"])?, Some(5));
     /// # Ok::<(), typed_headers::Error>(())
     /// ```
-    content_length = typed_headers_content_length;
+    content_length = typed_headers_content_length, "content-length";
     /// The second of `Date` since the start of 1970 (RFC 9110, section 6.6.1).
     ///
     /// ```
     /// assert_eq!(typed_headers::date(["Sun, 06 Nov 1994 08:49:37 GMT"])?, Some(784_111_777));
     /// # Ok::<(), typed_headers::Error>(())
     /// ```
-    date = typed_headers_date;
+    date = typed_headers_date, "date";
     /// The second of `Expires` since the start of 1970 (RFC 9111, section 5.3).
-    expires = typed_headers_expires;
+    expires = typed_headers_expires, "expires";
     /// The second of `Last-Modified` since the start of 1970 (RFC 9110, section 8.8.2).
-    last_modified = typed_headers_last_modified;
+    last_modified = typed_headers_last_modified, "last-modified";
 }
 
 fn bytes<I>(call: sys::BytesCall, lines: I) -> Result<Option<Vec<u8>>, Error>
@@ -90,28 +92,36 @@ where
     I: IntoIterator,
     I::Item: AsRef<[u8]>,
 {
-    let (name, text) = (name.as_ref(), joined(lines)?);
+    let name = name.as_ref();
+    let text = joined(lines).map_err(|error| error.of(lower(name)))?;
     // SAFETY: as above.
     let found = written(text.len() + 28, |room, length, count| unsafe {
         sys::typed_headers_field(name.as_ptr(), name.len(), text.as_ptr(), text.len(), room, length, count)
-    })?;
+    })
+    .map_err(|error| error.of(lower(name)))?;
     Ok(found.map(|(bytes, _)| {
         bytes.split_inclusive(|byte| *byte == b'\n').map(|line| line[..line.len() - 1].to_vec()).collect()
     }))
 }
 
-/// The date of a second since the start of 1970, as HTTP writes it (RFC 9110, section 5.6.7).
+// A text of the library that is ASCII, as it documents.
+fn ascii(found: Option<(Vec<u8>, u8)>) -> Result<String, Error> {
+    String::from_utf8(found.map(|(bytes, _)| bytes).unwrap_or_default()).map_err(|_| Error::Rejected)
+}
+
+/// The date of a time, as HTTP writes it (RFC 9110, section 5.6.7). [`Error::Rejected`] after the year 9999.
 ///
 /// ```
-/// assert_eq!(typed_headers::format_date(784_111_777)?, b"Sun, 06 Nov 1994 08:49:37 GMT");
+/// assert_eq!(typed_headers::format_date(784_111_777)?, "Sun, 06 Nov 1994 08:49:37 GMT");
 /// assert!(typed_headers::format_date(u64::MAX).is_err());
 /// # Ok::<(), typed_headers::Error>(())
 /// ```
-pub fn format_date(second: u64) -> Result<Vec<u8>, Error> {
+pub fn format_date(time: impl Into<Timestamp>) -> Result<String, Error> {
+    let second = time.into().seconds();
     // SAFETY: as above.
     let found =
         written(29, |room, length, count| unsafe { sys::typed_headers_format_date(second, room, length, count) })?;
-    Ok(found.map(|(bytes, _)| bytes).unwrap_or_default())
+    ascii(found)
 }
 
 /// The line of `Content-Range` for a range, for the length of the whole, or for both (RFC 9110, section 14.4).
@@ -119,12 +129,12 @@ pub fn format_date(second: u64) -> Result<Vec<u8>, Error> {
 /// ```
 /// use typed_headers::{ByteRange, format_content_range};
 ///
-/// assert_eq!(format_content_range(Some(ByteRange { first: 0, last: 4 }), Some(10))?, b"bytes 0-4/10");
-/// assert_eq!(format_content_range(None, Some(10))?, b"bytes */10");
+/// assert_eq!(format_content_range(Some(ByteRange { first: 0, last: 4 }), Some(10))?, "bytes 0-4/10");
+/// assert_eq!(format_content_range(None, Some(10))?, "bytes */10");
 /// assert!(format_content_range(None, None).is_err());
 /// # Ok::<(), typed_headers::Error>(())
 /// ```
-pub fn format_content_range(range: Option<ByteRange>, length: Option<u64>) -> Result<Vec<u8>, Error> {
+pub fn format_content_range(range: Option<ByteRange>, length: Option<u64>) -> Result<String, Error> {
     let part = range.unwrap_or_default();
     let given = sys::ContentRange {
         first: part.first,
@@ -137,7 +147,7 @@ pub fn format_content_range(range: Option<ByteRange>, length: Option<u64>) -> Re
     let found = written(68, |room, length, count| unsafe {
         sys::typed_headers_format_content_range(&given, room, length, count)
     })?;
-    Ok(found.map(|(bytes, _)| bytes).unwrap_or_default())
+    ascii(found)
 }
 
 /// The entity tag with this opaque part (RFC 9110, section 8.8.3).
@@ -168,7 +178,7 @@ where
     I: IntoIterator,
     I::Item: AsRef<[u8]>,
 {
-    bytes(sys::typed_headers_media_type, lines)
+    bytes(sys::typed_headers_media_type, lines).map_err(|error| error.of("content-type"))
 }
 
 /// Type and subtype of the media type of `Content-Type`, as `text/html`.
@@ -177,7 +187,7 @@ where
     I: IntoIterator,
     I::Item: AsRef<[u8]>,
 {
-    bytes(sys::typed_headers_essence, lines)
+    bytes(sys::typed_headers_essence, lines).map_err(|error| error.of("content-type"))
 }
 
 /// The value of `Sec-WebSocket-Accept` that answers a `Sec-WebSocket-Key` (RFC 6455, section 4.2.2).
@@ -192,7 +202,7 @@ where
     I: IntoIterator,
     I::Item: AsRef<[u8]>,
 {
-    bytes(sys::typed_headers_websocket_accept, lines)
+    bytes(sys::typed_headers_websocket_accept, lines).map_err(|error| error.of("sec-websocket-key"))
 }
 
 fn compare(call: sys::TagsCall, one: &[u8], other: &[u8]) -> Result<bool, Error> {
@@ -224,6 +234,13 @@ pub fn weak_eq(one: impl AsRef<[u8]>, other: impl AsRef<[u8]>) -> Result<bool, E
 }
 
 /// The directives of `Cache-Control` that are set (RFC 9111, section 5.2). Seconds are `None` if they aren't.
+///
+/// ```
+/// use typed_headers::CacheControl;
+///
+/// let value = CacheControl::new().with_public().with_max_age(60);
+/// assert_eq!(value.to_string(), "public, max-age=60");
+/// ```
 #[derive(Clone, Copy, Debug, Default, PartialEq, Eq, Hash)]
 #[non_exhaustive]
 #[allow(missing_docs)]
@@ -244,6 +261,69 @@ pub struct CacheControl {
     pub proxy_revalidate: bool,
 }
 
+// The directives in the order in which the library writes them.
+macro_rules! directives {
+    ($($flag:ident, $with_flag:ident, $flag_name:literal;)* / $($seconds:ident, $with:ident, $name:literal;)*) => {
+        impl CacheControl {
+            /// No directive.
+            pub fn new() -> CacheControl {
+                CacheControl::default()
+            }
+
+            $(
+                #[doc = concat!("Sets `", $flag_name, "`.")]
+                pub const fn $with_flag(mut self) -> CacheControl {
+                    self.$flag = true;
+                    self
+                }
+            )*
+
+            $(
+                #[doc = concat!("Sets the seconds of `", $name, "`.")]
+                pub const fn $with(mut self, seconds: u64) -> CacheControl {
+                    self.$seconds = Some(seconds);
+                    self
+                }
+            )*
+        }
+
+        /// Writes the field value.
+        impl fmt::Display for CacheControl {
+            fn fmt(&self, formatter: &mut fmt::Formatter<'_>) -> fmt::Result {
+                let mut between = "";
+                $(if self.$flag {
+                    write!(formatter, "{between}{}", $flag_name)?;
+                    between = ", ";
+                })*
+                $(if let Some(seconds) = self.$seconds {
+                    write!(formatter, "{between}{}={seconds}", $name)?;
+                    between = ", ";
+                })*
+                let _ = between;
+                Ok(())
+            }
+        }
+    };
+}
+
+directives! {
+    no_cache, with_no_cache, "no-cache";
+    no_store, with_no_store, "no-store";
+    no_transform, with_no_transform, "no-transform";
+    only_if_cached, with_only_if_cached, "only-if-cached";
+    must_revalidate, with_must_revalidate, "must-revalidate";
+    is_public, with_public, "public";
+    is_private, with_private, "private";
+    immutable, with_immutable, "immutable";
+    must_understand, with_must_understand, "must-understand";
+    proxy_revalidate, with_proxy_revalidate, "proxy-revalidate";
+    /
+    max_age, with_max_age, "max-age";
+    max_stale, with_max_stale, "max-stale";
+    min_fresh, with_min_fresh, "min-fresh";
+    s_maxage, with_s_maxage, "s-maxage";
+}
+
 /// The directives of `Cache-Control` (RFC 9111, section 5.2).
 ///
 /// ```
@@ -256,9 +336,12 @@ where
     I: IntoIterator,
     I::Item: AsRef<[u8]>,
 {
-    let (text, mut given) = (joined(lines)?, sys::CacheDirectives::default());
-    // SAFETY: as above.
-    if !check(unsafe { sys::typed_headers_cache_control(text.as_ptr(), text.len(), &mut given) })? {
+    let mut given = sys::CacheDirectives::default();
+    let is_there = joined(lines).and_then(|text| {
+        // SAFETY: as above.
+        check(unsafe { sys::typed_headers_cache_control(text.as_ptr(), text.len(), &mut given) })
+    });
+    if !is_there.map_err(|error| error.of("cache-control"))? {
         return Ok(None);
     }
     let seconds = |directive: sys::DirectiveSeconds| (directive.is_set == 1).then_some(directive.seconds);
@@ -294,12 +377,13 @@ where
     I: IntoIterator,
     I::Item: AsRef<[u8]>,
 {
-    let text = joined(lines)?;
-    // SAFETY: as above.
-    let found = written(8, |room, room_length, count| unsafe {
-        sys::typed_headers_ranges(text.as_ptr(), text.len(), length, room, room_length, count)
-    })?;
-    Ok(found.map(|(ranges, _)| ranges))
+    let found = joined(lines).and_then(|text| {
+        // SAFETY: as above.
+        written(8, |room, room_length, count| unsafe {
+            sys::typed_headers_ranges(text.as_ptr(), text.len(), length, room, room_length, count)
+        })
+    });
+    Ok(found.map_err(|error| error.of("range"))?.map(|(ranges, _)| ranges))
 }
 
 /// The canonical form of a header section.

@@ -5,7 +5,7 @@ use typed_headers_sys as sys;
 
 use crate::error::{check, Error};
 use crate::text::{joined, text, written, Section};
-use crate::{Keys, Version};
+use crate::{Keys, Timestamp, Version};
 
 /// What a gateway is to the messages that pass it.
 #[derive(Clone, Copy, Debug, Default, PartialEq, Eq, Hash)]
@@ -207,7 +207,7 @@ impl Gateway<'_> {
     /// use typed_headers::{Framing, Gateway, Hop, Keys, RequestOutcome, Section, Version};
     ///
     /// let gateway = Gateway { name: "edge", ..Gateway::default() };
-    /// let request = Section::from_bytes("Host: a.example\nConnection: X-Own\nX-Own: 1\n");
+    /// let request = Section::parse("Host: a.example\nConnection: X-Own\nX-Own: 1\n")?;
     /// let outcome = gateway.forward_request(&Hop::default(), "GET", Version::Http11, "", &request, Keys::random())?;
     /// let RequestOutcome::Forward { fields, framing, .. } = outcome else { panic!() };
     /// assert_eq!(fields.as_bytes(), b"host: a.example\nvia: 1.1 edge\n");
@@ -279,7 +279,7 @@ impl Gateway<'_> {
     /// use typed_headers::{Framing, Gateway, Keys, ResponseOutcome, Section, Version};
     ///
     /// let gateway = Gateway { name: "edge", ..Gateway::default() };
-    /// let response = Section::from_bytes("Content-Length: 5\nDate: Thu, 01 Jan 1970 00:16:40 GMT\n");
+    /// let response = Section::parse("Content-Length: 5\nDate: Thu, 01 Jan 1970 00:16:40 GMT\n")?;
     /// let request = ("GET", Version::Http11);
     /// let outcome = gateway.forward_response(200, Version::Http11, &response, request, 1000, Keys::random())?;
     /// let ResponseOutcome::Forward { sent, .. } = outcome else { panic!() };
@@ -292,10 +292,10 @@ impl Gateway<'_> {
         version: Version,
         response: &Section,
         request: (&str, Version),
-        received: u64,
+        received: impl Into<Timestamp>,
         keys: Keys,
     ) -> Result<ResponseOutcome, Error> {
-        let section = response.as_bytes();
+        let (section, received) = (response.as_bytes(), received.into().seconds());
         let outcome = Cell::new(sys::ResponseOutcome::default());
         let lines = self.given(|gateway| {
             // SAFETY: as above.
@@ -338,10 +338,10 @@ impl Gateway<'_> {
 /// ```
 /// use typed_headers::{Framing, Keys, Rejection, Section, Version, framing};
 ///
-/// let both = Section::from_bytes("Content-Length: 5\nTransfer-Encoding: chunked\n");
+/// let both = Section::parse("Content-Length: 5\nTransfer-Encoding: chunked\n")?;
 /// let found = framing("POST", None, Version::Http11, &both, Keys::random())?;
 /// assert_eq!(found, Err((400, Rejection::LengthAndCoding)));
-/// let length = Section::from_bytes("Content-Length: 5\n");
+/// let length = Section::parse("Content-Length: 5\n")?;
 /// assert_eq!(framing("HEAD", Some(200), Version::Http11, &length, Keys::random())?, Ok(Framing::Absent));
 /// # Ok::<(), typed_headers::Error>(())
 /// ```

@@ -1,89 +1,101 @@
 use alloc::vec::Vec;
 use core::cell::Cell;
-use core::fmt;
-use core::ptr::{self, NonNull};
 
 use typed_headers_sys as sys;
 
 use crate::error::{check, Error};
-use crate::text::{joined, written, written_both, Section};
+use crate::lock::Locked;
+use crate::text::{joined, lower, written, written_both, Fields, Section};
 use crate::{
     Content, CorsAnswer, CorsRules, Keys, Precondition, Resource, ResourceAnswer, ResourceRequest, Response, Selection,
-    Target,
+    Target, Timestamp,
 };
 
-macro_rules! handle {
-    ($name:ident, $handle:ident, $free:ident) => {
-        // SAFETY: a handle may go to another thread. A call on it takes it alone, so none runs beside another.
-        unsafe impl Send for $name {}
-
-        impl Drop for $name {
-            fn drop(&mut self) {
-                // SAFETY: the handle is this value's alone, and no call follows.
-                unsafe { sys::$free(&mut self.handle) };
-            }
-        }
-
-        impl fmt::Debug for $name {
-            fn fmt(&self, formatter: &mut fmt::Formatter<'_>) -> fmt::Result {
-                formatter.debug_struct(stringify!($name)).finish_non_exhaustive()
-            }
-        }
-
-        impl $name {
-            const CLOSED: sys::$handle = sys::$handle { place: ptr::null_mut(), is_open: false };
-        }
-    };
-}
+// In this module pointers and counts are those of slices and of values, which don't overlap. A handle is that of a lock,
+// which the call holds.
 
 /// A section that is parsed once, for all that is asked of its fields. Times are seconds since 1970.
+///
+/// Several threads may share one, as they may a [`CorsPolicy`] and a [`PreparedResource`]. A call waits until no other
+/// thread makes one on the same value. Threads that are to answer at the same time have a value each. Without the
+/// feature `std` such a value may go to another thread, but not be shared.
 ///
 /// ```
 /// use typed_headers::{Keys, ParsedSection, Precondition, Section, Target};
 ///
-/// let request = Section::from_bytes("If-None-Match: \"a\"\nAccept-Encoding: gzip\nAge: +007\n");
-/// let mut request = ParsedSection::new(&request, Keys::random())?;
+/// let request = Section::parse("If-None-Match: \"a\"\nAccept-Encoding: gzip\nAge: +007\n")?;
+/// let request = ParsedSection::new(&request, Keys::random())?;
 /// let target = Target::new().etag(r#""a""#);
 /// assert_eq!(request.evaluate("GET", &target, 1_767_225_600)?, Precondition::NotModified);
 /// assert_eq!(request.choose_coding(["br", "gzip"])?, Some(1));
 /// assert_eq!(request.field("age")?, Some(b"7\n".to_vec()));
+/// assert_eq!(request.get("age"), Some(b"+007".as_slice()));
 /// # Ok::<(), typed_headers::Error>(())
 /// ```
+#[derive(Debug)]
 pub struct ParsedSection {
-    handle: sys::Section,
+    handle: Locked<sys::Section>,
+    section: Section,
 }
-
-handle!(ParsedSection, Section, typed_headers_section_free);
 
 type Choose = unsafe extern "C" fn(*mut sys::Section, *const u8, usize, *mut usize) -> u8;
 
 impl ParsedSection {
     /// Parses the fields of a section. [`Error::Rejected`] if a line is no field.
     pub fn new(section: &Section, keys: Keys) -> Result<ParsedSection, Error> {
-        let (mut parsed, text) = (ParsedSection { handle: Self::CLOSED }, section.as_bytes());
-        // SAFETY: these are a closed handle, the pointer and the count of a slice, and a value.
-        check(unsafe { sys::typed_headers_section_new(&mut parsed.handle, text.as_ptr(), text.len(), &keys.0) })?;
+        let mut parsed = ParsedSection { handle: Locked::closed(), section: section.clone() };
+        let text = section.as_bytes();
+        // SAFETY: as above. The handle is closed.
+        check(unsafe { sys::typed_headers_section_new(parsed.handle.alone(), text.as_ptr(), text.len(), &keys.0) })?;
         Ok(parsed)
+    }
+
+    /// The section, as it was before.
+    pub fn section(&self) -> &Section {
+        &self.section
+    }
+
+    /// The value of the first field of a name, as it came.
+    pub fn get(&self, name: &str) -> Option<&[u8]> {
+        self.section.get(name)
+    }
+
+    /// The values of the fields of a name, in order, as they came.
+    pub fn get_all<'a, 'n>(&'a self, name: &'n str) -> impl Iterator<Item = &'a [u8]> + Clone + use<'a, 'n> {
+        self.section.get_all(name)
+    }
+
+    /// Yields the name and the value of each field, in order, as they came.
+    pub fn iter(&self) -> Fields<'_> {
+        self.section.iter()
     }
 
     /// The canonical field lines of a header, each with LF, as [`canonical_field`](crate::canonical_field) gives them.
     /// `None` if the section has no line of this name.
-    pub fn field(&mut self, name: impl AsRef<[u8]>) -> Result<Option<Vec<u8>>, Error> {
-        let (name, handle) = (name.as_ref(), NonNull::from(&mut self.handle).as_ptr());
-        // SAFETY: these are the handle, which no other call has, and pointers and counts of slices that don't overlap.
-        let found = written(256, |room, room_length, count| unsafe {
-            sys::typed_headers_section_field(handle, name.as_ptr(), name.len(), room, room_length, count)
-        })?;
+    pub fn field(&self, name: impl AsRef<[u8]>) -> Result<Option<Vec<u8>>, Error> {
+        let name = name.as_ref();
+        let found = self.handle.with(|handle| {
+            // SAFETY: as above.
+            written(256, |room, room_length, count| unsafe {
+                sys::typed_headers_section_field(handle, name.as_ptr(), name.len(), room, room_length, count)
+            })
+        });
+        let found = found.map_err(|error| error.of(lower(name)))?;
         Ok(found.map(|(lines, _)| lines))
     }
 
     /// What the preconditions of a request with these fields come to: see [`evaluate`](crate::evaluate).
-    pub fn evaluate(&mut self, method: impl AsRef<[u8]>, target: &Target<'_>, now: u64) -> Result<Precondition, Error> {
+    pub fn evaluate(
+        &self,
+        method: impl AsRef<[u8]>,
+        target: &Target<'_>,
+        now: impl Into<Timestamp>,
+    ) -> Result<Precondition, Error> {
         let (method, etag, mut answer) = (method.as_ref(), target.etag_text(), 0);
         // SAFETY: as above.
-        let status = unsafe {
+        let status = self.handle.with(|handle| unsafe {
             sys::typed_headers_section_evaluate(
-                &mut self.handle,
+                handle,
                 method.as_ptr(),
                 method.len(),
                 etag.as_ptr(),
@@ -91,90 +103,93 @@ impl ParsedSection {
                 &target.given(now),
                 &mut answer,
             )
-        };
+        });
         check(status)?;
         Ok(Precondition::of(answer))
     }
 
     /// Which part of the target's representation a request with these fields selects: see [`select`](crate::select).
     pub fn select(
-        &mut self,
+        &self,
         method: impl AsRef<[u8]>,
         target: &Target<'_>,
         length: u64,
-        now: u64,
+        now: impl Into<Timestamp>,
     ) -> Result<Option<Selection>, Error> {
         let (method, etag, given) = (method.as_ref(), target.etag_text(), target.given(now));
-        let (handle, answer) = (NonNull::from(&mut self.handle).as_ptr(), Cell::new(0));
-        // SAFETY: as above.
-        let found = written(8, |room, room_length, count| unsafe {
-            sys::typed_headers_section_select(
-                handle,
-                method.as_ptr(),
-                method.len(),
-                etag.as_ptr(),
-                etag.len(),
-                &given,
-                length,
-                answer.as_ptr(),
-                room,
-                room_length,
-                count,
-            )
+        let answer = Cell::new(0);
+        let found = self.handle.with(|handle| {
+            // SAFETY: as above.
+            written(8, |room, room_length, count| unsafe {
+                sys::typed_headers_section_select(
+                    handle,
+                    method.as_ptr(),
+                    method.len(),
+                    etag.as_ptr(),
+                    etag.len(),
+                    &given,
+                    length,
+                    answer.as_ptr(),
+                    room,
+                    room_length,
+                    count,
+                )
+            })
         })?;
         Ok(found.map(|(parts, _)| Selection::of(answer.get(), parts)))
     }
 
     /// The response to a request with these fields: see [`respond`](crate::respond).
     pub fn respond(
-        &mut self,
+        &self,
         method: impl AsRef<[u8]>,
         target: &Target<'_>,
         content: &Content<'_>,
         boundary: &str,
-        now: u64,
+        now: impl Into<Timestamp>,
     ) -> Result<Option<Response>, Error> {
         let (method, etag, given) = (method.as_ref(), target.etag_text(), target.given(now));
         let (carried, facts) = (content.given(), Cell::new(sys::Response::default()));
-        let handle = NonNull::from(&mut self.handle).as_ptr();
-        // SAFETY: as above.
-        let found = written_both(|parts, room| unsafe {
-            sys::typed_headers_section_respond(
-                handle,
-                method.as_ptr(),
-                method.len(),
-                etag.as_ptr(),
-                etag.len(),
-                &given,
-                &carried,
-                boundary.as_ptr(),
-                boundary.len(),
-                facts.as_ptr(),
-                parts.items.as_mut_ptr(),
-                parts.items.len(),
-                &mut parts.count,
-                room.items.as_mut_ptr(),
-                room.items.len(),
-                &mut room.count,
-            )
+        let found = self.handle.with(|handle| {
+            // SAFETY: as above.
+            written_both(|parts, room| unsafe {
+                sys::typed_headers_section_respond(
+                    handle,
+                    method.as_ptr(),
+                    method.len(),
+                    etag.as_ptr(),
+                    etag.len(),
+                    &given,
+                    &carried,
+                    boundary.as_ptr(),
+                    boundary.len(),
+                    facts.as_ptr(),
+                    parts.items.as_mut_ptr(),
+                    parts.items.len(),
+                    &mut parts.count,
+                    room.items.as_mut_ptr(),
+                    room.items.len(),
+                    &mut room.count,
+                )
+            })
         })?;
         Ok(found.and_then(|(parts, lines)| Response::of(facts.get(), parts, lines)))
     }
 
-    fn choose<O>(&mut self, call: Choose, offers: O) -> Result<Option<usize>, Error>
+    fn choose<O>(&self, call: Choose, offers: O) -> Result<Option<usize>, Error>
     where
         O: IntoIterator,
         O::Item: AsRef<[u8]>,
     {
         let (offers, mut place) = (joined(offers)?, 0);
         // SAFETY: as above.
-        let status = unsafe { call(&mut self.handle, offers.as_ptr(), offers.len(), &mut place) };
+        let status = self.handle.with(|handle| unsafe { call(handle, offers.as_ptr(), offers.len(), &mut place) });
         Ok(check(status)?.then_some(place))
     }
 
     /// The place of the media type that a request with these fields is served, by Accept: see
     /// [`choose_type`](crate::choose_type).
-    pub fn choose_type<O>(&mut self, offers: O) -> Result<Option<usize>, Error>
+    pub fn choose_type<O>(&self, offers: O) -> Result<Option<usize>, Error>
     where
         O: IntoIterator,
         O::Item: AsRef<[u8]>,
@@ -183,7 +198,7 @@ impl ParsedSection {
     }
 
     /// The place of the content coding that it is served, by Accept-Encoding.
-    pub fn choose_coding<O>(&mut self, offers: O) -> Result<Option<usize>, Error>
+    pub fn choose_coding<O>(&self, offers: O) -> Result<Option<usize>, Error>
     where
         O: IntoIterator,
         O::Item: AsRef<[u8]>,
@@ -192,12 +207,21 @@ impl ParsedSection {
     }
 
     /// The place of the language that it is served, by Accept-Language.
-    pub fn choose_language<O>(&mut self, offers: O) -> Result<Option<usize>, Error>
+    pub fn choose_language<O>(&self, offers: O) -> Result<Option<usize>, Error>
     where
         O: IntoIterator,
         O::Item: AsRef<[u8]>,
     {
         self.choose(sys::typed_headers_section_choose_language, offers)
+    }
+}
+
+impl<'a> IntoIterator for &'a ParsedSection {
+    type Item = (&'a str, &'a [u8]);
+    type IntoIter = Fields<'a>;
+
+    fn into_iter(self) -> Fields<'a> {
+        self.iter()
     }
 }
 
@@ -207,54 +231,55 @@ impl ParsedSection {
 /// use typed_headers::{CorsPolicy, CorsRules, Keys, ParsedSection, Section};
 ///
 /// let rules = CorsRules { origins: &["https://a.example"], ..CorsRules::default() };
-/// let mut policy = CorsPolicy::new(&rules)?;
-/// let request = Section::from_bytes("Origin: https://a.example\n");
-/// let mut request = ParsedSection::new(&request, Keys::random())?;
-/// assert!(policy.answer("GET", &mut request, &Section::new(), Keys::random())?.is_allowed);
+/// let policy = CorsPolicy::new(&rules)?;
+/// let request = Section::parse("Origin: https://a.example\n")?;
+/// let request = ParsedSection::new(&request, Keys::random())?;
+/// assert!(policy.answer("GET", &request, &Section::new(), Keys::random())?.is_allowed);
 /// # Ok::<(), typed_headers::Error>(())
 /// ```
+#[derive(Debug)]
 pub struct CorsPolicy {
-    handle: sys::CorsPolicy,
+    handle: Locked<sys::CorsPolicy>,
 }
-
-handle!(CorsPolicy, CorsPolicy, typed_headers_cors_policy_free);
 
 impl CorsPolicy {
     /// Makes the policy of these rules. [`Error::Rejected`] if no browser reads them as they are meant.
     pub fn new(rules: &CorsRules<'_>) -> Result<CorsPolicy, Error> {
-        let mut policy = CorsPolicy { handle: Self::CLOSED };
-        // SAFETY: these are a closed handle and a value, whose texts are slices.
-        rules.given(|given| check(unsafe { sys::typed_headers_cors_policy_new(&mut policy.handle, given) }))?;
+        let mut policy = CorsPolicy { handle: Locked::closed() };
+        // SAFETY: as above. The handle is closed.
+        rules.given(|given| check(unsafe { sys::typed_headers_cors_policy_new(policy.handle.alone(), given) }))?;
         Ok(policy)
     }
 
     /// What a server with this policy answers a request: see [`CorsRules::answer`].
     pub fn answer(
-        &mut self,
+        &self,
         method: impl AsRef<[u8]>,
-        request: &mut ParsedSection,
+        request: &ParsedSection,
         response: &Section,
         keys: Keys,
     ) -> Result<CorsAnswer, Error> {
         let (method, response, facts) = (method.as_ref(), response.as_bytes(), Cell::new(sys::CorsFacts::default()));
-        let policy = NonNull::from(&mut self.handle).as_ptr();
-        let fields = NonNull::from(&mut request.handle).as_ptr();
-        // SAFETY: these are two handles, which no other call has, and pointers and counts of slices and of values that
-        // don't overlap.
-        let found = written(512, |room, room_length, count| unsafe {
-            sys::typed_headers_cors_policy_answer(
-                policy,
-                fields,
-                method.as_ptr(),
-                method.len(),
-                response.as_ptr(),
-                response.len(),
-                &keys.0,
-                facts.as_ptr(),
-                room,
-                room_length,
-                count,
-            )
+        // (a policy or a resource is always held before a section, so that no two calls wait for each other)
+        let found = self.handle.with(|policy| {
+            request.handle.with(|fields| {
+                // SAFETY: as above.
+                written(512, |room, room_length, count| unsafe {
+                    sys::typed_headers_cors_policy_answer(
+                        policy,
+                        fields,
+                        method.as_ptr(),
+                        method.len(),
+                        response.as_ptr(),
+                        response.len(),
+                        &keys.0,
+                        facts.as_ptr(),
+                        room,
+                        room_length,
+                        count,
+                    )
+                })
+            })
         })?;
         Ok(CorsAnswer::of(facts.get(), found.map_or(Vec::new(), |(text, _)| text)))
     }
@@ -266,9 +291,9 @@ impl CorsPolicy {
 /// use typed_headers::{Keys, Method, ParsedSection, PreparedResource, Resource, ResourceRequest, Section, Version};
 ///
 /// let methods = [Method { name: "GET", ..Method::default() }];
-/// let mut resource = PreparedResource::new(&Resource { methods: &methods, ..Resource::default() })?;
-/// let fields = Section::from_bytes("Host: a.example\n");
-/// let mut parsed = ParsedSection::new(&fields, Keys::random())?;
+/// let resource = PreparedResource::new(&Resource { methods: &methods, ..Resource::default() })?;
+/// let fields = Section::parse("Host: a.example\n")?;
+/// let parsed = ParsedSection::new(&fields, Keys::random())?;
 /// let request = ResourceRequest {
 ///     method: "DELETE",
 ///     target: "/",
@@ -276,24 +301,23 @@ impl CorsPolicy {
 ///     fields: &fields,
 ///     content: Default::default(),
 /// };
-/// assert_eq!(resource.answer(&request, &mut parsed, 1_767_225_600)?.status, Some(405));
+/// assert_eq!(resource.answer(&request, &parsed, 1_767_225_600)?.status, Some(405));
 /// # Ok::<(), typed_headers::Error>(())
 /// ```
+#[derive(Debug)]
 pub struct PreparedResource {
-    handle: sys::ResourceHandle,
+    handle: Locked<sys::ResourceHandle>,
 }
-
-handle!(PreparedResource, ResourceHandle, typed_headers_resource_handle_free);
 
 impl PreparedResource {
     /// Reads a resource. [`Error::Rejected`] if one of its parts can't be read.
     pub fn new(resource: &Resource<'_>) -> Result<PreparedResource, Error> {
-        let mut prepared = PreparedResource { handle: Self::CLOSED };
+        let mut prepared = PreparedResource { handle: Locked::closed() };
         resource.given(|given, numbers, rules| {
-            // SAFETY: these are a closed handle, values whose texts are slices, and a pointer and a count of a slice.
+            // SAFETY: as above. The handle is closed.
             check(unsafe {
                 sys::typed_headers_resource_handle_new(
-                    &mut prepared.handle,
+                    prepared.handle.alone(),
                     given,
                     numbers.as_ptr(),
                     numbers.len(),
@@ -307,32 +331,34 @@ impl PreparedResource {
     /// The whole answer of the resource to a request at the second `now`: see [`Resource::answer`]. `fields` counts, and
     /// not `request.fields`.
     pub fn answer(
-        &mut self,
+        &self,
         request: &ResourceRequest<'_>,
-        fields: &mut ParsedSection,
-        now: u64,
+        fields: &ParsedSection,
+        now: impl Into<Timestamp>,
     ) -> Result<ResourceAnswer, Error> {
         let (asked, facts) = (request.given(now), Cell::new(sys::ResourceFacts::default()));
-        let handle = NonNull::from(&mut self.handle).as_ptr();
-        let fields = NonNull::from(&mut fields.handle).as_ptr();
-        // SAFETY: as for a policy.
-        let found = written_both(|parts, room| unsafe {
-            sys::typed_headers_resource_handle_answer(
-                handle,
-                fields,
-                &asked,
-                request.method.as_ptr(),
-                request.method.len(),
-                request.target.as_ptr(),
-                request.target.len(),
-                facts.as_ptr(),
-                parts.items.as_mut_ptr(),
-                parts.items.len(),
-                &mut parts.count,
-                room.items.as_mut_ptr(),
-                room.items.len(),
-                &mut room.count,
-            )
+        let found = self.handle.with(|handle| {
+            fields.handle.with(|fields| {
+                // SAFETY: as above.
+                written_both(|parts, room| unsafe {
+                    sys::typed_headers_resource_handle_answer(
+                        handle,
+                        fields,
+                        &asked,
+                        request.method.as_ptr(),
+                        request.method.len(),
+                        request.target.as_ptr(),
+                        request.target.len(),
+                        facts.as_ptr(),
+                        parts.items.as_mut_ptr(),
+                        parts.items.len(),
+                        &mut parts.count,
+                        room.items.as_mut_ptr(),
+                        room.items.len(),
+                        &mut room.count,
+                    )
+                })
+            })
         })?;
         let (parts, lines) = found.unwrap_or_default();
         Ok(ResourceAnswer::of(facts.get(), parts, lines))

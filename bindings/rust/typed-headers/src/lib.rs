@@ -1,7 +1,7 @@
 //! Typed HTTP headers, by a library in C whose calls are proved to follow their specifications.
 //!
 //! A field is its field lines, without the name. An absent field, or an answer that a message doesn't give, is `None`.
-//! Times are seconds since the start of 1970.
+//! Times are seconds since the start of 1970. Where a call takes a [`Timestamp`], it takes a `SystemTime` too.
 //!
 //! ```
 //! use typed_headers::{ByteRange, age, cache_control, ranges};
@@ -12,8 +12,9 @@
 //! # Ok::<(), typed_headers::Error>(())
 //! ```
 //!
-//! The crate needs `alloc`, and no `std` but for `Keys::random`, of the feature `std`. The library is that of the
-//! system, as `pkg-config` knows it, or the static one in the folder that the variable TYPED_HEADERS names.
+//! The crate needs `alloc`, and no `std` but for `Keys::random` and for what threads share, of the feature `std`. The
+//! library is that of the system, as `pkg-config` knows it, or the static one in the folder that the variable
+//! TYPED_HEADERS names.
 #![no_std]
 #![warn(missing_docs)]
 
@@ -29,11 +30,14 @@ mod fields;
 mod gateway;
 mod handles;
 mod handshake;
+mod header;
+mod lock;
 mod negotiation;
 mod resource;
 mod response;
 mod store;
 mod text;
+mod time;
 mod typed;
 
 pub use caching::{current_age, decide, lifetime, may_store, validators, Decision, Times};
@@ -47,6 +51,10 @@ pub use fields::{
 pub use gateway::{framing, Framing, Gateway, Hop, Rejection, RequestOutcome, ResponseOutcome};
 pub use handles::{CorsPolicy, ParsedSection, PreparedResource};
 pub use handshake::{websocket_check, websocket_request, websocket_respond, Fault, Flaw, HandshakeAnswer, Version};
+pub use header::{
+    Age, Allow, Authorization, Basic, Bearer, Connection, ContentLength, ContentType, Cookie, Date, Encode, Expires,
+    Header, HeaderMapExt, LastModified, ProxyAuthorization, Range, Vary,
+};
 pub use negotiation::{
     choose_coding, choose_language, choose_type, coding_quality, language_quality, look_up_language, type_quality,
     Quality,
@@ -56,7 +64,8 @@ pub use resource::{
 };
 pub use response::{respond, Content, Response};
 pub use store::{Cache, CacheOptions, CacheRequest, CacheResponse, Freshened, Lookup, Stored, StoredAnswer};
-pub use text::Section;
+pub use text::{Fields, Section};
+pub use time::Timestamp;
 pub use typed::{
     basic, bearer, content_disposition, content_range, cookies, find_cookie, has_member, host, members, origin,
     retry_after, strict_transport_security, ContentRange, Disposition, Host, Origin, RetryAfter, TransportSecurity,
@@ -116,6 +125,10 @@ mod tests {
     // 1 January 2026.
     const NOW: u64 = 1_767_225_600;
 
+    fn invalid(name: &'static str) -> Error {
+        Error::InvalidField { name: name.into() }
+    }
+
     #[test]
     fn texts_and_numbers() {
         let canonical = |text: &str| Section::from_bytes(text).canonical(KEYS);
@@ -124,9 +137,12 @@ mod tests {
         let found = canonical("Age: x\n").unwrap();
         assert_eq!((found.text, found.is_marked), (b"! age\n".to_vec(), true));
         assert_eq!(canonical("Age\n"), Err(Error::Rejected));
-        assert_eq!((age(["+007"]), age(NONE), age(["7 days"])), (Ok(Some(7)), Ok(None), Err(Error::Rejected)));
-        assert_eq!(age([b"7\n8".as_slice()]), Err(Error::Rejected));
-        assert_eq!((content_length(["5", "5"]), content_length(["5", "6"])), (Ok(Some(5)), Err(Error::Rejected)));
+        assert_eq!((age(["+007"]), age(NONE), age(["7 days"])), (Ok(Some(7)), Ok(None), Err(invalid("age"))));
+        assert_eq!(age([b"7\n8".as_slice()]), Err(invalid("age")));
+        assert_eq!(
+            (content_length(["5", "5"]), content_length(["5", "6"])),
+            (Ok(Some(5)), Err(invalid("content-length")))
+        );
         for found in [
             date(["Sun, 06 Nov 1994 08:49:37 GMT"]),
             expires(["Sunday, 06-Nov-94 08:49:37 GMT"]),
@@ -155,9 +171,9 @@ mod tests {
         assert_eq!((basic(["Bearer x"]), basic(NONE)), (Err(Error::Rejected), Ok(None)));
         assert_eq!(bearer(["bearer  x"]), Ok(Some("x".to_string())));
         assert_eq!(host(["[::1]"]), Ok(Some(Host { name: "[::1]".to_string(), port: None })));
-        assert_eq!((host(["a b"]), host(NONE)), (Err(Error::Rejected), Ok(None)));
+        assert_eq!((host(["a b"]), host(NONE)), (Err(invalid("host")), Ok(None)));
         assert_eq!((origin(["null"]), origin(NONE)), (Ok(Some(Origin::Null)), Ok(None)));
-        assert_eq!((origin(["a"]), origin(["null", "null"])), (Err(Error::Rejected), Err(Error::Rejected)));
+        assert_eq!((origin(["a"]), origin(["null", "null"])), (Err(invalid("origin")), Err(invalid("origin"))));
         assert_eq!((strict_transport_security(NONE), retry_after(NONE)), (Ok(None), Ok(None)));
         assert_eq!(content_range(["bytes */*"]), Ok(Some(ContentRange { range: None, length: None })));
         assert_eq!(content_disposition(["Inline"]), Ok(Some(Disposition::Other)));
@@ -196,19 +212,21 @@ mod tests {
             requested: 1000,
             received: 1000,
         };
-        assert_eq!(cache.store(&request, &response), Ok(true));
+        let stored = cache.store(&request, &response).unwrap().unwrap();
         let found = cache.look_up(&request, 1020, 0).unwrap();
         assert_eq!(
             (found.decision, found.fields.as_bytes()),
             (Decision::Revalidate, b"if-none-match: \"1\"\n".as_slice())
         );
-        assert_eq!(cache.freshen(&request, &stale, 1020, 1020), Ok(Freshened::Updated(0)));
+        let Ok(Freshened::Updated(number)) = cache.freshen(&request, &stale, 1020, 1020) else {
+            panic!("the response isn't updated");
+        };
         let asked = Section::from_bytes("Range: bytes=-2\n");
         let ranged = CacheRequest { fields: &asked, ..request };
-        assert_eq!(cache.answer(&ranged, 0, 1021, true), Ok(Some(StoredAnswer::Part(3, 4))));
-        assert_eq!(cache.content("/", 0, 3, 2), Ok(Some(b"lo".to_vec())));
-        assert_eq!(cache.content("/", 1, 0, 9), Ok(None));
-        assert_eq!(cache.response("/", 0, 1025).unwrap().unwrap().0.age, 5);
+        assert_eq!(cache.answer(&ranged, number, 1021, true), Ok(Some(StoredAnswer::Part(3, 4))));
+        assert_eq!(cache.content("/", number, 3, 2), Ok(Some(b"lo".to_vec())));
+        assert_eq!(cache.content("/", stored, 0, 9), Ok(None));
+        assert_eq!(cache.response("/", number, 1025).unwrap().unwrap().0.age, 5);
         assert_eq!(cache.invalidate("/", "PUT", 204), Ok(()));
         assert_eq!(cache.look_up(&request, 1021, 0).unwrap().decision, Decision::Fetch);
         assert_eq!(cache.freshen_by_head(&CacheRequest { method: "HEAD", ..request }, &stale, 1, 1), Ok(()));
@@ -220,13 +238,13 @@ mod tests {
     #[test]
     fn handles() {
         let text = Section::from_bytes("Host: a.example\nOrigin: https://b.example\nRange: bytes=5-\nETag: \"a\"\n");
-        let mut fields = ParsedSection::new(&text, KEYS).unwrap();
+        let fields = ParsedSection::new(&text, KEYS).unwrap();
         let rules = CorsRules { origins: &["https://b.example"], ..CorsRules::default() };
-        let mut policy = CorsPolicy::new(&rules).unwrap();
+        let policy = CorsPolicy::new(&rules).unwrap();
         let methods = [Method { name: "GET", ..Method::default() }];
         let shown = [Representation { media_type: "text/plain", length: Some(10), ..Representation::default() }];
         let given = Resource { methods: &methods, representations: &shown, cors: Some(rules), ..Resource::default() };
-        let mut resource = PreparedResource::new(&given).unwrap();
+        let resource = PreparedResource::new(&given).unwrap();
         let target = Target::new().etag("\"a\"");
         let content = Content { media_type: "text/plain", length: Some(10), sends_ranges: true };
         for _ in 0..2 {
@@ -235,9 +253,9 @@ mod tests {
             let response = fields.respond("GET", &target, &content, "cut", NOW);
             assert_eq!(response, respond("GET", &text, &target, &content, "cut", NOW, KEYS));
             assert_eq!(fields.field("ETag"), Ok(Some(b"\"a\"\n".to_vec())));
-            assert_eq!((fields.field("age"), fields.field("a b")), (Ok(None), Err(Error::Rejected)));
+            assert_eq!((fields.field("age"), fields.field("a b")), (Ok(None), Err(invalid("a b"))));
             assert_eq!((fields.choose_type(["a/b"]), fields.choose_language(NONE)), (Ok(Some(0)), Ok(None)));
-            let shared = policy.answer("GET", &mut fields, &Section::new(), KEYS);
+            let shared = policy.answer("GET", &fields, &Section::new(), KEYS);
             assert_eq!(shared, rules.answer("GET", &text, &Section::new(), KEYS));
             let request = ResourceRequest {
                 method: "GET",
@@ -246,7 +264,7 @@ mod tests {
                 fields: &text,
                 content: RequestContent::Absent,
             };
-            assert_eq!(resource.answer(&request, &mut fields, NOW), given.answer(&request, NOW, KEYS));
+            assert_eq!(resource.answer(&request, &fields, NOW), given.answer(&request, NOW, KEYS));
         }
         assert_eq!(ParsedSection::new(&Section::from_bytes("x\n"), KEYS).err(), Some(Error::Rejected));
         let any = CorsRules { origins: &["*"], credentials: true, ..CorsRules::default() };
@@ -258,6 +276,53 @@ mod tests {
     }
 
     #[test]
+    #[cfg(feature = "std")]
+    fn threads_share_handles() {
+        let text = Section::parse("Host: a.example\nOrigin: https://b.example\nRange: bytes=5-\n").unwrap();
+        let fields = ParsedSection::new(&text, KEYS).unwrap();
+        let rules = CorsRules { origins: &["https://b.example"], ..CorsRules::default() };
+        let policy = CorsPolicy::new(&rules).unwrap();
+        let methods = [Method { name: "GET", ..Method::default() }];
+        let given = Resource { methods: &methods, cors: Some(rules), ..Resource::default() };
+        let resource = PreparedResource::new(&given).unwrap();
+        let request = ResourceRequest {
+            method: "GET",
+            target: "/",
+            version: Version::Http11,
+            fields: &text,
+            content: RequestContent::Absent,
+        };
+        let mut cache = Cache::new(CacheOptions::shared(), KEYS).unwrap();
+        let (asked, stored) = (Section::new(), Section::parse("Cache-Control: max-age=10\n").unwrap());
+        let asked = CacheRequest { method: "GET", target: "/", fields: &asked };
+        let response = CacheResponse {
+            status: 200,
+            fields: &stored,
+            content: b"hello",
+            is_complete: true,
+            requested: 1,
+            received: 1,
+        };
+        let number = cache.store(&asked, &response).unwrap().unwrap();
+        let shared = rules.answer("GET", &text, &Section::new(), KEYS);
+        let answer = given.answer(&request, NOW, KEYS);
+        std::thread::scope(|scope| {
+            for _ in 0..4 {
+                scope.spawn(|| {
+                    for _ in 0..2000 {
+                        assert_eq!(fields.field("Host"), Ok(Some(b"a.example\n".to_vec())));
+                        assert_eq!(fields.choose_type(["a/b"]), Ok(Some(0)));
+                        assert_eq!(policy.answer("GET", &fields, &Section::new(), KEYS), shared);
+                        assert_eq!(resource.answer(&request, &fields, NOW), answer);
+                        assert_eq!(cache.content("/", number, 0, 9), Ok(Some(b"hello".to_vec())));
+                        assert_eq!(cache.response("/", number, 5).unwrap().unwrap().0.age, 4);
+                    }
+                });
+            }
+        });
+    }
+
+    #[test]
     fn errors() {
         let texts: Vec<String> = [Error::Rejected, Error::OutOfMemory, Error::TooLarge, Error::Unknown(9)]
             .iter()
@@ -266,18 +331,194 @@ mod tests {
         assert_eq!(texts[1..3], ["out of memory", "an argument is too large"]);
         assert_eq!(texts[3], "unknown status 9");
         let _: &dyn core::error::Error = &Error::Rejected;
+        let named = [
+            (cache_control(["max-age=\0"]).err(), "cache-control"),
+            (ranges(["\n"], 9).err(), "range"),
+            (media_type(["x"]).err(), "content-type"),
+            (websocket_accept(["x"]).err(), "sec-websocket-key"),
+            (retry_after(["x"]).err(), "retry-after"),
+            (strict_transport_security(["x"]).err(), "strict-transport-security"),
+            (content_range(["x"]).err(), "content-range"),
+            (content_disposition(["\n"]).err(), "content-disposition"),
+            (cookies(["\n"]).err(), "cookie"),
+            (find_cookie(["\n"], "a").err(), "cookie"),
+            (canonical_field("Age", ["x"]).err(), "age"),
+        ];
+        for (error, name) in named {
+            assert_eq!(error.as_ref().and_then(Error::field), Some(name));
+        }
+        assert_eq!(members(["\n"]), Err(Error::Rejected));
         assert_eq!(error::check(7), Err(Error::Unknown(7)));
         assert_eq!(Section::from_bytes(alloc::vec![b'x'; 8_388_609]).canonical(KEYS), Err(Error::TooLarge));
     }
 
     #[test]
+    fn typed_headers() {
+        fn round_trip<H: Encode + Clone + PartialEq + core::fmt::Debug>(line: &str) -> H {
+            let mut section = Section::from_fields([(H::name(), "x"), ("x", "y")]).unwrap();
+            section.set(H::name(), line).unwrap();
+            let value = section.typed_try_get::<H>().unwrap().unwrap();
+            section.typed_insert(value.clone()).unwrap();
+            let encoded = section.get(H::name()).unwrap();
+            let canonical = canonical_field(H::name(), [line]).unwrap().unwrap();
+            assert_eq!(
+                (canonical.as_slice(), section.typed_get()),
+                ([encoded.to_vec()].as_slice(), Some(value.clone()))
+            );
+            assert_eq!(section.len(), 2);
+            value
+        }
+        assert_eq!((round_trip("+7"), round_trip("5")), (Age(7), ContentLength(5)));
+        let day = 784_111_777.into();
+        assert_eq!(round_trip::<Date>("Sunday, 06-Nov-94 08:49:37 GMT"), Date(day));
+        assert_eq!(round_trip::<Expires>("Sun Nov  6 08:49:37 1994"), Expires(day));
+        assert_eq!(round_trip::<LastModified>("Sun, 06 Nov 1994 08:49:37 GMT"), LastModified(day));
+        assert_eq!(round_trip::<CacheControl>("max-age=5, Public"), CacheControl::new().with_public().with_max_age(5));
+        assert_eq!(round_trip::<RetryAfter>("007"), RetryAfter::Delay(7));
+        assert_eq!(round_trip::<RetryAfter>("Sun, 06 Nov 1994 08:49:37 GMT"), RetryAfter::Date(784_111_777));
+        assert_eq!(round_trip::<ContentRange>("bytes */9").length, Some(9));
+        assert!(round_trip::<TransportSecurity>("includeSubDomains; max-age=5").include_subdomains);
+        assert_eq!(round_trip::<TransportSecurity>("max-age=5").max_age, 5);
+
+        let late = Timestamp::from(u64::MAX);
+        assert_eq!(
+            (Date(late).encode(), ContentLength(u64::MAX).encode()),
+            (Err(invalid("date")), Err(invalid("content-length")))
+        );
+        let nothing = ContentRange { range: None, length: None };
+        assert_eq!(Section::new().typed_insert(nothing), Err(invalid("content-range")));
+
+        let text =
+            "Host: a:80\nOrigin: null\nAllow: GET, PUT\nAllow: HEAD\nConnection: close\nVary: *\nCookie: a=b; c=d\n\
+                    Content-Type: Text/HTML;a=b\nRange: bytes=0-0,5-\nContent-Disposition: inline\n\
+                    Authorization: Bearer x\nProxy-Authorization: Basic YTpi\nAge: x\n";
+        let section = Section::parse(text).unwrap();
+        let parsed = ParsedSection::new(&section, KEYS).unwrap();
+        assert_eq!(parsed.typed_get(), Some(Host { name: "a".to_string(), port: Some(80) }));
+        assert_eq!((section.typed_get(), section.typed_get()), (Some(Origin::Null), Some(Disposition::Inline)));
+        assert_eq!(section.typed_get::<Allow>().unwrap().0, ["GET", "PUT", "HEAD"]);
+        assert_eq!(section.typed_get::<Connection>().unwrap().0, ["close"]);
+        assert_eq!(section.typed_get::<Vary>().unwrap().0, ["*"]);
+        let cookies = section.typed_get::<Cookie>().unwrap();
+        assert_eq!((cookies.get("c"), cookies.get("d")), (Some("d"), None));
+        let content_type = section.typed_get::<ContentType>().unwrap();
+        assert_eq!(
+            (content_type.as_bytes(), content_type.essence()),
+            (b"text/html; a=b".as_slice(), b"text/html".as_slice())
+        );
+        let range = section.typed_get::<Range>().unwrap();
+        assert_eq!(range.satisfiable_ranges(10), ranges(["bytes=0-0,5-"], 10).map(Option::unwrap));
+        let Authorization(Bearer { token }) = section.typed_get().unwrap();
+        let ProxyAuthorization(credentials) = section.typed_get::<ProxyAuthorization<Basic>>().unwrap();
+        assert_eq!((token.as_str(), credentials.user.as_str(), credentials.password.as_str()), ("x", "a", "b"));
+        let shown = alloc::format!("{cookies:?} {credentials:?} {:?}", Bearer { token });
+        assert_eq!(shown, "Cookie { .. } Basic { .. } Bearer { .. }");
+        assert_eq!(section.typed_try_get::<Authorization<Basic>>(), Err(invalid("authorization")));
+        assert_eq!((section.typed_try_get::<Age>(), section.typed_get::<Age>()), (Err(invalid("age")), None));
+        assert_eq!(section.typed_try_get::<Date>(), Ok(None));
+    }
+
+    #[test]
+    fn directives() {
+        let all = "no-cache, no-store, no-transform, only-if-cached, must-revalidate, public, private, immutable, \
+                   must-understand, proxy-revalidate, max-age=1, max-stale=2, min-fresh=3, s-maxage=4";
+        let value = cache_control([all]).unwrap().unwrap();
+        assert_eq!(value.to_string(), all);
+        let mut built = CacheControl::new().with_no_cache().with_no_store().with_no_transform().with_only_if_cached();
+        built = built.with_must_revalidate().with_public().with_private().with_immutable().with_must_understand();
+        built = built.with_proxy_revalidate().with_max_age(1).with_max_stale(2).with_min_fresh(3).with_s_maxage(4);
+        assert_eq!(built, value);
+        for value in [CacheControl::new(), CacheControl::new().with_private(), CacheControl::new().with_max_age(0)] {
+            let text = value.to_string();
+            assert_eq!(cache_control([&text]), Ok(Some(value)));
+            assert_eq!(canonical_field("Cache-Control", [&text]), Ok(Some(alloc::vec![text.into_bytes()])));
+        }
+    }
+
+    #[test]
+    #[cfg(feature = "std")]
+    fn times() {
+        use std::time::{Duration, SystemTime};
+
+        let at = |seconds| SystemTime::UNIX_EPOCH + Duration::from_millis(seconds * 1000 + 999);
+        assert_eq!((Timestamp::from(at(5)), Timestamp::from(5).seconds()), (5.into(), 5));
+        assert_eq!(Timestamp::from(SystemTime::UNIX_EPOCH - Duration::from_secs(1)), 0.into());
+        assert_eq!(SystemTime::try_from(Timestamp::from(u64::MAX)), Err(Error::TooLarge));
+        assert_eq!((format_date(at(NOW)), format_date(u64::MAX)), (format_date(NOW), Err(Error::Rejected)));
+        let request = Section::parse("If-Unmodified-Since: Sun, 06 Nov 1994 08:49:37 GMT").unwrap();
+        let target = Target::new().last_modified(at(784_111_777));
+        assert_eq!(target, Target::new().last_modified(784_111_777));
+        assert_eq!(evaluate("GET", &request, &target, SystemTime::now(), KEYS), Ok(Precondition::Perform));
+        let later = Target::new().last_modified(at(784_111_778));
+        assert_eq!(evaluate("GET", &request, &later, SystemTime::now(), KEYS), Ok(Precondition::Failed));
+    }
+
+    #[test]
     fn fields_are_not_injected() {
         let mut section = Section::new();
-        for (name, value) in [("", "a"), ("A:", "b"), ("A\n", "b"), ("A", "b\r\nC: d")] {
+        for (name, value) in [("", "a"), ("A:", "b"), ("A\n", "b"), ("A ", "b")] {
             assert_eq!(section.push(name, value), Err(Error::Rejected));
+            assert_eq!(section.set(name, value), Err(Error::Rejected));
         }
-        assert_eq!(section.push("A", "b"), Ok(()));
+        for value in ["b\r\nC: d", "\0"] {
+            assert_eq!(section.push("A", value), Err(invalid("a")));
+            assert_eq!(section.set("A", value), Err(invalid("a")));
+        }
+        assert_eq!(section.push("A", " b\t"), Ok(()));
         assert_eq!(section.as_bytes(), b"A: b\n");
+        // The last line needs no LF, and what follows an empty one is no field.
+        let mut section = Section::parse("A: b\r\n\r\nC: d").unwrap();
+        assert_eq!(section.push("E", "f"), Ok(()));
+        assert_eq!(section.as_bytes(), b"A: b\nE: f\n");
+    }
+
+    #[test]
+    fn fields_of_a_section() {
+        let mut section = Section::parse("A: 1\nb:\t2 \nA: 3\nC:").unwrap();
+        let fields: Vec<(&str, &[u8])> = section.iter().collect();
+        assert_eq!(fields, [("A", b"1".as_slice()), ("b", b"2"), ("A", b"3"), ("C", b"")]);
+        assert_eq!(Section::from_fields(fields), Ok(section.clone()));
+        assert_eq!(Section::from_fields(section.clone()), Ok(section.clone()));
+        assert_eq!(Section::from_fields([("A", "1"), ("A", "\n")]), Err(invalid("a")));
+        assert_eq!((section.len(), section.get("B"), section.get("")), (4, Some(b"2".as_slice()), None));
+        assert_eq!(section.get_all("a").collect::<Vec<_>>(), [b"1", b"3"]);
+        assert_eq!((section.contains("c"), section.remove("a"), section.remove("a")), (true, true, false));
+        assert_eq!((section.set("B", "4"), section.as_bytes()), (Ok(()), b"C: \nB: 4\n".as_slice()));
+        assert_eq!((Section::new().len(), Section::new().is_empty(), section.is_empty()), (0, true, false));
+        assert_eq!("A: b".parse(), Section::from_fields([("A", "b")]));
+        assert_eq!(section.to_map(), Ok(alloc::vec![("C".to_string(), Vec::new()), ("B".to_string(), b"4".to_vec())]));
+        let numbers: Result<Vec<(String, [u8; 1])>, Error> = section.to_map();
+        assert_eq!(numbers, Err(invalid("c")));
+        let secret = Section::parse("Cookie: a=secret\nX: \u{e9}").unwrap();
+        assert_eq!(alloc::format!("{secret:?}"), r#"[("Cookie", "(secret)"), ("X", "\\xc3\\xa9")]"#);
+        let parsed = ParsedSection::new(&section, KEYS).unwrap();
+        assert_eq!(parsed.iter().collect::<Vec<_>>(), (&section).into_iter().collect::<Vec<_>>());
+        assert_eq!((parsed.get("b"), parsed.get_all("b").count()), (Some(b"4".as_slice()), 1));
+        assert_eq!(parsed.section(), &section);
+    }
+
+    #[test]
+    fn sections_are_those_of_the_library() {
+        let (mut state, mut kept) = (1_u64, 0);
+        for _ in 0..20_000 {
+            let mut text = Vec::new();
+            state = state.wrapping_mul(6_364_136_223_846_793_005).wrapping_add(1);
+            for place in 0..state >> 61 {
+                let choices = b"Ab1-_!#~: \t\r\n\"(,/;@\x00\x1f\x7f\x80\xff";
+                text.extend_from_slice(if place % 3 == 0 { b"A:" } else { b"" });
+                state = state.wrapping_mul(6_364_136_223_846_793_005).wrapping_add(1);
+                text.push(choices[(state >> 33) as usize % choices.len()]);
+            }
+            let library = ParsedSection::new(&Section::from_bytes(text.as_slice()), KEYS);
+            let section = Section::parse(&text);
+            assert_eq!(section.is_ok(), library.is_ok(), "{}", text.escape_ascii());
+            if let Ok(section) = section {
+                let canonical = section.canonical(KEYS);
+                assert_eq!(canonical, Section::from_bytes(text).canonical(KEYS));
+                kept += usize::from(!section.is_empty());
+            }
+        }
+        assert!(kept > 1000, "{kept} sections had a field");
     }
 
     #[test]

@@ -5,7 +5,7 @@ use typed_headers_sys as sys;
 
 use crate::error::Error;
 use crate::text::{joined, text, written_both, Section};
-use crate::{ByteRange, CorsRules, Keys, Version};
+use crate::{ByteRange, CorsRules, Keys, Timestamp, Version};
 
 /// A method of a resource.
 #[derive(Clone, Copy, Debug, Default, PartialEq, Eq, Hash)]
@@ -244,7 +244,7 @@ impl Resource<'_> {
     /// let text = Representation { media_type: "text/plain", length: Some(10), ..Representation::default() };
     /// let methods = [Method { name: "GET", ..Method::default() }];
     /// let resource = Resource { methods: &methods, representations: &[text], ..Resource::default() };
-    /// let fields = Section::from_bytes("Host: a.example\n");
+    /// let fields = Section::parse("Host: a.example\n")?;
     /// let mut request = ResourceRequest {
     ///     method: "GET",
     ///     target: "/",
@@ -259,7 +259,12 @@ impl Resource<'_> {
     /// assert_eq!((answer.status, answer.reason), (Some(405), Reason::MethodNotAllowed));
     /// # Ok::<(), typed_headers::Error>(())
     /// ```
-    pub fn answer(&self, request: &ResourceRequest<'_>, now: u64, keys: Keys) -> Result<ResourceAnswer, Error> {
+    pub fn answer(
+        &self,
+        request: &ResourceRequest<'_>,
+        now: impl Into<Timestamp>,
+        keys: Keys,
+    ) -> Result<ResourceAnswer, Error> {
         let asked = request.given(now);
         let section = request.fields.as_bytes();
         let facts = Cell::new(sys::ResourceFacts::default());
@@ -352,9 +357,9 @@ impl Resource<'_> {
 }
 
 impl ResourceRequest<'_> {
-    pub(crate) fn given(&self, now: u64) -> sys::ResourceRequest {
+    pub(crate) fn given(&self, now: impl Into<Timestamp>) -> sys::ResourceRequest {
         sys::ResourceRequest {
-            present: now,
+            present: now.into().seconds(),
             length: if let RequestContent::Sized(length) = self.content { length } else { 0 },
             version: self.version as u8,
             has_content: self.content != RequestContent::Absent,

@@ -4,7 +4,7 @@ use typed_headers_sys as sys;
 
 use crate::error::Error;
 use crate::text::{text, written_both, Section};
-use crate::{ByteRange, Keys, Target};
+use crate::{ByteRange, Keys, Target, Timestamp};
 use alloc::vec::Vec;
 
 /// What a response carries of a representation.
@@ -34,7 +34,7 @@ pub struct Response {
     pub parts: Vec<ByteRange>,
     /// The fields to set. A field that the server has set by itself is replaced by those of its name.
     pub fields: Section,
-    /// Whether a Content-Encoding that the server has set stays.
+    /// Whether a Content-Encoding that the server has set stays. Content-Digest and Content-MD5 stay on a 200 alone.
     pub keeps_encoding: bool,
 }
 
@@ -69,7 +69,7 @@ impl Response {
 /// ```
 /// use typed_headers::{ByteRange, Content, Keys, Section, Target, respond};
 ///
-/// let request = Section::from_bytes("Range: bytes=5-\n");
+/// let request = Section::parse("Range: bytes=5-\n")?;
 /// let content = Content { media_type: "text/plain", length: Some(10), sends_ranges: true };
 /// let found = respond("GET", &request, &Target::new(), &content, "cut", 1_767_225_600, Keys::random())?.unwrap();
 /// assert_eq!((found.status, found.parts), (206, vec![ByteRange { first: 5, last: 9 }]));
@@ -81,7 +81,7 @@ pub fn respond(
     target: &Target<'_>,
     content: &Content<'_>,
     boundary: &str,
-    now: u64,
+    now: impl Into<Timestamp>,
     keys: Keys,
 ) -> Result<Option<Response>, Error> {
     let (method, section, etag) = (method.as_ref(), request.as_bytes(), target.etag_text());

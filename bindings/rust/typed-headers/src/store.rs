@@ -1,10 +1,11 @@
 use alloc::vec::Vec;
 use core::cell::Cell;
-use core::ptr;
+use core::num::NonZeroU64;
 
 use typed_headers_sys as sys;
 
 use crate::error::{check, Error};
+use crate::lock::Locked;
 use crate::text::{text, written, Section};
 use crate::{Decision, Keys};
 
@@ -65,8 +66,8 @@ pub struct CacheResponse<'a> {
 #[derive(Clone, Copy, Debug, PartialEq, Eq, Hash)]
 #[non_exhaustive]
 pub struct Stored {
-    /// Its place under its target, until a call changes what is stored.
-    pub place: usize,
+    /// Its number, which no other response of the cache ever has.
+    pub number: NonZeroU64,
     /// Its status.
     pub status: u16,
     /// How many seconds old it is.
@@ -80,9 +81,9 @@ pub struct Stored {
 }
 
 impl Stored {
-    fn of(place: usize, found: sys::Stored) -> Stored {
+    fn of(number: NonZeroU64, found: sys::Stored) -> Stored {
         let sys::Stored { age, requested, received, length, status } = found;
-        Stored { place, status, age, requested, received, length }
+        Stored { number, status, age, requested, received, length }
     }
 }
 
@@ -122,14 +123,17 @@ pub enum Freshened {
     NoneStored,
     /// The 304 is about none of those that may. The request is sent again without conditions.
     NoneUpdated,
-    /// The stored response at this place is updated, and is the answer.
-    Updated(usize),
-    /// The same, but it is stored no longer. Its place holds until a later 304.
-    UpdatedOnce(usize),
+    /// A stored response is updated, and is the answer, under this new number.
+    Updated(NonZeroU64),
+    /// The same, but it is stored no longer: it is gone after the next change of the cache.
+    UpdatedOnce(NonZeroU64),
 }
 
 /// A store of responses in bounded memory, and what a cache does by it (RFC 9111). Times are those of one clock, in
 /// seconds since 1970.
+///
+/// Calls that only read take `&self`: several threads may make them, and one waits for another. A response that is
+/// named by a number stays as long as the cache is borrowed, since calls that change what is stored take `&mut self`.
 ///
 /// ```
 /// use typed_headers::{Cache, CacheOptions, CacheRequest, CacheResponse, Decision, Keys, Section};
@@ -138,7 +142,7 @@ pub enum Freshened {
 /// let fields = Section::new();
 /// let request = CacheRequest { method: "GET", target: "http://a.example/", fields: &fields };
 /// assert_eq!(cache.look_up(&request, 1000, 0)?.decision, Decision::Fetch);
-/// let told = Section::from_bytes("Cache-Control: max-age=60\n");
+/// let told = Section::parse("Cache-Control: max-age=60\n")?;
 /// let response = CacheResponse {
 ///     status: 200,
 ///     fields: &told,
@@ -147,24 +151,14 @@ pub enum Freshened {
 ///     requested: 1000,
 ///     received: 1000,
 /// };
-/// assert!(cache.store(&request, &response)?);
+/// let number = cache.store(&request, &response)?.unwrap();
 /// let found = cache.look_up(&request, 1010, 0)?;
 /// assert_eq!((found.decision, found.stored.unwrap().age), (Decision::Serve, 10));
-/// assert_eq!(cache.content(request.target, 0, 1, 3)?, Some(b"ell".to_vec()));
+/// assert_eq!(cache.content(request.target, number, 1, 3)?, Some(b"ell".to_vec()));
 /// # Ok::<(), typed_headers::Error>(())
 /// ```
 #[derive(Debug)]
-pub struct Cache(sys::Cache);
-
-// SAFETY: a cache has no thread of its own, and each call has it for itself.
-unsafe impl Send for Cache {}
-
-impl Drop for Cache {
-    fn drop(&mut self) {
-        // SAFETY: the handle is open, and no call is made after this.
-        unsafe { sys::typed_headers_cache_free(&mut self.0) };
-    }
-}
+pub struct Cache(Locked<sys::Cache>);
 
 fn given(request: &CacheRequest<'_>) -> sys::CacheRequest {
     sys::CacheRequest {
@@ -177,17 +171,17 @@ fn given(request: &CacheRequest<'_>) -> sys::CacheRequest {
 impl Cache {
     /// A cache with an empty store.
     pub fn new(options: CacheOptions, keys: Keys) -> Result<Cache, Error> {
-        let mut cache = Cache(sys::Cache { place: ptr::null_mut(), is_open: false });
+        let mut cache = Cache(Locked::closed());
         let CacheOptions { variants, responses, content: bytes, is_shared } = options;
         let options = sys::CacheOptions { variants, responses, bytes, is_shared };
         // SAFETY: the handle is closed, and doesn't move while a call is made.
-        check(unsafe { sys::typed_headers_cache_new(&mut cache.0, &options, &keys.0) })?;
+        check(unsafe { sys::typed_headers_cache_new(cache.handle(), &options, &keys.0) })?;
         Ok(cache)
     }
 
-    // The handle, for a call that is made again with more room.
+    // The handle, for calls that change what is stored.
     fn handle(&mut self) -> *mut sys::Cache {
-        &mut self.0
+        self.0.alone()
     }
 
     /// What the cache does with a request (section 4). The target becomes the most recently used. If the origin states no
@@ -204,66 +198,75 @@ impl Cache {
         let is_found = !matches!(decision, Decision::Unavailable | Decision::Fetch);
         Ok(Lookup {
             decision,
-            stored: is_found.then(|| Stored::of(facts.place, facts.stored)),
+            stored: NonZeroU64::new(facts.number).filter(|_| is_found).map(|it| Stored::of(it, facts.stored)),
             fields: Section::from_bytes(found.map_or(Vec::new(), |(lines, _)| lines)),
         })
     }
 
-    /// The stored response at a place of a target, and its fields with its present Age. Places count from 0, in the order
-    /// of storing. `None` if there is none.
-    pub fn response(&mut self, target: &str, place: usize, now: u64) -> Result<Option<(Stored, Section)>, Error> {
-        let (facts, handle) = (Cell::new(sys::Stored::default()), self.handle());
-        // SAFETY: as above.
-        let found = written(512, |room: *mut u8, length, count| unsafe {
-            sys::typed_headers_cache_response(
-                handle,
-                target.as_ptr(),
-                target.len(),
-                place,
-                now,
-                facts.as_ptr(),
-                room,
-                length,
-                count,
-            )
+    /// The stored response with a number, and its fields with its present Age. `None` once it is gone.
+    pub fn response(&self, target: &str, number: NonZeroU64, now: u64) -> Result<Option<(Stored, Section)>, Error> {
+        let facts = Cell::new(sys::Stored::default());
+        let found = self.0.with(|handle| {
+            // SAFETY: as above.
+            written(512, |room: *mut u8, length, count| unsafe {
+                sys::typed_headers_cache_response(
+                    handle,
+                    target.as_ptr(),
+                    target.len(),
+                    number.get(),
+                    now,
+                    facts.as_ptr(),
+                    room,
+                    length,
+                    count,
+                )
+            })
         })?;
-        Ok(found.map(|(lines, _)| (Stored::of(place, facts.get()), Section::from_bytes(lines))))
+        Ok(found.map(|(lines, _)| (Stored::of(number, facts.get()), Section::from_bytes(lines))))
     }
 
-    /// A copy of the content of the stored response at a place, from a position on, and at most so many bytes. `None` if
-    /// there is no response.
-    pub fn content(&mut self, target: &str, place: usize, from: usize, most: usize) -> Result<Option<Vec<u8>>, Error> {
+    /// A copy of the content of the stored response with a number, from a position on, and at most so many bytes. `None`
+    /// once the response is gone.
+    pub fn content(
+        &self,
+        target: &str,
+        number: NonZeroU64,
+        from: usize,
+        most: usize,
+    ) -> Result<Option<Vec<u8>>, Error> {
         let mut room = alloc::vec![0; most.max(1)];
         let mut count = 0;
         // SAFETY: as above.
-        let is_there = check(unsafe {
+        let is_there = check(self.0.with(|handle| unsafe {
             sys::typed_headers_cache_content(
-                &mut self.0,
+                handle,
                 target.as_ptr(),
                 target.len(),
-                place,
+                number.get(),
                 from,
                 room.as_mut_ptr(),
                 most,
                 &mut count,
             )
-        })?;
+        }))?;
         room.truncate(count);
         Ok(is_there.then_some(room))
     }
 
-    /// How the stored response at a place answers the conditions and, if `ranges` says so, the ranges of a request that
-    /// it may answer (section 4.3.2). `None` if there is no response.
+    /// How the stored response with a number answers the conditions and, if `ranges` says so, the ranges of a request
+    /// that it may answer (section 4.3.2). `None` once the response is gone.
     pub fn answer(
-        &mut self,
+        &self,
         request: &CacheRequest<'_>,
-        place: usize,
+        number: NonZeroU64,
         now: u64,
         ranges: bool,
     ) -> Result<Option<StoredAnswer>, Error> {
         let (asked, mut facts) = (given(request), sys::StoredAnswer::default());
         // SAFETY: as above.
-        let call = unsafe { sys::typed_headers_cache_answer(&mut self.0, &asked, place, now, ranges, &mut facts) };
+        let call = self.0.with(|handle| unsafe {
+            sys::typed_headers_cache_answer(handle, &asked, number.get(), now, ranges, &mut facts)
+        });
         Ok(check(call)?.then_some(match facts.kind {
             0 => StoredAnswer::Whole,
             1 => StoredAnswer::Part(facts.first, facts.last),
@@ -273,10 +276,14 @@ impl Cache {
         }))
     }
 
-    /// Stores the response to a request, if a cache may (section 3), and says whether it did. Older responses go if there
-    /// is too little room.
-    pub fn store(&mut self, request: &CacheRequest<'_>, response: &CacheResponse<'_>) -> Result<bool, Error> {
-        let (asked, mut stored) = (given(request), 0);
+    /// Stores the response to a request, if a cache may (section 3), and returns its number, or `None`. Older responses go
+    /// if there is too little room.
+    pub fn store(
+        &mut self,
+        request: &CacheRequest<'_>,
+        response: &CacheResponse<'_>,
+    ) -> Result<Option<NonZeroU64>, Error> {
+        let (asked, mut number) = (given(request), 0);
         let came = sys::CacheResponse {
             section: text(response.fields.as_bytes()),
             content: text(response.content),
@@ -286,8 +293,8 @@ impl Cache {
             is_complete: response.is_complete,
         };
         // SAFETY: as above.
-        check(unsafe { sys::typed_headers_cache_store(&mut self.0, &asked, &came, &mut stored) })?;
-        Ok(stored == 1)
+        check(unsafe { sys::typed_headers_cache_store(self.handle(), &asked, &came, &mut number) })?;
+        Ok(NonZeroU64::new(number))
     }
 
     /// Updates stored responses by the fields of a 304 to a request (section 4.3.4).
@@ -302,7 +309,7 @@ impl Cache {
         // SAFETY: as above.
         check(unsafe {
             sys::typed_headers_cache_freshen(
-                &mut self.0,
+                self.handle(),
                 &asked,
                 section.as_ptr(),
                 section.len(),
@@ -311,11 +318,11 @@ impl Cache {
                 &mut facts,
             )
         })?;
-        Ok(match facts.outcome {
-            0 => Freshened::NoneStored,
-            1 => Freshened::NoneUpdated,
-            2 => Freshened::Updated(facts.place),
-            _ => Freshened::UpdatedOnce(facts.place),
+        Ok(match (facts.outcome, NonZeroU64::new(facts.number)) {
+            (2, Some(number)) => Freshened::Updated(number),
+            (3, Some(number)) => Freshened::UpdatedOnce(number),
+            (1, _) => Freshened::NoneUpdated,
+            _ => Freshened::NoneStored,
         })
     }
 
@@ -331,7 +338,7 @@ impl Cache {
         // SAFETY: as above.
         check(unsafe {
             sys::typed_headers_cache_freshen_by_head(
-                &mut self.0,
+                self.handle(),
                 &asked,
                 section.as_ptr(),
                 section.len(),
@@ -348,7 +355,7 @@ impl Cache {
         // SAFETY: as above.
         check(unsafe {
             sys::typed_headers_cache_invalidate(
-                &mut self.0,
+                self.handle(),
                 target.as_ptr(),
                 target.len(),
                 method.as_ptr(),
@@ -362,7 +369,7 @@ impl Cache {
     /// Removes what is stored under a target, as one that Location or Content-Location names (section 4.4).
     pub fn remove(&mut self, target: &str) -> Result<(), Error> {
         // SAFETY: as above.
-        check(unsafe { sys::typed_headers_cache_remove(&mut self.0, target.as_ptr(), target.len()) })?;
+        check(unsafe { sys::typed_headers_cache_remove(self.handle(), target.as_ptr(), target.len()) })?;
         Ok(())
     }
 }

@@ -99,7 +99,8 @@ where
     // SAFETY: as above.
     let found = bytes(lines, |text, room, length, count| unsafe {
         sys::typed_headers_cookie(text.as_ptr(), text.len(), name.as_ptr(), name.len(), room, length, count)
-    })?;
+    })
+    .map_err(|error| error.of("cookie"))?;
     found.map(string).transpose()
 }
 
@@ -118,7 +119,8 @@ where
     // SAFETY: as above.
     let found = bytes(lines, |text, room, length, count| unsafe {
         sys::typed_headers_cookies(text.as_ptr(), text.len(), room, length, count)
-    })?;
+    })
+    .map_err(|error| error.of("cookie"))?;
     let pair = |line: &str| line.split_once('=').map(|(name, value)| (name.to_string(), value.to_string()));
     Ok(found.map(string).transpose()?.map(|text| text.split('\n').filter_map(pair).collect()))
 }
@@ -147,7 +149,8 @@ where
     // SAFETY: as above.
     let found = bytes(lines, |text, room, length, count| unsafe {
         sys::typed_headers_host(text.as_ptr(), text.len(), port.as_ptr(), room, length, count)
-    })?;
+    })
+    .map_err(|error| error.of("host"))?;
     let name = found.map(string).transpose()?;
     Ok(name.map(|name| Host { name, port: optional_port(port.get()) }))
 }
@@ -179,7 +182,8 @@ where
     // SAFETY: as above.
     let found = bytes(lines, |text, room, length, count| unsafe {
         sys::typed_headers_origin(text.as_ptr(), text.len(), parts.as_ptr(), room, length, count)
-    })?;
+    })
+    .map_err(|error| error.of("origin"))?;
     let (Some(text), parts) = (found, parts.get()) else {
         return Ok(None);
     };
@@ -213,7 +217,8 @@ where
     // SAFETY: as above.
     let found = value(lines, |text, policy: *mut sys::TransportSecurity| unsafe {
         sys::typed_headers_strict_transport_security(text.as_ptr(), text.len(), policy)
-    })?;
+    })
+    .map_err(|error| error.of("strict-transport-security"))?;
     Ok(found.map(|it| TransportSecurity { max_age: it.max_age, include_subdomains: it.include_subdomains == 1 }))
 }
 
@@ -243,7 +248,8 @@ where
     // SAFETY: as above.
     let found = value(lines, |text, time: *mut sys::RetryTime| unsafe {
         sys::typed_headers_retry_after(text.as_ptr(), text.len(), time)
-    })?;
+    })
+    .map_err(|error| error.of("retry-after"))?;
     Ok(found.map(|it| if it.is_date == 1 { RetryAfter::Date(it.seconds) } else { RetryAfter::Delay(it.seconds) }))
 }
 
@@ -272,7 +278,8 @@ where
     // SAFETY: as above.
     let found = value(lines, |text, range: *mut sys::ContentRange| unsafe {
         sys::typed_headers_content_range(text.as_ptr(), text.len(), range)
-    })?;
+    })
+    .map_err(|error| error.of("content-range"))?;
     Ok(found.map(|it| ContentRange {
         range: (it.has_range == 1).then_some(ByteRange { first: it.first, last: it.last }),
         length: (it.has_length == 1).then_some(it.length),
@@ -309,7 +316,8 @@ where
     // SAFETY: as above.
     let found = value(lines, |text, kind: *mut u8| unsafe {
         sys::typed_headers_content_disposition(text.as_ptr(), text.len(), kind)
-    })?;
+    })
+    .map_err(|error| error.of("content-disposition"))?;
     Ok(found.map(|kind| match kind {
         1 => Disposition::Inline,
         2 => Disposition::Attachment,

@@ -1,0 +1,344 @@
+/* Written by tools/c_calls from include/calls.txt. */
+union slot {
+    SLOT
+    union {
+        struct typed_headers_target target;
+        struct typed_headers_directive_seconds directive_seconds;
+        struct typed_headers_bytes_range bytes_range;
+        struct typed_headers_content_range content_range;
+        struct typed_headers_cors_facts cors_facts;
+        struct typed_headers_moments moments;
+        struct typed_headers_cache_options cache_options;
+        struct typed_headers_stored stored;
+        struct typed_headers_stored_answer stored_answer;
+        struct typed_headers_freshened freshened;
+        struct typed_headers_response response;
+        struct typed_headers_quality quality;
+        struct typed_headers_handshake handshake;
+        struct typed_headers_representation representation;
+        struct typed_headers_resource_request resource_request;
+        struct typed_headers_resource_facts resource_facts;
+        struct typed_headers_framing framing;
+        struct typed_headers_port port;
+        struct typed_headers_transport_security transport_security;
+        struct typed_headers_retry_time retry_time;
+        struct typed_headers_cache_directives cache_directives;
+        struct typed_headers_cors_rules cors_rules;
+        struct typed_headers_cache_extensions cache_extensions;
+        struct typed_headers_cache_request cache_request;
+        struct typed_headers_cache_response cache_response;
+        struct typed_headers_looked_up looked_up;
+        struct typed_headers_content content;
+        struct typed_headers_resource resource;
+        struct typed_headers_gateway gateway;
+        struct typed_headers_hop hop;
+        struct typed_headers_request_outcome request_outcome;
+        struct typed_headers_response_outcome response_outcome;
+        struct typed_headers_framing_outcome framing_outcome;
+        struct typed_headers_origin_parts origin_parts;
+    } any;
+};
+
+SHAPE(target, FLAGGED(target, last_modified, U64, has_last_modified), MEMBER(target, present, U64),
+      MEMBER(target, exists, BOOL), MEMBER(target, is_date_strong, BOOL))
+SHAPE(directive_seconds, FLAGGED(directive_seconds, seconds, U64, is_set))
+SHAPE(bytes_range, MEMBER(bytes_range, first, U64), MEMBER(bytes_range, last, U64))
+SHAPE(content_range, MEMBER(content_range, first, U64), MEMBER(content_range, last, U64),
+      FLAGGED(content_range, length, U64, has_length), MEMBER(content_range, has_range, U8))
+SHAPE(cors_facts, MEMBER(cors_facts, kind, U8), MEMBER(cors_facts, is_allowed, U8))
+SHAPE(moments, MEMBER(moments, request, U64), MEMBER(moments, response, U64), MEMBER(moments, now, U64))
+SHAPE(cache_options, MEMBER(cache_options, variants, SIZE), MEMBER(cache_options, responses, SIZE),
+      MEMBER(cache_options, bytes, SIZE), MEMBER(cache_options, is_shared, BOOL))
+SHAPE(stored, MEMBER(stored, age, U64), MEMBER(stored, requested, U64), MEMBER(stored, received, U64),
+      MEMBER(stored, length, SIZE), MEMBER(stored, status, U16))
+SHAPE(stored_answer, MEMBER(stored_answer, first, U64), MEMBER(stored_answer, last, U64),
+      MEMBER(stored_answer, kind, U8))
+SHAPE(freshened, MEMBER(freshened, number, U64), MEMBER(freshened, outcome, U8))
+SHAPE(response, MEMBER(response, status, U16), MEMBER(response, keeps_encoding, U8))
+SHAPE(quality, MEMBER(quality, weight, U16), MEMBER(quality, is_acceptable, U8))
+SHAPE(handshake, MEMBER(handshake, status, U16), MEMBER(handshake, fault, U8))
+SHAPE(representation, FLAGGED(representation, length, U64, has_length),
+      FLAGGED(representation, last_modified, U64, has_last_modified), MEMBER(representation, sends_ranges, BOOL),
+      MEMBER(representation, is_date_strong, BOOL))
+SHAPE(resource_request, MEMBER(resource_request, present, U64), FLAGGED(resource_request, length, U64, has_length),
+      MEMBER(resource_request, version, U8), MEMBER(resource_request, has_content, BOOL))
+SHAPE(resource_facts, FLAGGED(resource_facts, place, SIZE, has_place), MEMBER(resource_facts, status, U16),
+      MEMBER(resource_facts, reason, U8), MEMBER(resource_facts, sends, U8))
+SHAPE(framing, MEMBER(framing, length, U64), MEMBER(framing, kind, U8))
+SHAPE(port, FLAGGED(port, number, U16, is_set))
+SHAPE(transport_security, MEMBER(transport_security, max_age, U64),
+      MEMBER(transport_security, include_subdomains, U8))
+SHAPE(retry_time, MEMBER(retry_time, seconds, U64), MEMBER(retry_time, is_date, U8))
+SHAPE(cache_directives, INNER(cache_directives, max_age, directive_seconds),
+      INNER(cache_directives, max_stale, directive_seconds), INNER(cache_directives, min_fresh, directive_seconds),
+      INNER(cache_directives, s_maxage, directive_seconds), MEMBER(cache_directives, no_cache, U8),
+      MEMBER(cache_directives, no_store, U8), MEMBER(cache_directives, no_transform, U8),
+      MEMBER(cache_directives, only_if_cached, U8), MEMBER(cache_directives, must_revalidate, U8),
+      MEMBER(cache_directives, must_understand, U8), MEMBER(cache_directives, is_public, U8),
+      MEMBER(cache_directives, is_private, U8), MEMBER(cache_directives, immutable, U8),
+      MEMBER(cache_directives, proxy_revalidate, U8))
+SHAPE(cors_rules, MEMBER(cors_rules, origins, A_TEXT), MEMBER(cors_rules, methods, A_TEXT),
+      MEMBER(cors_rules, headers, A_TEXT), MEMBER(cors_rules, exposed, A_TEXT),
+      FLAGGED(cors_rules, max_age, U64, has_max_age), MEMBER(cors_rules, credentials, BOOL))
+SHAPE(cache_extensions, MEMBER(cache_extensions, targets, A_TEXT), MEMBER(cache_extensions, immutable, BOOL))
+SHAPE(cache_request, MEMBER(cache_request, target, A_TEXT), MEMBER(cache_request, method, A_TEXT),
+      MEMBER(cache_request, section, A_TEXT))
+SHAPE(cache_response, MEMBER(cache_response, section, A_TEXT), MEMBER(cache_response, content, A_TEXT),
+      MEMBER(cache_response, requested, U64), MEMBER(cache_response, received, U64),
+      MEMBER(cache_response, status, U16), MEMBER(cache_response, is_complete, BOOL))
+SHAPE(looked_up, INNER(looked_up, stored, stored), MEMBER(looked_up, number, U64), MEMBER(looked_up, action, U8))
+SHAPE(content, MEMBER(content, media_type, A_TEXT), FLAGGED(content, length, U64, has_length),
+      MEMBER(content, sends_ranges, BOOL))
+SHAPE(resource, MEMBER(resource, hosts, A_TEXT), MEMBER(resource, methods, A_TEXT),
+      MEMBER(resource, creating, A_TEXT), MEMBER(resource, guarded, A_TEXT), MEMBER(resource, accept, A_TEXT),
+      MEMBER(resource, accept_encoding, A_TEXT), MEMBER(resource, location, A_TEXT),
+      MEMBER(resource, media_types, A_TEXT), MEMBER(resource, languages, A_TEXT), MEMBER(resource, codings, A_TEXT),
+      MEMBER(resource, etags, A_TEXT), MEMBER(resource, boundary, A_TEXT), FLAGGED(resource, limit, U64, has_limit),
+      MEMBER(resource, state, U16), MEMBER(resource, by_media_type, BOOL), MEMBER(resource, by_language, BOOL),
+      MEMBER(resource, by_coding, BOOL), MEMBER(resource, is_strict, BOOL), MEMBER(resource, needs_length, BOOL),
+      MEMBER(resource, has_cors, BOOL))
+SHAPE(gateway, MEMBER(gateway, name, A_TEXT), MEMBER(gateway, protected_fields, A_TEXT),
+      MEMBER(gateway, consumes_credentials, BOOL))
+SHAPE(hop, MEMBER(hop, client, A_TEXT), MEMBER(hop, interface_node, A_TEXT), MEMBER(hop, client_port, U16),
+      MEMBER(hop, interface_port, U16), MEMBER(hop, server_version, U8), MEMBER(hop, is_secure, BOOL),
+      MEMBER(hop, is_trusted, BOOL), MEMBER(hop, writes_forwarded, BOOL), MEMBER(hop, writes_x_forwarded, BOOL),
+      MEMBER(hop, tells_host, BOOL), MEMBER(hop, closes, BOOL), MEMBER(hop, accepts_trailers, BOOL))
+SHAPE(request_outcome, INNER(request_outcome, framing, framing), MEMBER(request_outcome, status, U16),
+      MEMBER(request_outcome, action, U8), MEMBER(request_outcome, reason, U8),
+      MEMBER(request_outcome, sends_continue, U8))
+SHAPE(response_outcome, INNER(response_outcome, received, framing), INNER(response_outcome, sent, framing),
+      MEMBER(response_outcome, status, U16), MEMBER(response_outcome, action, U8),
+      MEMBER(response_outcome, reason, U8))
+SHAPE(framing_outcome, INNER(framing_outcome, framing, framing), MEMBER(framing_outcome, status, U16),
+      MEMBER(framing_outcome, reason, U8))
+SHAPE(origin_parts, MEMBER(origin_parts, scheme_length, SIZE), INNER(origin_parts, port, port),
+      MEMBER(origin_parts, is_null, U8))
+
+HANDLE(cache)
+HANDLE(section)
+HANDLE(cors_policy)
+HANDLE(resource_handle)
+
+CALL(canonical, MAY(REFUSED) | MAY(TOO_LARGE) | MAY(MARKED) | MAY(NO_MEMORY), (TEXT_OF(at[0]), &keys, ROOM(at[1])),
+     PLAIN(GIVEN_TEXT), PLAIN(ROOM_OF_BYTES))
+CALL(field, MAY(REFUSED) | MAY(ABSENT) | MAY(NO_MEMORY), (TEXT_OF(at[0]), FIELD(at[1]), ROOM(at[2])),
+     PLAIN(GIVEN_TEXT), PLAIN(LINES), PLAIN(ROOM_OF_BYTES))
+CALL(age, MAY(REFUSED) | MAY(ABSENT) | MAY(NO_MEMORY), (FIELD(at[0]), &at[1].u64), PLAIN(LINES),
+     OF_KIND(OUT_NUMBER, U64))
+CALL(content_length, MAY(REFUSED) | MAY(ABSENT) | MAY(NO_MEMORY), (FIELD(at[0]), &at[1].u64), PLAIN(LINES),
+     OF_KIND(OUT_NUMBER, U64))
+CALL(date, MAY(REFUSED) | MAY(ABSENT) | MAY(NO_MEMORY), (FIELD(at[0]), &at[1].u64), PLAIN(LINES),
+     OF_KIND(OUT_NUMBER, U64))
+CALL(expires, MAY(REFUSED) | MAY(ABSENT) | MAY(NO_MEMORY), (FIELD(at[0]), &at[1].u64), PLAIN(LINES),
+     OF_KIND(OUT_NUMBER, U64))
+CALL(last_modified, MAY(REFUSED) | MAY(ABSENT) | MAY(NO_MEMORY), (FIELD(at[0]), &at[1].u64), PLAIN(LINES),
+     OF_KIND(OUT_NUMBER, U64))
+CALL(media_type, MAY(REFUSED) | MAY(ABSENT) | MAY(NO_MEMORY), (FIELD(at[0]), ROOM(at[1])), PLAIN(LINES),
+     PLAIN(ROOM_OF_BYTES))
+CALL(essence, MAY(REFUSED) | MAY(ABSENT) | MAY(NO_MEMORY), (FIELD(at[0]), ROOM(at[1])), PLAIN(LINES),
+     PLAIN(ROOM_OF_BYTES))
+CALL(strong_eq, MAY(REFUSED) | MAY(ABSENT) | MAY(NO_MEMORY), (FIELD(at[0]), FIELD(at[1]), &at[2].u8), PLAIN(LINES),
+     PLAIN(LINES), OF_KIND(OUT_NUMBER, U8))
+CALL(weak_eq, MAY(REFUSED) | MAY(ABSENT) | MAY(NO_MEMORY), (FIELD(at[0]), FIELD(at[1]), &at[2].u8), PLAIN(LINES),
+     PLAIN(LINES), OF_KIND(OUT_NUMBER, U8))
+CALL(cache_control, MAY(REFUSED) | MAY(ABSENT) | MAY(NO_MEMORY), (FIELD(at[0]), &at[1].any.cache_directives),
+     PLAIN(LINES), OF_SHAPE(OUT_STRUCT, cache_directives))
+CALL(ranges, MAY(REFUSED) | MAY(ABSENT) | MAY(NO_MEMORY), (FIELD(at[0]), at[1].u64, ROOM(at[2])), PLAIN(LINES),
+     OF_KIND(NUMBER, U64), OF_SHAPE(ROOM_OF_STRUCTS, bytes_range))
+CALL(format_date, MAY(REFUSED) | MAY(NO_MEMORY), (at[0].u64, ROOM(at[1])), OF_KIND(NUMBER, U64),
+     PLAIN(ROOM_OF_BYTES))
+CALL(format_content_range, MAY(REFUSED) | MAY(NO_MEMORY), (&at[0].any.content_range, ROOM(at[1])),
+     OF_SHAPE(IN_STRUCT, content_range), PLAIN(ROOM_OF_BYTES))
+CALL(format_etag, MAY(REFUSED) | MAY(NO_MEMORY), (at[0].flag, TEXT_OF(at[1]), ROOM(at[2])), OF_KIND(NUMBER, BOOL),
+     PLAIN(GIVEN_TEXT), PLAIN(ROOM_OF_BYTES))
+CALL(evaluate, MAY(REFUSED) | MAY(TOO_LARGE) | MAY(NO_MEMORY), (TEXT_OF(at[0]), TEXT_OF(at[1]), &keys,
+     TEXT_OF(at[2]), &at[3].any.target, &at[4].u16), PLAIN(GIVEN_TEXT), PLAIN(GIVEN_TEXT), PLAIN(GIVEN_TEXT),
+     OF_SHAPE(IN_STRUCT, target), OF_KIND(OUT_NUMBER, U16))
+CALL(select, MAY(REFUSED) | MAY(ABSENT) | MAY(TOO_LARGE) | MAY(NO_MEMORY), (TEXT_OF(at[0]), TEXT_OF(at[1]), &keys,
+     TEXT_OF(at[2]), &at[3].any.target, at[4].u64, &at[5].u16, ROOM(at[6])), PLAIN(GIVEN_TEXT), PLAIN(GIVEN_TEXT),
+     PLAIN(GIVEN_TEXT), OF_SHAPE(IN_STRUCT, target), OF_KIND(NUMBER, U64), OF_KIND(OUT_NUMBER, U16),
+     OF_SHAPE(ROOM_OF_STRUCTS, bytes_range))
+CALL(respond, MAY(REFUSED) | MAY(TOO_LARGE) | MAY(NO_MEMORY), (TEXT_OF(at[0]), TEXT_OF(at[1]), &keys, TEXT_OF(at[2]),
+     &at[3].any.target, &at[4].any.content, TEXT_OF(at[5]), &at[6].any.response, ROOM(at[7]), ROOM(at[8])),
+     PLAIN(GIVEN_TEXT), PLAIN(GIVEN_TEXT), PLAIN(GIVEN_TEXT), OF_SHAPE(IN_STRUCT, target),
+     OF_SHAPE(IN_STRUCT, content), PLAIN(GIVEN_TEXT), OF_SHAPE(OUT_STRUCT, response),
+     OF_SHAPE(ROOM_OF_STRUCTS, bytes_range), PLAIN(ROOM_OF_BYTES))
+CALL(choose_type, MAY(REFUSED) | MAY(ABSENT) | MAY(NO_MEMORY), (FIELD(at[0]), TEXT_OF(at[1]), &at[2].size),
+     PLAIN(LINES), PLAIN(GIVEN_TEXT), OF_KIND(OUT_NUMBER, SIZE))
+CALL(choose_coding, MAY(REFUSED) | MAY(ABSENT) | MAY(NO_MEMORY), (FIELD(at[0]), TEXT_OF(at[1]), &at[2].size),
+     PLAIN(LINES), PLAIN(GIVEN_TEXT), OF_KIND(OUT_NUMBER, SIZE))
+CALL(choose_language, MAY(REFUSED) | MAY(ABSENT) | MAY(NO_MEMORY), (FIELD(at[0]), TEXT_OF(at[1]), &at[2].size),
+     PLAIN(LINES), PLAIN(GIVEN_TEXT), OF_KIND(OUT_NUMBER, SIZE))
+CALL(look_up_language, MAY(REFUSED) | MAY(ABSENT) | MAY(NO_MEMORY), (FIELD(at[0]), TEXT_OF(at[1]), &at[2].size),
+     PLAIN(LINES), PLAIN(GIVEN_TEXT), OF_KIND(OUT_NUMBER, SIZE))
+CALL(type_quality, MAY(REFUSED) | MAY(ABSENT) | MAY(NO_MEMORY), (FIELD(at[0]), TEXT_OF(at[1]), &at[2].any.quality),
+     PLAIN(LINES), PLAIN(GIVEN_TEXT), OF_SHAPE(OUT_STRUCT, quality))
+CALL(coding_quality, MAY(REFUSED) | MAY(ABSENT) | MAY(NO_MEMORY), (FIELD(at[0]), TEXT_OF(at[1]), &at[2].any.quality),
+     PLAIN(LINES), PLAIN(GIVEN_TEXT), OF_SHAPE(OUT_STRUCT, quality))
+CALL(language_quality, MAY(REFUSED) | MAY(ABSENT) | MAY(NO_MEMORY), (FIELD(at[0]), TEXT_OF(at[1]),
+     &at[2].any.quality), PLAIN(LINES), PLAIN(GIVEN_TEXT), OF_SHAPE(OUT_STRUCT, quality))
+CALL(websocket_accept, MAY(REFUSED) | MAY(ABSENT) | MAY(NO_MEMORY), (FIELD(at[0]), ROOM(at[1])), PLAIN(LINES),
+     PLAIN(ROOM_OF_BYTES))
+CALL(websocket_respond, MAY(REFUSED) | MAY(TOO_LARGE) | MAY(NO_MEMORY), (TEXT_OF(at[0]), at[1].u8, TEXT_OF(at[2]),
+     &keys, TEXT_OF(at[3]), TEXT_OF(at[4]), &at[5].any.handshake, ROOM(at[6])), PLAIN(GIVEN_TEXT),
+     OF_KIND(NUMBER, U8), PLAIN(GIVEN_TEXT), PLAIN(GIVEN_TEXT), PLAIN(GIVEN_TEXT), OF_SHAPE(OUT_STRUCT, handshake),
+     PLAIN(ROOM_OF_BYTES))
+CALL(websocket_request, MAY(REFUSED) | MAY(NO_MEMORY), (TEXT_OF(at[0]), ROOM(at[1])), PLAIN(GIVEN_TEXT),
+     PLAIN(ROOM_OF_BYTES))
+CALL(websocket_check, MAY(REFUSED) | MAY(TOO_LARGE) | MAY(NO_MEMORY), (TEXT_OF(at[0]), at[1].u16, TEXT_OF(at[2]),
+     &keys, &at[3].u8), PLAIN(GIVEN_TEXT), OF_KIND(NUMBER, U16), PLAIN(GIVEN_TEXT), OF_KIND(OUT_NUMBER, U8))
+CALL(cors_answer, MAY(REFUSED) | MAY(TOO_LARGE) | MAY(NO_MEMORY), (&at[0].any.cors_rules, TEXT_OF(at[1]),
+     TEXT_OF(at[2]), TEXT_OF(at[3]), &keys, &at[4].any.cors_facts, ROOM(at[5])), OF_SHAPE(IN_STRUCT, cors_rules),
+     PLAIN(GIVEN_TEXT), PLAIN(GIVEN_TEXT), PLAIN(GIVEN_TEXT), OF_SHAPE(OUT_STRUCT, cors_facts), PLAIN(ROOM_OF_BYTES))
+CALL(resource_answer, MAY(REFUSED) | MAY(TOO_LARGE) | MAY(NO_MEMORY), (&at[0].any.resource, at[1].list.at,
+     at[1].list.length, &at[2].any.cors_rules, &at[3].any.resource_request, TEXT_OF(at[4]), TEXT_OF(at[5]),
+     TEXT_OF(at[6]), &keys, &at[7].any.resource_facts, ROOM(at[8]), ROOM(at[9])), OF_SHAPE(IN_STRUCT, resource),
+     OF_SHAPE(LIST_STRUCT, representation), OF_SHAPE(IN_STRUCT, cors_rules), OF_SHAPE(IN_STRUCT, resource_request),
+     PLAIN(GIVEN_TEXT), PLAIN(GIVEN_TEXT), PLAIN(GIVEN_TEXT), OF_SHAPE(OUT_STRUCT, resource_facts),
+     OF_SHAPE(ROOM_OF_STRUCTS, bytes_range), PLAIN(ROOM_OF_BYTES))
+CALL(may_store, MAY(REFUSED) | MAY(TOO_LARGE) | MAY(NO_MEMORY), (TEXT_OF(at[0]), TEXT_OF(at[1]), at[2].u16,
+     TEXT_OF(at[3]), &keys, at[4].flag, &at[5].u8), PLAIN(GIVEN_TEXT), PLAIN(GIVEN_TEXT), OF_KIND(NUMBER, U16),
+     PLAIN(GIVEN_TEXT), OF_KIND(NUMBER, BOOL), OF_KIND(OUT_NUMBER, U8))
+CALL(lifetime, MAY(REFUSED) | MAY(ABSENT) | MAY(TOO_LARGE) | MAY(NO_MEMORY), (TEXT_OF(at[0]), &keys, at[1].u64,
+     at[2].flag, &at[3].u64), PLAIN(GIVEN_TEXT), OF_KIND(NUMBER, U64), OF_KIND(NUMBER, BOOL),
+     OF_KIND(OUT_NUMBER, U64))
+CALL(heuristic_lifetime, MAY(REFUSED) | MAY(ABSENT) | MAY(TOO_LARGE) | MAY(NO_MEMORY), (at[0].u16, TEXT_OF(at[1]),
+     &keys, at[2].u64, at[3].flag, &at[4].u64), OF_KIND(NUMBER, U16), PLAIN(GIVEN_TEXT), OF_KIND(NUMBER, U64),
+     OF_KIND(NUMBER, BOOL), OF_KIND(OUT_NUMBER, U64))
+CALL(current_age, MAY(REFUSED) | MAY(TOO_LARGE) | MAY(NO_MEMORY), (TEXT_OF(at[0]), &keys, &at[1].any.moments,
+     &at[2].u64), PLAIN(GIVEN_TEXT), OF_SHAPE(IN_STRUCT, moments), OF_KIND(OUT_NUMBER, U64))
+CALL(decide, MAY(REFUSED) | MAY(TOO_LARGE) | MAY(NO_MEMORY), (TEXT_OF(at[0]), TEXT_OF(at[1]), TEXT_OF(at[2]),
+     TEXT_OF(at[3]), TEXT_OF(at[4]), &keys, &at[5].any.moments, at[6].flag, &at[7].u8), PLAIN(GIVEN_TEXT),
+     PLAIN(GIVEN_TEXT), PLAIN(GIVEN_TEXT), PLAIN(GIVEN_TEXT), PLAIN(GIVEN_TEXT), OF_SHAPE(IN_STRUCT, moments),
+     OF_KIND(NUMBER, BOOL), OF_KIND(OUT_NUMBER, U8))
+CALL(validators, MAY(REFUSED) | MAY(TOO_LARGE) | MAY(NO_MEMORY), (TEXT_OF(at[0]), at[1].u64, &keys, ROOM(at[2])),
+     PLAIN(GIVEN_TEXT), OF_KIND(NUMBER, U64), PLAIN(ROOM_OF_BYTES))
+CALL(cache_new, MAY(REFUSED) | MAY(NO_MEMORY), (at[0].handle.at, &at[1].any.cache_options, &keys),
+     OF_HANDLE(NEW, cache), OF_SHAPE(IN_STRUCT, cache_options))
+CALL(cache_new_with, MAY(REFUSED) | MAY(NO_MEMORY), (at[0].handle.at, &at[1].any.cache_options,
+     &at[2].any.cache_extensions, &keys), OF_HANDLE(NEW, cache), OF_SHAPE(IN_STRUCT, cache_options),
+     OF_SHAPE(IN_STRUCT, cache_extensions))
+CALL(cache_free, 0, (at[0].handle.at), OF_HANDLE(OPENED, cache))
+CALL(cache_lookup, MAY(REFUSED) | MAY(ABSENT) | MAY(TOO_LARGE) | MAY(NO_MEMORY), (at[0].handle.at,
+     &at[1].any.cache_request, at[2].u64, at[3].u64, &at[4].any.looked_up, ROOM(at[5])), OF_HANDLE(OPENED, cache),
+     OF_SHAPE(IN_STRUCT, cache_request), OF_KIND(NUMBER, U64), OF_KIND(NUMBER, U64), OF_SHAPE(OUT_STRUCT, looked_up),
+     PLAIN(ROOM_OF_BYTES))
+CALL(cache_response, MAY(REFUSED) | MAY(ABSENT) | MAY(NO_MEMORY), (at[0].handle.at, TEXT_OF(at[1]), at[2].u64,
+     at[3].u64, &at[4].any.stored, ROOM(at[5])), OF_HANDLE(OPENED, cache), PLAIN(GIVEN_TEXT), OF_KIND(NUMBER, U64),
+     OF_KIND(NUMBER, U64), OF_SHAPE(OUT_STRUCT, stored), PLAIN(ROOM_OF_BYTES))
+CALL(cache_content, MAY(REFUSED) | MAY(ABSENT), (at[0].handle.at, TEXT_OF(at[1]), at[2].u64, at[3].size,
+     ROOM(at[4])), OF_HANDLE(OPENED, cache), PLAIN(GIVEN_TEXT), OF_KIND(NUMBER, U64), OF_KIND(NUMBER, SIZE),
+     PLAIN(PIECE))
+CALL(cache_answer, MAY(REFUSED) | MAY(ABSENT) | MAY(TOO_LARGE) | MAY(NO_MEMORY), (at[0].handle.at,
+     &at[1].any.cache_request, at[2].u64, at[3].u64, at[4].flag, &at[5].any.stored_answer), OF_HANDLE(OPENED, cache),
+     OF_SHAPE(IN_STRUCT, cache_request), OF_KIND(NUMBER, U64), OF_KIND(NUMBER, U64), OF_KIND(NUMBER, BOOL),
+     OF_SHAPE(OUT_STRUCT, stored_answer))
+CALL(cache_store, MAY(REFUSED) | MAY(ABSENT) | MAY(TOO_LARGE) | MAY(NO_MEMORY), (at[0].handle.at,
+     &at[1].any.cache_request, &at[2].any.cache_response, &at[3].u64), OF_HANDLE(OPENED, cache),
+     OF_SHAPE(IN_STRUCT, cache_request), OF_SHAPE(IN_STRUCT, cache_response), OF_KIND(OUT_NUMBER, U64))
+CALL(cache_freshen, MAY(REFUSED) | MAY(ABSENT) | MAY(TOO_LARGE) | MAY(NO_MEMORY), (at[0].handle.at,
+     &at[1].any.cache_request, TEXT_OF(at[2]), at[3].u64, at[4].u64, &at[5].any.freshened), OF_HANDLE(OPENED, cache),
+     OF_SHAPE(IN_STRUCT, cache_request), PLAIN(GIVEN_TEXT), OF_KIND(NUMBER, U64), OF_KIND(NUMBER, U64),
+     OF_SHAPE(OUT_STRUCT, freshened))
+CALL(cache_freshen_by_head, MAY(REFUSED) | MAY(ABSENT) | MAY(TOO_LARGE) | MAY(NO_MEMORY), (at[0].handle.at,
+     &at[1].any.cache_request, TEXT_OF(at[2]), at[3].u64, at[4].u64), OF_HANDLE(OPENED, cache),
+     OF_SHAPE(IN_STRUCT, cache_request), PLAIN(GIVEN_TEXT), OF_KIND(NUMBER, U64), OF_KIND(NUMBER, U64))
+CALL(cache_invalidate, MAY(REFUSED) | MAY(ABSENT) | MAY(NO_MEMORY), (at[0].handle.at, TEXT_OF(at[1]), TEXT_OF(at[2]),
+     at[3].u16), OF_HANDLE(OPENED, cache), PLAIN(GIVEN_TEXT), PLAIN(GIVEN_TEXT), OF_KIND(NUMBER, U16))
+CALL(cache_remove, MAY(REFUSED) | MAY(ABSENT), (at[0].handle.at, TEXT_OF(at[1])), OF_HANDLE(OPENED, cache),
+     PLAIN(GIVEN_TEXT))
+CALL(forward_request, MAY(REFUSED) | MAY(TOO_LARGE) | MAY(NO_MEMORY), (&at[0].any.gateway, &at[1].any.hop,
+     TEXT_OF(at[2]), at[3].u8, TEXT_OF(at[4]), TEXT_OF(at[5]), &keys, &at[6].any.request_outcome, ROOM(at[7])),
+     OF_SHAPE(IN_STRUCT, gateway), OF_SHAPE(IN_STRUCT, hop), PLAIN(GIVEN_TEXT), OF_KIND(NUMBER, U8),
+     PLAIN(GIVEN_TEXT), PLAIN(GIVEN_TEXT), OF_SHAPE(OUT_STRUCT, request_outcome), PLAIN(ROOM_OF_BYTES))
+CALL(forward_response, MAY(REFUSED) | MAY(TOO_LARGE) | MAY(NO_MEMORY), (&at[0].any.gateway, at[1].u16, at[2].u8,
+     TEXT_OF(at[3]), &keys, TEXT_OF(at[4]), at[5].u8, at[6].u64, &at[7].any.response_outcome, ROOM(at[8])),
+     OF_SHAPE(IN_STRUCT, gateway), OF_KIND(NUMBER, U16), OF_KIND(NUMBER, U8), PLAIN(GIVEN_TEXT), PLAIN(GIVEN_TEXT),
+     OF_KIND(NUMBER, U8), OF_KIND(NUMBER, U64), OF_SHAPE(OUT_STRUCT, response_outcome), PLAIN(ROOM_OF_BYTES))
+CALL(framing, MAY(REFUSED) | MAY(TOO_LARGE) | MAY(NO_MEMORY), (TEXT_OF(at[0]), at[1].u16, at[2].u8, TEXT_OF(at[3]),
+     &keys, &at[4].any.framing_outcome), PLAIN(GIVEN_TEXT), OF_KIND(NUMBER, U16), OF_KIND(NUMBER, U8),
+     PLAIN(GIVEN_TEXT), OF_SHAPE(OUT_STRUCT, framing_outcome))
+CALL(basic, MAY(REFUSED) | MAY(ABSENT) | MAY(NO_MEMORY), (FIELD(at[0]), &at[1].size, ROOM(at[2])), PLAIN(LINES),
+     OF_KIND(OUT_NUMBER, SIZE), PLAIN(ROOM_OF_BYTES))
+CALL(bearer, MAY(REFUSED) | MAY(ABSENT) | MAY(NO_MEMORY), (FIELD(at[0]), ROOM(at[1])), PLAIN(LINES),
+     PLAIN(ROOM_OF_BYTES))
+CALL(cookie, MAY(REFUSED) | MAY(ABSENT) | MAY(NO_MEMORY), (FIELD(at[0]), TEXT_OF(at[1]), ROOM(at[2])), PLAIN(LINES),
+     PLAIN(GIVEN_TEXT), PLAIN(ROOM_OF_BYTES))
+CALL(cookies, MAY(REFUSED) | MAY(ABSENT) | MAY(NO_MEMORY), (FIELD(at[0]), ROOM(at[1])), PLAIN(LINES),
+     PLAIN(ROOM_OF_BYTES))
+CALL(host, MAY(REFUSED) | MAY(ABSENT) | MAY(NO_MEMORY), (FIELD(at[0]), &at[1].any.port, ROOM(at[2])), PLAIN(LINES),
+     OF_SHAPE(OUT_STRUCT, port), PLAIN(ROOM_OF_BYTES))
+CALL(origin, MAY(REFUSED) | MAY(ABSENT) | MAY(NO_MEMORY), (FIELD(at[0]), &at[1].any.origin_parts, ROOM(at[2])),
+     PLAIN(LINES), OF_SHAPE(OUT_STRUCT, origin_parts), PLAIN(ROOM_OF_BYTES))
+CALL(strict_transport_security, MAY(REFUSED) | MAY(ABSENT) | MAY(NO_MEMORY), (FIELD(at[0]),
+     &at[1].any.transport_security), PLAIN(LINES), OF_SHAPE(OUT_STRUCT, transport_security))
+CALL(retry_after, MAY(REFUSED) | MAY(ABSENT) | MAY(NO_MEMORY), (FIELD(at[0]), &at[1].any.retry_time), PLAIN(LINES),
+     OF_SHAPE(OUT_STRUCT, retry_time))
+CALL(content_range, MAY(REFUSED) | MAY(ABSENT) | MAY(NO_MEMORY), (FIELD(at[0]), &at[1].any.content_range),
+     PLAIN(LINES), OF_SHAPE(OUT_STRUCT, content_range))
+CALL(content_disposition, MAY(REFUSED) | MAY(ABSENT) | MAY(NO_MEMORY), (FIELD(at[0]), &at[1].u8), PLAIN(LINES),
+     OF_KIND(OUT_NUMBER, U8))
+CALL(members, MAY(REFUSED) | MAY(ABSENT) | MAY(NO_MEMORY), (FIELD(at[0]), ROOM(at[1])), PLAIN(LINES),
+     PLAIN(ROOM_OF_BYTES))
+CALL(has_member, MAY(REFUSED) | MAY(ABSENT) | MAY(NO_MEMORY), (FIELD(at[0]), TEXT_OF(at[1]), at[2].flag, &at[3].u8),
+     PLAIN(LINES), PLAIN(GIVEN_TEXT), OF_KIND(NUMBER, BOOL), OF_KIND(OUT_NUMBER, U8))
+CALL(section_free, 0, (at[0].handle.at), OF_HANDLE(OPENED, section))
+CALL(cors_policy_free, 0, (at[0].handle.at), OF_HANDLE(OPENED, cors_policy))
+CALL(resource_handle_free, 0, (at[0].handle.at), OF_HANDLE(OPENED, resource_handle))
+CALL(section_new, MAY(REFUSED) | MAY(TOO_LARGE) | MAY(NO_MEMORY), (at[0].handle.at, TEXT_OF(at[1]), &keys),
+     OF_HANDLE(NEW, section), PLAIN(GIVEN_TEXT))
+CALL(section_field, MAY(REFUSED) | MAY(ABSENT) | MAY(NO_MEMORY), (at[0].handle.at, TEXT_OF(at[1]), ROOM(at[2])),
+     OF_HANDLE(OPENED, section), PLAIN(GIVEN_TEXT), PLAIN(ROOM_OF_BYTES))
+CALL(section_evaluate, MAY(REFUSED) | MAY(ABSENT) | MAY(NO_MEMORY), (at[0].handle.at, TEXT_OF(at[1]), TEXT_OF(at[2]),
+     &at[3].any.target, &at[4].u16), OF_HANDLE(OPENED, section), PLAIN(GIVEN_TEXT), PLAIN(GIVEN_TEXT),
+     OF_SHAPE(IN_STRUCT, target), OF_KIND(OUT_NUMBER, U16))
+CALL(section_select, MAY(REFUSED) | MAY(ABSENT) | MAY(NO_MEMORY), (at[0].handle.at, TEXT_OF(at[1]), TEXT_OF(at[2]),
+     &at[3].any.target, at[4].u64, &at[5].u16, ROOM(at[6])), OF_HANDLE(OPENED, section), PLAIN(GIVEN_TEXT),
+     PLAIN(GIVEN_TEXT), OF_SHAPE(IN_STRUCT, target), OF_KIND(NUMBER, U64), OF_KIND(OUT_NUMBER, U16),
+     OF_SHAPE(ROOM_OF_STRUCTS, bytes_range))
+CALL(section_respond, MAY(REFUSED) | MAY(ABSENT) | MAY(NO_MEMORY), (at[0].handle.at, TEXT_OF(at[1]), TEXT_OF(at[2]),
+     &at[3].any.target, &at[4].any.content, TEXT_OF(at[5]), &at[6].any.response, ROOM(at[7]), ROOM(at[8])),
+     OF_HANDLE(OPENED, section), PLAIN(GIVEN_TEXT), PLAIN(GIVEN_TEXT), OF_SHAPE(IN_STRUCT, target),
+     OF_SHAPE(IN_STRUCT, content), PLAIN(GIVEN_TEXT), OF_SHAPE(OUT_STRUCT, response),
+     OF_SHAPE(ROOM_OF_STRUCTS, bytes_range), PLAIN(ROOM_OF_BYTES))
+CALL(section_choose_type, MAY(REFUSED) | MAY(ABSENT) | MAY(NO_MEMORY), (at[0].handle.at, TEXT_OF(at[1]),
+     &at[2].size), OF_HANDLE(OPENED, section), PLAIN(GIVEN_TEXT), OF_KIND(OUT_NUMBER, SIZE))
+CALL(section_choose_coding, MAY(REFUSED) | MAY(ABSENT) | MAY(NO_MEMORY), (at[0].handle.at, TEXT_OF(at[1]),
+     &at[2].size), OF_HANDLE(OPENED, section), PLAIN(GIVEN_TEXT), OF_KIND(OUT_NUMBER, SIZE))
+CALL(section_choose_language, MAY(REFUSED) | MAY(ABSENT) | MAY(NO_MEMORY), (at[0].handle.at, TEXT_OF(at[1]),
+     &at[2].size), OF_HANDLE(OPENED, section), PLAIN(GIVEN_TEXT), OF_KIND(OUT_NUMBER, SIZE))
+CALL(cors_policy_new, MAY(REFUSED) | MAY(NO_MEMORY), (at[0].handle.at, &at[1].any.cors_rules),
+     OF_HANDLE(NEW, cors_policy), OF_SHAPE(IN_STRUCT, cors_rules))
+CALL(cors_policy_answer, MAY(REFUSED) | MAY(ABSENT) | MAY(TOO_LARGE) | MAY(NO_MEMORY), (at[0].handle.at,
+     at[1].handle.at, TEXT_OF(at[2]), TEXT_OF(at[3]), &keys, &at[4].any.cors_facts, ROOM(at[5])),
+     OF_HANDLE(OPENED, cors_policy), OF_HANDLE(OPENED, section), PLAIN(GIVEN_TEXT), PLAIN(GIVEN_TEXT),
+     OF_SHAPE(OUT_STRUCT, cors_facts), PLAIN(ROOM_OF_BYTES))
+CALL(resource_handle_new, MAY(REFUSED) | MAY(NO_MEMORY), (at[0].handle.at, &at[1].any.resource, at[2].list.at,
+     at[2].list.length, &at[3].any.cors_rules), OF_HANDLE(NEW, resource_handle), OF_SHAPE(IN_STRUCT, resource),
+     OF_SHAPE(LIST_STRUCT, representation), OF_SHAPE(IN_STRUCT, cors_rules))
+CALL(resource_handle_answer, MAY(REFUSED) | MAY(ABSENT) | MAY(NO_MEMORY), (at[0].handle.at, at[1].handle.at,
+     &at[2].any.resource_request, TEXT_OF(at[3]), TEXT_OF(at[4]), &at[5].any.resource_facts, ROOM(at[6]),
+     ROOM(at[7])), OF_HANDLE(OPENED, resource_handle), OF_HANDLE(OPENED, section),
+     OF_SHAPE(IN_STRUCT, resource_request), PLAIN(GIVEN_TEXT), PLAIN(GIVEN_TEXT),
+     OF_SHAPE(OUT_STRUCT, resource_facts), OF_SHAPE(ROOM_OF_STRUCTS, bytes_range), PLAIN(ROOM_OF_BYTES))
+
+enum { MOST_SLOTS = 10 };
+#define CALLS \
+    METHOD(canonical), METHOD(field), METHOD(age), METHOD(content_length), METHOD(date), METHOD(expires), \
+    METHOD(last_modified), METHOD(media_type), METHOD(essence), METHOD(strong_eq), METHOD(weak_eq), \
+    METHOD(cache_control), METHOD(ranges), METHOD(format_date), METHOD(format_content_range), METHOD(format_etag), \
+    METHOD(evaluate), METHOD(select), METHOD(respond), METHOD(choose_type), METHOD(choose_coding), \
+    METHOD(choose_language), METHOD(look_up_language), METHOD(type_quality), METHOD(coding_quality), \
+    METHOD(language_quality), METHOD(websocket_accept), METHOD(websocket_respond), METHOD(websocket_request), \
+    METHOD(websocket_check), METHOD(cors_answer), METHOD(resource_answer), METHOD(may_store), METHOD(lifetime), \
+    METHOD(heuristic_lifetime), METHOD(current_age), METHOD(decide), METHOD(validators), METHOD(cache_new), \
+    METHOD(cache_new_with), METHOD(cache_free), METHOD(cache_lookup), METHOD(cache_response), METHOD(cache_content), \
+    METHOD(cache_answer), METHOD(cache_store), METHOD(cache_freshen), METHOD(cache_freshen_by_head), \
+    METHOD(cache_invalidate), METHOD(cache_remove), METHOD(forward_request), METHOD(forward_response), \
+    METHOD(framing), METHOD(basic), METHOD(bearer), METHOD(cookie), METHOD(cookies), METHOD(host), METHOD(origin), \
+    METHOD(strict_transport_security), METHOD(retry_after), METHOD(content_range), METHOD(content_disposition), \
+    METHOD(members), METHOD(has_member), METHOD(section_free), METHOD(cors_policy_free), \
+    METHOD(resource_handle_free), METHOD(section_new), METHOD(section_field), METHOD(section_evaluate), \
+    METHOD(section_select), METHOD(section_respond), METHOD(section_choose_type), METHOD(section_choose_coding), \
+    METHOD(section_choose_language), METHOD(cors_policy_new), METHOD(cors_policy_answer), \
+    METHOD(resource_handle_new), METHOD(resource_handle_answer)

@@ -1,0 +1,172 @@
+"""A private cache (RFC 9111) for `requests`.
+
+    session = requests.Session()
+    session.mount("https://", CachedAdapter())
+    session.mount("http://", CachedAdapter())
+"""
+
+import time
+from http.client import responses
+from io import BytesIO
+from threading import Thread
+from typing import Any, Callable, List, Optional
+from urllib.parse import urldefrag
+
+import requests
+from requests.adapters import HTTPAdapter
+from urllib3 import HTTPHeaderDict, HTTPResponse
+from urllib3.exceptions import HTTPError
+
+from ._cached import Ask, Reply, Rules, Step, Turn
+from ._exchange import length_of
+from .caching import Cache
+from .errors import HeaderError
+from .headers import Headers
+
+__all__ = ["CachedAdapter"]
+
+_PIECE = 64 * 1024
+
+
+class CachedAdapter(HTTPAdapter):
+    """Sends requests as an adapter of `requests` does, by way of a cache for one user.
+
+    What is stored and fresh is served; what is stale is validated. `stale-while-revalidate` and `stale-if-error`
+    (RFC 5861) are followed: the origin is asked by a thread after the response, and an exception of `requests` or a 500,
+    502, 503 or 504 is an error. A method that isn't safe removes what is stored for its URI. Each response has
+    `from_cache`. A response is stored if its content has at most `largest` bytes, and is read whole then; with
+    `stream=True`, only if it states its length.
+
+    If a response states no lifetime, at most `guess` seconds are guessed (section 4.2.2). `clock` gives the seconds
+    since 1970. Without a cache, one in 64 MiB of memory is made. Adapters and threads may share a cache.
+    """
+
+    def __init__(
+        self,
+        cache: Optional[Cache] = None,
+        *,
+        guess: int = 0,
+        largest: int = 8 * 1024 * 1024,
+        clock: Callable[[], float] = time.time,
+        **options: Any,
+    ) -> None:
+        super().__init__(**options)
+        self.rules = Rules(Cache(shared=False) if cache is None else cache, guess, largest, clock, is_shared=False)
+
+    def send(
+        self, request: requests.PreparedRequest, stream: bool = False, *given: Any, **named: Any
+    ) -> requests.Response:
+        try:
+            fields = Headers(list(request.headers.items()))
+        except HeaderError as error:
+            raise requests.exceptions.InvalidHeader(str(error), request=request) from error
+        turn = Turn(self.rules, request.method or "GET", urldefrag(request.url or "").url, fields)
+        step: Optional[Step] = turn.start()
+        while isinstance(step, Ask):
+            try:
+                response = super().send(_asking(request, step), stream, *given, **named)
+            except requests.exceptions.RequestException:
+                step = turn.failed()
+                if step is None:
+                    raise
+                continue
+            step = turn.came(response.status_code, list(response.raw.headers.items()))
+            if step is None:
+                response.request = request
+                setattr(response, "from_cache", False)
+                return self._kept(turn, response, stream)
+            response.close()
+        assert isinstance(step, Reply)
+        response = self.build_response(request, _raw(request, step))
+        setattr(response, "from_cache", True)
+        if turn.revalidates:
+            Thread(target=self._revalidate, args=(turn, request, given, named), daemon=True).start()
+        return response
+
+    def _kept(self, turn: Turn, response: requests.Response, stream: bool) -> requests.Response:
+        """The response, which is stored if it may be."""
+        raw = response.raw
+        if turn.came_as is None or stream and length_of(turn.came_as[1]) is None:
+            turn.end()
+            return response
+        pieces: List[bytes] = []
+        left = self.rules.largest
+        try:
+            while left >= 0:
+                piece = raw.read(_PIECE, decode_content=False)
+                if not piece:
+                    break
+                pieces.append(piece)
+                left -= len(piece)
+        except HTTPError as error:
+            turn.end()
+            raise requests.exceptions.ChunkedEncodingError(error, request=response.request) from error
+        content = b"".join(pieces)
+        turn.keep(content if left >= 0 else None)
+        response.raw = HTTPResponse(
+            body=BytesIO(content) if left >= 0 else _Chain(content, raw),
+            headers=raw.headers,
+            status=raw.status,
+            version=raw.version,
+            reason=raw.reason,
+            original_response=raw._original_response,
+            request_method=response.request.method,
+            preload_content=False,
+        )
+        return response
+
+    def _revalidate(self, turn: Turn, request: requests.PreparedRequest, given: Any, named: Any) -> None:
+        ask = turn.revalidate()
+        if ask is None:
+            return
+        try:
+            response = super().send(_asking(request, ask), False, *given, **named)
+            if turn.came(response.status_code, list(response.raw.headers.items())) is None:
+                self._kept(turn, response, False)
+            response.close()
+        except requests.exceptions.RequestException:
+            # (what is stored may be served stale once more, and the next request asks again)
+            pass
+        finally:
+            turn.end()
+
+
+class _Chain:
+    """What was read of a response, and then its rest."""
+
+    def __init__(self, read: bytes, rest: HTTPResponse) -> None:
+        self.first, self.rest = BytesIO(read), rest
+
+    @property
+    def closed(self) -> bool:
+        return self.rest.closed
+
+    def read(self, count: Optional[int] = None) -> bytes:
+        if count is None or count < 0:
+            return self.first.read() + self.rest.read(decode_content=False)
+        return self.first.read(count) or self.rest.read(count, decode_content=False)
+
+    def close(self) -> None:
+        self.rest.close()
+
+
+def _asking(request: requests.PreparedRequest, ask: Ask) -> requests.PreparedRequest:
+    """The request as the origin is asked it."""
+    if not ask.without and not ask.fields:
+        return request
+    asked = request.copy()
+    for name in ask.without:
+        asked.headers.pop(name, None)
+    asked.headers.update(dict(ask.fields))
+    return asked
+
+
+def _raw(request: requests.PreparedRequest, reply: Reply) -> HTTPResponse:
+    return HTTPResponse(
+        body=BytesIO(reply.content or b""),
+        headers=HTTPHeaderDict(reply.fields),
+        status=reply.status,
+        reason=responses.get(reply.status, ""),
+        request_method=request.method,
+        preload_content=False,
+    )
