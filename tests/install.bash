@@ -15,11 +15,11 @@ install_missing() {
         echo "run: not installed, as only root may: ${missing[*]}" >&2
         return
     fi
-    apt-get update -q >/dev/null 2>&1
+    timeout 120 apt-get update -q >/dev/null 2>&1
     local made=''
     [ -e "$rules" ] || { printf '#!/bin/sh\nexit 101\n' >"$rules" && chmod +x "$rules" && made=yes; }
     for package in "${missing[@]}"; do
-        DEBIAN_FRONTEND=noninteractive apt-get install -y -q --no-install-recommends "$package" >/dev/null 2>&1 ||
+        DEBIAN_FRONTEND=noninteractive timeout 600 apt-get install -y -q --no-install-recommends "$package" >/dev/null 2>&1 ||
             echo "run: $package isn't available" >&2
     done
     [ -z "$made" ] || rm -f -- "$rules"

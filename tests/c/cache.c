@@ -74,6 +74,8 @@ static void want(bool holds, const char *what) {
 }
 
 static struct typed_headers_cache cache = TYPED_HEADERS_CLOSED_CACHE;
+/* The number that a call on it gave last. */
+static uint64_t named;
 static const struct typed_headers_keys KEYS = {1, 2};
 
 static uint8_t status_of_call;
@@ -117,15 +119,17 @@ static void close_cache(void) {
     want(CALL(typed_headers_cache_free(&cache)) == TYPED_HEADERS_DONE && !cache.is_open, "free");
     want(CALL(typed_headers_cache_free(&cache)) == TYPED_HEADERS_DONE, "free of a closed cache");
     want(blocks == 0, "a block is left");
+    named = 0;
 }
 
 static void store(const char *target, const char *asked, uint64_t at, uint16_t code, const char *section,
-                  const char *content, bool is_complete, uint8_t wanted) {
-    uint8_t stored = FILL;
+                  const char *content, bool is_complete, bool wanted) {
+    uint64_t number = ROOM;
     const struct typed_headers_cache_request request = request_for(target, "GET", asked);
     const struct typed_headers_cache_response response = {text(section), text(content), at, at, code, is_complete};
-    AGAIN(typed_headers_cache_store(&cache, &request, &response, &stored), stored == FILL, "store");
-    want(status_of_call == TYPED_HEADERS_DONE && stored == wanted, "store");
+    AGAIN(typed_headers_cache_store(&cache, &request, &response, &number), number == ROOM, "store");
+    want(status_of_call == TYPED_HEADERS_DONE && (wanted ? number > named : number == 0), "store");
+    named = wanted ? number : named;
 }
 
 static bool is_filled(const uint8_t *from, const uint8_t *to) {
@@ -162,8 +166,8 @@ static void forwards(const char *target, uint64_t now) {
     look_up(target, "GET", "", now, 0, TYPED_HEADERS_FETCH, 0, 0, "");
 }
 
-/* The content of the first response of a target, in pieces. */
-static void content_is(const char *target, size_t place, const char *wanted) {
+/* The content of the response that was named last, in pieces. */
+static void content_is(const char *target, const char *wanted) {
     const struct typed_headers_text key = text(target);
     const size_t length = strlen(wanted);
     for (size_t from = 0; from <= length + 1; from++) {
@@ -171,7 +175,7 @@ static void content_is(const char *target, size_t place, const char *wanted) {
             uint8_t *at = areas[7] - room;
             size_t written = ROOM;
                 memset(at, FILL, room);
-            CALL(typed_headers_cache_content(&cache, key.bytes, key.length, place, from, room ? at : NULL, room,
+            CALL(typed_headers_cache_content(&cache, key.bytes, key.length, named, from, room ? at : NULL, room,
                                              &written));
             const size_t left = from < length ? length - from : 0, copied = left < room ? left : room;
             want(status_of_call == TYPED_HEADERS_DONE && written == copied, "content: count");
@@ -181,33 +185,34 @@ static void content_is(const char *target, size_t place, const char *wanted) {
     }
 }
 
-static void absent(const char *target, size_t place) {
+static void absent(const char *target, uint64_t number) {
     const struct typed_headers_text key = text(target);
     uint8_t room[1] = {FILL};
     size_t written = ROOM;
     struct typed_headers_stored facts;
     memset(&facts, FILL, sizeof facts);
-    CALL(typed_headers_cache_content(&cache, key.bytes, key.length, place, 0, room, sizeof room, &written));
+    CALL(typed_headers_cache_content(&cache, key.bytes, key.length, number, 0, room, sizeof room, &written));
     want(status_of_call == TYPED_HEADERS_ABSENT && written == ROOM && room[0] == FILL, "content that isn't there");
-    CALL(typed_headers_cache_response(&cache, key.bytes, key.length, place, 0, &facts, room, sizeof room, &written));
+    CALL(typed_headers_cache_response(&cache, key.bytes, key.length, number, 0, &facts, room, sizeof room, &written));
     want(status_of_call == TYPED_HEADERS_ABSENT && written == ROOM && facts.status == (FILL << 8 | FILL),
          "a response that isn't there");
 }
 
-static void freshen(const char *target, uint64_t at, const char *update, uint8_t outcome, size_t place) {
+static void freshen(const char *target, uint64_t at, const char *update, uint8_t outcome) {
     const struct typed_headers_cache_request request = request_for(target, "GET", "");
     const struct typed_headers_text section = text(update);
     struct typed_headers_freshened facts = {ROOM, FILL};
     CALL(typed_headers_cache_freshen(&cache, &request, section.bytes, section.length, at, at, &facts));
     want(status_of_call == TYPED_HEADERS_DONE
-             ? facts.outcome == outcome && facts.place == place
+             ? facts.outcome == outcome && (outcome < TYPED_HEADERS_UPDATED ? facts.number == 0 : facts.number > named)
              : status_of_call == TYPED_HEADERS_NO_MEMORY && refused_request && facts.outcome == FILL, "freshen");
+    named = status_of_call == TYPED_HEADERS_DONE && facts.number ? facts.number : named;
 }
 
 static void answers(const char *target, const char *asked, uint8_t kind, uint64_t first, uint64_t last) {
     const struct typed_headers_cache_request request = request_for(target, "GET", asked);
     struct typed_headers_stored_answer facts = {ROOM, ROOM, FILL};
-    AGAIN(typed_headers_cache_answer(&cache, &request, 0, 1010, true, &facts), facts.kind == FILL, "answer");
+    AGAIN(typed_headers_cache_answer(&cache, &request, named, 1010, true, &facts), facts.kind == FILL, "answer");
     want(status_of_call == TYPED_HEADERS_DONE && facts.kind == kind && facts.first == first && facts.last == last,
          "answer");
 }
@@ -230,16 +235,17 @@ static void refuses(void) {
 static void closed(void) {
     const struct typed_headers_cache_request request = request_for("/a", "GET", "");
     struct typed_headers_looked_up facts = {.action = FILL};
-    uint8_t room[1] = {FILL}, stored = FILL;
+    uint8_t room[1] = {FILL};
+    uint64_t number = ROOM;
     size_t written = ROOM;
     const struct typed_headers_cache_response response = {text(""), text(""), 0, 0, 200, true};
     CALL(typed_headers_cache_lookup(&cache, &request, 0, 0, &facts, room, 1, &written));
     want(status_of_call == TYPED_HEADERS_ABSENT && facts.action == FILL && written == ROOM, "lookup in a closed cache");
-    CALL(typed_headers_cache_store(&cache, &request, &response, &stored));
-    want(status_of_call == TYPED_HEADERS_ABSENT && stored == FILL, "store in a closed cache");
+    CALL(typed_headers_cache_store(&cache, &request, &response, &number));
+    want(status_of_call == TYPED_HEADERS_ABSENT && number == ROOM, "store in a closed cache");
     CALL(typed_headers_cache_remove(&cache, request.target.bytes, request.target.length));
     want(status_of_call == TYPED_HEADERS_ABSENT && !cache.is_open, "remove in a closed cache");
-    absent("/a", 0);
+    absent("/a", 1);
 }
 
 #define DATED "cache-control: max-age=60\ndate: Thu, 01 Jan 1970 00:16:40 GMT\netag: \"1\"\n"
@@ -256,10 +262,10 @@ static void play(void) {
     store("/a", "", 1000, 200, "age: 0\ncache-control: max-age=60\netag: \"1\"\n", "hello", true, 1);
     look_up("/a", "GET", "", 1010, 0, TYPED_HEADERS_SERVE, 200, 10,
             "cache-control: max-age=60\netag: \"1\"\ndate: Thu, 01 Jan 1970 00:16:40 GMT\nage: 10\n");
-    content_is("/a", 0, "hello");
-    absent("/a", 1);
-    absent("/b", 0);
-    absent("/a", TYPED_HEADERS_ONCE);
+    content_is("/a", "hello");
+    absent("/a", named + 1);
+    absent("/b", named);
+    absent("/a", 0);
     answers("/a", "", TYPED_HEADERS_WHOLE, 0, 0);
     answers("/a", "range: bytes=1-2\n", TYPED_HEADERS_PART, 1, 2);
     answers("/a", "range: bytes=9-\n", TYPED_HEADERS_UNSATISFIABLE, 0, 0);
@@ -274,29 +280,31 @@ static void play(void) {
             "if-modified-since: Thu, 01 Jan 1970 00:16:40 GMT\n");
     CALL(typed_headers_cache_remove(&cache, (const uint8_t *)"/b", 2));
     want(status_of_call == TYPED_HEADERS_DONE, "remove");
-    absent("/b", 0);
+    absent("/b", named);
     /* A 304 that is about none, one that updates, and one after which it may be stored no longer. */
     if (!refused_request) {
-        freshen("/a", 1100, "etag: \"2\"\n", TYPED_HEADERS_NONE_UPDATED, 0);
-        freshen("/c", 1100, "etag: \"1\"\n", TYPED_HEADERS_NONE_STORED, 0);
-        freshen("/a", 1100, "etag: \"1\"\ncache-control: max-age=30\n", TYPED_HEADERS_UPDATED, 0);
+        freshen("/a", 1100, "etag: \"2\"\n", TYPED_HEADERS_NONE_UPDATED);
+        freshen("/c", 1100, "etag: \"1\"\n", TYPED_HEADERS_NONE_STORED);
+        freshen("/a", 1100, "etag: \"1\"\ncache-control: max-age=30\n", TYPED_HEADERS_UPDATED);
         forwards("/c", 1100);
-        content_is("/a", 0, "hello");
-        freshen("/a", 1200, "etag: \"1\"\ncache-control: no-store\n", TYPED_HEADERS_UPDATED_ONCE, TYPED_HEADERS_ONCE);
-        content_is("/a", TYPED_HEADERS_ONCE, "hello");
-        absent("/a", 0);
+        content_is("/a", "hello");
+        freshen("/a", 1200, "etag: \"1\"\ncache-control: no-store\n", TYPED_HEADERS_UPDATED_ONCE);
+        content_is("/a", "hello");
+        absent("/b", named);
+        CALL(typed_headers_cache_remove(&cache, (const uint8_t *)"/b", 2));
+        absent("/a", named);
     } else {
-        freshen("/a", 1100, "etag: \"1\"\ncache-control: max-age=30\n", TYPED_HEADERS_UPDATED, 0);
+        freshen("/a", 1100, "etag: \"1\"\ncache-control: max-age=30\n", TYPED_HEADERS_UPDATED);
     }
     /* A request that isn't safe removes what is stored, unless it failed. */
     store("/d", "", 1000, 200, "cache-control: max-age=60\n", "one", true, 1);
     const struct typed_headers_text target = text("/d"), method = text("PUT");
     AGAIN(typed_headers_cache_invalidate(&cache, target.bytes, target.length, method.bytes, method.length, 500), true,
           "invalidate");
-    content_is("/d", 0, "one");
+    content_is("/d", "one");
     AGAIN(typed_headers_cache_invalidate(&cache, target.bytes, target.length, method.bytes, method.length, 204), true,
           "invalidate");
-    absent("/d", 0);
+    absent("/d", named);
     close_cache();
     /* RFC 8246, and RFC 9213, section 2.2: the first targeted field that is there, valid and not empty, counts. */
     open_with("no name", TYPED_HEADERS_REFUSED);

@@ -1,10 +1,10 @@
 """Plays histories of a cache through the class of Python, and compares the answers with those that are wanted.
 
-    cache_histories.py FILE..               the histories of files, as of crates/headers_cache_replay/data
+    cache_histories.py FILE..               the histories of files, as of crates/test_decisions/data
     cache_histories.py --random COUNT SEED  random ones, with the answers of the model of RFC 9111 of tests/peers
 
-A cache doesn't tell the method of the request that a response answered, nor the Age that it came with. So these are no
-part of what is compared.
+A cache doesn't tell the method of the request that a response answered, nor the Age that it came with, nor the order of
+what is stored. So these are no part of what is compared.
 """
 
 import sys
@@ -53,10 +53,12 @@ class Player:
         self.cache = headers.Cache(
             shared=kind == "shared", immutable=options[:1] == ["immutable"], targets=options[1:], **limits
         )
+        # No number above this was given, and these were named last for each target.
+        self.last, self.named = 0, {}
 
-    def stored(self, target, place, now=0):
-        """The words of the response at a place, or `None`."""
-        found = self.cache.response(target, place, now=now)
+    def stored(self, target, number, now=0):
+        """The words of the response with a number, or `None`."""
+        found = self.cache.response(target, number, now=now)
         if found is None:
             return None
         response, fields = found
@@ -65,15 +67,15 @@ class Player:
             if name != "age":
                 names.setdefault(name, []).append(word(value))
         shown = [text for name, values in names.items() for text in (f"({name})", *values)] or ["(none)"]
-        content = word(self.cache.content(target, place))
+        content = word(self.cache.content(target, number))
         return [str(response.status), content, str(response.requested), str(response.received), *shown]
 
+    def numbers(self, target):
+        once = self.named.get((target, "once"))
+        return [it for it in range(1, self.last + 1) if it != once and self.cache.response(target, it, now=0)]
+
     def all_stored(self, target):
-        found, place = [], 0
-        while (words := self.stored(target, place)) is not None:
-            found.append(words)
-            place += 1
-        return found
+        return [self.stored(target, number) for number in self.numbers(target)]
 
     def lookup(self, target, words, now, guess=0):
         method = unword(words.pop(0))
@@ -81,12 +83,13 @@ class Player:
         answer = [DECISIONS[found.decision]]
         if found.stored is None:
             return answer if not found.fields else [*answer, "(fields)"]
-        content = self.cache.content(target, found.stored.place)
+        self.named[target] = found.stored.number
+        content = self.cache.content(target, found.stored.number)
         if len(content) != found.stored.length:
             return [*answer, "(another length)"]
         answer.append(word(content))
         if found.decision in SERVED:
-            response, fields = self.cache.response(target, found.stored.place, now=now)
+            response, fields = self.cache.response(target, found.stored.number, now=now)
             if (response, fields) != (found.stored, found.fields) or int(fields[-1][1]) != response.age:
                 return [*answer, "(another response)"]
             return [*answer, "(age)", fields[-1][1]]
@@ -104,8 +107,9 @@ class Player:
         times = {"requested": int(words.pop(0)), "received": int(words.pop(0)), "complete": complete}
         method, asked = unword(words.pop(0)), fields_in(words)
         status, content = int(words.pop(0)), unword(words.pop(0))
-        is_stored = self.cache.store(method, target, asked, status, fields_in(words), content, **times)
-        return ["stored" if is_stored else "unstored"]
+        number = self.cache.store(method, target, asked, status, fields_in(words), content, **times)
+        self.last = max(self.last, number or 0)
+        return ["unstored" if number is None else "stored"]
 
     def call_store(self, target, words):
         return self.store(target, words, True)
@@ -117,23 +121,30 @@ class Player:
         times = {"requested": int(words.pop(0)), "received": int(words.pop(0))}
         method, asked = unword(words.pop(0)), fields_in(words)
         found = self.cache.freshen(method, target, asked, fields_in(words), **times)
-        answer = [OUTCOMES[found.outcome]]
+        self.last, answer = max(self.last, found.number or 0), [OUTCOMES[found.outcome]]
         if found.outcome == headers.FreshenOutcome.UPDATED:
-            answer.append(word(self.cache.content(target, found.place)))
+            self.named[target] = found.number
+            answer.append(word(self.cache.content(target, found.number)))
         elif found.outcome == headers.FreshenOutcome.UPDATED_ONCE:
-            answer += ["?", *self.stored(target, found.place)]
+            self.named[target, "once"] = found.number
+            answer += ["?", *self.stored(target, found.number)]
         return answer
 
     def call_freshen_by_head(self, target, words):
         times = {"requested": int(words.pop(0)), "received": int(words.pop(0))}
         method, asked = unword(words.pop(0)), fields_in(words)
+        self.last += len(self.numbers(target))
         self.cache.freshen_by_head(method, target, asked, fields_in(words), **times)
         return [str(len(self.all_stored(target)))]
 
     def call_answer(self, target, words):
         place, now, ranges = int(words.pop(0)), int(words.pop(0)), words.pop(0) == "ranges"
         method = unword(words.pop(0))
-        found = self.cache.answer(method, target, fields_in(words), place, now=now, ranges=ranges)
+        numbers = self.numbers(target)
+        # Those that a 304 updates get greater numbers than others that were stored later.
+        number = ([it for it in numbers if it == self.named.get(target)] or numbers[place:] or [0])[0]
+        number = number if place < len(numbers) else 0
+        found = self.cache.answer(method, target, fields_in(words), number, now=now, ranges=ranges)
         if found is None:
             return ["(none)"]
         part = found.part
@@ -145,7 +156,7 @@ class Player:
 
     def call_responses(self, target, words):
         found = self.all_stored(target)
-        return [str(len(found)), *(text for it in found for text in ("(/)", "?", *it))]
+        return [str(len(found)), *(text for it in sorted(found) for text in ("(/)", "?", *it))]
 
     def make(self, call):
         name, target, *words = call.split()
@@ -156,7 +167,7 @@ class Player:
 
 
 def comparable(answer):
-    """An answer without methods of stored requests and without Age of stored responses."""
+    """An answer without methods of stored requests, without Age of stored responses, and without their order."""
     words, is_stored, shown = answer.split(), False, []
     if words[:1] == ["once"]:
         words[1:2], is_stored = ["?"], True
@@ -172,7 +183,8 @@ def comparable(answer):
                 words.pop(0)
         else:
             shown.append(text)
-    return " ".join(shown)
+    head, *found = " ".join(shown).split(" (/) ")
+    return " (/) ".join([head, *sorted(found, key=str.split)])
 
 
 def play(lines):

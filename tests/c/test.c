@@ -3,10 +3,11 @@
  *
  *     test [--null | --handles] FILE..
  *
- * A row is `CALL WORD.. = ANSWER`, as crates/headers_replay/README.md tells; rows of other calls are passed over. Each
- * call is made over bytes that end where memory that nothing may touch begins. One that writes bytes is made with each
- * room from none to one byte more than is wanted. Each request for memory of a call is refused in turn. After a call
- * no block may be left. With --handles, the calls that have one are made by handles.
+ * A row is `CALL WORD.. = ANSWER`, as crates/test_port/README.md tells. Each row of tests/cases is made; of those of
+ * the port, rows of other calls are passed over. Each call is made over bytes that end where memory that nothing may
+ * touch begins. One that writes bytes is made with each room from none to one byte more than is wanted. Each request
+ * for memory of a call is refused in turn. After a call no block may be left. With --handles, the calls that have one
+ * are made by handles.
  */
 #include "handled.h"
 #include "typed_headers.h"
@@ -98,7 +99,8 @@ struct row {
     char *answer;
 };
 
-static size_t rows, wrong, refusals;
+/* The rows, the calls that were made of them, those of these that were answered otherwise, and refusals of memory. */
+static size_t rows, calls, wrong, refusals;
 static struct area first_area, second_area, third_area, rule_areas[4], room_area;
 
 static void complain(const struct row *row, const char *what) {
@@ -197,7 +199,7 @@ static void check(const struct row *row, call_fn *call, const void *arguments, u
                   struct word text) {
     const bool gives = status == TYPED_HEADERS_DONE || status == TYPED_HEADERS_MARKED;
     const size_t wanted = gives ? text.length : 0;
-    rows++;
+    calls++;
     for (size_t room = 0; room <= wanted + 1; room++) {
         if (wanted > SHORT && room > 0 && room + 1 < wanted) {
             continue;
@@ -248,7 +250,7 @@ static void check(const struct row *row, call_fn *call, const void *arguments, u
     }
 }
 
-static const struct word NO_TEXT = {NULL, 0};
+static const struct word NO_TEXT = {NULL, 0}, EMPTY = {"", 0};
 
 /* What a call refuses, by the lines that it is given. */
 static uint8_t refusal(struct text text) { return text.length ? TYPED_HEADERS_REFUSED : TYPED_HEADERS_ABSENT; }
@@ -740,11 +742,11 @@ static struct row *answer_words(const struct row *row) {
     return &answer;
 }
 
-/* `METHOD (NAME) LINE.. (/)`: the place after it. */
-static size_t read_request(const struct row *row, struct request_call *call) {
-    call->method = put(third_area, row->words[0].bytes, row->words[0].length);
+/* `METHOD (NAME) LINE.. (/)` from a word on: the place after it. */
+static size_t read_request(const struct row *row, size_t i, struct request_call *call) {
+    call->method = put(third_area, row->words[i].bytes, row->words[i].length);
     call->etag = put(second_area, "", 0);
-    return read_section(row, 1, first_area, &call->section);
+    return read_section(row, i + 1, first_area, &call->section);
 }
 
 /* `TAG SECOND KIND` of a representation. */
@@ -762,12 +764,16 @@ static void read_target(const struct word *words, struct request_call *call) {
     call->target.is_date_strong = is_word(words + 2, "strong");
 }
 
-/* `evaluate METHOD (NAME) LINE.. (/) RESOURCE` */
+/* `evaluate METHOD (NAME) LINE.. (/) RESOURCE`, after the present second if it isn't the usual one. */
 static void check_evaluate(const struct row *row) {
     struct request_call call = {0};
-    const struct word *resource = &row->words[read_request(row, &call)];
+    const bool has_present = strcmp(row->call, "evaluate_at") == 0;
+    const struct word *resource = &row->words[read_request(row, has_present, &call)];
     if (!is_word(resource, "missing")) {
         read_target(resource, &call);
+    }
+    if (has_present) {
+        call.target.present = strtoull(row->words[0].bytes, NULL, 10);
     }
     check(row, call_evaluate, &call, TYPED_HEADERS_DONE,
           is_answer(row, "perform") ? 0 : is_answer(row, "not_modified") ? 304 : 412, NO_TEXT);
@@ -778,7 +784,7 @@ static void check_select(const struct row *row) {
     static uint64_t bounds[AREA / sizeof(uint64_t)];
     size_t count = 0;
     struct request_call call = {0};
-    const struct word *target = &row->words[read_request(row, &call)];
+    const struct word *target = &row->words[read_request(row, 0, &call)];
     read_target(target, &call);
     call.length = strtoull(target[3].bytes, NULL, 10);
     const bool is_whole = is_answer(row, "whole"), is_none = is_answer(row, "unsatisfiable");
@@ -811,21 +817,16 @@ static uint8_t call_cors(const void *arguments, uint64_t *number, uint8_t *room,
     return status;
 }
 
-/*
- * Rules as the fields of a row. The place after them, or 0 if C has no such rules: the only line of a list is a star,
- * which is any here, or any name with `authorization` is allowed.
- */
+/* Rules as the fields of a row. The place after them. */
 static size_t read_rules(const struct row *row, struct typed_headers_cors_rules *rules) {
     static const char *names[] = {"origins", "methods", "names", "exposed"};
     static char any[AREA], list[AREA], number[64];
     struct typed_headers_text *texts[] = {&rules->origins, &rules->methods, &rules->headers, &rules->exposed};
     field_lines(row, 0, "any", " %.*s ", any);
-    bool is_absent = strstr(any, " names-and-authorization ");
     for (int i = 0; i < 4; i++) {
         char name[32];
         size_t length = field_lines(row, 0, names[i], "%.*s\n", list);
         snprintf(name, sizeof name, " %s ", names[i]);
-        is_absent |= strcmp(list, "*\n") == 0;
         if (strstr(any, name)) {
             length = sprintf(list, "*\n");
         }
@@ -839,7 +840,7 @@ static size_t read_rules(const struct row *row, struct typed_headers_cors_rules 
     while (!is_word(&row->words[i], "(/)")) {
         i++;
     }
-    return is_absent ? 0 : i + 1;
+    return i + 1;
 }
 
 /* `CorsPolicy.new RULES (/)` */
@@ -848,14 +849,12 @@ static void check_rules(const struct row *row) {
     call.method = put(third_area, "GET", 3);
     call.request = put(first_area, "", 0);
     call.response = put(second_area, "", 0);
-    if (!read_rules(row, &call.rules)) {
-        return;
-    }
+    read_rules(row, &call.rules);
     if (!is_answer(row, "made")) {
         check(row, call_cors, &call, TYPED_HEADERS_REFUSED, NO_NUMBER, NO_TEXT);
         return;
     }
-    rows++;
+    calls++;
     if (make(call_cors, &call, 0, 0).status != TYPED_HEADERS_NO_ROOM) {
         complain(row, "another status");
     }
@@ -870,9 +869,6 @@ static void check_cors(const struct row *row) {
     static char wanted[AREA], vary[AREA];
     struct cors_call call = {0};
     size_t i = read_rules(row, &call.rules), length = 0;
-    if (!i) {
-        return;
-    }
     call.method = put(third_area, row->words[i].bytes, row->words[i].length);
     const size_t response = read_section(row, i + 1, first_area, &call.request);
     read_section(row, response, second_area, &call.response);
@@ -1037,6 +1033,35 @@ static void check_decide(const struct row *row) {
     complain(row, "a decision that no call has");
 }
 
+/* What a cache without a response does. */
+static uint8_t call_unstored(const void *arguments, uint64_t *number, uint8_t *room, size_t room_length,
+                             size_t *written) {
+    static const struct typed_headers_cache_options options = {1, 1, 1, true};
+    const struct cache_call *call = arguments;
+    const struct typed_headers_cache_request request = {{(const uint8_t *)"/", 1},
+                                                        {call->method.bytes, call->method.length},
+                                                        {call->request.bytes, call->request.length}};
+    struct typed_headers_cache cache = TYPED_HEADERS_CLOSED_CACHE;
+    struct typed_headers_looked_up facts = {.action = FILL};
+    uint8_t status = typed_headers_cache_new(&cache, &options, &KEYS);
+    if (status == TYPED_HEADERS_DONE) {
+        status = typed_headers_cache_lookup(&cache, &request, 0, 0, &facts, room, room_length, written);
+    }
+    typed_headers_cache_free(&cache);
+    if (facts.action != FILL) {
+        *number = facts.action;
+    }
+    return status;
+}
+
+/* `decide_unstored METHOD REQUEST` */
+static void check_unstored(const struct row *row) {
+    struct cache_call call = {.method = put(third_area, row->words[0].bytes, row->words[0].length)};
+    read_section(row, 1, first_area, &call.request);
+    const uint64_t wanted = is_answer(row, "Fetch") ? TYPED_HEADERS_FETCH : TYPED_HEADERS_UNAVAILABLE;
+    check(row, call_unstored, &call, TYPED_HEADERS_DONE, wanted, EMPTY);
+}
+
 static uint8_t call_validators(const void *arguments, uint64_t *number, uint8_t *room, size_t room_length,
                                size_t *written) {
     const struct cache_call *call = arguments;
@@ -1054,17 +1079,6 @@ static void check_validators(const struct row *row) {
     size_t length = field_lines(answer, 0, "if-none-match", "if-none-match: %.*s\n", wanted);
     length += field_lines(answer, 0, "if-modified-since", "if-modified-since: %.*s\n", wanted + length);
     check(row, call_validators, &call, TYPED_HEADERS_DONE, NO_NUMBER, (struct word){wanted, length});
-}
-
-/* Whether a value of the row has a blank at an end, which it loses in a header section. */
-static bool has_outer_blanks(const struct row *row) {
-    for (size_t i = 0; i < row->count; i++) {
-        const struct word *word = &row->words[i];
-        if (word->length && (strchr(" \t", word->bytes[0]) || strchr(" \t", word->bytes[word->length - 1]))) {
-            return true;
-        }
-    }
-    return false;
 }
 
 /* The lines of one field of the words from the first on, up to `(/)`, in an area. */
@@ -1220,7 +1234,7 @@ static void check_respond(const struct row *row, bool sends_ranges) {
                                   "content-range", "content-length", "content-type"};
     static char wanted[AREA], lines[AREA];
     struct response_call call = {.most_parts = MOST_PARTS, .boundary = put(rule_areas[0], "THIS_STRING_SEPARATES", 21)};
-    size_t i = read_request(row, &call.request), length = 0;
+    size_t i = read_request(row, 0, &call.request), length = 0;
     if (is_word(&row->words[i], "missing")) {
         i++;
     } else {
@@ -1247,7 +1261,8 @@ static void check_respond(const struct row *row, bool sends_ranges) {
         snprintf(form, sizeof form, "%s: %%.*s\n", names[name]);
         length += field_lines(answer, 1, names[name], form, wanted + length);
     }
-    const bool keeps = status == 200 || (status == 206 && !field_lines(row, 1, "if-range", "%.*s\n", lines));
+    const bool is_one = field_lines(answer, 1, "content-range", "%.*s\n", lines) > 0;
+    const bool keeps = status == 200 || (status == 206 && is_one && !field_lines(row, 1, "if-range", "%.*s\n", lines));
     const struct word text = {wanted, length};
     check(row, call_respond, &call, TYPED_HEADERS_DONE, status * 2 + keeps, text);
     make(call_respond, &call, length, 0);
@@ -1275,6 +1290,27 @@ static void check_respond(const struct row *row, bool sends_ranges) {
     check(row, call_respond, &call, TYPED_HEADERS_REFUSED, NO_NUMBER, NO_TEXT);
     call.boundary = put(rule_areas[0], "\xC3\xA4", 2);
     check(row, call_respond, &call, TYPED_HEADERS_REFUSED, NO_NUMBER, NO_TEXT);
+}
+
+/* `boundary TEXT`: the Content-Type of two parts. */
+static void check_boundary(const struct row *row) {
+    static const char section[] = "Range: bytes=0-0,900-900\n";
+    static char wanted[512];
+    struct response_call call = {.most_parts = MOST_PARTS, .content = {.length = 8000, .has_length = true}};
+    call.content.sends_ranges = true;
+    call.request.method = put(third_area, "GET", 3);
+    call.request.section = put(first_area, section, sizeof section - 1);
+    call.request.etag = put(second_area, "\"a\"", 3);
+    call.request.target.exists = true;
+    call.boundary = put(rule_areas[0], row->words[0].bytes, row->words[0].length);
+    if (is_answer(row, "(refused)")) {
+        check(row, call_respond, &call, TYPED_HEADERS_REFUSED, NO_NUMBER, NO_TEXT);
+        return;
+    }
+    const struct word type = answer_word(row, 0);
+    const int length = sprintf(wanted, "etag: \"a\"\naccept-ranges: bytes\ncontent-type: %.*s\n", (int)type.length,
+                               type.bytes);
+    check(row, call_respond, &call, TYPED_HEADERS_DONE, 206 * 2, (struct word){wanted, (size_t)length});
 }
 
 /* A server's end of an opening handshake. */
@@ -1316,7 +1352,8 @@ static size_t place_of(const struct word *word, const char *const *names, size_t
     return 0;
 }
 
-/* `accept METHOD VERSION (NAME) LINE..`, after protocols or origins. */
+/* `accept METHOD VERSION (NAME) LINE..`, after protocols or origins, and before fields in whose place those of the
+ * answer come. */
 static void check_handshake(const struct row *row) {
     static const char *const versions[] = {"HTTP/0.9", "HTTP/1.0", "HTTP/1.1", "HTTP/2", "HTTP/3"};
     static const uint8_t numbers[] = {0, 9, 10, 11, 20, 30};
@@ -1328,7 +1365,7 @@ static void check_handshake(const struct row *row) {
     static char wanted[AREA];
     struct handshake_call call = {.protocols = put(rule_areas[0], "", 0), .origins = put(rule_areas[1], "*", 1)};
     size_t i = 0, length = 0;
-    if (strcmp(row->call, "accept_with") == 0) {
+    if (strcmp(row->call, "accept_with") == 0 || strcmp(row->call, "accept_over") == 0) {
         call.protocols = comma_lines(&row->words[i++], rule_areas[0]);
     } else if (strcmp(row->call, "accept_from") == 0) {
         call.origins = comma_lines(&row->words[i++], rule_areas[1]);
@@ -1402,7 +1439,7 @@ static void check_opened(const struct row *row) {
     check(row, call_check, &call, TYPED_HEADERS_REFUSED, NO_NUMBER, NO_TEXT);
 }
 
-/* The resources of crates/headers_resource_replay: their lines, in the order of the struct, and what else is said. */
+/* The resources of tests/cases/resource: their lines, in the order of the struct, and what else is said. */
 struct resource_of {
     const char *name;
     const char *texts[12];
@@ -1422,7 +1459,9 @@ static const struct resource_of RESOURCES[] = {
     {"report", {"", "GET", "", "", "", "", "", "application/pdf", "", "", "\"r1\"", ""}, 1, false, true, false},
     {"inbox", {"", "POST", "", "", "", "", "", "", "", "", "", ""}, 0, false, false, false},
     {"feed", {"", "POST", "", "", "application/json", "gzip", "", "", "", "", "", ""}, 0, false, false, false},
-    {"archive", {"", "GET\nDELETE", "", "", "", "", "", "text/plain", "", "", "", ""}, 1, false, false, true},
+    {"archive",
+     {"", "GET\nDELETE", "", "", "", "", "", "text/plain\ntext/plain", "\nen", "\ngzip", "", ""},
+     2, false, false, true},
 };
 enum { RESOURCE_TEXTS = 12, LOCATION = 6, ETAGS = 10, BOUNDARY = 11 };
 static struct area resource_areas[RESOURCE_TEXTS];
@@ -1474,7 +1513,7 @@ static void put_resource(struct resource_call *call, const struct resource_of *r
     for (size_t place = 0; place < resource->count; place++) {
         call->representations[place] =
             (struct typed_headers_representation){.length = resource->is_dated ? 8000 : 20,
-                                                  .last_modified = 783459811,
+                                                  .last_modified = place ? 1798761600 : 783459811,
                                                   .has_length = true,
                                                   .sends_ranges = true,
                                                   .has_last_modified = resource->is_dated};
@@ -1739,8 +1778,6 @@ static struct word all_lines(const struct row *row, size_t i) {
     return (struct word){text, length};
 }
 
-static const struct word EMPTY = {"", 0};
-
 /* What is delimited by the message alone, if the gateway's outcome tells it. */
 static void check_framing(const struct row *row, const struct gateway_call *call, const struct word *framing) {
     struct typed_headers_framing_outcome outcome = {0};
@@ -1945,9 +1982,6 @@ static void check_length_required(const struct row *row) {
 
 /* The rows of a gateway. */
 static void check_gateway(const struct row *row) {
-    if (has_outer_blanks(row)) {
-        return;
-    }
     if (strcmp(row->call, "request") == 0) {
         check_forwarded_request(row);
     } else if (strcmp(row->call, "response") == 0) {
@@ -2311,7 +2345,7 @@ static void check_typed(const struct row *row) {
 }
 
 static void make_row(struct row *row) {
-    if (strstr(row->file, "headers_gateway_replay")) {
+    if (strstr(row->file, "/gateway/")) {
         check_gateway(row);
         return;
     }
@@ -2352,7 +2386,7 @@ static void make_row(struct row *row) {
         check_ranges(row);
     } else if (strcmp(row->call, "SecWebsocketAccept.from_key") == 0) {
         check_accept(row);
-    } else if (strcmp(row->call, "evaluate") == 0) {
+    } else if (strcmp(row->call, "evaluate") == 0 || strcmp(row->call, "evaluate_at") == 0) {
         check_evaluate(row);
     } else if (strcmp(row->call, "select") == 0) {
         check_select(row);
@@ -2378,13 +2412,17 @@ static void make_row(struct row *row) {
         check_offers(row, row->call, row->call + 9);
     } else if (strcmp(row->call, "respond") == 0 || strcmp(row->call, "respond_whole") == 0) {
         check_respond(row, strcmp(row->call, "respond") == 0);
+    } else if (strcmp(row->call, "boundary") == 0) {
+        check_boundary(row);
+    } else if (strcmp(row->call, "decide_unstored") == 0) {
+        check_unstored(row);
     } else if (strcmp(row->call, "answer") == 0) {
         check_resource(row);
     } else if (strcmp(row->call, "request") == 0) {
         check_offer(row);
-    } else if (strncmp(row->call, "accept", 6) == 0 && !has_outer_blanks(row)) {
+    } else if (strncmp(row->call, "accept", 6) == 0) {
         check_handshake(row);
-    } else if (strcmp(row->call, "check") == 0 && !has_outer_blanks(row)) {
+    } else if (strcmp(row->call, "check") == 0) {
         check_opened(row);
     }
 }
@@ -2416,7 +2454,12 @@ static void read_row(struct row *row, char *line) {
     for (size_t i = 0; i < row->count; i++) {
         row->words[i].length = decode(row->words[i].bytes);
     }
+    const size_t before = calls;
     make_row(row);
+    rows += calls > before;
+    if (calls == before && strstr(row->file, "/cases/")) {
+        complain(row, "no call has it");
+    }
 }
 
 static void read_file(const char *name) {
@@ -2466,6 +2509,6 @@ int main(int count, char **names) {
     for (int i = 1 + (is_null || is_handled); i < count; i++) {
         read_file(names[i]);
     }
-    printf("%zu rows, %zu refusals of memory, %zu answered otherwise\n", rows, refusals, wrong);
+    printf("%zu rows in %zu calls, %zu refusals of memory, %zu answered otherwise\n", rows, calls, refusals, wrong);
     return wrong || !rows;
 }

@@ -157,14 +157,11 @@ def select(words, wanted):
 
 
 def rules(words):
-    """The rules of a row, or `None` if they can't be said: a list of the one value `*`, which is any here, or any name
-    with `authorization`."""
+    """The rules of a row."""
     found, left = fields(words)
     listed = {name: [value.decode("latin-1") for other, value in found if other == name] for name, _ in found}
     names = (b"origins", b"methods", b"names", b"exposed")
     is_any = listed.get(b"any", [])
-    if any(listed.get(name) == ["*"] for name in names) or "names-and-authorization" in is_any:
-        return None, left
     lists = ["*" if name.decode() in is_any else listed.get(name, []) for name in names]
     max_age = int(listed[b"max-age"][0]) if b"max-age" in listed else None
     return {
@@ -176,13 +173,11 @@ def rules(words):
 
 def cors_new(words, wanted):
     given, _ = rules(words)
-    return given is None or (answer(headers.CorsPolicy, **given) == REFUSED) == (wanted[0] != "made")
+    return (answer(headers.CorsPolicy, **given) == REFUSED) == (wanted[0] != "made")
 
 
 def cors_answer(words, wanted):
     given, left = rules(words)
-    if given is None:
-        return True
     method, sent, left = request(left)
     before, _ = section(left)
     policy = answer(headers.CorsPolicy, **given)
@@ -267,7 +262,7 @@ def respond(words, wanted, sends_ranges=True):
         target, left = known(left, is_date_strong=left[2] == "strong"), left[3:]
     length, kind = (None if it == "(none)" else decode(it).decode("latin-1") for it in left[:2])
     content = headers.Content(None if length is None else int(length), kind, sends_ranges)
-    given = headers.respond(method, sent, target, content)
+    given = headers.respond(method, sent, target, content, now=1_767_225_600)
     if given is None or wanted == ["(none)"]:
         return given is None and wanted == ["(none)"]
     before = shown_fields(left[2:])
@@ -282,7 +277,7 @@ def shown(media_type, tag, **named):
     return headers.Representation(media_type, 20, f'"{tag}"', **named)
 
 
-#: The resources of crates/headers_resource_replay.
+#: The resources of tests/cases/resource.
 RESOURCES = {
     "note": {
         "methods": [
@@ -318,7 +313,10 @@ RESOURCES = {
     "feed": {"methods": [headers.Method("POST", "application/json", "gzip")], **NEGOTIATED},
     "archive": {
         "methods": ["GET", "DELETE"],
-        "representations": [headers.Representation("text/plain", 8000, last_modified=783459811)],
+        "representations": [
+            headers.Representation("text/plain", 8000, last_modified=783459811),
+            headers.Representation("text/plain", 8000, language="en", coding="gzip", last_modified=1798761600),
+        ],
         **NEGOTIATED,
     },
 }
@@ -353,8 +351,6 @@ def resource_answer(words, wanted):
 
 
 def handshake(words, wanted, own=(), origins="*"):
-    if any(decode(it) != decode(it).strip(b" \t") for it in words):
-        return True  # (a section's values have no blanks at their ends)
     method, version, *left = words
     number = {"HTTP/0.9": 9, "HTTP/1.0": 10, "HTTP/1.1": 11, "HTTP/2": 20, "HTTP/3": 30}[version]
     given = headers.websocket_respond(decode(method), section(left)[0], own, origins, number)
@@ -365,8 +361,6 @@ def handshake(words, wanted, own=(), origins="*"):
 
 
 def opened(words, wanted):
-    if any(decode(it) != decode(it).strip(b" \t") for it in words):
-        return True
     sent, left = section(words)
     given = headers.websocket_check(sent, int(left[0]), section(left[1:])[0])
     name = {"MalformedExtensions": "MALFORMED_EXTENSIONS"}.get(wanted[0])
@@ -613,7 +607,7 @@ CALLS = {
 
 def calls_of(row, file):
     """What is made of a row of a file."""
-    if "headers_gateway_replay" in file:
+    if "/gateway/" in file:
         yield from filter(None, [GATEWAY.get(row)])
         return
     kind, _, action = row.partition(".")

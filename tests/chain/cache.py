@@ -1,4 +1,4 @@
-"""A caching proxy whose every decision is asked of the proved store, by the program headers_cache_replay.
+"""A caching proxy whose every decision is asked of the proved store, by the program test_decisions.
 
 The program plays all calls of a target from the first one on; the answer to the last one counts. It names a stored
 response by its content, so the proxy gives it contents of its own, each another one and as long as what came.

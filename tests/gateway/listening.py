@@ -13,10 +13,13 @@ from common.part import Context, Part
 
 FIRST_PORT = 18580
 REQUEST = b"GET / HTTP/1.1\r\nHost: a\r\nConnection: close\r\n\r\n"
+# Targets that no request has (RFC 9112, section 3.2; RFC 3986, section 4.3).
+TARGETS = [b"/a#b", b"http://b#/x", b"http://b/x#y", b"/\xc3\xa9", b"http://b/\xff"]
 
 
 class Origin(threading.Thread):
-    """An origin that answers each request with the head that it received."""
+    """An origin that answers each request with the head that it received. Its connection ends after /last, and its
+    answer doesn't say so."""
 
     def __init__(self, port: int) -> None:
         super().__init__(daemon=True)
@@ -31,6 +34,8 @@ class Origin(threading.Thread):
         with connection, connection.makefile("rb") as lines:
             while head := b"".join(iter(lines.readline, b"\r\n")):
                 connection.sendall(b"HTTP/1.1 200 OK\r\nContent-Length: %d\r\n\r\n" % len(head) + head)
+                if b" /last " in head:
+                    return
 
 
 @contextlib.contextmanager
@@ -67,6 +72,22 @@ def field(name: str, text: str) -> list[str]:
     return [line.partition(":")[2].strip() for line in text.split("\r\n") if line.startswith(name + ":")]
 
 
+def after_last(port: int, request: bytes) -> bytes:
+    """What a client gets for a request that it sends once the origin has ended its connection."""
+    with socket.create_connection(("127.0.0.1", port), timeout=20) as connection:
+        connection.sendall(b"GET /last HTTP/1.1\r\nHost: a\r\n\r\n")
+        found = b""
+        while b"get /last" not in found.lower() and (piece := connection.recv(65536)):
+            found += piece
+        time.sleep(1)
+        found = b""
+        with contextlib.suppress(ConnectionError):
+            connection.sendall(request)
+            while piece := connection.recv(65536):
+                found += piece
+        return found
+
+
 def run(context: Context) -> Part:
     part = Part("Listening")
     if "GATE_PROGRAM" not in os.environ:
@@ -85,4 +106,13 @@ def run(context: Context) -> Part:
         part.want("through two gateways", answer(FIRST_PORT + 4)[:12], "http/1.1 200")
     with listening(FIRST_PORT + 5, FIRST_PORT + 5, context.work):
         part.want("through a gateway before itself", answer(FIRST_PORT + 5)[:12], "http/1.1 508")
+    with listening(FIRST_PORT + 6, FIRST_PORT, context.work):
+        for target in TARGETS:
+            found = answer(FIRST_PORT + 6, b"GET %s HTTP/1.1\r\nHost: a\r\n\r\n" % target)
+            part.want(f"the target {target!r}", found[:12], "http/1.1 400")
+        # (RFC 9112, section 9.3.1: the client may send it again, so it gets no 502)
+        for request in (b"GET / HTTP/1.1\r\nHost: a\r\n\r\n",
+                        b"POST / HTTP/1.1\r\nHost: a\r\nContent-Length: 5\r\n\r\nhello"):
+            found = after_last(FIRST_PORT + 6, request)
+            part.want(f"{request[:4]!r} after the origin ended its connection", found, b"")
     return part

@@ -89,7 +89,7 @@ def faults_of_wheel(path: Path) -> List[str]:
     python = "-".join(tag)
     if sorted(told.get_all("Tag")) != sorted(f"{python}-{it}" for it in platforms):
         found.append("the file name has other tags than the file WHEEL")
-    if (told["Root-Is-Purelib"] == "true") != (last == "any"):
+    if told["Root-Is-Purelib"] != "false":
         found.append("Root-Is-Purelib is wrong")
     recorded = {row[0]: row[1:] for row in csv.reader(files[f"{info}/RECORD"].decode("utf-8").splitlines())}
     for name, content in files.items():
@@ -98,10 +98,9 @@ def faults_of_wheel(path: Path) -> List[str]:
             found.append(f"RECORD has another digest or length of {name}")
     if list(recorded) != [f"{info}/RECORD"]:
         found.append("RECORD has other files than the wheel")
-    if "typed_headers/py.typed" not in files:
-        found.append("there is no py.typed")
+    found += [f"there is no {it}" for it in ("py.typed", "_native.pyi") if f"typed_headers/{it}" not in files]
     extensions = [name for name in files if name.endswith(".so")]
-    if last != "any" and len(extensions) != 1:
+    if len(extensions) != 1:
         found.append(f"its extensions are {extensions}")
     for name in extensions:
         found += faults_of_extension(files[name], platforms)
@@ -117,7 +116,9 @@ def faults_of_source(path: Path) -> List[str]:
         return [f"not all files are in {top}"]
     found = faults_of_metadata(message_from_bytes(files[f"{top}/PKG-INFO"]), files.get(f"{top}/LICENSE", b""))
     return found + [
-        f"there is no {name}" for name in ("pyproject.toml", "backend.py", "README.md") if f"{top}/{name}" not in files
+        f"there is no {name}"
+        for name in ("pyproject.toml", "backend.py", "README.md", "native.c", "calls.h", "typed_headers/_native.pyi")
+        if f"{top}/{name}" not in files
     ]
 
 

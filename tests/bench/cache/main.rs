@@ -6,9 +6,9 @@
 
 use anyhow::{Result, anyhow};
 use headers::{HeaderMap, HeaderName, HeaderValue};
-use headers_cache::{Limits, Lookup, Options, Store};
-use headers_cache_policy::{Kind, RequestHead};
-use headers_cache_rules::{Reception, StoredResponse};
+use cache_store::{Limits, Lookup, Options, Store};
+use cache_policy::{Kind, RequestHead};
+use cache_rules::{Reception, StoredResponse};
 use http::{Method, StatusCode};
 use std::alloc::Global;
 use std::hash::RandomState;

@@ -18,9 +18,9 @@ const answers = {
     response.end();
   },
   '/trailers': (request, response) => {
-    response.setHeader('Trailer', 'X-Sum');
+    response.setHeader('Trailer', 'Server-Timing');
     response.write('hello');
-    response.addTrailers({ 'X-Sum': '1' });
+    response.addTrailers({ 'Server-Timing': 'a' });
     response.end();
   },
   '/close': (request, response) => {

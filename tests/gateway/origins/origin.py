@@ -78,8 +78,8 @@ async def send_zeros(form: str, length: int, writer: asyncio.StreamWriter) -> No
 FIXED = {
     "/chunked": (head(200, "Transfer-Encoding: chunked") + chunked(b"x" * 5000) + CRLF, False),
     "/chunk-extensions": (head(200, "Transfer-Encoding: chunked") + b'5;a=b;c="d;e"\r\nhello\r\n0;f\r\n\r\n', False),
-    "/trailers": (head(200, "Transfer-Encoding: chunked", "Trailer: X-Sum")
-                  + chunked(b"hello") + b"X-Sum: 1\r\nX-Sum: 2\r\n\r\n", False),
+    "/trailers": (head(200, "Transfer-Encoding: chunked", "Trailer: Server-Timing")
+                  + chunked(b"hello") + b"Server-Timing: a\r\nServer-Timing: b\r\n\r\n", False),
     "/close": (head(200, "Connection: close") + b"y" * 5000, True),
     "/http10": (head(200, version="1.0") + b"y" * 5000, True),
     "/http10-length": (head(200, "Content-Length: 5", version="1.0") + b"hello", True),

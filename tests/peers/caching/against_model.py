@@ -1,4 +1,4 @@
-"""The library and the program of test cases beside the model of RFC 9111 on random inputs."""
+"""The library and `test_decisions` beside the model of RFC 9111 on random inputs."""
 import json
 from collections.abc import Callable
 from dataclasses import asdict
@@ -61,31 +61,26 @@ def by_library(cases: list[generate.Case], comparison: Comparison) -> None:
                   shared=is_shared),
             shown(case, *asdict(case)))
         comparison.add(
+            "heuristic_lifetime",
+            permitted(lambda: model.heuristics(case.status, case.response, case.received, is_shared)),
+            given(headers.heuristic_lifetime, case.status, response, case.received, shared=is_shared),
+            shown(case, "status", "response", "received", "is_shared"))
+        comparison.add(
             "validators", [sorted(model.validators(case.response, case.received))],
             sorted(given(headers.validators, response, case.received)),
             shown(case, "response", "received"))
 
 
-def number(text: str) -> int | None:
-    return None if text == "(none)" else int(text)
-
-
 def by_program(cases: list[generate.Case], comparison: Comparison) -> None:
-    """The calls that the library for C lacks."""
+    """The call that the library for C lacks."""
     calls, wanted = [], []
     for case in cases:
         stored, request, response = map(trimmed, (case.stored, case.request, case.response))
-        kind = "shared" if case.is_shared else "private"
-        words = rows.map_words(response)
-        calls.append(" ".join(["heuristic_lifetime", kind, str(case.status), str(case.received), *words]))
-        guess = permitted(lambda: model.heuristics(case.status, response, case.received, case.is_shared))
-        wanted.append(("heuristic_lifetime", guess, number))
-        calls.append(" ".join(["matches", *rows.map_words(stored), "(/)", *rows.map_words(request), "(/)", *words]))
-        matches = permitted(lambda: model.vary_matches(stored, request, response))
-        wanted.append(("matches", matches, lambda it: it == "true"))
-    answers = rows.answers(products.program("headers_cache"), calls)
-    for call, (name, expected, read), answer in zip(calls, wanted, answers):
-        comparison.add(name, expected, read(answer), lambda: call)
+        maps = (" ".join(rows.map_words(fields)) for fields in (stored, request, response))
+        calls.append(f"matches {' (/) '.join(it or '' for it in maps)}")
+        wanted.append(permitted(lambda: model.vary_matches(stored, request, response)))
+    for call, expected, answer in zip(calls, wanted, rows.answers(products.program(), calls)):
+        comparison.add("matches", expected, answer == "true", lambda: call)
 
 
 def compare(seed: int, count: int) -> Comparison:

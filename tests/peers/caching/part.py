@@ -14,9 +14,9 @@ RFC 9110, 9111 and 5861. *Optional reuse* are cases in which a cache may answer 
 cases both answers conform; the table counts how often a cache gives the stricter one. A case isn't asked if it is about
 the other kind of cache, or if the cache asked the origin for more than its client did.
 
-Ours is a small proxy that follows `headers_cache_policy` and `headers_preconditions`. They leave some choices to their
+Ours is a small proxy that follows `cache_policy` and `decide_preconditions`. They leave some choices to their
 caller, as the key under which a response is stored; these are a few lines of Python. *The store* is a proxy, too, whose
-responses are in `headers_cache`. Varnish runs with its built-in
+responses are in `cache_store`. Varnish runs with its built-in
 rules, `default_grace=0` and `default_keep=3600`, and nginx with `proxy_cache_revalidate on`. All others run as they
 come.
 """
@@ -94,7 +94,7 @@ def run(context: Context) -> Part:
             want_all_kept(part, ours)
     against_libraries.compare(context, part)
     comparison = against_model.compare(context.seed, context.inputs)
-    part.section += [f"`headers_cache_policy` beside a model of RFC 9111, on {context.inputs:,} random inputs:", ""]
+    part.section += [f"`cache_policy` beside a model of RFC 9111, on {context.inputs:,} random inputs:", ""]
     part.table(["Call", "as the model", "otherwise", "malformed, without a rule"], comparison.rows())
     part.want(f"differences from the model on {context.inputs:,} inputs", comparison.differences, 0)
     part.faults += comparison.faults()

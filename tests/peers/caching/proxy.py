@@ -2,11 +2,10 @@
 
     python3 -m caching.proxy PORT ORIGIN shared|private
 
-By the library for C: may_store, lifetime, current_age, decide, validators, evaluate,
-select. By the program of test cases,
-as C has no such call: heuristic_lifetime, decide_by, decide_unstored, freshening_steps. By hand,
-as nothing of ours has it:
-what is stored under which target, invalidation, fields that aren't stored, and the answer if nothing is stored.
+By the library for C: may_store, lifetime, heuristic_lifetime, current_age, decide, validators, evaluate, select, and
+what an empty cache does. By the program of test cases, as C has no such call: decide_by and freshening_steps. By hand,
+as nothing of ours has it: what is stored under which target, invalidation, fields that aren't stored, and the answer if
+nothing is stored.
 """
 import http.client
 import socketserver
@@ -25,7 +24,7 @@ from common.fields import Fields, section
 
 headers = products.library()
 Decision = headers.Decision
-PROGRAM = products.program("headers_cache")
+PROGRAM = products.program()
 # Fields of one connection, which aren't stored (RFC 9111, section 3.1).
 HOP = {"connection", "keep-alive", "proxy-connection", "te", "transfer-encoding", "upgrade", "proxy-authenticate",
        "proxy-authentication-info", "proxy-authorization"}
@@ -74,12 +73,11 @@ class Store:
                                entry.times(), shared=self.is_shared)
         if found == Decision.FETCH or headers.lifetime(response, entry.received, shared=self.is_shared) is not None:
             return found
-        words = rows.map_words(entry.fields)
-        guess = row("heuristic_lifetime", self.kind, str(entry.status), str(entry.received), *words)
-        if guess == "(none)":
+        guess = headers.heuristic_lifetime(entry.status, response, entry.received, shared=self.is_shared)
+        if guess is None:
             return found
-        asked = rows.map_words(request)
-        return Decision[NAMES[row("decide_by", self.kind, guess, str(entry.age()), *asked, "(/)", *words)]]
+        words = [*rows.map_words(request), "(/)", *rows.map_words(entry.fields)]
+        return Decision[NAMES[row("decide_by", self.kind, str(guess), str(entry.age()), *words)]]
 
     def put(self, target: str, new: Entry) -> None:
         """Stores a response in place of those that could answer its request."""
@@ -167,7 +165,8 @@ class Proxy(BaseHTTPRequestHandler):
                 self.reuse(decision, entry, request)
                 return
         # (if no stored response answers the request, it is as if there were none)
-        if row("decide_unstored", self.command, *rows.map_words(request)) == "Unavailable":
+        empty = headers.Cache(shared=self.store.is_shared)
+        if empty.lookup(self.command, self.path, section(request)).decision == Decision.UNAVAILABLE:
             self.send(504, [])
         else:
             self.fetch(request, body=body)

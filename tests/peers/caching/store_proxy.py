@@ -1,4 +1,4 @@
-"""A caching reverse proxy whose store is `headers_cache`.
+"""A caching reverse proxy whose store is `cache_store`.
 
     python3 -m caching.store_proxy PORT ORIGIN shared|private
 
@@ -17,7 +17,7 @@ from caching.proxy import CONDITIONS, SAFE, Fetched, Proxy, Server, ask_origin, 
 from common import products, rows
 from common.fields import Fields, section
 
-PROGRAM = products.program("headers_cache")
+PROGRAM = products.program()
 # As long as a lifetime is guessed.
 DAY = "86400"
 

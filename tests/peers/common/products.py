@@ -1,18 +1,18 @@
-"""What is judged: the library for C by its Python binding, and the programs of test cases. `run` builds both."""
+"""What is judged: the library for C by its Python binding, and the program of what C lacks. `run` builds both."""
 import os
 from functools import cache
 from pathlib import Path
 from types import ModuleType
 
 
-def program(name: str) -> Path:
-    """The program of test cases of a crate."""
-    return Path(os.environ["PEERS_PRODUCTS"], f"{name}_replay")
+def program() -> Path:
+    """The program of test cases."""
+    return Path(os.environ["PEERS_PRODUCTS"], "test_decisions")
 
 
 @cache
 def library() -> ModuleType:
-    """The package `typed_headers`, which reads the library's path from TYPED_HEADERS_LIBRARY."""
+    """The package `typed_headers`, whose extension has the library."""
     import typed_headers
 
     return typed_headers

@@ -1,4 +1,4 @@
-"""Calls of the programs of test cases (crates/*_replay), and their answers."""
+"""Calls of the program of test cases (crates/test_decisions), and their answers."""
 import re
 import subprocess
 import tempfile

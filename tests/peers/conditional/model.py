@@ -129,9 +129,9 @@ class Request:
     """A request for a representation, and what is known of that."""
 
     def __init__(self, method: str, lines: Fields, etag: str | None, modified: int | None, length: int,
-                 is_date_strong: bool, now: int) -> None:
+                 is_date_strong: bool, now: int, exists: bool = True) -> None:
         self.method, self.etag, self.modified, self.length = method, etag, modified, length
-        self.is_date_strong, self.now = is_date_strong, now
+        self.is_date_strong, self.now, self.exists = is_date_strong, now, exists
         self.fields: dict[str, list[str]] = {}
         for name, value in lines:
             self.fields.setdefault(name.lower(), []).append(value.strip(" \t"))
@@ -184,6 +184,11 @@ class Request:
         text = "".join(it for values in self.fields.values() for it in values)
         has_control = any(ord(byte) < 0x20 and byte != "\t" for byte in text)
         answers: set[Answer] = {(400, ())} if has_control else set()
+        if not self.exists:
+            # "MUST ignore all received preconditions if its response .. would have been a status code other than a
+            # 2xx (Successful) or 412" (section 13.2.1): a read is 404.
+            status = 404 if self.is_read else 412 if "if-match" in self.fields else 200
+            return {*answers, (status, ())}
         goes_on, is_fresh = self.goes_on(), self.is_fresh()
         if False in goes_on:
             answers.add((412, ()))
@@ -192,6 +197,13 @@ class Request:
         if True in goes_on and False in is_fresh:
             answers |= self.performed()
         return answers
+
+    def dates_sent(self, status: int) -> set[int | None]:
+        """The Last-Modified that an answer of this status may have: never one after its own date (section 8.8.2.1)."""
+        date = None if self.modified is None else min(self.modified, self.now)
+        if status == 206 and "if-range" in self.fields:
+            return {None}  # "SHOULD NOT generate other representation header fields" (section 15.3.7)
+        return {200: {date}, 206: {date}, 304: {date, None}}.get(status, {None})
 
     def wanted(self) -> set[Answer]:
         """As `permitted`, where the RFC also says SHOULD: one satisfiable range is sent (section 14.2)."""

@@ -14,7 +14,7 @@ INTRODUCTION = """
 Each server or library is asked for a representation, by {count} requests that are made by hand, from the tables of Go's
 own tests, or at random. Its answer counts as *not permitted* if RFC 9110, sections 13 and 14,
 permits other answers alone.
-Where the RFC leaves a choice, as whether to answer a Range at all, each choice is permitted. `headers_preconditions`
+Where the RFC leaves a choice, as whether to answer a Range at all, each choice is permitted. `decide_preconditions`
 answers the same requests by the peer's own entity tag and date. *Parts* are the 206 among the requests for which one is
 permitted.
 """
@@ -133,7 +133,7 @@ def run(context: Context) -> Part:
     part.faults += [fault for it in scores for fault in it.faults[:5]]
     hold_to_go(part, now)
     comparison = against_model.compare(context.seed, context.inputs)
-    part.section += [f"`headers_preconditions` beside a model of RFC 9110, on {context.inputs:,} random requests:", ""]
+    part.section += [f"`decide_preconditions` beside a model of RFC 9110, on {context.inputs:,} random requests:", ""]
     part.table(["Calls", "as the model", "otherwise", "malformed, without a rule"], comparison.rows())
     part.want(f"differences from the model on {context.inputs:,} inputs", comparison.differences, 0)
     part.faults += comparison.faults()

@@ -1,4 +1,4 @@
-"""The answers of `headers_cors_policy`, by the library for C."""
+"""The answers of `decide_cors`, by the library for C."""
 from common import products
 from common.server import ByteFields, section
 from cors.policy import Answer, Policy

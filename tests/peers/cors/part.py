@@ -20,7 +20,7 @@ QUIRKS = {
 }
 INTRODUCTION = """
 Pages of nine origins in each browser make requests, at random and by hand, to a server that answers
-with the field lines of `headers_cors_policy`. Compared are what the script could read, which fields it could see, and
+with the field lines of `decide_cors`. Compared are what the script could read, which fields it could see, and
 which requests came, with what the policy allows. Elements are pictures, scripts, styles, fonts, sound, events and
 beacons, from a page of http and one of `file:`. Scenarios are how long preflights are kept, Vary and the HTTP cache,
 and a policy that changes.

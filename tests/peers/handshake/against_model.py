@@ -1,7 +1,6 @@
-"""The program of test cases beside the model of RFC 6455 on random requests and responses."""
+"""The library beside the model of RFC 6455 on random requests and responses."""
 import base64
 import random
-from collections.abc import Collection
 
 from common.comparison import Comparison
 from common.server import ByteFields
@@ -51,30 +50,22 @@ def draw_fields(draw: random.Random, key_name: bytes, key: bytes, is_own: bool =
 
 def compare(seed: int, count: int) -> Comparison:
     draw, comparison = random.Random(seed), Comparison()
-    calls: list[str] = []
-    wanted: list[tuple[Collection[int], bytes, list[bytes]]] = []
     for _ in range(count):
         key = draw_key(draw)
         sent = draw_fields(draw, b"sec-websocket-key", key)
         own = draw.sample(OWN, draw.randint(0, 3))
         method = draw.choice([b"GET"] * 12 + [b"POST", b"get"])
         version = draw.choice([b"HTTP/1.1"] * 12 + [b"HTTP/1.0", b"HTTP/2"])
-        calls.append(ours.accept_call(own, method, version, sent))
-        wanted.append((model.statuses(method, version, sent), key, model.taken(own, sent)))
+        permitted, (status, fields) = model.statuses(method, version, sent), ours.accept(own, method, version, sent)
+        comparison.add("accept", permitted, status, lambda: f"{own} {method} {version} {sent}")
+        if status == 101 and status in permitted:
+            lines = [(b"connection", b"upgrade"), (b"sec-websocket-accept", model.accept_key(key)),
+                     *((b"sec-websocket-protocol", it) for it in model.taken(own, sent)), (b"upgrade", b"websocket")]
+            comparison.add("fields of a 101", [sorted(lines)], sorted(fields), lambda: f"{own} {sent}")
         asked = draw_fields(draw, b"sec-websocket-key", key, is_own=True)
         accept = model.accept_key(key) if draw.random() < 0.9 else draw_key(draw)
         response = draw_fields(draw, b"sec-websocket-accept", accept)
-        status = draw.choice([101] * 12 + [200, 400])
-        calls.append(ours.check_call(asked, status, response))
-        wanted.append((model.opens(asked, status, response), b"", []))
-    for call, (permitted, key, taken), answer in zip(calls, wanted, ours.answers(calls)):
-        if call.startswith("check"):
-            comparison.add("check", permitted, answer == "open", lambda: call)
-            continue
-        status, fields = ours.read_accept(answer)
-        comparison.add("accept", permitted, status, lambda: call)
-        if status == 101 and status in permitted:
-            lines = [(b"connection", b"upgrade"), (b"sec-websocket-accept", model.accept_key(key)),
-                     *((b"sec-websocket-protocol", it) for it in taken), (b"upgrade", b"websocket")]
-            comparison.add("fields of a 101", [sorted(lines)], sorted(fields), lambda: call)
+        code = draw.choice([101] * 12 + [200, 400])
+        comparison.add("check", model.opens(asked, code, response), ours.opens(asked, code, response),
+                       lambda: f"{asked} {code} {response}")
     return comparison

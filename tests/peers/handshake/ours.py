@@ -1,34 +1,31 @@
-"""The answers of `headers_handshake`, by its program of test cases."""
-from common import products, rows
+"""The answers of `decide_handshake`, by the library for C."""
+from collections.abc import Iterable
+
+from common import products
 from common.server import ByteFields
 
-
-def accept_call(own: list[bytes], method: bytes, version: bytes, fields: ByteFields) -> str:
-    head = [f"accept_with {','.join(it.decode() for it in own)}"] if own else ["accept"]
-    return " ".join([*head, rows.word(method), version.decode(), *rows.map_words(fields)])
+headers = products.library()
+VERSIONS = {b"HTTP/0.9": 9, b"HTTP/1.0": 10, b"HTTP/1.1": 11, b"HTTP/2": 20, b"HTTP/3": 30}
 
 
-def read_accept(answer: str) -> tuple[int, ByteFields]:
-    """The status, and the fields of the response."""
-    status, *words = answer.split(" ")
-    return int(status), rows.read_map(words[1:] if status == "400" else words)
+def section(fields: ByteFields) -> bytes:
+    return b"".join(name + b": " + value + b"\r\n" for name, value in fields)
 
 
-def check_call(sent: ByteFields, status: int, fields: ByteFields) -> str:
-    return " ".join(["check", *rows.map_words(sent), "(/)", str(status), *rows.map_words(fields)])
-
-
-def answers(calls: list[str]) -> list[str]:
-    return rows.answers(products.program("headers_handshake"), calls)
+def in_bytes(fields: Iterable[tuple[str, str]]) -> ByteFields:
+    return [(name.encode(), value.encode("latin-1")) for name, value in fields]
 
 
 def accept(own: list[bytes], method: bytes, version: bytes, fields: ByteFields) -> tuple[int, ByteFields]:
-    return read_accept(answers([accept_call(own, method, version, fields)])[0])
+    """The status, and the fields of the response."""
+    protocols = [it.decode() for it in own]
+    given = headers.websocket_respond(method, section(fields), protocols, version=VERSIONS[version])
+    return given.status, in_bytes(given.fields)
 
 
 def request(nonce: bytes) -> ByteFields:
-    return rows.read_map(answers([f"request {rows.word(nonce)}"])[0].split(" "))
+    return in_bytes(headers.websocket_request(nonce))
 
 
 def opens(sent: ByteFields, status: int, fields: ByteFields) -> bool:
-    return answers([check_call(sent, status, fields)])[0] == "open"
+    return headers.websocket_check(section(sent), status, section(fields)) is None

@@ -10,7 +10,7 @@ from handshake.peers import CLIENTS
 
 INTRODUCTION = """
 Servers are sent {requests} requests, byte for byte, most of them malformed. Clients are sent
-{responses} responses, and the client end of `headers_handshake` judges the same responses to their own requests.
+{responses} responses, and the client end of `decide_handshake` judges the same responses to their own requests.
 *Accepted against the RFC* are those for which RFC 6455 says MUST reject or fail; *rejected against the RFC* those that
 keep each of its rules.
 """
@@ -91,7 +91,7 @@ def run(context: Context) -> Part:
     clients(part, titles)
     connections(part)
     comparison = against_model.compare(context.seed, context.inputs // 2)
-    part.section += [f"`headers_handshake` beside a model of RFC 6455, on {context.inputs // 2:,} random requests",
+    part.section += [f"`decide_handshake` beside a model of RFC 6455, on {context.inputs // 2:,} random requests",
                      "and as many responses:", ""]
     part.table(["Call", "as the model", "otherwise", "malformed, without a rule"], comparison.rows())
     part.want(f"differences from the model on {context.inputs:,} inputs", comparison.differences, 0)

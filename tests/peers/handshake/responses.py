@@ -128,15 +128,14 @@ async def judge(name: str) -> Score:
             for number, (_, _, _, protocols) in enumerate(CASES)]
     async with await asyncio.start_server(answers.serve, "127.0.0.1", PORT):
         results = {it["id"]: bool(it["open"]) for it in await CLIENTS[name](jobs, PAGE)}
-    numbers = sorted(answers.sent)
-    calls = [ours.check_call(it.request, it.status, it.fields) for it in (answers.sent[number] for number in numbers)]
-    for number, answer in zip(numbers, ours.answers(calls)):
+    for number in sorted(answers.sent):
         what, sent = CASES[number][0], answers.sent[number]
+        opens = ours.opens(sent.request, sent.status, sent.fields)
         permitted = model.opens(sent.request, sent.status, sent.fields)
         score.asked += 1
-        score.alike += results[number] == (answer == "open")
+        score.alike += results[number] == opens
         for is_open, opened, failed in ((results[number], score.opened, score.failed),
-                                        (answer == "open", score.own_opened, score.own_failed)):
+                                        (opens, score.own_opened, score.own_failed)):
             if is_open not in permitted:
                 (opened if is_open else failed).append(what)
     return score

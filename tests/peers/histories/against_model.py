@@ -47,7 +47,7 @@ def compare_batch(program: Path, seed: int, option: str, indices: range) -> Comp
 
 def compare(seed: int, option: str, count: int, jobs: int | None) -> Comparison:
     comparison = Comparison()
-    program = products.program("headers_cache")
+    program = products.program()
     batches = [range(first, min(first + BATCH, count)) for first in range(0, count, BATCH)]
     with ProcessPoolExecutor(jobs) as pool:
         for found in pool.map(compare_batch, repeat(program), repeat(seed), repeat(option), batches):

@@ -4,7 +4,7 @@ from common.part import Context, Part
 from histories import against_model, generate
 
 INTRODUCTION = """
-`headers_cache` and the model play the same {total:,} random histories of a cache, each of at least 22 calls. Clients
+`cache_store` and the model play the same {total:,} random histories of a cache, each of at least 22 calls. Clients
 ask with fields that Vary names, conditions, ranges, Authorization and malformed directives. The origin answers,
 validates by 304 or HEAD, with strong, weak and no validators, and invalidates. Time goes on, and sometimes back. Limits
 are small, so responses are evicted. Each answer is compared, and at the end all that is stored. A history ends with its

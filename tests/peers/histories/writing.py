@@ -1,4 +1,4 @@
-"""Calls of a cache and their answers, as lines of a history for the program `headers_cache_replay`."""
+"""Calls of a cache and their answers, as lines of a history for the program `test_decisions`."""
 from collections.abc import Collection, Iterable
 from dataclasses import dataclass
 

@@ -5,7 +5,8 @@ from collections.abc import Callable
 from dataclasses import asdict, dataclass
 from pathlib import Path
 
-from common import client, processes, products, rows
+from common import client, processes, products
+from common.fields import section
 from common.processes import PYTHON
 from negotiation.cases import FIELDS, Case
 
@@ -95,12 +96,8 @@ LIBRARIES = [
 
 
 def by_ours(cases: list[Case]) -> list[int | None]:
-    """The choices of the program of test cases."""
-    calls = [
-        " ".join([f"{it.dimension}.choose", *rows.map_words((FIELDS[it.dimension], line) for line in it.lines), "(/)",
-                  *map(rows.word, it.offers)])
-        for it in cases
-    ]
-    answers = rows.answers(products.program("headers_negotiation"), calls)
-    return [None if answer == "(none)" else [rows.word(it) for it in case.offers].index(answer)
-            for case, answer in zip(cases, answers)]
+    """The choices of the library."""
+    headers = products.library()
+    calls = {"accept": headers.choose_type, "encoding": headers.choose_coding, "language": headers.choose_language}
+    chosen = [calls[it.dimension](section((FIELDS[it.dimension], line) for line in it.lines), it.offers) for it in cases]
+    return [None if offer is None else list(case.offers).index(offer) for case, offer in zip(cases, chosen)]

@@ -13,7 +13,7 @@ from negotiation.libraries import Choice
 
 COUNT = 5_000
 INTRODUCTION = """
-Each library chooses among the same offers by the same {count:,} random fields, as `headers_negotiation` does. A choice
+Each library chooses among the same offers by the same {count:,} random fields, as `decide_negotiation` does. A choice
 is *wrong* if no reading of RFC 9110, section 12.5, gives the chosen offer the greatest quality. Three kinds count
 apart: an offer although none is acceptable, which a server may send if it disregards the field (section 12.4.1); for
 languages, where the model is basic filtering (RFC 4647, section 3.3.1), a choice by lookup (section 3.4), as `en` for
@@ -105,7 +105,7 @@ def run(context: Context) -> Part:
                [[it.title, FIELDS[it.dimension], *(it.tally[kind] for kind in kinds)] for it in scores])
     table_of_examples(part, scores)
     comparison = against_model(context.seed, context.inputs)
-    part.section += [f"`headers_negotiation` beside a model of RFC 9110, on {context.inputs:,} random fields:", ""]
+    part.section += [f"`decide_negotiation` beside a model of RFC 9110, on {context.inputs:,} random fields:", ""]
     part.table(["Call", "as the model", "otherwise", "malformed, without a rule"], comparison.rows())
     part.want(f"differences from the model on {context.inputs:,} inputs", comparison.differences, 0)
     part.faults += comparison.faults()
