@@ -96,12 +96,17 @@ fn call_look_up_part(
     }
 }
 
-// The first part of a target, or `(none)`.
+// Above each number that a history's parts have.
+const NUMBERS: u64 = 32;
+
+// The part of a target with the least number, or `(none)`.
 fn call_part(parts: &PartStore, target: &str, answer: &mut Answer) -> Result<(), Failure> {
-    match parts.response(target, 0) {
-        Some(part) => add_stored(part, answer),
-        None => Ok(answer.none()?),
+    for number in 1..NUMBERS {
+        if let Some(part) = parts.response(target, number) {
+            return add_stored(part, answer);
+        }
     }
+    Ok(answer.none()?)
 }
 
 // METHOD STATUS: the first part that is left under the target.
