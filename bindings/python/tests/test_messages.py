@@ -4,7 +4,7 @@ import pickle
 import unittest
 from datetime import datetime, timedelta, timezone
 from http.client import HTTPMessage
-from typing import Any, Dict, List, Tuple
+from typing import Any, Callable, Dict, List, Tuple
 
 from typed_headers import (
     ByteRange,
@@ -67,7 +67,8 @@ class Sections(unittest.TestCase):
         message = HTTPMessage()
         message["Vary"] = "a"
         message["Vary"] = "b"
-        for given in (Several(vary="a, b"), message):
+        both: List[Any] = [Several(vary="a, b"), message]
+        for given in both:
             self.assertEqual(Headers(given).lines("vary"), ("a", "b"))
 
     def test_a_mapping(self) -> None:
@@ -85,7 +86,8 @@ class Sections(unittest.TestCase):
         headers.update({"Age": "8"})
         self.assertEqual((headers.pop("age"), "age" in headers, bool(Headers())), ("8", False, False))
         self.assertEqual(pickle.loads(pickle.dumps(headers)), headers)
-        for call in (lambda: headers["age"], lambda: headers.pop("age"), lambda: headers.__delitem__("age")):
+        calls: List[Callable[[], object]] = [lambda: headers["age"], lambda: headers.pop("age"), lambda: headers.__delitem__("age")]
+        for call in calls:
             with self.assertRaises(KeyError):
                 call()
         before = headers.pairs()

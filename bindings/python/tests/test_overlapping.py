@@ -282,7 +282,7 @@ class Changing(unittest.TestCase):
 
         real = cache.store
 
-        def store(*given: Any, **more: Any) -> bool:
+        def store(*given: Any, **more: Any) -> Optional[int]:
             cache.store = real  # type: ignore[assignment]
             thread = threading.Thread(target=ask, args=("PUT",))
             threads.append(thread)

@@ -103,7 +103,7 @@ class Adapters(unittest.TestCase):
 
     def test_errors(self) -> None:
         control = {"Cache_Control": "max-age=1, stale-if-error=60"}
-        Origin.answers = [stored(**control), None, (503, {}, b""), None]
+        Origin.answers = [stored(b"hello", **control), None, (503, {}, b""), None]
         self.get()
         self.now += 10
         self.assertEqual([self.get().content, self.get().content], [b"hello", b"hello"])

@@ -3,7 +3,7 @@
 import importlib
 import io
 import unittest
-from typing import Any, AsyncIterator, Dict, List, Optional, Tuple
+from typing import Any, AsyncIterator, Dict, List, Optional, Tuple, Union
 from unittest import mock
 from wsgiref.util import FileWrapper, setup_testing_defaults
 from wsgiref.validate import validator
@@ -246,9 +246,9 @@ class Asynchronous(unittest.TestCase):
             return asgi.Result(201, [("location", "/1")], (await receive())["body"])
 
         async def find(scope: asgi.Scope) -> asgi.Served:
-            contents = {"bytes": CONTENT, "list": list(pieces_of(CONTENT, 999)), "later": later()}
+            contents: Dict[str, Union[bytes, List[bytes], AsyncIterator[bytes]]] = {"bytes": CONTENT, "list": list(pieces_of(CONTENT, 999)), "later": later()}
             shown = Representation("text/plain", len(CONTENT), '"a"')
-            methods = ["GET", Method("POST", "text/plain")]
+            methods: List[Union[Method, str]] = ["GET", Method("POST", "text/plain")]
             return asgi.Served(Resource(methods, [shown]), lambda place: contents[kind], {"POST": post})
 
         self.closed = 0

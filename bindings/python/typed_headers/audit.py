@@ -13,7 +13,7 @@ import json
 import re
 from dataclasses import dataclass
 from datetime import datetime
-from typing import IO, Any, Dict, Iterable, Iterator, List, Optional, Tuple
+from typing import IO, Any, Dict, Iterable, Iterator, List, Optional, Tuple, cast
 
 from .errors import HeaderError
 from .headers import Headers
@@ -188,7 +188,7 @@ def read_exchanges(file: IO[bytes]) -> Iterator[Exchange]:
         first = peek(2)
         if first[:2] == b"\x1f\x8b":
             unpacked = gzip.GzipFile(fileobj=file)
-            yield from _read(unpacked, unpacked.peek(5))
+            yield from _read(cast(IO[bytes], unpacked), unpacked.peek(5))
         else:
             yield from _read(file, first)
     except (EOFError, OSError) as error:

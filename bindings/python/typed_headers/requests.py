@@ -139,12 +139,12 @@ class _Chain:
 
     @property
     def closed(self) -> bool:
-        return self.rest.closed
+        return bool(self.rest.closed)
 
     def read(self, count: Optional[int] = None) -> bytes:
         if count is None or count < 0:
-            return self.first.read() + self.rest.read(decode_content=False)
-        return self.first.read(count) or self.rest.read(count, decode_content=False)
+            return self.first.read() + bytes(self.rest.read(decode_content=False))
+        return self.first.read(count) or bytes(self.rest.read(count, decode_content=False))
 
     def close(self) -> None:
         self.rest.close()
