@@ -122,8 +122,8 @@ fn repeated(arguments: &mut Arguments<'_>) -> Result<Vec<HeaderValue>, Failure> 
     Ok(lines)
 }
 
-/// Adds whether such lines are a header or refused, whatever the iterator hints, and whether what is
-/// written of it reads as it.
+/// Adds `decoded` if such lines decode to a header, else `rejected`. `(harmful)` if that depends on what
+/// the iterator hints, or if the encoding of the header doesn't decode to it.
 pub fn harmless<H: Header>(
     arguments: &mut Arguments<'_>,
     answer: &mut Answer,
@@ -138,7 +138,12 @@ pub fn harmless<H: Header>(
         let again = rewritten::<H>(alloc, decode_values(alloc, written))?;
         is_harmless &= again == wanted;
     }
-    Ok(answer.word(is_harmless)?)
+    let word = match wanted {
+        _ if !is_harmless => "(harmful)",
+        Some(_) => "decoded",
+        None => "rejected",
+    };
+    Ok(answer.word(word)?)
 }
 
 /// Adds the lengths of the lines that are written of the header that such lines read.

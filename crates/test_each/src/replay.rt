@@ -9,7 +9,7 @@ use headers::{
 };
 use std::alloc::{AllocError, Global};
 use std::cmp::Ordering;
-use std::fmt::Display;
+use std::fmt::{Debug, Display};
 use test_rows::{Answer, Arguments, Failure, append_lines};
 
 /// A header with the words of its getters, and its copy. `P` is a type of the crate that has the impl, which
@@ -184,6 +184,20 @@ pub fn padded<H: Header + Display>(
 ) -> Result<(), Failure> {
     let header: H = arguments.header()?;
     let text = format!(in arguments.alloc(); "{header:>20}")?;
+    Ok(answer.bytes(text.as_bytes())?)
+}
+
+/// How `{:?}` prints the header of lines that are marked sensitive.
+pub fn debug_secret<H: Header + Debug>(
+    arguments: &mut Arguments<'_>,
+    answer: &mut Answer,
+) -> Result<(), Failure> {
+    let mut lines = arguments.lines()?;
+    for line in lines.iter_mut() {
+        line.set_sensitive(true);
+    }
+    let header: H = decode_values(arguments.alloc(), &lines)?;
+    let text = format!(in arguments.alloc(); "{header:?}")?;
     Ok(answer.bytes(text.as_bytes())?)
 }
 

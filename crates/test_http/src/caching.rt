@@ -4,7 +4,8 @@ use headers::{Age, CacheControl, Pragma, Vary, equal_by_encoding};
 use std::alloc::{AllocError, Global};
 use std::time::Duration;
 use test_each::{
-    Getters, Replay, cmp, eq, hinted_names, say, show_back_result, show_made, show_result,
+    Getters, Replay, cmp, debug_secret, eq, hinted_names, say, show_back_result, show_made,
+    show_result,
 };
 use test_rows::{Answer, Arguments, Failure};
 
@@ -149,6 +150,7 @@ impl Replay<Http> for Vary {
         match call {
             "eq" => eq::<Vary, _>(arguments, answer),
             "any" => show_made(Vary::any(), answer),
+            "debug_secret" => debug_secret::<Vary>(arguments, answer),
             "from_name" => show_result(Vary::from_name(alloc, arguments.name()?), answer),
             "from_iter" => show_result(Vary::from_iter(alloc, arguments.names()?), answer),
             "from_hinted_iter" => {

@@ -3,8 +3,8 @@ use crate::Http;
 use headers::{Allow, Referer, RetryAfter, Server, UserAgent};
 use std::alloc::{AllocError, Global};
 use test_each::{
-    Getters, Replay, cmp, eq, hinted_methods, padded, show_back_result, show_made, show_methods,
-    show_result, show_text,
+    Getters, Replay, cmp, debug_secret, eq, hinted_methods, padded, show_back_result, show_made,
+    show_methods, show_result, show_text,
 };
 use test_rows::{Answer, Arguments, Failure};
 
@@ -88,6 +88,7 @@ impl Replay<Http> for Server {
             "eq" => eq::<Server, _>(arguments, answer),
             "cmp" => cmp::<Server>(arguments, answer),
             "padded" => padded::<Server>(arguments, answer),
+            "debug_secret" => debug_secret::<Server>(arguments, answer),
             "from_str" => show_back_result(Server::from_str(alloc, &arguments.text()?), answer),
             _ => Err(Failure::NoCall),
         }

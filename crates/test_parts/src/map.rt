@@ -2,7 +2,7 @@
 use crate::items::show_each;
 use headers::{
     Age, ApplyError, Encoded, Header, HeaderMap, HeaderMapExt, HeaderName, HeaderValue,
-    InsertError, Location, SetCookie, Step, apply, canonical, decode_values,
+    InsertError, Location, SetCookie, Step, apply, canonical, decode_values, set_all,
 };
 use std::alloc::Global;
 use test_each::{holds, holds_beginning, is_same};
@@ -84,6 +84,20 @@ fn show_applied(arguments: &mut Arguments<'_>, answer: &mut Answer) -> Result<()
             answer.word("(left)")?;
         }
     }
+    answer.map(&map)
+}
+
+// The map once the fields of all `put` are set together.
+fn show_set(arguments: &mut Arguments<'_>, answer: &mut Answer) -> Result<(), Failure> {
+    let (mut map, steps) = arguments.map_and_steps()?;
+    let mut fields = Vec::new(arguments.alloc());
+    for step in steps {
+        let Step::Put(field) = step else {
+            return Err(Failure::NoCall);
+        };
+        fields.push(field)?;
+    }
+    set_all(&mut map, fields).map_err(|_| Failure::Memory)?;
     answer.map(&map)
 }
 
@@ -239,7 +253,8 @@ fn show_errors(arguments: &mut Arguments<'_>, answer: &mut Answer) -> Result<(),
 /// `apply FIELD.. STEP..`: the map that the steps leave, after `(full) DONE` if it has no room;
 /// `apply_full`: the same of a map that is filled with names `x-0`, `x-1` .. first, after their
 /// number; `insert_full N FIELD..`: a typed insert of an age in such a map; `typed_insert FIELD.. PUT..`:
-/// the map after a typed insert for each `(put:NAME) LINE..`; `canonical TYPE LINE..`;
+/// the map after a typed insert for each `(put:NAME) LINE..`; `set_all FIELD.. PUT..`: the map once all
+/// of these fields are set together; `canonical TYPE LINE..`;
 /// `errors CAUSE DONE`: how the errors of an insert and of steps are printed.
 pub fn call_map(
     call: &str,
@@ -250,6 +265,7 @@ pub fn call_map(
         "apply" => show_applied(arguments, answer),
         "apply_full" => apply_full(arguments, answer),
         "typed_insert" => show_inserted(arguments, answer),
+        "set_all" => show_set(arguments, answer),
         "insert_full" => insert_full(arguments, answer),
         "canonical" => show_canonical_of(arguments, answer),
         "errors" => show_errors(arguments, answer),

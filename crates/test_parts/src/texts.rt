@@ -2,6 +2,7 @@
 use headers::{Error, HeaderValue, Refused};
 use headers_core::EntityTagRange;
 use headers_syntax::{EntityTag, EntityTagRef, HeaderValueString, trim};
+use std::alloc::AllocError;
 use std::cmp::Ordering;
 use test_rows::{Answer, Arguments, Failure};
 
@@ -73,18 +74,25 @@ fn text(arguments: &mut Arguments<'_>) -> Result<HeaderValueString, Failure> {
     Ok(HeaderValueString::from_str(arguments.alloc(), text.as_str())?)
 }
 
-/// Adds the answer of a call of texts: `trim TEXT`; `cmp TEXT TEXT`, how two are ordered; `refusal`,
-/// the text of one.
+// How a refusal is printed: of invalid input, or for want of memory.
+fn refusal(arguments: &mut Arguments<'_>, answer: &mut Answer) -> Result<(), Failure> {
+    let refused: Refused<Error> = match arguments.word() {
+        Ok("memory") => Refused::Memory(AllocError),
+        Ok(_) => return Err(Failure::NoCall),
+        Err(_) => Refused::from(Error::invalid()),
+    };
+    Ok(answer.bytes(refused.to_string(answer.alloc())?.as_bytes())?)
+}
+
+/// Adds the answer of a call of texts: `trim TEXT`; `cmp TEXT TEXT`, how two are ordered; `refusal` and
+/// `refusal memory`, how one is printed.
 pub fn call_text(
     call: &str,
     arguments: &mut Arguments<'_>,
     answer: &mut Answer,
 ) -> Result<(), Failure> {
     match call {
-        "refusal" => {
-            let refused: Refused<Error> = Refused::from(Error::invalid());
-            Ok(answer.bytes(refused.to_string(answer.alloc())?.as_bytes())?)
-        }
+        "refusal" => refusal(arguments, answer),
         "trim" => Ok(answer.bytes(trim(&arguments.bytes()?))?),
         "cmp" => {
             let order = match text(arguments)?.cmp(&text(arguments)?) {

@@ -7,6 +7,7 @@ mod calls;
 mod failure;
 mod fields;
 mod files;
+mod repeated;
 mod replay;
 mod tally;
 mod word;

@@ -5,6 +5,7 @@ ghost use Rattle.test_rows.specs.Row.{is_row_line};
 
 use crate::calls::{Calls, answer_of};
 use crate::failure::Failure;
+use crate::repeated::expand;
 use crate::tally::Tally;
 use anyhow::Result;
 use std::alloc::Global;
@@ -82,6 +83,24 @@ fn replay_row<C: Calls, W: Write>(
     Ok(())
 }
 
+// Runs the test case of a line, once what it repeats is written out.
+fn replay_line<C: Calls, W: Write>(
+    alloc: Global,
+    file: &str,
+    number: usize,
+    line: &str,
+    tally: &mut Tally,
+    writer: &mut W,
+) -> Result<()>
+    ensures rows { OnOk result (tally.new.rows ≡ tally.old.rows + 1) }
+{
+    if !line.contains("%{") {
+        return replay_row::<C, W>(alloc, file, number, line, tally, writer);
+    }
+    let expanded = expand(alloc, line)?;
+    replay_row::<C, W>(alloc, file, number, expanded.as_str(), tally, writer)
+}
+
 // Makes the calls of the rows of a text, and prints those that are answered otherwise.
 fn replay_text<C: Calls, W: Write>(
     alloc: Global,
@@ -95,7 +114,7 @@ fn replay_text<C: Calls, W: Write>(
     let all: Vec<&str> = text.lines().collect(alloc)?;
     for (index, line) in all.iter().enumerate() {
         if is_row(line) {
-            replay_row::<C, W>(alloc, file, index + 1, line, tally, writer)?;
+            replay_line::<C, W>(alloc, file, index + 1, line, tally, writer)?;
         }
     }
     Ok(())

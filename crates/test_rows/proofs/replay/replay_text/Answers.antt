@@ -7,7 +7,7 @@ use Rattle.std.specs.Vec.{vec_items}
 use Rattle.test_rows.specs.Row.{is_row_line}
 use Rattle.test_rows.proofs.RowCounts.{length-filter-map_more}
 use Rattle.test_rows.proofs.replay.replay_text.Goals as goal
-use Rattle.test_rows.proofs.replay.replay_text.Goals.{then-is_row+in_ok-replay_row, else-is_row}
+use Rattle.test_rows.proofs.replay.replay_text.Goals.{then-is_row+in_ok-replay_line, else-is_row}
 
 pub loop-index-preserved : goal.loop-index-preserved
 loop-index-preserved g c =
@@ -15,11 +15,11 @@ loop-index-preserved g c =
     length-filter-map_more is_row_line (λ line. line.now) c.deref-line-items.result.now c.loop-index.index _
     c.is_row.result (omega (arith, c.loop-index-test.true)) c.is_row.ensures in
     elim c.if-is_row.branch [
-      | then-is_row+in_ok-replay_row w ↦
+      | then-is_row+in_ok-replay_line w ↦
           omega (
             arith,
             ap (λ t. t.rows) w.tally-is,
-            w.in_ok-replay_row.ensures.rows,
+            w.in_ok-replay_line.ensures.rows,
             c.loop-index.invariant,
             more,
             ap {B = ℕ} (λ b. cond b 1 0) w.if-is_row.true,
