@@ -611,10 +611,16 @@ def calls_of(row, file):
         yield from filter(None, [GATEWAY.get(row)])
         return
     kind, _, action = row.partition(".")
-    if action == "decode" and "Authorization" not in kind:
+    # (MaxForwards is a header of headers_user)
+    if action == "decode" and "Authorization" not in kind and kind != "MaxForwards":
         yield lambda words, wanted: canonical_field(kind, words, wanted)
     if row in CALLS:
         yield CALLS[row]
+
+
+def expand(line):
+    """The line with COUNT times TEXT for each `%{COUNT:TEXT}`."""
+    return re.sub(r"%\{(\d+):([^}]*)\}", lambda found: found[2] * int(found[1]), line)
 
 
 def main(names):
@@ -622,7 +628,7 @@ def main(names):
     for name in names:
         with open(name, encoding="utf-8") as file:
             for place, line in enumerate(file, 1):
-                call, _, wanted = line.rstrip("\n").partition(" = ")
+                call, _, wanted = expand(line.rstrip("\n")).partition(" = ")
                 words = call.split(" ")
                 if " ! " in wanted:
                     wanted = wanted.partition(" ! ")[2].partition(" ")[2]
@@ -630,7 +636,7 @@ def main(names):
                     rows += 1
                     if not call(words[1:], wanted.split(" ")):
                         wrong += 1
-                        print(f"{name}:{place}: {words[0]}: wanted {wanted}")
+                        print(f"{name}:{place}: {words[0]}: wanted {wanted[:1000]}")
     assert headers.websocket_accept(b"dGhlIHNhbXBsZSBub25jZQ==") == "s3pPLMBiTxaQ9kYGzzhZRbK+xOo="
     print(f"{rows} rows from Python, {wrong} answered otherwise")
     return 1 if wrong or not rows else 0
