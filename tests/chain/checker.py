@@ -135,8 +135,10 @@ class Checker:
         if exchange.request.method not in SAFE and len(sent) > 1:
             self.add(hop.name, exchange, ["an unsafe request is forwarded twice"])
         if exchange.response is None:
-            # A server may close a connection that was used, before it reads a request (RFC 9112, section 9.5).
-            if outs or exchange.is_first:
+            # A server may close a connection that was used, before it reads a request (RFC 9112, section 9.5), and so may
+            # a gateway if the origin server did: its client may then send the request again (section 9.3.1).
+            is_lost = hop.kind == GATE and not any(it.response or it.is_first for it in outs)
+            if exchange.is_first or outs and not is_lost:
                 self.add(hop.name, exchange, ["no response"])
             else:
                 self.kinds[f"{hop.kind}: closed the connection"] += 1

@@ -57,10 +57,12 @@ class Origin:
     is_lost: bool = False
 
     def serve(self, stream: Stream) -> None:
+        is_first = True
         while True:
             request = stream.request()
             with self.world.working(), self.lock:
-                exchange = self.world.begin(self.link, request, True)
+                exchange = self.world.begin(self.link, request, is_first)
+                is_first = False
                 response = None
                 try:
                     response = self.answer(request)
