@@ -1,7 +1,7 @@
 /*
  * Typed HTTP headers for C. The functions of this file are proved: each meets its contract, which this file puts into
- * words, and reads and writes only what it is passed. typed_headers(3) has a first program, and docs/C.md of the
- * sources a guide.
+ * words, and reads and writes only what it is passed. typed_headers(3) has a first program, and include/README.md of
+ * the sources a guide.
  *
  * What holds of every call
  *
@@ -511,7 +511,10 @@ struct typed_headers_resource_request {
     bool has_length;
 };
 
-/* Why a request is answered as it is: the first of these that applies, in the order of docs/RESOURCE.md. */
+/*
+ * Why a request is answered as it is: the first of these that applies, in the order of
+ * crates/decide_resource/README.md.
+ */
 enum typed_headers_resource_reason {
     /* Nothing stands in the way: the preconditions and Range decide, and then the method. */
     TYPED_HEADERS_ADMITTED = 0,

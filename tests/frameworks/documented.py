@@ -1,4 +1,4 @@
-"""Runs the lines of code of docs/MIDDLEWARE.md, in the frameworks that this Python has.
+"""Runs the lines of code of bindings/python/MIDDLEWARE.md, in the frameworks that this Python has.
 
     documented.py
 
@@ -15,7 +15,7 @@ from typing import Any
 from ask import Response, ask
 from typed_headers import Cache, CorsPolicy, asgi, wsgi
 
-PAGE = (Path(__file__).resolve().parents[2] / "docs/MIDDLEWARE.md").read_text("utf-8").split("\n## ")[0]
+PAGE = (Path(__file__).resolve().parents[2] / "bindings/python/MIDDLEWARE.md").read_text("utf-8").split("\n## ")[0]
 #: Each line of code of the page that makes or adds a middleware.
 CODE = [it for it in re.findall(r"`([^`\n]+)`", PAGE) if re.search(r"(ConditionalRequests|Cors|Cached)\(|add_middleware\(", it)]
 CONTENT = bytes(range(10))

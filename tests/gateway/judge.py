@@ -1,4 +1,4 @@
-"""Runs the parts, and writes what they show into docs/BESIDE_GATEWAYS.md. `run` calls it.
+"""Runs the parts, and writes what they show into docs/measured/BESIDE_GATEWAYS.md. `run` calls it.
 
     judge.py [--table FILE] WORK PART..
 
@@ -35,7 +35,8 @@ def run_part(name: str, context: Context) -> Part:
 
 def main() -> int:
     words = argparse.ArgumentParser()
-    words.add_argument("--table", type=Path, default=Path(__file__).resolve().parents[2] / "docs/BESIDE_GATEWAYS.md")
+    page = Path(__file__).resolve().parents[2] / "docs/measured/BESIDE_GATEWAYS.md"
+    words.add_argument("--table", type=Path, default=page)
     words.add_argument("work", type=Path)
     words.add_argument("parts", nargs="+", choices=PARTS, metavar="PART")
     given = words.parse_args()

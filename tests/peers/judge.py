@@ -1,4 +1,4 @@
-"""Runs the parts, and writes what they show into docs/BESIDE_PEERS.md. `run` calls it, and says what is built and
+"""Runs the parts, and writes what they show into docs/measured/BESIDE_PEERS.md. `run` calls it, and says what is built and
 installed.
 
     judge.py [--inputs N] [--seed N] [--jobs N] [--table FILE] WORK PART..
@@ -44,7 +44,8 @@ def main() -> int:
     words.add_argument("--inputs", type=int, default=100_000, help="how many inputs each model is given")
     words.add_argument("--seed", type=int, default=1)
     words.add_argument("--jobs", type=int, help="in how many processes histories are played")
-    words.add_argument("--table", type=Path, default=Path(__file__).resolve().parents[2] / "docs/BESIDE_PEERS.md")
+    page = Path(__file__).resolve().parents[2] / "docs/measured/BESIDE_PEERS.md"
+    words.add_argument("--table", type=Path, default=page)
     words.add_argument("work", type=Path)
     words.add_argument("parts", nargs="*", choices=PARTS, metavar="PART")
     given = words.parse_args()

@@ -12,7 +12,7 @@ from importlib.machinery import SourceFileLoader
 from pathlib import Path
 
 TOP = Path(__file__).resolve().parents[2]
-PAGES = ("README.md", "docs/INSPECT.md", "bindings/c/README.md")
+PAGES = ("README.md", "bindings/python/INSPECT.md", "bindings/c/README.md")
 ENVIRONMENT = {
     "PATH": "/usr/local/sbin:/usr/local/bin:/usr/sbin:/usr/bin:/sbin:/bin",
     "HOME": "/root",

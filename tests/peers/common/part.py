@@ -5,7 +5,7 @@ from pathlib import Path
 
 @dataclass
 class Part:
-    """A part's line, the section that it has in docs/BESIDE_PEERS.md, and what was wrong or missing."""
+    """A part's line, the section that it has in docs/measured/BESIDE_PEERS.md, and what was wrong or missing."""
 
     title: str
     section: list[str] = field(default_factory=list)

@@ -1,5 +1,5 @@
-"""A second reading of docs/CORS_POLICY.md, from the page alone: which rules make a policy, what a policy lets a
-browser do, and the field lines of its answer."""
+"""A second reading of crates/decide_cors/README.md, from the page alone: which rules make a policy, what a policy lets
+a browser do, and the field lines of its answer."""
 import re
 from collections.abc import Iterable
 from dataclasses import asdict, dataclass, field

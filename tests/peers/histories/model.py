@@ -2,8 +2,8 @@
 freshened (4.3.4, 4.3.5) and invalidated (4.4), in bounded memory.
 
 Single messages are read by `caching.model` and `conditional.model`. Where the text leaves a choice to the cache, those
-give all that it may do. This one does what docs/CACHE_POLICY.md, docs/CACHE.md and docs/CACHE_STORE.md name; each such
-place has the word *choice*.
+give all that it may do. This one does what the pages of the crates `cache_policy`, `cache_rules` and `cache_store`
+name; each such place has the word *choice*.
 """
 import re
 from dataclasses import dataclass, replace

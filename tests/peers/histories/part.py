@@ -11,7 +11,7 @@ are small, so responses are evicted. Each answer is compared, and at the end all
 first answer that is otherwise.
 """
 OPTIONS = """
-A cache has no [options](CACHE_POLICY.md#options), or `immutable` (RFC 8246), or targeted fields (RFC 9213), or it may
+A cache has no [options](../../crates/cache_policy/README.md#options), or `immutable` (RFC 8246), or targeted fields (RFC 9213), or it may
 guess lifetimes by `lookup_guessing` (RFC 9111, section 4.2.2), or it has all of these. Its origin makes use of them.
 """
 
