@@ -32,6 +32,7 @@ def main(page: Path, *names: str) -> int:
     conditions = [row for row in rows if row["part"] == "conditions"]
     origins = [row for row in rows if row["part"] == "origins"]
     text = page.read_text("utf-8").split(TITLE)[0] + TITLE + """
+<!-- tests/frameworks/run -->
 `tests/frameworks/run` wrote these tables. An answer counts as *not permitted* if RFC 9110, sections 13 and 14, permits
 other answers alone, or if a 206 hasn't the bytes that it says. *Parts* are the 206 among the requests for which one is
 permitted. The requests are GET and HEAD, made by hand, from the tables of Go's own tests, or at random.
@@ -54,7 +55,7 @@ another, or for a request without Origin, so that the browser does other than wi
           sum(it["kinds"].get(kind, 0) for kind in (
               "blocks what the policy allows", "hides a field that the policy exposes")), it["failed"], it["stale"]]
          for it in origins],
-    ) + "\n" + examples([it for it in origins if not it["is_ours"]])
+    ) + "\n" + examples([it for it in origins if not it["is_ours"]]) + "<!-- end of tests/frameworks/run -->\n"
     page.write_text(text, "utf-8")
     wrong = [it for it in rows if it["is_ours"] and (it["wrong"] or it["stale"])]
     for it in rows:
