@@ -101,7 +101,7 @@ pub record AreUnlawful (given : Rules) : Type 0 where
   pub error : RulesError
   pub refuses : Refuses rules error
 
--- browsers read the rules that were handed in as they are meant, and something is written of them
+-- browsers read the rules that were handed in as they are meant, and there is something to encode
 pub record AreWritten (given : Rules) : Type 0 where
   pub rules : CorsRules
   pub are_rules : AreRulesOf given rules
@@ -109,7 +109,7 @@ pub record AreWritten (given : Rules) : Type 0 where
   pub is_written : IsWritten rules
 
 -- The answer is the policy, or the failure of reading the rules. `Refused` also if they make no policy, and `Memory`
--- also if something is written of them.
+-- also if there is something to encode.
 abbrev pub IsPolicyAnswer : Rules → Result Policy Failure → Type 0
 IsPolicyAnswer given (Ok policy) = IsPolicyFor given policy
 IsPolicyAnswer given (Err failure) =

@@ -67,7 +67,7 @@ pub has_values : (values : List FieldValue) → 0 < length values → HasLine (l
 has_values [] some = absurd (omega (arith, some))
 has_values (value ∷ values) some = omega arith
 
--- what is written of credentials, under a name that has them
+-- the encoding of credentials, under a name that has them
 pub IfOk-written : {A E : Type 0} (block_of : A → Block) (found : Result A E) (name : List ℕ) (lines : List Line)
     → has_credentials name ≡ true → IfOk found (λ block. IsCredentialsBlock lines (block_of block))
     → IfOk found (λ block. IsWrittenBlock name lines (block_of block))

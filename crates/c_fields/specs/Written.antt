@@ -29,7 +29,7 @@ reads_basic = FirstReads basic_scheme ReadsBasic
 abbrev pub reads_bearer : List Line → FieldValue → Type 0
 reads_bearer = FirstReads bearer_scheme ReadsBearer
 
--- what is written of the credentials of a scheme that the library knows, or nothing if the first line has none
+-- the encoding of the credentials of a scheme that the library knows, or nothing if the first line has none
 abbrev pub IsCredentialsBlock : List Line → Block → Type 0
 IsCredentialsBlock lines None =
     ((v : UserPass) → ¬ (reads_basic lines v)) × ((v : FieldValue) → ¬ (reads_bearer lines v))
@@ -37,7 +37,7 @@ IsCredentialsBlock lines (Some written) =
     ((v : UserPass) × reads_basic lines v × (written ≡ basic_writes v ∷ []))
     ⊎ ((v : FieldValue) × reads_bearer lines v × (written ≡ bearer_writes v ∷ []))
 
--- what is written of the lines of a name, or nothing if its header refuses them; the lines of a name that no header has
+-- the canonical lines of a name, or nothing if its header rejects them; the lines of a name that no header has
 -- stay as they came
 abbrev pub IsWrittenBlock : List ℕ → List Line → Block → Type 0
 IsWrittenBlock name lines block =

@@ -59,7 +59,7 @@ pub fn has_credentials(name: &HeaderName) -> bool
         || name.as_bytes() == b"proxy-authorization".as_slice()
 }
 
-// The lines that are written of the header that the values read, or `None` if it refuses them.
+// The lines that encode the header that the values decode to, or `None` if they are rejected.
 fn typed_lines<H: Header>(
     alloc: Global,
     values: &[HeaderValue],

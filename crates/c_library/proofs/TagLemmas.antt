@@ -26,7 +26,7 @@ WeaklyEqual-from_quoted one other s t is is_other same =
     let inner : s.opaque ++ quote ∷ [] ≡ t.opaque ++ quote ∷ [] = cc quoted in
     (same_from_push s.opaque t.opaque quote quote inner).0
 
--- what is read as a tag is one
+-- what parses as a tag is one
 IsTag-from_read : (lines : List Line) (tag : Line) → reads_tag lines tag → IsTag tag (parts_of tag)
 IsTag-from_read lines tag read = IsTag-from_is_tag tag (by (only_line lines) read)
   where

@@ -54,7 +54,7 @@ fn essence(media_type: &[u8]) -> &[u8]
     }
 }
 
-// The line that is written of the media type.
+// The line that encodes the media type.
 fn read_media_type(alloc: Global, lines: &[u8]) -> Result<HeaderValue, Failure>
     ensures { FieldDecodes reads_media lines.now result }
 {

@@ -16,7 +16,7 @@ abbrev pub IsStatusStored : ℕ → Directives → Type 0
 IsStatusStored status tells =
     (200 ≤ status) × (status ≢ 206) × (status ≢ 304) × (tells.must_understand ≡ true → IsHeuristic status)
 
--- `no-store` isn't there, or stands beside `must-understand`, for caches that don't understand the status
+-- `no-store` isn't there, or there is `must-understand` too, for caches that don't understand the status
 -- (section 5.2.2.3)
 abbrev pub IsStorable : Directives → Type 0
 IsStorable tells = (tells.no_store ≡ false) ⊎ (tells.must_understand ≡ true)

@@ -124,7 +124,7 @@ date_time_complete now text d valid (named, is_day, shown) = by shown
         (read_asctime now named d is_day valid (32 ∷ (48 + d.day) ∷ [])
         (λ rest. read_padded_day_space d.day rest e.1))
 
--- what is read where the rest begins with a space or not, and where it begins with a comma or not
+-- what parses where the rest begins with a space or not, and where it begins with a comma or not
 abbrev read_with_space : ℕ → ℕ → List ℕ → Bool → Option DateTime
 read_with_space now named rest space =
     cond space (read_asctime_date rest)

@@ -244,7 +244,7 @@ pub record KeepsRest (old new : Machine) : Type 0 where
   pub body : new.body.items ≡ old.body.items
   pub tail : new.tail.items ≡ old.tail.items
 
--- the response can't be sent to its end, and what was not written of it is dropped
+-- the response can't be sent to its end, and its bytes that were not written are dropped
 pub record CutsOff (old new : Machine) : Type 0 where
   pub rest : KeepsRest old new
   pub phase : new.phase ≡ old.phase

@@ -88,7 +88,7 @@ representation_of present file = record {
   validators = validators_of present file;
 }
 
--- what is read from an open source, or from none
+-- the bytes of an open source, or of none
 abbrev pub gives_of : Option Source → Gives
 gives_of None start bytes = bytes ≡ []
 gives_of (Some source) start bytes = gives_at source start bytes

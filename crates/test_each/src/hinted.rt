@@ -146,7 +146,7 @@ pub fn harmless<H: Header>(
     Ok(answer.word(word)?)
 }
 
-/// Adds the lengths of the lines that are written of the header that such lines read.
+/// Adds the lengths of the lines that encode the header that such lines decode to.
 pub fn lengths<H: Header>(
     arguments: &mut Arguments<'_>,
     answer: &mut Answer,

@@ -1,4 +1,4 @@
-//! What is written of a header.
+//! The encoding of a header.
 use crate::replay::Getters;
 use headers::{Header, HeaderValue, decode_values};
 use std::alloc::{AllocError, Global};
@@ -93,7 +93,7 @@ pub fn add_with_copy(
     Ok(())
 }
 
-/// Adds the lines that are written of the header that marked lines read, and of its copy.
+/// Adds the lines that encode the header that marked lines decode to, and those of its copy.
 pub fn secret<H: Header + Getters<P>, P>(
     arguments: &mut Arguments<'_>,
     answer: &mut Answer,

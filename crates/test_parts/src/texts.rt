@@ -24,7 +24,7 @@ fn compare(arguments: &mut Arguments<'_>, answer: &mut Answer) -> Result<(), Fai
     Ok(answer.word(one.view().weak_eq(&other.view()))?)
 }
 
-// Whether a tag that is copied off its line is weak, and what is written of it.
+// Whether a tag that is copied off its line is weak, and its encoding.
 fn show_copy(arguments: &mut Arguments<'_>, answer: &mut Answer) -> Result<(), Failure> {
     let alloc = arguments.alloc();
     let line = HeaderValue::from_vec(arguments.bytes()?)?;

@@ -65,7 +65,7 @@ fn show_forwarded(arguments: &mut Arguments<'_>, answer: &mut Answer) -> Result<
     answer.map(&map)
 }
 
-// The key in these fields, and the lines that are written of it.
+// The key in these fields, and the lines that encode it.
 fn show_key(arguments: &mut Arguments<'_>, answer: &mut Answer) -> Result<(), Failure> {
     let alloc = arguments.alloc();
     let map = arguments.map()?;
