@@ -1,6 +1,6 @@
 -- What a request that is sent again has in common with the first, at another time.
-use Rattle.std.proofs.Common.{◌≡◌, ℕ, zero, suc, ◌<◌, Bool, false, not, ◌&&◌, List, [], ◌∷◌}
-use Rattle.std.proofs.Common.{length, get_or, map, Option, Some, None, refl, sym, ap, subst, ◌∙◌, inl, inr, arith}
+use Rattle.std.proofs.Common.{◌≡◌, ℕ, zero, suc, ◌<◌, Bool, false, not, ◌&&◌, List, [], ◌∷◌, length, get_or, map}
+use Rattle.std.proofs.Common.{Option, Some, None, refl, sym, ap, subst, ◌∙◌, inl, inr, arith}
 use Rattle.std.proofs.lemmas.List.{length-map}
 use Rattle.std.proofs.lemmas.Option.{slice_get-map}
 use Rattle.std.specs.Global.{Vec}
@@ -26,17 +26,13 @@ use Rattle.decide_preconditions.specs.declared.resource.Resource.{Resource as Ta
 use Rattle.decide_preconditions.specs.declared.resource.Resource.TheVariants.{Current}
 use Rattle.decide_preconditions.specs.declared.resource.Validators.{Validators}
 use Rattle.decide_resource.specs.Answers.{IsSelected, at_place, bare, place_in, target_of}
-use Rattle.decide_resource.specs.Applies.{applies, host_named, is_current}
-use Rattle.decide_resource.specs.Applies.{is_own, is_unacceptable, rule_for}
+use Rattle.decide_resource.specs.Applies.{applies, host_named, is_current, is_own, is_unacceptable, rule_for}
 use Rattle.decide_resource.specs.Reasons.{IsFirst}
 use Rattle.decide_resource.specs.Representations.{are_unacceptable, joined, rank_by, score}
 use Rattle.decide_resource.specs.Requests.{Request as Asked}
 use Rattle.decide_resource.specs.declared.reason.Reason.{Reason}
-use Rattle.decide_resource.specs.declared.reason.Reason.TheVariants.{InvalidHost, Misdirected, UnknownMethod}
-use Rattle.decide_resource.specs.declared.reason.Reason.TheVariants.{MethodNotAllowed, Options, UnmetExpectation}
-use Rattle.decide_resource.specs.declared.reason.Reason.TheVariants.{PartialContent}
-use Rattle.decide_resource.specs.declared.reason.Reason.TheVariants.{Moved, Gone, NotFound, LengthRequired}
-use Rattle.decide_resource.specs.declared.reason.Reason.TheVariants.{ContentTooLarge, UnsupportedMediaType}
+use Rattle.decide_resource.specs.declared.reason.Reason.TheVariants.{InvalidHost, Misdirected, UnmetExpectation}
+use Rattle.decide_resource.specs.declared.reason.Reason.TheVariants.{PartialContent, UnsupportedMediaType}
 use Rattle.decide_resource.specs.declared.reason.Reason.TheVariants.{UnsupportedCoding, NotAcceptable}
 use Rattle.decide_resource.specs.declared.reason.Reason.TheVariants.{PreconditionRequired, Admitted}
 use Rattle.decide_resource.specs.declared.representation.Negotiation.{Negotiation}
@@ -64,22 +60,7 @@ module _ (resource : Resource) (protocol : Protocol) (authority : Option Line) (
   head_as_get : (reason : Reason) → applies_to (codes "HEAD") reason ≡ applies_to (codes "GET") reason
   unfolding rule_for is_unacceptable
   head_as_get InvalidHost = refl
-  head_as_get Misdirected = refl
-  head_as_get UnknownMethod = refl
-  head_as_get MethodNotAllowed = refl
-  head_as_get Options = refl
-  head_as_get UnmetExpectation = refl
-  head_as_get PartialContent = refl
-  head_as_get Moved = refl
-  head_as_get Gone = refl
-  head_as_get NotFound = refl
-  head_as_get LengthRequired = refl
-  head_as_get ContentTooLarge = refl
-  head_as_get UnsupportedMediaType = refl
-  head_as_get UnsupportedCoding = refl
-  head_as_get NotAcceptable = refl
-  head_as_get PreconditionRequired = refl
-  head_as_get Admitted = refl
+  head_as_get reason = refl
 
   read_as_get : (method : List ℕ) → IsGetOrHead method → (reason : Reason)
       → applies_to method reason ≡ applies_to (codes "GET") reason
@@ -178,9 +159,7 @@ pub record AskAlike (f g : LineMap) : Type 0 where
 abbrev place_if : State → Option ℕ → Option ℕ → Option ℕ
 place_if state.Current other (Some place) = Some place
 place_if state.Current other None = other
-place_if state.Absent other choice = None
-place_if state.Gone other choice = None
-place_if (state.Moved redirect location) other choice = None
+place_if s other choice = None
 
 first_of_map : {A B : Type 0} (of : A → B) (xs : List A) → first_place (map of xs) ≡ first_place xs
 first_of_map of [] = refl
@@ -254,21 +233,13 @@ module _ (site : Resource) (st : State) (v w : Vec Representation) (now later : 
       (λ (hosts : Vec FieldValue). not (is_own hosts.items (host_named authority ls))) site.hosts false)
       same.host)
       ∙ e
-  still UnknownMethod e = e
-  still MethodNotAllowed e = e
-  still Options e = e
   still UnmetExpectation e = sym (ap (λ (ls : List Line). not (has_known_expectation ls)) same.expect) ∙ e
+  still NotAcceptable e = sym unacceptable_same ∙ e
   still PartialContent e = refl
-  still Moved e = e
-  still Gone e = e
-  still NotFound e = e
-  still LengthRequired e = e
-  still ContentTooLarge e = e
   still UnsupportedMediaType e = refl
   still UnsupportedCoding e = refl
-  still NotAcceptable e = sym unacceptable_same ∙ e
   still PreconditionRequired e = refl
-  still Admitted e = e
+  still reason e = e
 
   pub first_again : (method again : List ℕ) → IsGetOrHead method → IsGetOrHead again
       → IsFirst (applies first (reading protocol authority method f)) Admitted
@@ -290,9 +261,7 @@ module _ (site : Resource) (st : State) (v w : Vec Representation) (now later : 
   place_is of state.Current xs (Some place) = refl
   place_is of state.Current [] None = refl
   place_is of state.Current (x ∷ xs) None = refl
-  place_is of state.Absent xs choice = refl
-  place_is of state.Gone xs choice = refl
-  place_is of (state.Moved redirect location) xs choice = refl
+  place_is of s xs choice = refl
 
   same_first : first_place fs ≡ first_place gs
   same_first = sym (first_of_map label_of fs) ∙ ap first_place labels ∙ first_of_map label_of gs
@@ -322,9 +291,7 @@ tag_lines target = lines_sent (λ (tag : FieldValue). tag.bytes) (etag_of target
 
 bare_untagged : (s : State) → tag_lines (bare s) ≡ []
 bare_untagged state.Current = refl
-bare_untagged state.Absent = refl
-bare_untagged state.Gone = refl
-bare_untagged (state.Moved redirect location) = refl
+bare_untagged s = refl
 
 -- what the preconditions see at a place
 abbrev pub target_at : State → List Representation → Option ℕ → Target

@@ -50,13 +50,13 @@ module _ (law : SendsRanges) (now : Option ℕ) (left : ℕ) (site : Site) (look
       ∙ part_pieces divider (file_at x.found.files.items place) part (InMemory kept)
       (x.opens ∙ ap (λ (s : Sends). source_sent x.found.files.items s) sends)
 
-  sent_part : (sent : List ℕ) → AreSent (gives_of (Some (InMemory kept))) response.pieces.items sent
+  pub sent_part : (sent : List ℕ) → AreSent (gives_of (Some (InMemory kept))) response.pieces.items sent
       → sent ≡ take (part.last + 1 - part.first) (drop part.first kept.content)
   sent_part sent h =
       law kept response.pieces.items sent h ∙ ap (λ (p : List Piece). bytes_of kept.content p) pieces_are
       ∙ append-nil (take (part.last + 1 - part.first) (drop part.first kept.content))
 
-halves : (content : List ℕ) (first second : Part) → JoinTo (length content) first second
+pub halves : (content : List ℕ) (first second : Part) → JoinTo (length content) first second
     → take (first.last + 1 - first.first) (drop first.first content)
     ++ take (second.last + 1 - second.first) (drop second.first content) ≡ content
 halves content first second joins =
@@ -73,18 +73,3 @@ halves content first second joins =
     ∙ take_all (second.last + 1 - k) (drop k content) rest in
     ap (λ (l : List ℕ). l ++ take (second.last + 1 - second.first) (drop second.first content)) front
     ∙ ap (λ (l : List ℕ). take k content ++ l) back ∙ take-append-drop k content
-
-pub joined : SendsRanges → (now later : Option ℕ) (left more : ℕ) (site : Site) (look : List ℕ → Entry)
-    (request next : Request (List ℕ)) (r s : Response) (kept : Kept) (first second : Part) (p q : Option ℕ)
-    (a b : List ℕ) (x : IsAnswerAt now left site (has_at look) request r (Some (InMemory kept)))
-    (y : IsAnswerAt later more site (has_at look) next s (Some (InMemory kept)))
-    → x.answer.sends ≡ Planned p (Single first) → y.answer.sends ≡ Planned q (Single second)
-    → JoinTo (length kept.content) first second
-    → AreSent (gives_of (Some (InMemory kept))) r.pieces.items a
-    → AreSent (gives_of (Some (InMemory kept))) s.pieces.items b → a ++ b ≡ kept.content
-joined law now later left more site look request next r s kept first second p q a b x y e f joins h k =
-    ap (λ (l : List ℕ). l ++ b) (sent_part law now left site look request r kept x p first e a h)
-    ∙ ap
-    (λ (l : List ℕ). take (first.last + 1 - first.first) (drop first.first kept.content) ++ l)
-    (sent_part law later more site look next s kept y q second f b k)
-    ∙ halves kept.content first second joins

@@ -1,10 +1,12 @@
 -- The field lines that a response has under a name.
-use Rattle.std.proofs.Common.{◌≡◌, ℕ, Bool, true, false, List, [], ◌∷◌, ◌++◌, cond, Option, Some, None}
-use Rattle.std.proofs.Common.{refl, sym, ap, ◌∙◌, append_assoc, append-nil}
+use Rattle.std.proofs.Common.{◌≡◌, ℕ, Bool, true, false, List, [], ◌∷◌, ◌++◌, cond, Option, Some, None, refl, sym, ap}
+use Rattle.std.proofs.Common.{◌∙◌, append_assoc, append-nil}
 use Rattle.std.proofs.lemmas.Grind.{flat_map-append}
 use Rattle.std.proofs.lemmas.List.Folds.{list_any-append}
+use Rattle.std.proofs.Math.Bool.{and-false}
+use Rattle.std.proofs.lemmas.Bool.{or_parts}
+use Rattle.std.specs.Prelude.{◌&&◌, ◌==◌, ◌||◌, bytes_eq, codes, if◌then◌else◌, is_some, nat_lt}
 use Rattle.std.proofs.lemmas.Slice.Eq.{bytes_eq-Decides}
-use Rattle.std.specs.Prelude.{◌==◌, ◌||◌, bytes_eq, codes, if◌then◌else◌, is_some, nat_lt}
 use Rattle.http_header.specs.FieldValue.{FieldValue}
 use Rattle.http1.specs.Fields.{Header}
 use Rattle.headers.specs.Date.{fixdate}
@@ -13,18 +15,20 @@ use Rattle.headers.specs.Lines.{Line}
 use Rattle.headers.specs.Text.{trim}
 use Rattle.server_connection.specs.declared.plan.Plan.{Plan as Response}
 use Rattle.decide_resource.specs.declared.answer.Sends.{Sends}
-use Rattle.decide_resource.specs.declared.answer.Sends.TheVariants.{Nothing, Alternatives, Planned, Perform}
+use Rattle.decide_resource.specs.declared.answer.Sends.TheVariants.{Nothing, Alternatives}
 use Rattle.server_service.specs.Answer.{Carries, cache_fields, cache_sent, closing_fields, date_fields}
 use Rattle.server_service.specs.Answer.{explained_fields, first_fields, is_stored, sniff_field}
-use Rattle.server_service.specs.Response.{fields_of, headers_of, headers_sent, headers_set, html_field, is_kept}
-use Rattle.server_service.specs.Response.{is_named, lines_under, lines_unless, page_fields, trimmed_line, trimmed_lines}
+use Rattle.server_service.specs.Response.{fields_of, headers_sent, html_field, is_kept, is_named, lines_under}
+use Rattle.server_service.specs.Response.{lines_unless, page_fields, trimmed_line, trimmed_lines}
 use Rattle.server_service.specs.declared.file.File.{File}
 use Rattle.server_service.specs.declared.settings.Site.{Site}
 use Rattle.server_answers.specs.ResponseLines.{line_named, lines_in}
 
-pub neither : (b c : Bool) → (b || c) ≡ false → (b ≡ false) × (c ≡ false)
-neither true c e = absurd (cc e)
-neither false c e = (refl, e)
+sent-cons : (has_policy : Bool) (field : Field) (fields : List Field)
+    → headers_sent has_policy (field ∷ fields)
+    ≡ lines_unless (has_policy && is_named field.0 fields) field ++ headers_sent has_policy fields
+sent-cons true field fields = refl
+sent-cons false field fields = refl
 
 module _ (name : List ℕ) where
   pub lines_in-append : (xs ys : List Header) → lines_in (xs ++ ys) name ≡ lines_in xs name ++ lines_in ys name
@@ -57,27 +61,16 @@ module _ (name : List ℕ) where
 
   -- ---- fields none of which has the name
 
-  headers_of-skip : (before rest : List Field) → is_named name before ≡ false
-      → lines_in (headers_of (before ++ rest)) name ≡ lines_in (headers_of rest) name
-  headers_of-skip [] rest e = refl
-  headers_of-skip (field ∷ before) rest e =
-      let other = neither (bytes_eq field.0 name) (is_named name before) e in
-      lines_in-other (lines_under field) (headers_of (before ++ rest)) (lines_of_other field.0 field.1 other.0)
-      ∙ headers_of-skip before rest other.1
-
-  headers_set-skip : (before rest : List Field) → is_named name before ≡ false
-      → lines_in (headers_set (before ++ rest)) name ≡ lines_in (headers_set rest) name
-  headers_set-skip [] rest e = refl
-  headers_set-skip (field ∷ before) rest e =
-      let other = neither (bytes_eq field.0 name) (is_named name before) e in
-      lines_in-other (lines_unless (is_named field.0 (before ++ rest)) field) (headers_set (before ++ rest))
-      (lines_unless-other (is_named field.0 (before ++ rest)) field other.0)
-      ∙ headers_set-skip before rest other.1
-
   sent-skip : (has_policy : Bool) (before rest : List Field) → is_named name before ≡ false
       → lines_in (headers_sent has_policy (before ++ rest)) name ≡ lines_in (headers_sent has_policy rest) name
-  sent-skip true before rest e = headers_set-skip before rest e
-  sent-skip false before rest e = headers_of-skip before rest e
+  sent-skip has_policy [] rest e = refl
+  sent-skip has_policy (field ∷ before) rest e =
+      let other = or_parts (bytes_eq field.0 name) (is_named name before) e in
+      let replaced : Bool = has_policy && is_named field.0 (before ++ rest) in
+      ap (λ (hs : List Header). lines_in hs name) (sent-cons has_policy field (before ++ rest))
+      ∙ lines_in-other (lines_unless replaced field) (headers_sent has_policy (before ++ rest))
+      (lines_unless-other replaced field other.0)
+      ∙ sent-skip has_policy before rest other.1
 
   none_sent : (has_policy : Bool) → lines_in (headers_sent has_policy []) name ≡ []
   none_sent true = refl
@@ -117,16 +110,13 @@ module _ (name : List ℕ) where
 
   one_sent : (has_policy : Bool) (lines : List Line) (after : List Field) → is_named name after ≡ false
       → lines_in (headers_sent has_policy ((name, lines) ∷ after)) name ≡ lines
-  one_sent true lines after e =
-      ap (λ (b : Bool). lines_in (lines_unless b (name, lines) ++ headers_set after) name) e
-      ∙ lines_in-append (lines_under (name, lines)) (headers_set after)
-      ∙ ap (λ (ls : List Line). ls ++ lines_in (headers_set after) name) (lines_of_same name lines own_name)
-      ∙ ap (λ (ls : List Line). lines ++ ls) (sent-other true after e)
-      ∙ append-nil lines
-  one_sent false lines after e =
-      lines_in-append (lines_under (name, lines)) (headers_of after)
-      ∙ ap (λ (ls : List Line). ls ++ lines_in (headers_of after) name) (lines_of_same name lines own_name)
-      ∙ ap (λ (ls : List Line). lines ++ ls) (sent-other false after e)
+  one_sent has_policy lines after e =
+      ap (λ (hs : List Header). lines_in hs name) (sent-cons has_policy (name, lines) after)
+      ∙ ap
+      (λ (b : Bool). lines_in (lines_unless b (name, lines) ++ headers_sent has_policy after) name)
+      (ap (λ (b : Bool). has_policy && b) e ∙ and-false has_policy)
+      ∙ lines_in-append (lines_under (name, lines)) (headers_sent has_policy after)
+      ∙ (λ i. lines_of_same name lines own_name i ++ sent-other has_policy after e i)
       ∙ append-nil lines
 
   pub sent-one : (has_policy : Bool) (lines : List Line) (fields : List Field) → HasOne lines fields
@@ -207,8 +197,7 @@ module _ (name : List ℕ) where
     no_explained : (code : ℕ) (sent : Sends) → lines_in (explained_fields code sent) name ≡ []
     no_explained code Nothing = no_page code
     no_explained code Alternatives = no_page code
-    no_explained code (Planned place plan) = refl
-    no_explained code Perform = refl
+    no_explained code sent = refl
 
     -- the field lines are those of the answer's fields
     pub lines_in-carried : (now : Option ℕ) (left : ℕ) (site : Site) (files : List File) (code : ℕ) (sent : Sends)

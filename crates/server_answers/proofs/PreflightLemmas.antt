@@ -1,14 +1,13 @@
 -- The response to a preflight, as a browser reads it.
-use Rattle.std.proofs.Common.{◌≡◌, ◌↔◌, ℕ, Bool, true, false, not, cond, List, [], ◌∷◌, ◌++◌, Option, Some, refl}
-use Rattle.std.proofs.Common.{sym, ap, subst, ◌∙◌, append-nil, arith, inl, inr}
+use Rattle.std.proofs.Common.{◌≡◌, ◌↔◌, ℕ, Bool, true, false, not, cond, List, [], ◌∷◌, ◌++◌, Option, Some, refl, sym}
+use Rattle.std.proofs.Common.{ap, subst, ◌∙◌, append-nil, arith, inl, inr}
 use Rattle.std.proofs.lemmas.Slice.Eq.{bytes_eq-Decides}
 use Rattle.std.specs.Prelude.{◌||◌, Contains, IsSomeAnd, bytes_eq, codes, is_some, string_bytes}
 use Rattle.http.specs.Request.{head_of}
 use Rattle.http.specs.declared.request.Request.{Request}
 use Rattle.headers.specs.LineMap.{Field, LineMap, fields_of as encoded_fields, lines_at, set, set_all}
 use Rattle.headers.specs.Lines.{Line}
-use Rattle.decide_cors.specs.Browser.{Checks, CorsCheck, GrantsMethod, GrantsName, IsPreflightFor}
-use Rattle.decide_cors.specs.Browser.{PreflightPasses}
+use Rattle.decide_cors.specs.Browser.{Checks, CorsCheck, GrantsMethod, GrantsName, IsPreflightFor, PreflightPasses}
 use Rattle.decide_cors.specs.Browser.{Request as Sent, combined, extracted, methods_in}
 use Rattle.decide_cors.specs.Policy.{Policy}
 use Rattle.decide_cors.specs.Rules.{AllowsCredentials, AllowsOrigin, AllowsRequest, IsLawful, IsPolicyOf}

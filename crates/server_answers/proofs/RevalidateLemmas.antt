@@ -1,8 +1,10 @@
 -- A request that names the tag of the response before it.
-use Rattle.std.proofs.Common.{◌≡◌, ◌≢◌, ℕ, false, List, [], ◌∷◌, Option, Some, None, refl, sym, ap}
-use Rattle.std.proofs.Common.{subst, ◌∙◌, inl, inr, arith, map}
+use Rattle.std.proofs.Common.{◌≡◌, ◌≢◌, ℕ, false, List, [], ◌∷◌, Option, Some, None, refl, sym, ap, subst, ◌∙◌, inl}
+use Rattle.std.proofs.Common.{inr, arith, map}
 use Rattle.std.specs.Global.{Vec}
 use Rattle.std.proofs.lemmas.Slice.Eq.{bytes_eq-Decides}
+use Rattle.std.proofs.lemmas.Bool.{or_parts}
+use Rattle.std.specs.List.{list_any}
 use Rattle.std.specs.Prelude.{bytes_eq, codes, is_some, option_map, string_bytes}
 use Rattle.http.specs.Request.{head_of}
 use Rattle.http.specs.declared.request.Request.{Request}
@@ -54,16 +56,14 @@ use Rattle.server_answers.specs.Again.{IsAgain}
 use Rattle.server_answers.specs.ResponseLines.{lines_in}
 use Rattle.server_answers.specs.Similar.{HaveSimilar, Label, label_of}
 use Rattle.server_answers.specs.Stores.{has_at}
-use Rattle.server_answers.proofs.AgainLemmas.{AskAlike, current_by, file_of_tag, first_again, kept_again}
-use Rattle.server_answers.proofs.AgainLemmas.{label_at, reading, same_label, selected_again, tag_lines}
-use Rattle.server_answers.proofs.AgainLemmas.{target_at, target_of_label, validators_by}
+use Rattle.server_answers.proofs.AgainLemmas.{AskAlike, current_by, file_of_tag, first_again, kept_again, label_at}
+use Rattle.server_answers.proofs.AgainLemmas.{reading, same_label, selected_again, tag_lines, target_at}
+use Rattle.server_answers.proofs.AgainLemmas.{target_of_label, validators_by}
 use Rattle.server_answers.proofs.LineLemmas.{lines_in-carried}
 use Rattle.server_answers.proofs.SimilarLemmas.{AreSeenAlike, leads_similar}
 use Rattle.server_answers.proofs.TagLineLemmas.{strongly_named, weakly_named}
-use Rattle.server_answers.proofs.TaggedLemmas.{Decide, IsTagged, IsUnmodified, etag, etag_is_of_answer}
-use Rattle.server_answers.proofs.TaggedLemmas.{is_tagged}
-use Rattle.server_answers.proofs.TaggedLemmas.{never_ignored, not_failed, not_modified, reason_is}
-use Rattle.server_answers.proofs.TaggedLemmas.{tag_given}
+use Rattle.server_answers.proofs.TaggedLemmas.{Decide, IsTagged, IsUnmodified, etag, etag_is_of_answer, is_tagged}
+use Rattle.server_answers.proofs.TaggedLemmas.{never_ignored, not_failed, not_modified, reason_is, tag_given}
 
 -- ---- the answer that a response carries
 
@@ -175,6 +175,14 @@ kept_tag now left site look request response kept tag read x told =
     )
 
 -- ---- a request and the one before it
+
+pub differ : (a b : List ℕ) → bytes_eq a b ≡ false → a ≢ b
+differ a b f e = let t = (bytes_eq-Decides a b).1 e in absurd (cc (t, f))
+
+-- the fields by which a read is decided before its conditions
+abbrev deciding : List (List ℕ)
+deciding =
+    codes "host" ∷ codes "expect" ∷ codes "accept" ∷ codes "accept-language" ∷ codes "accept-encoding" ∷ []
 
 no_pieces : (divider : List ℕ) (file : Option File) → pieces_of divider file NotModified ≡ []
 no_pieces divider None = refl
@@ -300,7 +308,22 @@ module _ (now later : Option ℕ) (left more : ℕ) (site : Site) (look other : 
   has_line : (lines : List Line) → lines ≡ tag ∷ [] → HasLine lines
   has_line lines are = subst HasLine (sym are) (omega arith)
 
-  module _ (same : AskAlike f g) where
+  module _ (free : list_any (λ (own : List ℕ). bytes_eq own name) deciding ≡ false) where
+    same : AskAlike f g
+    same =
+        let host = or_parts (bytes_eq (codes "host") name) _ free in
+        let expect = or_parts (bytes_eq (codes "expect") name) _ host.1 in
+        let accept = or_parts (bytes_eq (codes "accept") name) _ expect.1 in
+        let language = or_parts (bytes_eq (codes "accept-language") name) _ accept.1 in
+        let coding = or_parts (bytes_eq (codes "accept-encoding") name) false language.1 in
+        record {
+          host = sym (again.others (codes "host") (differ (codes "host") name host.0));
+          expect = sym (again.others (codes "expect") (differ (codes "expect") name expect.0));
+          accept = sym (again.others (codes "accept") (differ (codes "accept") name accept.0));
+          accept_language = sym (again.others (codes "accept-language") (differ (codes "accept-language") name language.0));
+          accept_encoding = sym (again.others (codes "accept-encoding") (differ (codes "accept-encoding") name coding.0));
+        }
+
     first_there : IsFirst (applies after asked_again) Admitted
     first_there =
         first_again site.resource st v w (clock now) (clock later) fs gs x.described.are y.described.are alike.labels
@@ -403,76 +426,3 @@ module _ (now later : Option ℕ) (left more : ℕ) (site : Site) (look other : 
               ]
           | inr other ↦ other.1 second_read.1
         ])
-
--- ---- the laws
-
--- the fields by which a read is decided before its conditions
-data Asking : Type 0 where
-  host expect accept accept_language accept_encoding : Asking
-
-abbrev name_of : Asking → List ℕ
-name_of host = codes "host"
-name_of expect = codes "expect"
-name_of accept = codes "accept"
-name_of accept_language = codes "accept-language"
-name_of accept_encoding = codes "accept-encoding"
-
-differ : (a b : List ℕ) → bytes_eq a b ≡ false → a ≢ b
-differ a b f e = let t = (bytes_eq-Decides a b).1 e in absurd (cc (t, f))
-
-none_of_these : (field : Asking) → name_of field ≢ codes "if-none-match"
-none_of_these host = differ (codes "host") (codes "if-none-match") refl
-none_of_these expect = differ (codes "expect") (codes "if-none-match") refl
-none_of_these accept = differ (codes "accept") (codes "if-none-match") refl
-none_of_these accept_language = differ (codes "accept-language") (codes "if-none-match") refl
-none_of_these accept_encoding = differ (codes "accept-encoding") (codes "if-none-match") refl
-
-match_of_these : (field : Asking) → name_of field ≢ codes "if-match"
-match_of_these host = differ (codes "host") (codes "if-match") refl
-match_of_these expect = differ (codes "expect") (codes "if-match") refl
-match_of_these accept = differ (codes "accept") (codes "if-match") refl
-match_of_these accept_language = differ (codes "accept-language") (codes "if-match") refl
-match_of_these accept_encoding = differ (codes "accept-encoding") (codes "if-match") refl
-
-asks_the_same : (name : List ℕ) (tag : Line) (first second : Request (List ℕ))
-    → ((field : Asking) → name_of field ≢ name) → IsAgain name tag first second
-    → AskAlike (lines_at (head_of first).headers) (lines_at (head_of second).headers)
-asks_the_same name tag first second other again = record {
-  host = sym (again.others (codes "host") (other host));
-  expect = sym (again.others (codes "expect") (other expect));
-  accept = sym (again.others (codes "accept") (other accept));
-  accept_language = sym (again.others (codes "accept-language") (other accept_language));
-  accept_encoding = sym (again.others (codes "accept-encoding") (other accept_encoding));
-}
-
-module _ (now later : Option ℕ) (left more : ℕ) (site : Site) (look other : List ℕ → Entry)
-    (first second : Request (List ℕ)) (r s : Response) (a b : Option Source) (tag : Line)
-    (similar : HaveSimilar site.resource.negotiation.coding (uri_path (head_of first).uri) look other)
-    (x : IsAnswerAt now left site (has_at look) first r a)
-    (y : IsAnswerAt later more site (has_at other) second s b)
-    (told : lines_in (fields_of r) (codes "etag") ≡ tag ∷ []) where
-  abbrev was : LineMap
-  was = lines_at (head_of first).headers
-
-  abbrev now_is : LineMap
-  now_is = lines_at (head_of second).headers
-
-  pub revalidated : ParsesOneWay → IsAgain (codes "if-none-match") tag first second
-      → was (codes "if-unmodified-since") ≡ []
-      → IsSomeTag tag
-      → (s.status ≡ 304) × (lines_in (fields_of s) (codes "etag") ≡ tag ∷ []) × (s.pieces.items ≡ [])
-  revalidated parse again undated some =
-      by_none_match now later left more site look other first second r s a b (codes "if-none-match") tag again similar
-      x y told
-      (asks_the_same (codes "if-none-match") tag first second none_of_these again)
-      parse (sym (again.others (codes "if-match") (differ (codes "if-match") (codes "if-none-match") refl)))
-      (again.others (codes "if-unmodified-since")
-      (differ (codes "if-unmodified-since") (codes "if-none-match") refl)
-      ∙ undated) again.condition some
-
-  pub not_lost : ParsesOneWay → IsAgain (codes "if-match") tag first second → (parts : TagParts) → IsTag tag parts
-      → parts.is_weak ≡ false → s.status ≢ 412
-  not_lost parse again parts is strong =
-      by_match now later left more site look other first second r s a b (codes "if-match") tag again similar x y told
-      (asks_the_same (codes "if-match") tag first second match_of_these again)
-      parse again.condition parts is strong

@@ -14,8 +14,8 @@ use Rattle.decide_resource.specs.declared.resource.State.{State}
 use Rattle.server_service.specs.Found.{FindsEntry, FindsFolder, FindsListing, IsAbsent, LeadsTo}
 use Rattle.server_service.specs.Representations.{AreContents, HasEntryAt, offered, represented}
 use Rattle.server_service.specs.declared.file.Entry.{Entry}
-use Rattle.server_service.specs.declared.file.Entry.TheVariants.{Missing, Forbidden, Unavailable}
-use Rattle.server_service.specs.declared.file.Entry.TheVariants.{Folder, Listed, Readable}
+use Rattle.server_service.specs.declared.file.Entry.TheVariants.{Missing, Forbidden, Unavailable, Folder, Listed}
+use Rattle.server_service.specs.declared.file.Entry.TheVariants.{Readable}
 use Rattle.server_service.specs.declared.file.File.{File}
 use Rattle.server_answers.specs.Similar.{AreSimilar, HaveSimilar, Label, label_of}
 use Rattle.server_answers.specs.Stores.{has_at}

@@ -1,11 +1,7 @@
 -- The response depends on what the store has where the request looks.
-use Rattle.std.proofs.Common.{◌≡◌, ◌++◌, ℕ, Bool, true, false, List, Option, Some, refl, ◌∙◌, inl, inr}
-use Rattle.http.specs.Request.{head_of}
-use Rattle.http.specs.declared.request.Request.{Request}
+use Rattle.std.proofs.Common.{◌≡◌, ◌++◌, ℕ, Bool, true, false, List, Some, refl, ◌∙◌, inl, inr}
 use Rattle.http_uri.specs.Uri.{uri_path}
 use Rattle.http_uri.specs.declared.uri.Uri.{Uri}
-use Rattle.server_connection.specs.declared.plan.Plan.{Plan as Response}
-use Rattle.server_service.specs.Answer.{IsAnswerAt}
 use Rattle.server_files.specs.Codings.{coding_suffix}
 use Rattle.server_service.specs.Found.{FindsEntry, LeadsTo}
 use Rattle.server_files.specs.Path.{Names}
@@ -13,11 +9,9 @@ use Rattle.server_service.specs.Representations.{AreContents, HasEntryAt}
 use Rattle.server_files.specs.declared.coding.Coding.{Coding}
 use Rattle.server_files.specs.declared.coding.Coding.TheVariants.{Brotli, Gzip}
 use Rattle.server_service.specs.declared.file.Entry.{Entry}
-use Rattle.server_service.specs.declared.file.Entry.TheVariants.{Missing, Forbidden, Unavailable}
-use Rattle.server_service.specs.declared.file.Entry.TheVariants.{Folder, Listed, Readable}
+use Rattle.server_service.specs.declared.file.Entry.TheVariants.{Missing, Forbidden, Unavailable, Folder, Listed}
+use Rattle.server_service.specs.declared.file.Entry.TheVariants.{Readable}
 use Rattle.server_service.specs.declared.file.File.{File}
-use Rattle.server_service.specs.declared.settings.Site.{Site}
-use Rattle.server_service.specs.declared.source.Source.{Source}
 use Rattle.server_answers.specs.Stores.{HaveAlike, has_at}
 
 module _ (look other : List ℕ → Entry) where
@@ -56,28 +50,9 @@ module _ (look other : List ℕ → Entry) where
           (λ coding is. alike.beside named coding is names) h.2,
     )
 
-    leads : LeadsTo negotiates (has_at look) uri found → LeadsTo negotiates (has_at other) uri found
+    pub leads : LeadsTo negotiates (has_at look) uri found → LeadsTo negotiates (has_at other) uri found
     leads x =
         elim x [
           | inl h ↦ inl (h.0, h.1, (h.2.0, h.2.1 ∙ alike.named h.0 h.1, finds h.0 h.2.0 h.1 h.2.2))
           | inr h ↦ inr h
         ]
-
-pub answered_alike : (now : Option ℕ) (left : ℕ) (site : Site) (look other : List ℕ → Entry)
-    (request : Request (List ℕ)) (response : Response) (source : Option Source)
-    → HaveAlike site.resource.negotiation.coding (uri_path (head_of request).uri) look other
-    → IsAnswerAt now left site (has_at look) request response source
-    → IsAnswerAt now left site (has_at other) request response source
-answered_alike now left site look other request response source alike x =
-    record {
-      found = x.found;
-      leads = leads look other site.resource.negotiation.coding (head_of request).uri x.found alike x.leads;
-      resource = x.resource;
-      described = x.described;
-      asked = x.asked;
-      asks = x.asks;
-      answer = x.answer;
-      decides = x.decides;
-      carries = x.carries;
-      opens = x.opens;
-    }

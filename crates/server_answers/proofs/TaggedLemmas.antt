@@ -1,6 +1,6 @@
 -- What an answer with an entity tag says of the request, and what answers a request that names the tag.
-use Rattle.std.proofs.Common.{◌≡◌, ◌≢◌, ℕ, Bool, true, false, List, [], ◌∷◌, ◌++◌, Option, Some, None}
-use Rattle.std.proofs.Common.{refl, sym, ap, subst, ◌∙◌, inl, inr, arith, append_assoc}
+use Rattle.std.proofs.Common.{◌≡◌, ◌≢◌, ℕ, Bool, true, false, List, [], ◌∷◌, ◌++◌, Option, Some, None, refl, sym, ap}
+use Rattle.std.proofs.Common.{subst, ◌∙◌, inl, inr, arith, append_assoc}
 use Rattle.std.proofs.lemmas.List.Folds.{list_any-append}
 use Rattle.std.specs.Prelude.{◌||◌, bytes_eq, codes, if◌then◌else◌, is_some}
 use Rattle.http_header.specs.FieldValue.{FieldValue}
@@ -10,17 +10,15 @@ use Rattle.decide_cors.specs.Fields.{covers_origin, grant_fields, granted, vary_
 use Rattle.decide_cors.specs.Kinds.{is_preflight}
 use Rattle.decide_cors.specs.Policy.{Policy}
 use Rattle.decide_preconditions.specs.Contents.{divisible_len, limits_of}
-use Rattle.decide_preconditions.specs.Fields.{etag_of, etag_sent, fields_removed, fields_sent, is_known_by}
-use Rattle.decide_preconditions.specs.Fields.{is_whole, keeps_encoding, lines_sent, status_of}
+use Rattle.decide_preconditions.specs.Fields.{etag_of, etag_sent, fields_removed, fields_sent, is_known_by, is_whole}
+use Rattle.decide_preconditions.specs.Fields.{keeps_encoding, lines_sent, status_of}
 use Rattle.decide_preconditions.specs.Plans.{IsPlan}
-use Rattle.decide_preconditions.specs.Preconditions.{Answers, AreIgnored, IsGetOrHead, IsUnconditional}
-use Rattle.decide_preconditions.specs.Preconditions.{StateIsKept}
+use Rattle.decide_preconditions.specs.Preconditions.{Answers, AreIgnored, IsGetOrHead, IsUnconditional, StateIsKept}
 use Rattle.decide_preconditions.specs.Responses.{IsAnswered}
 use Rattle.decide_preconditions.specs.declared.content.Content.{Content}
 use Rattle.decide_preconditions.specs.declared.limits.RangeLimits.{RangeLimits}
 use Rattle.decide_preconditions.specs.declared.plan.Plan.{Plan}
-use Rattle.decide_preconditions.specs.declared.plan.Plan.TheVariants.{NotModified, Failed, Full, Single, Multiple}
-use Rattle.decide_preconditions.specs.declared.plan.Plan.TheVariants.{Unsatisfiable}
+use Rattle.decide_preconditions.specs.declared.plan.Plan.TheVariants.{NotModified, Failed, Unsatisfiable}
 use Rattle.decide_preconditions.specs.declared.precondition.Precondition.{Precondition}
 use Rattle.decide_preconditions.specs.declared.precondition.Precondition.TheVariants as precondition
 use Rattle.decide_preconditions.specs.declared.resource.Resource.{Resource as Target}
@@ -39,13 +37,8 @@ use Rattle.decide_resource.specs.declared.answer.Answer.{Answer}
 use Rattle.decide_resource.specs.declared.answer.Sends.{Sends}
 use Rattle.decide_resource.specs.declared.answer.Sends.TheVariants.{Planned}
 use Rattle.decide_resource.specs.declared.reason.Reason.{Reason}
-use Rattle.decide_resource.specs.declared.reason.Reason.TheVariants.{InvalidHost, Misdirected, UnknownMethod}
-use Rattle.decide_resource.specs.declared.reason.Reason.TheVariants.{MethodNotAllowed, Options, UnmetExpectation}
-use Rattle.decide_resource.specs.declared.reason.Reason.TheVariants.{PartialContent}
-use Rattle.decide_resource.specs.declared.reason.Reason.TheVariants.{Moved, Gone, NotFound, LengthRequired}
-use Rattle.decide_resource.specs.declared.reason.Reason.TheVariants.{ContentTooLarge, UnsupportedMediaType}
-use Rattle.decide_resource.specs.declared.reason.Reason.TheVariants.{UnsupportedCoding, NotAcceptable}
-use Rattle.decide_resource.specs.declared.reason.Reason.TheVariants.{PreconditionRequired, Admitted}
+use Rattle.decide_resource.specs.declared.reason.Reason.TheVariants.{MethodNotAllowed, Options, Moved}
+use Rattle.decide_resource.specs.declared.reason.Reason.TheVariants.{UnsupportedMediaType, UnsupportedCoding, Admitted}
 use Rattle.decide_resource.specs.declared.representation.Representation.{Representation}
 use Rattle.decide_resource.specs.declared.resource.MethodRule.{MethodRule}
 use Rattle.decide_resource.specs.declared.resource.Resource.{Resource}
@@ -95,55 +88,39 @@ two_untagged : (xs ys : List Field) → is_named etag xs ≡ false → is_named 
 two_untagged xs ys e f =
     list_any-append (λ (field : Field). bytes_eq field.0 etag) xs ys ∙ ap (λ (b : Bool). b || is_named etag ys) e ∙ f
 
-types_untagged : (rule : Option MethodRule) → (is_named etag (types_fields (codes "accept") rule) ≡ false)
-    × (is_named etag (types_fields (codes "accept-patch") rule) ≡ false)
-    × (is_named etag (types_fields (codes "accept-post") rule) ≡ false)
-types_untagged None = (refl, refl, refl)
-types_untagged (Some own) = (refl, refl, refl)
+offered_untagged : (patch post : Option MethodRule)
+    → is_named etag (types_fields (codes "accept-patch") patch ++ types_fields (codes "accept-post") post) ≡ false
+offered_untagged None None = refl
+offered_untagged None (Some post) = refl
+offered_untagged (Some patch) None = refl
+offered_untagged (Some patch) (Some post) = refl
 
-codings_untagged : (rule : Option MethodRule) → is_named etag (accept_encoding_fields rule) ≡ false
+accept_untagged : (is_patch : Bool) (own : Option MethodRule)
+    → is_named etag
+    (types_fields (codes "accept") own ++ (if is_patch then types_fields (codes "accept-patch") own else [])) ≡ false
+accept_untagged true None = refl
+accept_untagged true (Some own) = refl
+accept_untagged false None = refl
+accept_untagged false (Some own) = refl
+
+codings_untagged : (own : Option MethodRule) → is_named etag (accept_encoding_fields own) ≡ false
 codings_untagged None = refl
 codings_untagged (Some own) = refl
 
 location_untagged : (s : State) → is_named etag (location_fields s) ≡ false
-location_untagged state.Current = refl
-location_untagged state.Absent = refl
-location_untagged state.Gone = refl
 location_untagged (state.Moved redirect location) = refl
-
-patch_untagged : (is_patch : Bool) (own : Option MethodRule)
-    → is_named etag (if is_patch then types_fields (codes "accept-patch") own else []) ≡ false
-patch_untagged true own = (types_untagged own).1
-patch_untagged false own = refl
+location_untagged s = refl
 
 module _ (resource : Resource) (request : Asked) where
   reason_untagged : (reason : Reason) → is_named etag (reason_fields resource request reason) ≡ false
   reason_untagged MethodNotAllowed = refl
   reason_untagged Options =
-      two_untagged (types_fields (codes "accept-patch") (rule_for resource.rules.items (codes "PATCH")))
-      (types_fields (codes "accept-post") (rule_for resource.rules.items (codes "POST")))
-      (types_untagged (rule_for resource.rules.items (codes "PATCH"))).1
-      (types_untagged (rule_for resource.rules.items (codes "POST"))).2
+      offered_untagged (rule_for resource.rules.items (codes "PATCH")) (rule_for resource.rules.items (codes "POST"))
   reason_untagged Moved = location_untagged resource.state
   reason_untagged UnsupportedMediaType =
-      two_untagged (types_fields (codes "accept") (rule resource request))
-      (if bytes_eq request.method (codes "PATCH") then types_fields (codes "accept-patch") (rule resource request)
-      else [])
-      (types_untagged (rule resource request)).0
-      (patch_untagged (bytes_eq request.method (codes "PATCH")) (rule resource request))
+      accept_untagged (bytes_eq request.method (codes "PATCH")) (rule resource request)
   reason_untagged UnsupportedCoding = codings_untagged (rule resource request)
-  reason_untagged InvalidHost = refl
-  reason_untagged Misdirected = refl
-  reason_untagged UnknownMethod = refl
-  reason_untagged UnmetExpectation = refl
-  reason_untagged PartialContent = refl
-  reason_untagged Gone = refl
-  reason_untagged NotFound = refl
-  reason_untagged LengthRequired = refl
-  reason_untagged ContentTooLarge = refl
-  reason_untagged NotAcceptable = refl
-  reason_untagged PreconditionRequired = refl
-  reason_untagged Admitted = refl
+  reason_untagged reason = refl
 
 -- ---- the field that has the tag
 
@@ -194,12 +171,8 @@ planned_tag present plan target content multipart fields (Some representation) =
 -- ---- reads
 
 never_unconditional : (method : List ℕ) → IsGetOrHead method → ¬ (IsUnconditional method)
-never_unconditional method (inl e) (inl c) = let no = sym e ∙ c in absurd (cc no)
-never_unconditional method (inl e) (inr (inl c)) = let no = sym e ∙ c in absurd (cc no)
-never_unconditional method (inl e) (inr (inr c)) = let no = sym e ∙ c in absurd (cc no)
-never_unconditional method (inr e) (inl c) = let no = sym e ∙ c in absurd (cc no)
-never_unconditional method (inr e) (inr (inl c)) = let no = sym e ∙ c in absurd (cc no)
-never_unconditional method (inr e) (inr (inr c)) = let no = sym e ∙ c in absurd (cc no)
+never_unconditional method (inl e) c = elim c [ inl a ↦ cc (e, a) | inr o ↦ elim o [ inl b ↦ cc (e, b) | inr d ↦ cc (e, d) ] ]
+never_unconditional method (inr e) c = elim c [ inl a ↦ cc (e, a) | inr o ↦ elim o [ inl b ↦ cc (e, b) | inr d ↦ cc (e, d) ] ]
 
 pub never_ignored : (current : Validators) (method : List ℕ) → IsGetOrHead method
     → ¬ (AreIgnored (Current current) method)
@@ -300,15 +273,11 @@ module _ (present : ℕ) (resource : Resource) (asked : Asked) where
     tag_of_plan : (target : Target) (len : ℕ) (limits : RangeLimits) (tag : Line) (plan : Plan)
         → IsPlanFor target len limits plan → sent_tag plan target ≡ tag ∷ []
         → StateIsKept present asked.fields target × (tag_lines target ≡ tag ∷ [])
-    tag_of_plan target len limits tag Full h e = (performed_kept target h.0 h.1.is_current h.1.performs, e)
-    tag_of_plan target len limits tag (Single part) h e = (performed_kept target h.0 h.1.is_current h.1.performs, e)
-    tag_of_plan target len limits tag (Multiple parts) h e = (performed_kept target h.0 h.1.is_current h.1.performs, e)
-    tag_of_plan target len limits tag NotModified h e = (
-      (h.conditional (λ is. let no = h.unconditional is in absurd (cc no))).0,
-      e,
-    )
+    tag_of_plan target len limits tag NotModified h e =
+        ((h.conditional (λ is. let no = h.unconditional is in absurd (cc no))).0, e)
     tag_of_plan target len limits tag Failed h e = absurd (cc e)
     tag_of_plan target len limits tag Unsatisfiable h e = absurd (cc e)
+    tag_of_plan target len limits tag plan h e = (performed_kept target h.0 h.1.is_current h.1.performs, e)
 
     module _ (answer : Answer) (a : IsAnswer present resource asked answer) (has_policy : Bool) (tag : Line)
         (told : lines_in (headers_sent has_policy (encoded_fields answer.fields.items)) etag ≡ tag ∷ []) where
@@ -362,23 +331,13 @@ module _ (present : ℕ) (resource : Resource) (asked : Asked) where
     only_not_modified target len limits NotModified h p = refl
     only_not_modified target len limits Failed h p =
         let no = other_result target precondition.NotModified precondition.Failed h p in absurd (cc no)
-    only_not_modified target len limits Full h p =
-        let no = other_result target precondition.NotModified precondition.Perform h p.1.performs in absurd (cc no)
-    only_not_modified target len limits (Single part) h p =
-        let no = other_result target precondition.NotModified precondition.Perform h p.1.performs in absurd (cc no)
-    only_not_modified target len limits (Multiple parts) h p =
-        let no = other_result target precondition.NotModified precondition.Perform h p.1.performs in absurd (cc no)
-    only_not_modified target len limits Unsatisfiable h p =
+    only_not_modified target len limits plan h p =
         let no = other_result target precondition.NotModified precondition.Perform h p.1.performs in absurd (cc no)
 
     other_status : (target : Target) (len : ℕ) (limits : RangeLimits) (plan : Plan)
         → ¬ (Decide target precondition.Failed) → IsPlanFor target len limits plan → status_of plan ≢ 412
     other_status target len limits Failed passes p = absurd (passes p)
-    other_status target len limits NotModified passes p = λ e. omega (arith, e)
-    other_status target len limits Full passes p = λ e. omega (arith, e)
-    other_status target len limits (Single part) passes p = λ e. omega (arith, e)
-    other_status target len limits (Multiple parts) passes p = λ e. omega (arith, e)
-    other_status target len limits Unsatisfiable passes p = λ e. omega (arith, e)
+    other_status target len limits plan passes p = λ e. omega (arith, e)
 
     module _ (answer : Answer) (a : IsAnswer present resource asked answer)
         (first : IsFirst (applies resource asked) Admitted) (place : Option ℕ)

@@ -1,9 +1,6 @@
 -- What a connection sends in answer to a literal request.
-use Rattle.std.proofs.Common.{◌≡◌, ◌≢◌, ℕ, ◌+◌, ◌<◌, ◌≤◌, ◌⊎◌, Bool, true, false, not, List, []}
-use Rattle.std.proofs.Common.{◌∷◌, ◌++◌, length}
-use Rattle.std.proofs.Common.{cond, take, codes, Some, None, refl, sym, ap, subst, ◌∙◌, arith, append-nil}
-use Rattle.std.proofs.Common.{inl, inr}
-use Rattle.std.proofs.Common.{zero, suc}
+use Rattle.std.proofs.Common.{◌≡◌, ◌≢◌, ℕ, ◌+◌, ◌<◌, ◌≤◌, ◌⊎◌, Bool, true, List, [], ◌∷◌, ◌++◌, length, take, codes}
+use Rattle.std.proofs.Common.{Some, None, refl, sym, ap, subst, ◌∙◌, arith, append-nil, inl, inr, zero, suc}
 use Rattle.std.specs.Prelude.{Any, slice_index_or}
 use Rattle.std.proofs.lemmas.Bool.{ne_eqb, cond-false}
 use Rattle.std.proofs.lemmas.List.{length-append}
@@ -23,7 +20,7 @@ use Rattle.http1.specs.declared.framing.Framing.{Framing}
 use Rattle.http1.specs.Fields.{Header, known_fields}
 use Rattle.http1.specs.Framing.{method_kind}
 use Rattle.http1.specs.Message as Wire
-use Rattle.http1.specs.Message.{AcceptsRequest, ReadsRequestMessage, known_of}
+use Rattle.http1.specs.Message.{ReadsRequestMessage}
 use Rattle.http1.specs.Server.{is_head, request_of, response_refusal}
 use Rattle.http1.specs.Text.{eq_ignore_case}
 use Rattle.http1_typed.specs.Parts.{reason_of}
@@ -35,23 +32,20 @@ use Rattle.http_server.specs.declared.state.Refusal.TheVariants.{InvalidHost, Un
 use Rattle.http_server.specs.declared.state.State.{State}
 use Rattle.http_server.specs.declared.state.State.TheVariants.{Open, Closing, Upgraded, Aborted}
 use Rattle.http_server.specs.Encoding.{answering, refusal_of, size_of}
-use Rattle.http_server.specs.Exchange.{Call, Chain, Exchanges, ExpectsContinue, IsAnswer, ReadsCall, Serves}
-use Rattle.http_server.specs.Exchange.{keeps_open, map_of}
+use Rattle.http_server.specs.Exchange.{Call, Chain, Exchanges, ExpectsContinue, ReadsCall, Serves, map_of}
 use Rattle.http_server.specs.History.{HasInvalidHost, HasInvalidPart, HasTooManyFields, HasUnknownCoding, History}
 use Rattle.http_server.specs.History.{IsPartError, Justifies, NextIs, Stands}
 use Rattle.http_server.specs.Host.{IsHostValid}
 use Rattle.http_server.specs.Response.{fields_of}
 use Rattle.server_connection.specs.Connection.{Exchanged, IsClosing}
-use Rattle.server_connection.specs.Encoding.{Frames, content_len, plan_fields, plan_size, size_for}
+use Rattle.server_connection.specs.Encoding.{content_len, plan_fields, plan_size, size_for}
 use Rattle.server_connection.specs.Literal.{IsLiteral, SendsCall, SendsCalls}
 use Rattle.server_connection.specs.Pieces.{AreSent, Gives}
-use Rattle.server_connection.specs.Plan.{Answers, HasHeadOf, IsContentOf, Plans, sent_pieces}
+use Rattle.server_connection.specs.Plan.{Answers, HasHeadOf, IsContentOf, Plans}
 use Rattle.server_connection.specs.declared.plan.Plan.{Plan}
 use Rattle.server_connection.proofs.PieceLemmas.{Advances-length}
 use Rattle.server_laws.specs.Literal.{AsksForRoot, request_text, root_head}
-use Rattle.server_laws.specs.Served.{GoesOn, IsOneAnswer}
-use Rattle.server_laws.proofs.RequestLemmas.{get_asked, get_reads, get_valid, message_with, one_get}
-use Rattle.server_laws.proofs.RequestLemmas.{root_text}
+use Rattle.server_laws.proofs.RequestLemmas.{get_asked, get_reads, get_valid, message_with, one_get, root_text}
 
 abbrev stream : List ℕ
 stream = request_text (codes "GET")
@@ -97,7 +91,7 @@ coding_is_known : ¬ (HasUnknownCoding message)
 unfolding known_fields eq_ignore_case trim_ows
 coding_is_known why = cc
 
-waits_for_nothing : (limits : Limits) → ¬ (ExpectsContinue limits stream)
+pub waits_for_nothing : (limits : Limits) → ¬ (ExpectsContinue limits stream)
 unfolding known_fields eq_ignore_case trim_ows
 waits_for_nothing limits why =
     let same = request_unique stream why.0 (root_head (codes "GET")) why.2 [] why.3.reads get_valid in
@@ -158,12 +152,20 @@ parts_are_valid e why =
 
 -- ---- the connection
 
+-- the plan is that of a final response to the request, which `http1` sends however the request was framed
+pub record IsSendable (limits : Limits) (plan : Plan) : Type 0 where
+  pub late : plan.status ≢ 101
+  pub accepted : (framing : Framing)
+      → response_refusal (answering limits (root_head (codes "GET")) framing) plan.status (reason_of plan.status)
+      (plan_size plan) (plan_fields plan) ≡ None
+
 module _ {H : Type 0} (plans : Plans H) (gives : H → Gives) (config : Config) (room : 35 ≤ config.limits.max_head_len)
     (first : H) where
-  abbrev pub GoOn : Type 0
-  GoOn =
+  -- each plan for the request is that of a final response that `http1` sends
+  abbrev pub AreSendable : Type 0
+  AreSendable =
       (request : Request (List ℕ)) (plan : Plan) (after : H) → AsksForRoot (codes "GET") request
-      → plans first request plan after → GoesOn config.limits (root_head (codes "GET")) plan
+      → plans first request plan after → IsSendable config.limits plan
 
   -- ---- what was read
 
@@ -187,7 +189,7 @@ module _ {H : Type 0} (plans : Plans H) (gives : H → Gives) (config : Config) 
       (not_on_empty true d h.5.0 h.5.1
       (subst (λ (s : List ℕ). Exchanges config true s d h.5.0 h.5.1) done h.5.4))
 
-  module _ (good : GoOn) (last : H) where
+  module _ (good : AreSendable) (last : H) where
     -- ---- the response
 
     record IsPlannedCall (c : Call) : Type 0 where
@@ -195,7 +197,7 @@ module _ {H : Type 0} (plans : Plans H) (gives : H → Gives) (config : Config) 
       planned : plans first c.0 plan last
       has_head : HasHeadOf plan c.1
       content : AreSent (gives last) plan.pieces.items c.1.body.items
-      goes : GoesOn config.limits (root_head (codes "GET")) plan
+      goes : IsSendable config.limits plan
 
     called : (c : Call) → AsksForRoot (codes "GET") c.0 → Chain (Answers plans gives) first (c ∷ []) last
         → IsPlannedCall c
@@ -234,26 +236,17 @@ module _ {H : Type 0} (plans : Plans H) (gives : H → Gives) (config : Config) 
         ∙ (λ i. response_refusal server (p.has_head.status i) (reason_of (p.has_head.status i)) (size_same c p i)
         (fields_same c p i))
 
-    keeps : (c : Call) (p : IsPlannedCall c) → keeps_open (root_head (codes "GET")) c.1 ≡ true
-    unfolding known_fields eq_ignore_case trim_ows
-    keeps c p =
-        ap (λ (hs : List Header). not (known_fields hs).close) (fields_same c p)
-        ∙ ap not p.goes.stays
-
     -- ---- how it ended
 
     module _ (h : History) (chain : Chain (Answers plans gives) first h.calls last) where
       chained : (calls : List Call) → h.calls ≡ calls → Chain (Answers plans gives) first calls last
       chained calls is = subst (λ (l : List Call). Chain (Answers plans gives) first l last) is chain
 
-      abbrev At : List Call → List ℕ → Type 0
-      At answered rest = ((answered ≡ []) × (rest ≡ stream)) ⊎ (rest ≡ [])
-
-      place : (answered : List Call) (rest : List ℕ) → At answered rest → (rest ≡ stream) ⊎ (rest ≡ [])
-      place answered rest at = elim at [ inl is ↦ inl is.1 | inr is ↦ inr is ]
+      place : (answered : List Call) (rest : List ℕ) → Progress answered rest → (rest ≡ stream) ⊎ (rest ≡ [])
+      place answered rest at = elim at [ inl is ↦ inl is.1 | inr is ↦ inr is.2 ]
 
       -- the connection refused nothing
-      refuses : (why : Refusal) (answered : List Call) (rest : List ℕ) → At answered rest
+      refuses : (why : Refusal) (answered : List Call) (rest : List ℕ) → Progress answered rest
           → Justifies why config h answered rest → ⊥
       refuses Truncated answered rest at x =
           elim at [
@@ -261,7 +254,7 @@ module _ {H : Type 0} (plans : Plans H) (gives : H → Gives) (config : Config) 
                 x.3 message []
                 (subst (λ (s : List ℕ). ReadsRequestMessage config.limits s message []) (sym is.1)
                 (get_reads config.limits room))
-            | inr is ↦ x.2 is
+            | inr is ↦ x.2 is.2
           ]
       refuses (Unreadable e) answered rest at x =
           few_fields (next_is config.limits rest HasTooManyFields room (place answered rest at) x.1)
@@ -298,60 +291,34 @@ module _ {H : Type 0} (plans : Plans H) (gives : H → Gives) (config : Config) 
                 cc (none, refusal)
             | inr is ↦
                 empty_reads config.limits x.1.message x.0
-                (subst (λ (s : List ℕ). ReadsRequestMessage config.limits s x.1.message x.0) is x.1.request.reads)
+                (subst (λ (s : List ℕ). ReadsRequestMessage config.limits s x.1.message x.0) is.2 x.1.request.reads)
           ]
 
+      -- what was sent is the response of one call
       abbrev Result : List ℕ → Type 0
-      Result sent = IsOneAnswer plans gives config.limits (root_head (codes "GET")) first last sent
+      Result sent = (c : Call) × (after : List ℕ) × SendsCall plans gives config first last stream c sent after
 
-      by_call : (c : Call) (text after : List ℕ) → SendsCall plans gives config first last stream c text after
-          → Result text
-      by_call c text after s =
-          let e = s.exchange in
-          let asks = (get_asked config e.message c.0 after e.request).0 in
-          let head = (one_get config.limits e.message after e.request.reads).head in
-          let framing = e.request.reads.framing in
-          let quiet : e.interim ≡ [] =
-          elim e.is_interim [ inl none ↦ none | inr waits ↦ absurd (waits_for_nothing config.limits waits.1) ] in
-          let text_is : text ≡ e.answer = e.joined ∙ ap (λ (l : List ℕ). l ++ e.answer) quiet in
-          let bodied : s.bodiless ≡ false =
-          s.kind ∙ ap (λ (r : RequestHead). is_head (method_kind r.method)) head in
-          let pieces : AreSent (gives last) s.plan.pieces.items s.content =
-          subst (λ (b : Bool). AreSent (gives last) (sent_pieces b s.plan) s.content) bodied s.is_content in
-          let body : s.content ≡ c.1.body.items = s.body ∙ ap (λ (b : Bool). cond b [] c.1.body.items) bodied in
-          record {
-            request = c.0;
-            asks = asks;
-            plan = s.plan;
-            planned = s.planned;
-            response = c.1;
-            has_head = s.has_head;
-            content = subst (AreSent (gives last) s.plan.pieces.items) body pieces;
-            answer =
-                subst (λ (r : RequestHead). IsAnswer r c.1 text) head
-                (subst (λ (t : List ℕ). IsAnswer e.message.head c.1 t) (sym text_is) e.is_answer);
-            framing = framing;
-            server = s.server;
-            front = s.head;
-            tail = s.tail;
-            frames =
-                subst
-                (λ (r : RequestHead).
-                Frames false s.plan (answering config.limits r framing) [] [] s.server s.head s.tail) head
-                (subst
-                (λ (b : Bool).
-                Frames b s.plan (answering config.limits e.message.head framing) [] [] s.server s.head s.tail)
-                bodied s.frames);
-            literal = text_is ∙ s.literal ∙ ap (λ (t : List ℕ). s.head ++ (t ++ s.tail)) body;
-          }
+      one_sent : (calls : List Call) (text rest : List ℕ) → 0 < length calls
+          → SendsCalls plans gives config first last stream calls text rest → Result text
+      one_sent [] text rest some x = absurd (omega (arith, some))
+      one_sent (c ∷ []) text rest some x =
+          let alone : text ≡ x.1 = x.4 ∙ ap (λ (l : List ℕ). x.1 ++ l) x.6.2 ∙ append-nil x.1 in (
+            c,
+            x.2,
+            subst (λ (t : List ℕ). SendsCall plans gives config first last stream c t x.2) (sym alone)
+                (subst (λ (next : H). SendsCall plans gives config first next stream c x.1 x.2) (sym x.6.0) x.5),
+          )
+      one_sent (c ∷ d ∷ more) text rest some x =
+          let next = x.6 in
+          absurd
+          (not_on_empty next.5.stays d next.1 next.2
+          (subst (λ (s : List ℕ). Exchanges config next.5.stays s d next.1 next.2)
+          (ends x.5.stays c x.1 x.2 x.5.exchange) next.5.exchange))
 
-      one_sent : (c : Call) (text rest : List ℕ)
-          → SendsCalls plans gives config first last stream (c ∷ []) text rest → Result text
-      one_sent c text rest x =
-          let alone : text ≡ x.1 = x.4 ∙ ap (λ (l : List ℕ). x.1 ++ l) x.6.2 ∙ append-nil x.1 in
-          subst Result (sym alone)
-          (by_call c x.1 x.2
-          (subst (λ (next : H). SendsCall plans gives config first next stream c x.1 x.2) (sym x.6.0) x.5))
+      all_sent : (literal sent later : List ℕ) → later ≡ [] → sent ≡ literal ++ later
+          → Result literal → Result sent
+      all_sent literal sent later none out x =
+          subst Result (sym (out ∙ ap (λ (t : List ℕ). literal ++ t) none ∙ append-nil literal)) x
 
       by_state : (state : State) (answered : List Call) (text interim rest sent : List ℕ) → IsClosing state
           → Progress answered rest → IsLiteral plans gives config first last state stream h.calls sent
@@ -360,24 +327,9 @@ module _ {H : Type 0} (plans : Plans H) (gives : H → Gives) (config : Config) 
       by_state Upgraded answered text interim rest sent closing at literal x = absurd closing
       by_state Aborted answered text interim rest sent closing at literal x = absurd closing
       by_state (Closing Asked) answered text interim rest sent closing at literal x =
-          let c = x.0 in
-          let ex = x.3 in
-          absurd
-          (elim at [
-            | inl is ↦
-                let e : Exchanges config false stream c x.1 x.2 =
-                subst (λ (s : List ℕ). Exchanges config false s c x.1 x.2) is.1 ex in
-                let asks = (get_asked config e.message c.0 x.2 e.request).0 in
-                let calls : h.calls ≡ c ∷ [] = x.4 ∙ ap (λ (l : List Call). l ++ c ∷ []) is.0 in
-                let p = called c asks (chained (c ∷ []) calls) in
-                let head = (one_get config.limits e.message x.2 e.request.reads).head in
-                let wrong : false ≡ true =
-                sym e.persists ∙ ap (λ (r : RequestHead). keeps_open r c.1) head ∙ keeps c p in
-                cc wrong
-            | inr one ↦
-                not_on_empty false c x.1 x.2
-                (subst (λ (s : List ℕ). Exchanges config false s c x.1 x.2) one.2 ex)
-          ])
+          let some : length h.calls ≡ length answered + 1 = ap length x.4 ∙ length-append answered (x.0 ∷ []) in
+          all_sent literal.text sent literal.later literal.is_later literal.out
+          (one_sent h.calls literal.text literal.rest (omega (arith, some)) literal.sends)
       by_state (Closing EndOfInput) answered text interim rest sent closing at literal x =
           elim at [
             | inl is ↦
@@ -385,25 +337,19 @@ module _ {H : Type 0} (plans : Plans H) (gives : H → Gives) (config : Config) 
                 let len : length stream ≡ 0 = ap length none in
                 absurd (omega (arith, len))
             | inr one ↦
-                let all : sent ≡ literal.text =
-                literal.out ∙ ap (λ (t : List ℕ). literal.text ++ t) literal.is_later ∙ append-nil literal.text in
-                subst Result (sym all)
-                (one_sent one.0 literal.text literal.rest
-                (subst
-                (λ (calls : List Call).
-                SendsCalls plans gives config first last stream calls literal.text literal.rest) (x.0 ∙ one.1)
-                literal.sends))
+                let some : length h.calls ≡ 1 = ap length (x.0 ∙ one.1) in
+                all_sent literal.text sent literal.later literal.is_later literal.out
+                (one_sent h.calls literal.text literal.rest (omega (arith, some)) literal.sends)
           ]
       by_state (Closing (Refused why)) answered text interim rest sent closing at literal x =
-          absurd (refuses why answered rest (elim at [ inl is ↦ inl is | inr one ↦ inr one.2 ]) x.0)
+          absurd (refuses why answered rest at x.0)
 
   -- a whole connection that got this request sent its response
-  pub one_answer : GoOn → (now : H) (sent : List ℕ) → Exchanged plans gives config first now stream sent true
-      → IsOneAnswer plans gives config.limits (root_head (codes "GET")) first now sent
-  one_answer good now sent e =
+  pub one_call : AreSendable → (now : H) (sent : List ℕ) → Exchanged plans gives config first now stream sent true
+      → (c : Call) × (after : List ℕ) × SendsCall plans gives config first now stream c sent after
+  one_call good now sent e =
       let h = e.history in
       let s = e.ended.0 in
-      let closing = e.ended.1 in
       let at = progress s.answered s.text s.rest
       (subst (λ (r : List ℕ). Serves config r s.answered s.text s.rest) e.is_received s.serves) in
       let literal : IsLiteral plans gives config first e.last h.state stream h.calls sent =
@@ -411,5 +357,5 @@ module _ {H : Type 0} (plans : Plans H) (gives : H → Gives) (config : Config) 
       (subst (λ (t : List ℕ). IsLiteral plans gives config first e.last h.state h.received h.calls t) e.is_sent
       e.literal) in
       subst
-      (λ (l : H). IsOneAnswer plans gives config.limits (root_head (codes "GET")) first l sent) e.ended.3
-      (by_state good e.last h e.answered h.state s.answered s.text s.interim s.rest sent closing at literal s.stands)
+      (λ (l : H). (c : Call) × (after : List ℕ) × SendsCall plans gives config first l stream c sent after) e.ended.3
+      (by_state good e.last h e.answered h.state s.answered s.text s.interim s.rest sent e.ended.1 at literal s.stands)

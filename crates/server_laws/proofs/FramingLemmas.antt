@@ -1,16 +1,20 @@
 -- A response whose length is known is sent, unless its fields state another one.
 use Rattle.std.proofs.Common.{◌≡◌, ◌≢◌, ℕ, ◌+◌, ◌^◌, ◌<◌, ◌≤◌, ◌⊎◌, min, Bool, true, false, not, cond, eqb, ◌&&◌, ◌||◌}
 use Rattle.std.proofs.Common.{List, [], ◌∷◌, ◌++◌, codes, None, Result, Ok, Err, refl, sym, ap, ◌∙◌, subst, arith}
-use Rattle.std.proofs.Common.{All, append_assoc, append-nil, inl, inr, nat_lt}
+use Rattle.std.proofs.Common.{append_assoc, append-nil, inl, inr, length, map, nat_lt}
 use Rattle.std.specs.List.{list_all}
 use Rattle.std.specs.Str.Parse.{digits_value}
 use Rattle.std.proofs.lemmas.Bool.{and_parts, and_from, ne_eqb, eq-eqb, cond-true, cond-false, cases_Bool, eqb-true}
-use Rattle.std.proofs.lemmas.Bool.{le-leb, not-true, or_cases}
+use Rattle.std.proofs.lemmas.Bool.{le-leb, eqb-false, not-true, or_cases, or_parts}
 use Rattle.std.proofs.lemmas.Bool.Decides.{nat_tests}
 use Rattle.std.proofs.lemmas.Grind.{flat_map-append}
-use Rattle.std.proofs.lemmas.List.Elements.{All-head, All-tail}
 use Rattle.std.proofs.lemmas.List.Folds.{list_all-append}
-use Rattle.std.proofs.lemmas.List.Recursion.{is_count_by}
+use Rattle.std.proofs.lemmas.List.Sums.{sum_by-cons}
+use Rattle.std.proofs.lemmas.Fmt.{decimal-digits_of, decimal_digit}
+use Rattle.std.proofs.lemmas.Int.Digits.{all_below_base_digits_of}
+use Rattle.std.specs.Char.{digit_char}
+use Rattle.std.specs.Int.Digits.{AllBelowBase, digits_of}
+use Rattle.std.specs.Prelude.{count_by, decimal}
 use Rattle.std.proofs.Math.Bool.{and-false}
 use Rattle.httparse.specs.Grammar.{RequestHead, is_token_byte}
 use Rattle.http1.specs.declared.conn.BodySize.{BodySize}
@@ -31,8 +35,8 @@ use Rattle.http1.specs.Fields.{Header, content_length, elements, elements_named,
 use Rattle.http1.specs.Fields.{is_framing_field, is_named, is_plain_chunked, is_plain_number, known_fields}
 use Rattle.http1.specs.Fields.{transfer_encoding}
 use Rattle.http1.specs.Framing.{by_fields, is_bodiless_status, has_no_body, response_framing, method_kind}
-use Rattle.http1.specs.Conn.{Plan, connection_header, fits, is_coded, is_connect, is_plain, length_header}
-use Rattle.http1.specs.Conn.{plan_refusal, size_headers, states_framing, states_no_content, with_framing}
+use Rattle.http1.specs.Conn.{Plan, connection_header, fits, is_coded, is_plain, length_header, plan_refusal}
+use Rattle.http1.specs.Conn.{size_headers, states_framing, states_no_content, with_framing}
 use Rattle.http1.specs.Head.{are_headers, head_refusal, is_field_value, is_header, is_status_line, is_trimmed_value}
 use Rattle.http1.specs.Server.{connection_headers, is_205_with_content, is_coded_304, is_sized, plan_fields}
 use Rattle.http1.specs.Server.{plan_stated, response_plan, response_refusal, stays_open}
@@ -41,109 +45,128 @@ use Rattle.http_server.specs.Encoding.{answering}
 use Rattle.http1_typed.specs.Parts.{reason_of}
 use Rattle.server_connection.specs.Encoding.{content_len, plan_fields as plan_fields_of, plan_size, size_for}
 use Rattle.server_connection.specs.declared.plan.Plan.{Plan as ResponsePlan}
-use Rattle.server_laws.specs.Sendable.{IsFinal, IsOrdinary, StatesLength, length_fields}
+use Rattle.server_laws.specs.Sendable.{IsFinal, StatesLength}
+
+-- ---- numbers
+
+digit_char_is : (d : ℕ) → d < 10 → digit_char d ≡ 48 + d
+digit_char_is d small = grind (arith, nat_tests)
+
+chars_are : (ds : List ℕ) → AllBelowBase 10 ds → map digit_char ds ≡ map (λ d. 48 + d) ds
+chars_are [] below = refl
+chars_are (d ∷ ds) below = λ i. digit_char_is d below.0 i ∷ chars_are ds below.1 i
+
+-- the two ways to write a number are one
+pub decimal_is_numeral : (n : ℕ) → n < 2 ^ 64 → decimal n ≡ numeral 10 n
+unfolding numeral
+decimal_is_numeral n short = by_test (eqb n 0) refl
+  where
+    by_test : (t : Bool) → eqb n 0 ≡ t → decimal n ≡ cond t (48 ∷ []) (map digit_char (digits_of 10 n))
+    by_test true zero = ap decimal (eqb-true n 0 zero) ∙ decimal_digit 0 (omega arith)
+    by_test false some =
+        decimal-digits_of n (omega (arith, eqb-false n 0 some)) short
+        ∙ sym (chars_are (digits_of 10 n) (all_below_base_digits_of 10 n (omega arith)))
 
 -- ---- what fields say of the framing
 
--- how many of the field lines pass the test
-abbrev pub tally : (Header → Bool) → List Header → ℕ
-tally p [] = 0
-tally p (x ∷ xs) = cond (p x) (1 + tally p xs) (tally p xs)
+pub states_none : (n : ℕ) → StatesLength n false []
+states_none n = record { valid = refl; codings = refl; lengths = refl }
 
--- each field line is ordinary, but for one that states the length, if that is stated
-pub record States (n : ℕ) (stated : Bool) (hs : List Header) : Type 0 where
-  pub valid : list_all is_header hs ≡ true
-  pub codings : elements_named (codes "transfer-encoding") hs ≡ []
-  pub lengths : values_named (codes "content-length") hs ≡ cond stated (numeral 10 n ∷ []) []
-  pub count : tally is_framing_field hs ≡ cond stated 1 0
-  pub plain : list_all frames_plainly hs ≡ true
+-- a field line that says nothing of it
+pub states_other : (n : ℕ) (h : Header) → is_header h ≡ true → is_framing_field h ≡ false
+    → StatesLength n false (h ∷ [])
+states_other n h valid other =
+    let neither = or_parts (is_named (codes "content-length") h) (is_named (codes "transfer-encoding") h) other in
+    record {
+      valid = and_from _ _ valid refl;
+      codings = ap (λ (b : Bool). cond b (h.1 ∷ []) [] ++ []) neither.1;
+      lengths = ap (λ (b : Bool). cond b (h.1 ∷ []) [] ++ []) neither.0;
+    }
 
-pub states_none : (n : ℕ) → States n false []
-states_none n = record { valid = refl; codings = refl; lengths = refl; count = refl; plain = refl }
-
-abbrev frames_coding : Header → Bool
-frames_coding h = cond (is_named (codes "transfer-encoding") h) (is_plain_chunked h.1) true
-
-pub states_ordinary : (n : ℕ) (h : Header) → IsOrdinary h → States n false (h ∷ [])
-states_ordinary n h x = record {
-  valid = and_from _ _ x.header refl;
-  codings = ap (λ (b : Bool). cond b (elements h.1) [] ++ []) x.uncoded;
-  lengths = ap (λ (b : Bool). cond b (h.1 ∷ []) [] ++ []) x.unsized;
-  count = λ i. tally (λ _. x.unsized i || x.uncoded i) (h ∷ []);
-  plain =
-      ap (λ (b : Bool). cond b (is_plain_number h.1) (frames_coding h) && true) x.unsized
-      ∙ ap (λ (b : Bool). cond b (is_plain_chunked h.1) true && true) x.uncoded;
-}
-
-tally-append : (p : Header → Bool) (xs ys : List Header) → tally p (xs ++ ys) ≡ tally p xs + tally p ys
-tally-append p [] ys = omega arith
-tally-append p (x ∷ xs) ys = by_test (p x) (tally-append p xs ys)
-  where
-    by_test : (t : Bool) → tally p (xs ++ ys) ≡ tally p xs + tally p ys
-        → cond t (1 + tally p (xs ++ ys)) (tally p (xs ++ ys)) ≡ cond t (1 + tally p xs) (tally p xs) + tally p ys
-    by_test true e = omega (arith, e)
-    by_test false e = e
-
-module _ (n : ℕ) (xs ys : List Header) where
-  joined : (a b c : Bool) → States n a xs → States n b ys
-      → cond a (numeral 10 n ∷ []) [] ++ cond b (numeral 10 n ∷ []) [] ≡ cond c (numeral 10 n ∷ []) []
-      → cond a 1 0 + cond b 1 0 ≡ cond c 1 0 → States n c (xs ++ ys)
-  joined a b c x y lengths count = record {
-    valid = list_all-append is_header xs ys ∙ and_from _ _ x.valid y.valid;
-    codings = flat_map-append _ xs ys ∙ (λ i. x.codings i ++ y.codings i);
-    lengths = flat_map-append _ xs ys ∙ (λ i. x.lengths i ++ y.lengths i) ∙ lengths;
-    count = tally-append is_framing_field xs ys ∙ (λ i. x.count i + y.count i) ∙ count;
-    plain = list_all-append frames_plainly xs ys ∙ and_from _ _ x.plain y.plain;
-  }
-
-  pub states_then : (b : Bool) → States n false xs → States n b ys → States n b (xs ++ ys)
-  states_then b x y = joined false b b x y refl (omega arith)
-
-  pub states_before : (a : Bool) → States n a xs → States n false ys → States n a (xs ++ ys)
-  states_before true x y = joined true false true x y refl refl
-  states_before false x y = joined false false false x y refl refl
-
-pub states_length : (n : ℕ) → n < 2 ^ 64 → States n true (length_header n ∷ [])
+pub states_length : (n : ℕ) → n < 2 ^ 64 → StatesLength n true (length_header n ∷ [])
 unfolding eq_ignore_case is_token_byte
 states_length n short = record {
   valid = and_from _ _ (decimal_is_trimmed n) refl;
   codings = refl;
-  lengths = refl;
-  count = refl;
-  plain = and_from _ _ (decimal_is_plain n short) refl;
+  lengths = ap (λ (text : List ℕ). text ∷ []) (sym (decimal_is_numeral n short));
 }
 
-states_all : (n : ℕ) (hs : List Header) → All IsOrdinary hs → States n false hs
-states_all n [] all = states_none n
-states_all n (h ∷ hs) all =
-    states_then n (h ∷ []) hs false (states_ordinary n h (All-head IsOrdinary h hs all))
-    (states_all n hs (All-tail IsOrdinary h hs all))
+module _ (n : ℕ) (xs ys : List Header) where
+  joined : (a b c : Bool) → StatesLength n a xs → StatesLength n b ys
+      → cond a (decimal n ∷ []) [] ++ cond b (decimal n ∷ []) [] ≡ cond c (decimal n ∷ []) []
+      → StatesLength n c (xs ++ ys)
+  joined a b c x y lengths = record {
+    valid = list_all-append is_header xs ys ∙ and_from _ _ x.valid y.valid;
+    codings = flat_map-append _ xs ys ∙ (λ i. x.codings i ++ y.codings i);
+    lengths = flat_map-append _ xs ys ∙ (λ i. x.lengths i ++ y.lengths i) ∙ lengths;
+  }
 
-states_by : (n : ℕ) (stated : Bool) (hs : List Header) → n < 2 ^ 64 → StatesLength n stated hs → States n stated hs
-states_by n stated hs short x =
-    subst (States n stated) (sym x.are)
-    (states_then n x.before (length_fields stated n ++ x.after) stated (states_all n x.before x.first)
-    (states_before n (length_fields stated n) x.after stated (middle stated) (states_all n x.after x.last)))
+  pub states_then : (b : Bool) → StatesLength n false xs → StatesLength n b ys → StatesLength n b (xs ++ ys)
+  states_then b x y = joined false b b x y refl
+
+  pub states_before : (a : Bool) → StatesLength n a xs → StatesLength n false ys → StatesLength n a (xs ++ ys)
+  states_before a x y = joined a false a x y (append-nil _)
+
+-- what field lines without Transfer-Encoding say, by the lengths that they state
+record Counts (lengths : List (List ℕ)) (hs : List Header) : Type 0 where
+  codings : elements_named (codes "transfer-encoding") hs ≡ []
+  count : count_by is_framing_field hs ≡ length lengths
+  plain : list_all frames_plainly hs ≡ list_all is_plain_number lengths
+
+counts : (hs : List Header) → values_named (codes "transfer-encoding") hs ≡ []
+    → Counts (values_named (codes "content-length") hs) hs
+counts [] none = record { codings = refl; count = refl; plain = refl }
+counts (h ∷ hs) none =
+    by (is_named (codes "content-length") h) (is_named (codes "transfer-encoding") h) refl refl none
   where
-    middle : (b : Bool) → States n b (length_fields b n)
-    middle true = states_length n short
-    middle false = states_none n
+    by : (sized coded : Bool) → is_named (codes "content-length") h ≡ sized
+        → is_named (codes "transfer-encoding") h ≡ coded
+        → cond coded (h.1 ∷ []) [] ++ values_named (codes "transfer-encoding") hs ≡ []
+        → Counts (cond sized (h.1 ∷ []) [] ++ values_named (codes "content-length") hs) (h ∷ hs)
+    by sized true s c none = absurd (cc none)
+    by true false s c none =
+        let rest = counts hs none in
+        record {
+          codings =
+              ap
+              (λ (b : Bool). cond b (elements h.1) [] ++ elements_named (codes "transfer-encoding") hs) c
+              ∙ rest.codings;
+          count =
+              sum_by-cons _ h hs ∙ ap (λ (b : Bool). cond (b || _) 1 0 + count_by is_framing_field hs) s
+              ∙ ap (λ (m : ℕ). 1 + m) rest.count;
+          plain =
+              ap (λ (b : Bool). cond b (is_plain_number h.1) _ && list_all frames_plainly hs) s
+              ∙ ap (λ (b : Bool). is_plain_number h.1 && b) rest.plain;
+        }
+    by false false s c none =
+        let rest = counts hs none in
+        record {
+          codings =
+              ap
+              (λ (b : Bool). cond b (elements h.1) [] ++ elements_named (codes "transfer-encoding") hs) c
+              ∙ rest.codings;
+          count =
+              sum_by-cons _ h hs ∙ (λ i. cond (s i || c i) 1 0 + count_by is_framing_field hs) ∙ rest.count;
+          plain =
+              (λ i. cond (s i) (is_plain_number h.1) (cond (c i) (is_plain_chunked h.1) true)
+              && list_all frames_plainly hs)
+              ∙ rest.plain;
+        }
 
 states_option : (n : ℕ) (option : List ℕ) → is_trimmed_value option ≡ true
-    → States n false (connection_header option ∷ [])
+    → StatesLength n false (connection_header option ∷ [])
 unfolding eq_ignore_case is_token_byte
-states_option n option trimmed =
-    states_ordinary n (connection_header option) (record { header = trimmed; unsized = refl; uncoded = refl })
+states_option n option trimmed = states_other n (connection_header option) trimmed refl
 
-states_connection : (n : ℕ) (r : Request) (k : KnownFields) (keep : Bool) → States n false (connection_headers r k keep)
+states_connection : (n : ℕ) (r : Request) (k : KnownFields) (keep : Bool) → StatesLength n false (connection_headers r k keep)
 states_connection n r k true = by_test ((eqb r.minor 0) && not k.keep_alive)
   where
-    by_test : (t : Bool) → States n false (cond t (connection_header (codes "keep-alive") ∷ []) [])
+    by_test : (t : Bool) → StatesLength n false (cond t (connection_header (codes "keep-alive") ∷ []) [])
     by_test true = states_option n (codes "keep-alive") refl
     by_test false = states_none n
 states_connection n r k false = by_test (not k.close)
   where
-    by_test : (t : Bool) → States n false (cond t (connection_header (codes "close") ∷ []) [])
+    by_test : (t : Bool) → StatesLength n false (cond t (connection_header (codes "close") ∷ []) [])
     by_test true = states_option n (codes "close") refl
     by_test false = states_none n
 
@@ -155,27 +178,36 @@ record Knows (n : ℕ) (stated : Bool) (k : KnownFields) : Type 0 where
   plain : k.plain_framing ≡ true
 
 length_of : (n : ℕ) (stated : Bool) → n < 2 ^ 64
-    → content_length (cond stated (numeral 10 n ∷ []) []) ≡ cond stated (Length.Value n) Length.Absent
+    → content_length (cond stated (decimal n ∷ []) []) ≡ cond stated (Length.Value n) Length.Absent
 length_of n true short =
-    ap (λ (b : Bool). cond (b && true) (Length.Value (digits_value 10 (numeral 10 n))) Length.Invalid)
+    ap (λ (text : List ℕ). content_length (text ∷ [])) (decimal_is_numeral n short)
+    ∙ ap (λ (b : Bool). cond (b && true) (Length.Value (digits_value 10 (numeral 10 n))) Length.Invalid)
     (decimal_is_number n short)
     ∙ ap Length.Value (numeral_reads_back 10 n (omega arith) (omega arith)).value
 length_of n false short = refl
 
-least : (stated : Bool) → min (cond stated 1 0) 2 ≡ cond stated 1 0
-least true = refl
-least false = refl
-
-knows : (n : ℕ) (stated : Bool) (hs : List Header) → n < 2 ^ 64 → States n stated hs → Knows n stated (known_fields hs)
+knows : (n : ℕ) (stated : Bool) (hs : List Header) → n < 2 ^ 64 → StatesLength n stated hs
+    → Knows n stated (known_fields hs)
 unfolding known_fields
-knows n stated hs short x = record {
-  coding = ap transfer_encoding x.codings;
-  len = ap content_length x.lengths ∙ length_of n stated short;
-  count =
-      ap (λ (c : ℕ). min c 2)
-      (sym (is_count_by (tally is_framing_field) is_framing_field refl (λ _ _. refl) hs) ∙ x.count) ∙ least stated;
-  plain = x.plain;
-}
+knows n stated hs short x =
+    let by = counts hs x.codings in
+    record {
+      coding = ap transfer_encoding by.codings;
+      len = ap content_length x.lengths ∙ length_of n stated short;
+      count =
+          ap (λ (c : ℕ). min c 2) by.count ∙ ap (λ (ls : List (List ℕ)). min (length ls) 2) x.lengths ∙ least stated;
+      plain = by.plain ∙ ap (list_all is_plain_number) x.lengths ∙ number stated;
+    }
+  where
+    least : (b : Bool) → min (length (cond b (decimal n ∷ []) [])) 2 ≡ cond b 1 0
+    least true = refl
+    least false = refl
+
+    number : (b : Bool) → list_all is_plain_number (cond b (decimal n ∷ []) []) ≡ true
+    number true =
+        ap (λ (text : List ℕ). is_plain_number text && true) (decimal_is_numeral n short)
+        ∙ and_from _ _ (decimal_is_plain n short) refl
+    number false = refl
 
 -- ---- the plan
 
@@ -222,7 +254,7 @@ module _ (r : Request) (status n : ℕ) (hs : List Header) (short : n < 2 ^ 64) 
       (cond (is_coded_304 r status k) (Err (Refusal.Framing UnexpectedTransferEncoding))
       (plan_stated r status size hs first (response_framing Method.Other status r.minor k))))
 
-  module _ (first : List Header) (stated : Bool) (x : States n stated (hs ++ first)) where
+  module _ (first : List Header) (stated : Bool) (x : StatesLength n stated (hs ++ first)) where
     abbrev k : KnownFields
     k = known_fields (hs ++ first)
 
@@ -243,9 +275,9 @@ module _ (r : Request) (status n : ℕ) (hs : List Header) (short : n < 2 ^ 64) 
       abbrev all : List Header
       all = hs ++ (first ++ second)
 
-      all_stated : States n stated all
+      all_stated : StatesLength n stated all
       all_stated =
-          subst (States n stated) (append_assoc hs first second)
+          subst (StatesLength n stated) (append_assoc hs first second)
           (states_before n (hs ++ first) second stated x (states_connection n r k (stays_open r k framing)))
 
       all_told : Knows n stated (known_fields all)
@@ -288,13 +320,13 @@ module _ (r : Request) (status n : ℕ) (hs : List Header) (short : n < 2 ^ 64) 
           (all_stated framing fit).valid,
         )
 
-  module _ (stated : Bool) (x : States n stated hs) (s : IsFinal r.method status n stated) where
+  module _ (stated : Bool) (x : StatesLength n stated hs) (s : IsFinal r.method status n stated) where
     abbrev test : Bool
     test =
         is_sized r size && (not (eqb status 204) && (not (eqb status 304) && not (states_framing (known_fields hs))))
 
-    bare : States n stated (hs ++ [])
-    bare = subst (States n stated) (sym (append-nil hs)) x
+    bare : StatesLength n stated (hs ++ [])
+    bare = subst (StatesLength n stated) (sym (append-nil hs)) x
 
     states_bare : states_framing (known_fields hs) ≡ stated
     states_bare =
@@ -342,7 +374,7 @@ module _ (r : Request) (status n : ℕ) (hs : List Header) (short : n < 2 ^ 64) 
         let silent : stated ≡ false = sym states_bare ∙ not-true _ three.1 in
         let body : is_bodiless_status status ≡ false = is_bodiless ∙ (λ i. has_content i || is_sent i) in
         let added = states_then n hs (length_header n ∷ []) true
-        (subst (λ (b : Bool). States n b hs) silent x) (states_length n short) in
+        (subst (λ (b : Bool). StatesLength n b hs) silent x) (states_length n short) in
         subst (λ (first : List Header). IsPlanned hs (plan_with first))
         (sym (cond-true test (size_headers r.minor size) [] is ∙ size_stated r.minor n))
         (planned_with (length_header n ∷ []) true added s.other (ap (λ (b : Bool). b && true) has_content)
@@ -382,21 +414,6 @@ unfolding are_headers
 accepted line hs valid all = cond-true _ _ _ valid ∙ cond-true _ _ _ all
 
 -- a response with such a status and such fields is sent
-pub response_sent : (limits : Limits) (h : RequestHead) (framing : Framing) (status n : ℕ) (reason : List ℕ)
-    (hs : List Header) (stated : Bool) → n < 2 ^ 64 → h.minor ≤ 1 → is_field_value reason ≡ true
-    → States n stated hs → IsFinal (method_kind h.method) status n stated
-    → response_refusal (answering limits h framing) status reason (size_for n) hs ≡ None
-response_sent limits h framing status n reason hs stated short old text x s =
-    let server = answering limits h framing in
-    let p = planned server.request status n hs short stated x s in
-    let low : nat_lt status 200 ≡ false = (let e = s.least in grind (arith, nat_tests)) in
-    let is : response_plan server status (size_for n) hs ≡ Ok p.0 =
-    cond-false _ _ _ (λ i. low i || s.connect i) ∙ p.1 in
-    ap (λ q. plan_refusal q (is_status_line h.minor status reason) hs) is
-    ∙ accepted (is_status_line h.minor status reason) (hs ++ p.0.extra)
-    (valid_line h.minor status reason old (let e = s.least in omega (arith, e)) s.greatest text) p.2
-
--- the same, of what field lines say of a length
 pub plan_sent : (limits : Limits) (h : RequestHead) (framing : Framing) (plan : ResponsePlan) (stated : Bool)
     → content_len plan < 2 ^ 64 → h.minor ≤ 1 → is_field_value (reason_of plan.status) ≡ true
     → StatesLength (content_len plan) stated (plan_fields_of plan)
@@ -404,5 +421,14 @@ pub plan_sent : (limits : Limits) (h : RequestHead) (framing : Framing) (plan : 
     → response_refusal (answering limits h framing) plan.status (reason_of plan.status) (plan_size plan)
     (plan_fields_of plan) ≡ None
 plan_sent limits h framing plan stated short old text x s =
-    response_sent limits h framing plan.status (content_len plan) (reason_of plan.status) (plan_fields_of plan) stated
-    short old text (states_by (content_len plan) stated (plan_fields_of plan) short x) s
+    let server = answering limits h framing in
+    let status : ℕ = plan.status in
+    let hs = plan_fields_of plan in
+    let p = planned server.request status (content_len plan) hs short stated x s in
+    let low : nat_lt status 200 ≡ false = (let e = s.least in grind (arith, nat_tests)) in
+    let is : response_plan server status (plan_size plan) hs ≡ Ok p.0 =
+    cond-false _ _ _ (λ i. low i || s.connect i) ∙ p.1 in
+    let line = is_status_line h.minor status (reason_of status) in
+    ap (λ q. plan_refusal q line hs) is
+    ∙ accepted line (hs ++ p.0.extra)
+    (valid_line h.minor status (reason_of status) old (let e = s.least in omega (arith, e)) s.greatest text) p.2

@@ -1,8 +1,7 @@
 mod ExchangeLemmas
+mod FieldLemmas
 mod FramedLemmas
 mod FramingLemmas
-mod NameLemmas
-mod PlainLemmas
 mod RequestLemmas
 mod RootLemmas
 mod SentLemmas

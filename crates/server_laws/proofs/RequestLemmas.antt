@@ -1,12 +1,11 @@
 -- The request that a literal text is.
-use Rattle.std.proofs.Common.{◌≡◌, ℕ, ◌≤◌, List, [], ◌∷◌, ◌++◌, codes, Option, Some, None, Ok}
-use Rattle.std.proofs.Common.{refl, sym, ap, subst, ◌∙◌, arith, inr, cond, eqb, not, ◌||◌, length}
+use Rattle.std.proofs.Common.{◌≡◌, ℕ, ◌≤◌, List, [], ◌∷◌, ◌++◌, codes, Option, Some, None, Ok, refl, sym, ap, subst}
+use Rattle.std.proofs.Common.{◌∙◌, arith, inr, cond, eqb, not, ◌||◌, length}
 use Rattle.std.specs.Prelude.{is_some}
 use Rattle.std.proofs.lemmas.List.{nil_from_length}
 use Rattle.http.specs.declared.request.Request.{Request}
-use Rattle.http.specs.Request.{body_of, head_of}
-use Rattle.httparse.specs.Grammar.{Field, RequestHead, crlf, print_request, trim_ows, is_token_byte, ReadsRequest}
-use Rattle.httparse.specs.Spans.{name_and_value}
+use Rattle.http.specs.Request.{head_of}
+use Rattle.httparse.specs.Grammar.{RequestHead, print_request, trim_ows, is_token_byte, ReadsRequest}
 use Rattle.httparse.proofs.GrammarLemmas.{request_unique}
 use Rattle.http_uri.specs.declared.uri.Uri.{Uri}
 use Rattle.http_uri.specs.Uri.{Spells, uri_authority, uri_data, uri_path, uri_query, uri_scheme}
@@ -21,11 +20,11 @@ use Rattle.http1.specs.Fields.{known_fields}
 use Rattle.http1.specs.Framing.{method_kind, request_framing}
 use Rattle.http1.specs.Head.{are_headers}
 use Rattle.http1.specs.Message as Wire
-use Rattle.http1.specs.Message.{AcceptsRequest, ReadsRequestMessage, known_of}
+use Rattle.http1.specs.Message.{ReadsRequestMessage, known_of}
 use Rattle.http1.specs.Text.{eq_ignore_case}
 use Rattle.http1.proofs.HeadRoundTrip.{request_reads_back}
 use Rattle.http_server.specs.declared.state.Config.{Config}
-use Rattle.http_server.specs.Exchange.{ArePartsOf, ReadsCall, map_of}
+use Rattle.http_server.specs.Exchange.{ArePartsOf, ReadsCall}
 use Rattle.server_laws.specs.Literal.{AsksForRoot, request_text, root_head}
 
 -- ---- the target
@@ -132,40 +131,36 @@ one_message method text reads unframed limits m rest h =
 
 -- ---- the request
 
-asked_by : (method : List ℕ) (config : Config) (text : List ℕ) (m : Wire.Request) (r : Request (List ℕ)) (rest : List ℕ)
-    → IsOneMessage method m rest → ReadsCall config text m r rest → AsksForRoot method r
-unfolding trim_ows
-asked_by method config text m r rest one h =
-    let parts : ArePartsOf (root_head method) (head_of r) =
-    subst (λ (x : RequestHead). ArePartsOf x (head_of r)) one.head h.parts in
-    let uri = is_root (head_of r).uri parts.uri in
-    record {
-      method = parts.method;
-      version = parts.version;
-      authority = uri.authority;
-      path = uri.path;
-      query = uri.query;
-      headers = parts.headers;
-      body = h.body ∙ one.body;
-    }
-
 pub one_get : (limits : Limits) (m : Wire.Request) (rest : List ℕ)
     → ReadsRequestMessage limits (request_text (codes "GET")) m rest → IsOneMessage (codes "GET") m rest
 one_get = one_message (codes "GET") (request_text (codes "GET")) get_valid get_unframed
 
-pub one_head : (limits : Limits) (m : Wire.Request) (rest : List ℕ)
-    → ReadsRequestMessage limits (request_text (codes "HEAD")) m rest → IsOneMessage (codes "HEAD") m rest
-one_head = one_message (codes "HEAD") (request_text (codes "HEAD")) head_valid head_unframed
-
 -- the request that a handler is given
+asked_by : (method : List ℕ) → ReadsRequest (request_text method) (root_head method) [] → HasNoFraming method
+    → (config : Config) (m : Wire.Request) (r : Request (List ℕ)) (rest : List ℕ)
+    → ReadsCall config (request_text method) m r rest → AsksForRoot method r × (rest ≡ [])
+unfolding trim_ows
+asked_by method valid unframed config m r rest h =
+    let one = one_message method (request_text method) valid unframed config.limits m rest h.reads in
+    let parts : ArePartsOf (root_head method) (head_of r) =
+    subst (λ (x : RequestHead). ArePartsOf x (head_of r)) one.head h.parts in
+    let uri = is_root (head_of r).uri parts.uri in (
+      record {
+        method = parts.method;
+        version = parts.version;
+        authority = uri.authority;
+        path = uri.path;
+        query = uri.query;
+        headers = parts.headers;
+        body = h.body ∙ one.body;
+      },
+      one.after,
+    )
+
 pub get_asked : (config : Config) (m : Wire.Request) (r : Request (List ℕ)) (rest : List ℕ)
     → ReadsCall config (request_text (codes "GET")) m r rest → AsksForRoot (codes "GET") r × (rest ≡ [])
-get_asked config m r rest h =
-    let one = one_get config.limits m rest h.reads in
-    (asked_by (codes "GET") config (request_text (codes "GET")) m r rest one h, one.after)
+get_asked = asked_by (codes "GET") get_valid get_unframed
 
 pub head_asked : (config : Config) (m : Wire.Request) (r : Request (List ℕ)) (rest : List ℕ)
     → ReadsCall config (request_text (codes "HEAD")) m r rest → AsksForRoot (codes "HEAD") r × (rest ≡ [])
-head_asked config m r rest h =
-    let one = one_head config.limits m rest h.reads in
-    (asked_by (codes "HEAD") config (request_text (codes "HEAD")) m r rest one h, one.after)
+head_asked = asked_by (codes "HEAD") head_valid head_unframed

@@ -1,7 +1,7 @@
 -- Each answer of the file server is one that `http1` sends.
-use Rattle.std.proofs.Common.{◌≡◌, ◌≢◌, ◌⊎◌, ℕ, ◌+◌, ◌-◌, ◌^◌, ◌<◌, ◌≤◌, Bool, true, false, not, ◌&&◌, cond}
-use Rattle.std.proofs.Common.{List, [], ◌∷◌, ◌++◌, Option, Some, None, ap, arith, codes, inl, inr, map, nat_lt, refl}
-use Rattle.std.proofs.Common.{subst, sym, ◌∙◌}
+use Rattle.std.proofs.Common.{◌≡◌, ◌≢◌, ◌⊎◌, ℕ, ◌+◌, ◌-◌, ◌^◌, ◌<◌, ◌≤◌, Bool, true, false, not, ◌&&◌, cond, List, []}
+use Rattle.std.proofs.Common.{◌∷◌, ◌++◌, Option, Some, None, ap, arith, codes, inl, inr, map, nat_lt, refl, subst, sym}
+use Rattle.std.proofs.Common.{◌∙◌}
 use Rattle.std.specs.List.{list_all}
 use Rattle.std.specs.Option.{is_some, option_map}
 use Rattle.std.specs.Prelude.{bytes_eq, decimal, find, slice_get, string_bytes}
@@ -22,7 +22,7 @@ use Rattle.http1.specs.declared.framing.MethodKind.TheVariants as kind
 use Rattle.http1.specs.Conn.{is_connect}
 use Rattle.http1.specs.Fields.{Header}
 use Rattle.http1.specs.Framing.{method_kind}
-use Rattle.http1.specs.Head.{is_field_value, is_header}
+use Rattle.http1.specs.Head.{is_field_value}
 use Rattle.http1.specs.Server.{response_refusal}
 use Rattle.http1_typed.specs.Parts.{reason_of}
 use Rattle.http_server.specs.Encoding.{answering}
@@ -31,49 +31,40 @@ use Rattle.server_connection.specs.Encoding.{content_len, plan_fields, plan_size
 use Rattle.server_connection.specs.Pieces.{total_len}
 use Rattle.server_connection.specs.declared.plan.Plan.{Plan as Response}
 use Rattle.decide_preconditions.specs.Contents.{divisible_len, limits_of}
-use Rattle.decide_preconditions.specs.Fields.{etag_of, fields_sent, is_known_by}
-use Rattle.decide_preconditions.specs.Fields.{length_sent, lines_sent}
+use Rattle.decide_preconditions.specs.Fields.{etag_of, fields_sent, is_known_by, length_sent, lines_sent}
 use Rattle.decide_preconditions.specs.Fields.{status_of as plan_status}
 use Rattle.decide_preconditions.specs.Responses.{IsAnswered}
 use Rattle.decide_preconditions.specs.declared.plan.Plan.{Plan}
-use Rattle.decide_preconditions.specs.declared.plan.Plan.TheVariants.{NotModified, Failed, Full, Single, Multiple}
-use Rattle.decide_preconditions.specs.declared.plan.Plan.TheVariants.{Unsatisfiable}
+use Rattle.decide_preconditions.specs.declared.plan.Plan.TheVariants as plans
 use Rattle.decide_preconditions.specs.declared.resource.Resource.{Resource as Target}
 use Rattle.decide_preconditions.specs.declared.response.Response.{Response as Planning}
-use Rattle.decide_resource.specs.Answers.{Gives, Goes, GoesOn, IsAnswer, Stops, at_place, content_of}
-use Rattle.decide_resource.specs.Answers.{is_sent, response_fields, sent_for, status_sent, target_of, with_metadata}
+use Rattle.decide_resource.specs.Answers.{Gives, Goes, GoesOn, IsAnswer, at_place, content_of, is_sent, response_fields}
+use Rattle.decide_resource.specs.Answers.{sent_for, status_sent, target_of, with_metadata}
 use Rattle.decide_resource.specs.Applies.{applies, has_method, has_moved, rule_for}
-use Rattle.decide_resource.specs.Fields.{moved_status}
-use Rattle.decide_resource.specs.Fields.{vary_fields, vary_lines}
+use Rattle.decide_resource.specs.Fields.{moved_status, vary_fields, vary_lines}
 use Rattle.decide_resource.specs.Reasons.{IsFirst}
 use Rattle.decide_resource.specs.Requests.{Request as Asked, head_of as as_head}
 use Rattle.decide_resource.specs.declared.answer.Answer.{Answer}
 use Rattle.decide_resource.specs.declared.answer.Sends.{Sends}
 use Rattle.decide_resource.specs.declared.reason.Reason.{Reason}
-use Rattle.decide_resource.specs.declared.reason.Reason.TheVariants.{InvalidHost, Misdirected, UnknownMethod}
-use Rattle.decide_resource.specs.declared.reason.Reason.TheVariants.{MethodNotAllowed, Options, UnmetExpectation}
-use Rattle.decide_resource.specs.declared.reason.Reason.TheVariants.{PartialContent}
-use Rattle.decide_resource.specs.declared.reason.Reason.TheVariants.{Moved, Gone, NotFound, LengthRequired}
-use Rattle.decide_resource.specs.declared.reason.Reason.TheVariants.{ContentTooLarge, UnsupportedMediaType}
-use Rattle.decide_resource.specs.declared.reason.Reason.TheVariants.{UnsupportedCoding, NotAcceptable}
-use Rattle.decide_resource.specs.declared.reason.Reason.TheVariants.{PreconditionRequired, Admitted}
+use Rattle.decide_resource.specs.declared.reason.Reason.TheVariants.{Admitted, MethodNotAllowed, Moved, NotAcceptable}
+use Rattle.decide_resource.specs.declared.reason.Reason.TheVariants.{NotFound, Options}
 use Rattle.decide_resource.specs.declared.representation.Representation.{Representation}
 use Rattle.decide_resource.specs.declared.resource.MethodRule.{MethodRule}
 use Rattle.decide_resource.specs.declared.resource.Redirect.TheVariants.{MovedPermanently, Temporary, Permanent}
 use Rattle.decide_resource.specs.declared.resource.Resource.{Resource}
 use Rattle.decide_resource.specs.declared.resource.State.{State}
 use Rattle.decide_resource.specs.declared.resource.State.TheVariants as state
-use Rattle.server_service.specs.Answer.{IsAnswerAt, cache_sent, clock, closing_fields, date_fields}
-use Rattle.server_service.specs.Answer.{explained_fields, file_at, first_fields, is_stored, pieces_for, pieces_of}
-use Rattle.server_service.specs.Answer.{sends_several, sniff_field, status_for, tag_in, tag_sent}
+use Rattle.server_service.specs.Answer.{IsAnswerAt, cache_sent, clock, closing_fields, date_fields, explained_fields}
+use Rattle.server_service.specs.Answer.{file_at, first_fields, is_stored, pieces_for, pieces_of, sends_several}
+use Rattle.server_service.specs.Answer.{sniff_field, status_for, tag_in, tag_sent}
 use Rattle.server_service.specs.File.{len_of, representation_of}
 use Rattle.server_service.specs.Found.{FindsEntry, LeadsTo}
 use Rattle.server_service.specs.Parts.{Fits}
 use Rattle.server_service.specs.Response.{headers_sent, is_bare_tag, is_line}
 use Rattle.server_service.specs.Sites.{IsSite}
 use Rattle.server_service.specs.declared.file.Entry.{Entry}
-use Rattle.server_service.specs.declared.file.Entry.TheVariants.{Missing, Forbidden, Unavailable}
-use Rattle.server_service.specs.declared.file.Entry.TheVariants.{Folder, Listed, Readable}
+use Rattle.server_service.specs.declared.file.Entry.TheVariants as entry
 use Rattle.server_service.specs.declared.file.File.{File}
 use Rattle.server_service.specs.declared.settings.Page.{Page}
 use Rattle.server_service.specs.declared.settings.Site.{Site}
@@ -81,171 +72,90 @@ use Rattle.server_service.specs.declared.source.Source.{Source}
 use Rattle.server_service.proofs.AnswerLemmas.{Fits-from_plan}
 use Rattle.server_laws.specs.Sendable.{IsBareIfAny, IsFinal}
 use Rattle.server_laws.proofs.FramingLemmas.{plan_sent}
-use Rattle.server_laws.proofs.NameLemmas.{Sets, Tells, headers_valid, is_plain_name}
-use Rattle.server_laws.proofs.NameLemmas.{is_tidy_field}
-use Rattle.server_laws.proofs.NameLemmas.{plain_quiet, plain_tidy, quiet_named}
-use Rattle.server_laws.proofs.NameLemmas.{sets_before, states_length, tells_after, tells_before, tells_sent}
-use Rattle.server_laws.proofs.NameLemmas.{tells_trimmed, tidy_append, tidy_fields_append, tidy_sent}
-use Rattle.server_laws.proofs.PlainLemmas.{cache_plain, closing_plain, dates_plain, explained_plain}
-use Rattle.server_laws.proofs.PlainLemmas.{is_plain, lines_append, lines_quiet, lines_tidy, reason_plain}
-use Rattle.server_laws.proofs.PlainLemmas.{sent_sets, sent_tidy, shared_quiet, shared_tidy, vary_plain}
-use Rattle.server_laws.proofs.PlainLemmas.{with_sets, with_tidy}
+use Rattle.server_laws.proofs.FieldLemmas.{Between, after_all, all_append, alone, before_all, between_sent, cache_plain}
+use Rattle.server_laws.proofs.FieldLemmas.{closing_plain, dates_plain, explained_plain, is_plain, is_plain_line}
+use Rattle.server_laws.proofs.FieldLemmas.{length_field, length_lines, length_name, own_lines, reason_plain}
+use Rattle.server_laws.proofs.FieldLemmas.{shared_plain, stated_line, states_trimmed, vary_plain, with_between}
 
 -- ---- the status and the length
 
 -- `http1` sends a response of this status, with a content of this length and these fields
 record IsAccepted (method : MethodKind) (code n : ℕ) (own : List Field) : Type 0 where
   stated : Bool
-  sets : Sets n stated own
-  tidy : list_all is_tidy_field own ≡ true
+  states : Option (List Line)
+  lines : length_lines states ≡ stated_line n stated
+  fields : Between is_plain (length_field states) own
   final : IsFinal method code n stated
   text : is_field_value (reason_of code) ≡ true
 
-accepted_as : (method : MethodKind) (code c n k : ℕ) (own given : List Field) → code ≡ c → n ≡ k → own ≡ given
-    → IsAccepted method c k given → IsAccepted method code n own
-accepted_as method code c n k own given same_code same_len same_own x =
-    subst (λ (z : ℕ). IsAccepted method z n own) (sym same_code)
-    (subst (λ (z : ℕ). IsAccepted method c z own) (sym same_len)
-    (subst (λ (z : List Field). IsAccepted method c k z) (sym same_own) x))
-
 -- a status that a page may explain
-record IsExplained (code : ℕ) : Type 0 where
-  least : 300 ≤ code
-  greatest : code ≤ 999
-  other : code ≢ 304
-  text : is_field_value (reason_of code) ≡ true
+abbrev is_explained : ℕ → Bool
+is_explained code =
+    nat_le 300 code && (nat_le code 999 && (not (code == 304) && is_field_value (reason_of code)))
 
-explained : (method : MethodKind) (code n : ℕ) (own : List Field) → IsExplained code
-    → list_all is_plain_name own ≡ true → IsAccepted method code n own
-explained method code n own x plain = record {
-  stated = false;
-  sets = quiet_named own (plain_quiet own plain);
-  tidy = plain_tidy own plain;
-  final = record {
-    least = let low = x.least in omega (arith, low);
-    greatest = x.greatest;
-    other = λ is. let low = x.least in omega (arith, low, is);
-    bodiless = λ is. absurd (elim is [
-      | inl a ↦ (let low = x.least in omega (arith, low, a))
-      | inr b ↦ x.other b
-    ]);
-    connect = ap (λ (b : Bool). is_connect method && b) high ∙ and-false (is_connect method);
-  };
-  text = x.text;
-}
+explained : (method : MethodKind) (code n : ℕ) (own : List Field) → is_explained code ≡ true
+    → list_all is_plain own ≡ true → IsAccepted method code n own
+explained method code n own x plain =
+    let low = and_parts (nat_le 300 code) _ x in
+    let high = and_parts (nat_le code 999) _ low.1 in
+    let other = and_parts (not (code == 304)) (is_field_value (reason_of code)) high.1 in
+    let least : 300 ≤ code = leb-true 300 code low.0 in
+    let not_304 : code ≢ 304 = λ is. (let yes = eq-eqb code 304 is in absurd (cc (other.0, yes))) in
+    record {
+      stated = false;
+      states = None;
+      lines = refl;
+      fields = alone is_plain own plain;
+      final = record {
+        least = omega (arith, least);
+        greatest = leb-true code 999 high.0;
+        other = λ is. omega (arith, least, is);
+        bodiless = λ is. absurd (elim is [ inl a ↦ omega (arith, least, a) | inr b ↦ not_304 b ]);
+        connect = ap (λ (b : Bool). is_connect method && b) (above code least) ∙ and-false (is_connect method);
+      };
+      text = other.1;
+    }
   where
-    high : nat_lt code 300 ≡ false
-    high = let low = x.least in grind (arith, nat_tests)
-
-explains : (code c : ℕ) → code ≡ c → IsExplained c → IsExplained code
-explains code c is x = subst IsExplained (sym is) x
-
-at_301 : IsExplained 301
-at_301 = record { least = omega arith; greatest = omega arith; other = λ is. omega (arith, is); text = refl }
-
-at_307 : IsExplained 307
-at_307 = record { least = omega arith; greatest = omega arith; other = λ is. omega (arith, is); text = refl }
-
-at_308 : IsExplained 308
-at_308 = record { least = omega arith; greatest = omega arith; other = λ is. omega (arith, is); text = refl }
-
-at_400 : IsExplained 400
-at_400 = record { least = omega arith; greatest = omega arith; other = λ is. omega (arith, is); text = refl }
-
-at_403 : IsExplained 403
-at_403 = record { least = omega arith; greatest = omega arith; other = λ is. omega (arith, is); text = refl }
-
-at_404 : IsExplained 404
-at_404 = record { least = omega arith; greatest = omega arith; other = λ is. omega (arith, is); text = refl }
-
-at_405 : IsExplained 405
-at_405 = record { least = omega arith; greatest = omega arith; other = λ is. omega (arith, is); text = refl }
-
-at_406 : IsExplained 406
-at_406 = record { least = omega arith; greatest = omega arith; other = λ is. omega (arith, is); text = refl }
-
-at_410 : IsExplained 410
-at_410 = record { least = omega arith; greatest = omega arith; other = λ is. omega (arith, is); text = refl }
-
-at_411 : IsExplained 411
-at_411 = record { least = omega arith; greatest = omega arith; other = λ is. omega (arith, is); text = refl }
-
-at_413 : IsExplained 413
-at_413 = record { least = omega arith; greatest = omega arith; other = λ is. omega (arith, is); text = refl }
-
-at_415 : IsExplained 415
-at_415 = record { least = omega arith; greatest = omega arith; other = λ is. omega (arith, is); text = refl }
-
-at_417 : IsExplained 417
-at_417 = record { least = omega arith; greatest = omega arith; other = λ is. omega (arith, is); text = refl }
-
-at_421 : IsExplained 421
-at_421 = record { least = omega arith; greatest = omega arith; other = λ is. omega (arith, is); text = refl }
-
-at_428 : IsExplained 428
-at_428 = record { least = omega arith; greatest = omega arith; other = λ is. omega (arith, is); text = refl }
-
-at_501 : IsExplained 501
-at_501 = record { least = omega arith; greatest = omega arith; other = λ is. omega (arith, is); text = refl }
-
-at_503 : IsExplained 503
-at_503 = record { least = omega arith; greatest = omega arith; other = λ is. omega (arith, is); text = refl }
-
-moved_explained : (now : State) → has_moved now ≡ true → IsExplained (moved_status now)
-moved_explained (state.Moved MovedPermanently location) t = at_301
-moved_explained (state.Moved Temporary location) t = at_307
-moved_explained (state.Moved Permanent location) t = at_308
-moved_explained state.Current t = absurd (cc t)
-moved_explained state.Absent t = absurd (cc t)
-moved_explained state.Gone t = absurd (cc t)
+    above : (code : ℕ) → 300 ≤ code → nat_lt code 300 ≡ false
+    above code least = grind (arith, nat_tests)
 
 -- the status of what can't be read
-entry_explained : (negotiates : Bool) (has : List ℕ → Entry → Type 0) (uri : Uri) (named : List ℕ) (entry : Entry)
-    (found : _) → FindsEntry negotiates has uri named entry found → IsExplained found.status
-entry_explained negotiates has uri named Missing found x = explains found.status 404 x.status at_404
-entry_explained negotiates has uri named Forbidden found x = explains found.status 403 x.status at_403
-entry_explained negotiates has uri named Unavailable found x = explains found.status 503 x.status at_503
-entry_explained negotiates has uri named Folder found x =
-    elim x [
-      | inl none ↦ explains found.status 404 none.1.status at_404
-      | inr moved ↦ explains found.status 404 moved.status at_404
-    ]
-entry_explained negotiates has uri named (Listed listing) found x =
-    elim x.1 [
-      | inl listed ↦ explains found.status 404 listed.1.status at_404
-      | inr none ↦ explains found.status 404 none.1.status at_404
-    ]
-entry_explained negotiates has uri named (Readable file) found x = explains found.status 404 x.1 at_404
+entry_explained : (negotiates : Bool) (has : List ℕ → Entry → Type 0) (uri : Uri) (named : List ℕ) (found_entry : Entry)
+    (found : _) → FindsEntry negotiates has uri named found_entry found → is_explained found.status ≡ true
+entry_explained negotiates has uri named entry.Missing found x = ap is_explained x.status
+entry_explained negotiates has uri named entry.Forbidden found x = ap is_explained x.status
+entry_explained negotiates has uri named entry.Unavailable found x = ap is_explained x.status
+entry_explained negotiates has uri named entry.Folder found x =
+    elim x [ inl none ↦ ap is_explained none.1.status | inr moved ↦ ap is_explained moved.status ]
+entry_explained negotiates has uri named (entry.Listed listing) found x =
+    elim x.1 [ inl listed ↦ ap is_explained listed.1.status | inr none ↦ ap is_explained none.1.status ]
+entry_explained negotiates has uri named (entry.Readable file) found x = ap is_explained x.1
 
 found_explained : (negotiates : Bool) (has : List ℕ → Entry → Type 0) (uri : Uri) (found : _)
-    → LeadsTo negotiates has uri found → IsExplained found.status
+    → LeadsTo negotiates has uri found → is_explained found.status ≡ true
 found_explained negotiates has uri found x =
     elim x [
       | inl h ↦ entry_explained negotiates has uri h.0 h.2.0 found h.2.2
-      | inr h ↦ explains found.status 404 h.1.status at_404
+      | inr h ↦ ap is_explained h.1.status
     ]
 
+-- what stops a request is explained, but for OPTIONS
+reason_explained : (absent : ℕ) → is_explained absent ≡ true → (now : State) (reason : Reason) → is_admitted reason ≡ false
+    → (reason ≡ Moved → has_moved now ≡ true)
+    → (reason ≡ Options) ⊎ (is_explained (status_for absent reason (Some (status_of now reason))) ≡ true)
+reason_explained absent missing now Admitted no moved = absurd (cc no)
+reason_explained absent missing now Options no moved = inl refl
+reason_explained absent missing now NotFound no moved = inr missing
+reason_explained absent missing now Moved no moved = inr (by now (moved refl))
+  where
+    by : (now : State) → has_moved now ≡ true → is_explained (moved_status now) ≡ true
+    by (state.Moved redirect.MovedPermanently location) t = refl
+    by (state.Moved redirect.Temporary location) t = refl
+    by (state.Moved redirect.Permanent location) t = refl
+    by now t = absurd (cc t)
+reason_explained absent missing now reason no moved = inr refl
+
 -- ---- the content of a plan
-
-record IsKnownPlan (plan : Plan) : Type 0 where
-  least : 200 ≤ plan_status plan
-  greatest : plan_status plan ≤ 999
-  other : plan_status plan ≢ 205
-  text : is_field_value (reason_of (plan_status plan)) ≡ true
-
-known_plan : (plan : Plan) → IsKnownPlan plan
-known_plan Full =
-    record { least = omega arith; greatest = omega arith; other = λ is. omega (arith, is); text = refl }
-known_plan (Single part) =
-    record { least = omega arith; greatest = omega arith; other = λ is. omega (arith, is); text = refl }
-known_plan (Multiple parts) =
-    record { least = omega arith; greatest = omega arith; other = λ is. omega (arith, is); text = refl }
-known_plan NotModified =
-    record { least = omega arith; greatest = omega arith; other = λ is. omega (arith, is); text = refl }
-known_plan Failed =
-    record { least = omega arith; greatest = omega arith; other = λ is. omega (arith, is); text = refl }
-known_plan Unsatisfiable =
-    record { least = omega arith; greatest = omega arith; other = λ is. omega (arith, is); text = refl }
 
 module _ (divider : List ℕ) (present : ℕ) where
   abbrev shown : Option File → Option Representation
@@ -259,73 +169,40 @@ module _ (divider : List ℕ) (present : ℕ) where
     stated : Bool
     lines : lines_sent decimal (length_sent plan (content_of (shown file)).len)
         ≡ cond stated (decimal (len_for file plan) ∷ []) []
-    bodiless : (plan_status plan ≡ 204) ⊎ (plan_status plan ≡ 304) → (len_for file plan ≡ 0) × (stated ≡ false)
+    bodiless : plan_status plan ≡ 304 → (len_for file plan ≡ 0) × (stated ≡ false)
 
-  has_body : {X : Type 0} (code : ℕ) → code ≢ 204 → code ≢ 304 → (code ≡ 204) ⊎ (code ≡ 304) → X
-  has_body code a b is = absurd (elim is [ inl x ↦ a x | inr y ↦ b y ])
+  whole : (n : ℕ) → n ≡ n + 0
+  whole n = omega arith
 
   sized : (file : Option File) (plan : Plan) → Fits (divisible_len (content_of (shown file))) plan
       → IsSized file plan
-  sized None Full fits = record {
-    stated = false;
-    lines = refl;
-    bodiless = has_body 200 (λ is. omega (arith, is)) (λ is. omega (arith, is));
-  }
-  sized (Some file) Full fits =
-      let n : ℕ = len_of file.source in
-      let same : n ≡ n + 0 = omega arith in
-      record {
-        stated = true;
-        lines = ap (λ (m : ℕ). decimal m ∷ []) same;
-        bodiless = has_body 200 (λ is. omega (arith, is)) (λ is. omega (arith, is));
-      }
-  sized None (Single part) fits = let low = fits.1 in absurd (omega (arith, low))
-  sized (Some file) (Single part) fits =
-      let n : ℕ = part.last + 1 - part.first in
-      let same : n ≡ n + 0 = omega arith in
-      record {
-        stated = true;
-        lines = ap (λ (m : ℕ). decimal m ∷ []) same;
-        bodiless = has_body 206 (λ is. omega (arith, is)) (λ is. omega (arith, is));
-      }
-  sized None (Multiple parts) fits = record {
-    stated = false;
-    lines = refl;
-    bodiless = has_body 206 (λ is. omega (arith, is)) (λ is. omega (arith, is));
-  }
-  sized (Some file) (Multiple parts) fits = record {
-    stated = false;
-    lines = refl;
-    bodiless = has_body 206 (λ is. omega (arith, is)) (λ is. omega (arith, is));
-  }
-  sized None NotModified fits = record { stated = false; lines = refl; bodiless = λ is. (refl, refl) }
-  sized (Some file) NotModified fits = record { stated = false; lines = refl; bodiless = λ is. (refl, refl) }
-  sized None Failed fits = record {
+  sized None plans.Full fits = record { stated = false; lines = refl; bodiless = λ is. absurd (omega (arith, is)) }
+  sized (Some file) plans.Full fits = record {
     stated = true;
-    lines = refl;
-    bodiless = has_body 412 (λ is. omega (arith, is)) (λ is. omega (arith, is));
+    lines = ap (λ (m : ℕ). decimal m ∷ []) (whole (len_of file.source));
+    bodiless = λ is. absurd (omega (arith, is));
   }
-  sized (Some file) Failed fits = record {
+  sized None (plans.Single part) fits = let low = fits.1 in absurd (omega (arith, low))
+  sized (Some file) (plans.Single part) fits = record {
     stated = true;
-    lines = refl;
-    bodiless = has_body 412 (λ is. omega (arith, is)) (λ is. omega (arith, is));
+    lines = ap (λ (m : ℕ). decimal m ∷ []) (whole (part.last + 1 - part.first));
+    bodiless = λ is. absurd (omega (arith, is));
   }
-  sized None Unsatisfiable fits = record {
-    stated = true;
-    lines = refl;
-    bodiless = has_body 416 (λ is. omega (arith, is)) (λ is. omega (arith, is));
-  }
-  sized (Some file) Unsatisfiable fits = record {
-    stated = true;
-    lines = refl;
-    bodiless = has_body 416 (λ is. omega (arith, is)) (λ is. omega (arith, is));
-  }
+  sized file (plans.Multiple parts) fits =
+      record { stated = false; lines = refl; bodiless = λ is. absurd (omega (arith, is)) }
+  sized None plans.NotModified fits = record { stated = false; lines = refl; bodiless = λ is. (refl, refl) }
+  sized (Some file) plans.NotModified fits = record { stated = false; lines = refl; bodiless = λ is. (refl, refl) }
+  sized None plans.Failed fits = record { stated = true; lines = refl; bodiless = λ is. absurd (omega (arith, is)) }
+  sized (Some file) plans.Failed fits =
+      record { stated = true; lines = refl; bodiless = λ is. absurd (omega (arith, is)) }
+  sized None plans.Unsatisfiable fits =
+      record { stated = true; lines = refl; bodiless = λ is. absurd (omega (arith, is)) }
+  sized (Some file) plans.Unsatisfiable fits =
+      record { stated = true; lines = refl; bodiless = λ is. absurd (omega (arith, is)) }
 
   none_tagged : (now : State) → is_bare_tag (etag_of (target_of now None)) ≡ true
   none_tagged state.Current = refl
-  none_tagged state.Absent = refl
-  none_tagged state.Gone = refl
-  none_tagged (state.Moved redirect location) = refl
+  none_tagged now = refl
 
   target_bare : (now : State) (file : Option File) → is_bare_tag (tag_in file) ≡ true
       → is_bare_tag (etag_of (target_of now (shown file))) ≡ true
@@ -388,24 +265,13 @@ module _ (present : ℕ) (resource : Resource) (own_rule : MethodRule) (alone : 
   several_admitted request reason status sent own g several =
       let one = ap sends_several g.sends ∙ stopped_several reason in absurd (cc (one, several))
 
-  module _ (divider : List ℕ) (pages : List Page) (files : List File) (absent : ℕ) (missing : IsExplained absent)
+  module _ (divider : List ℕ) (pages : List Page) (files : List File) (absent : ℕ)
+      (missing : is_explained absent ≡ true)
       (represented : resource.representations.items ≡ map (representation_of present) files) (method : MethodKind)
       (request : Asked) where
-    abbrev len_of_answer : ℕ → Sends → ℕ
-    len_of_answer code sent = total_len (pieces_for divider pages files code sent)
-
-    -- the response to a reason is accepted
-    abbrev Accepts : Reason → Option ℕ → Sends → List Field → Type 0
-    Accepts reason status sent own =
-        IsAccepted method (status_for absent reason status) (len_of_answer (status_for absent reason status) sent) own
-
-    stops : (reason : Reason) (status : Option ℕ) (sent : Sends) (own : List Field) (c : ℕ)
-        → status_for absent reason status ≡ c → IsExplained c → Stops resource request reason status sent own
-        → Accepts reason status sent own
-    stops reason status sent own c is x s =
-        explained method (status_for absent reason status) (len_of_answer (status_for absent reason status) sent) own
-        (explains (status_for absent reason status) c is x)
-        (ap (list_all is_plain_name) s.has_fields ∙ reason_plain resource request reason)
+    -- the response by this status is accepted
+    abbrev Accepts : ℕ → Sends → List Field → Type 0
+    Accepts code sent own = IsAccepted method code (total_len (pieces_for divider pages files code sent)) own
 
     represented_at : (place : Option ℕ)
         → at_place resource.representations.items place ≡ shown divider present (file_at files place)
@@ -415,184 +281,166 @@ module _ (present : ℕ) (resource : Resource) (own_rule : MethodRule) (alone : 
         ∙ slice_get-map (representation_of present) files place
 
     module _ (free : is_connect method ≡ false) where
+      successful : (code : ℕ) → (is_connect method && nat_lt code 300) ≡ false
+      successful code = ap (λ (b : Bool). b && nat_lt code 300) free
+
       performed : IsAccepted method 200 0 []
       performed = record {
         stated = false;
-        sets = refl;
-        tidy = refl;
-        final = record {
-          least = omega arith;
-          greatest = omega arith;
-          other = λ is. omega (arith, is);
-          bodiless = has_body divider present 200 (λ is. omega (arith, is)) (λ is. omega (arith, is));
-          connect = ap (λ (b : Bool). b && nat_lt 200 300) free;
-        };
-        text = refl;
-      }
-
-      optional : (own : List Field) → list_all is_plain_name own ≡ true → IsAccepted method 204 0 own
-      optional own plain = record {
-        stated = false;
-        sets = quiet_named own (plain_quiet own plain);
-        tidy = plain_tidy own plain;
+        states = None;
+        lines = refl;
+        fields = alone is_plain [] refl;
         final = record {
           least = omega arith;
           greatest = omega arith;
           other = λ is. omega (arith, is);
           bodiless = λ is. (refl, refl);
-          connect = ap (λ (b : Bool). b && nat_lt 204 300) free;
+          connect = successful 200;
         };
         text = refl;
       }
 
-      planned : (file : Option File) (plan : Plan) (known : Bool) (target : Target) (boundary : FieldValue)
+      optional : (own : List Field) → list_all is_plain own ≡ true → IsAccepted method 204 0 own
+      optional own plain = record {
+        stated = false;
+        states = None;
+        lines = refl;
+        fields = alone is_plain own plain;
+        final = record {
+          least = omega arith;
+          greatest = omega arith;
+          other = λ is. omega (arith, is);
+          bodiless = λ is. (refl, refl);
+          connect = successful 204;
+        };
+        text = refl;
+      }
+
+      planned : (file : Option File) (plan : Plan) (target : Target) (boundary : FieldValue)
           → IsSized divider present file plan → is_bare_tag (etag_of target) ≡ true
           → IsAccepted method (plan_status plan) (len_for divider present file plan)
           (with_metadata request.fields (shown divider present file) plan
-          (fields_sent present plan known target (content_of (shown divider present file)) boundary))
-      planned file plan known target boundary x bare =
-          let n : ℕ = len_for divider present file plan in
-          let k = known_plan plan in
+          (fields_sent present plan (is_known_by request.fields) target (content_of (shown divider present file))
+          boundary))
+      planned file plan target boundary x bare =
+          let content = content_of (shown divider present file) in
           record {
             stated = x.stated;
-            sets =
-                with_sets n x.stated request.fields (shown divider present file) plan
-                (fields_sent present plan known target (content_of (shown divider present file)) boundary)
-                (sent_sets present n plan known target (content_of (shown divider present file)) boundary x.stated
-                x.lines);
-            tidy =
-                with_tidy request.fields (shown divider present file) plan
-                (fields_sent present plan known target (content_of (shown divider present file)) boundary)
-                (sent_tidy present n plan known target (content_of (shown divider present file)) boundary bare);
+            states = Some (own_lines present plan target content boundary);
+            lines = ap (λ (ls : List Line). map (λ (line : Line). (length_name, line)) ls) x.lines ∙ own x.stated;
+            fields = with_between present plan target content boundary request.fields (shown divider present file) bare;
             final = record {
-              least = k.least;
-              greatest = k.greatest;
-              other = k.other;
-              bodiless = x.bodiless;
-              connect = ap (λ (b : Bool). b && nat_lt (plan_status plan) 300) free;
+              least = least plan;
+              greatest = greatest plan;
+              other = other plan;
+              bodiless = λ is. elim is [ inl a ↦ absurd (content plan a) | inr b ↦ x.bodiless b ];
+              connect = successful (plan_status plan);
             };
-            text = k.text;
+            text = text plan;
           }
+        where
+          own : (stated : Bool)
+              → map (λ (line : Line). (length_name, line))
+              (cond stated (decimal (len_for divider present file plan) ∷ []) [])
+              ≡ stated_line (len_for divider present file plan) stated
+          own true = refl
+          own false = refl
 
-      going : (place : Option ℕ) (file : Option File) (status : Option ℕ) (sent : Sends) (own : List Field)
-          (response : Option Planning) → file_at files place ≡ file
-          → IsAnswered present request.method request.fields (target_of resource.state (shown divider present file))
-          (content_of (shown divider present file)) resource.boundary response
+          least : (plan : Plan) → 200 ≤ plan_status plan
+          least plans.Full = omega arith
+          least plan = omega arith
+
+          greatest : (plan : Plan) → plan_status plan ≤ 999
+          greatest plans.Full = omega arith
+          greatest plan = omega arith
+
+          other : (plan : Plan) → plan_status plan ≢ 205
+          other plans.Full is = omega (arith, is)
+          other plan is = omega (arith, is)
+
+          content : (plan : Plan) → plan_status plan ≢ 204
+          content plans.Full is = omega (arith, is)
+          content plan is = omega (arith, is)
+
+          text : (plan : Plan) → is_field_value (reason_of (plan_status plan)) ≡ true
+          text plans.Full = refl
+          text plan = refl
+
+      going : (place : Option ℕ) (status : Option ℕ) (sent : Sends) (own : List Field) (response : Option Planning)
+          → IsAnswered present request.method request.fields
+          (target_of resource.state (shown divider present (file_at files place)))
+          (content_of (shown divider present (file_at files place))) resource.boundary response
           → status ≡ status_sent response → sent ≡ is_sent place response
-          → own ≡ response_fields request.fields (shown divider present file) response
-          → is_bare_tag (tag_sent files sent) ≡ true → Accepts Admitted status sent own
-      going place file status sent own None at h same_status same_sent same_own tagged =
-          let code : status_for absent Admitted status ≡ 200 = ap (status_for absent Admitted) same_status in
-          accepted_as method (status_for absent Admitted status) 200
-          (len_of_answer (status_for absent Admitted status) sent) 0 own [] code
-          (ap (len_of_answer (status_for absent Admitted status)) same_sent) same_own performed
-      going place file status sent own (Some response) at h same_status same_sent same_own tagged =
+          → own ≡ response_fields request.fields (shown divider present (file_at files place)) response
+          → is_bare_tag (tag_sent files sent) ≡ true → Accepts (status_for absent Admitted status) sent own
+      going place status sent own None h same_status same_sent same_own tagged =
+          rw (same_status, same_sent, same_own) performed
+      going place status sent own (Some response) h same_status same_sent same_own tagged =
           let plan = response.plan in
-          let known = is_known_by request.fields in
+          let file = file_at files place in
           let target = target_of resource.state (shown divider present file) in
           let content = content_of (shown divider present file) in
-          let code : status_for absent Admitted status ≡ plan_status plan =
-          ap (status_for absent Admitted) same_status ∙ h.status in
-          let len : len_of_answer (status_for absent Admitted status) sent ≡ len_for divider present file plan =
-          ap (len_of_answer (status_for absent Admitted status)) same_sent
-          ∙ ap (λ (f : Option File). total_len (pieces_of divider f plan)) at in
           let fits =
           Fits-from_plan present request.method request.fields target (divisible_len content) (limits_of content) plan
           h.plan in
           let bare : is_bare_tag (tag_in file) ≡ true =
-          sym (ap (λ (f : Option File). is_bare_tag (tag_in f)) at)
-          ∙ sym (ap (λ (s : Sends). is_bare_tag (tag_sent files s)) same_sent) ∙ tagged in
-          accepted_as method (status_for absent Admitted status) (plan_status plan)
-          (len_of_answer (status_for absent Admitted status) sent) (len_for divider present file plan) own
-          (with_metadata request.fields (shown divider present file) plan
-          (fields_sent present plan known target content resource.boundary)) code len
-          (same_own ∙ ap (with_metadata request.fields (shown divider present file) plan) h.fields)
-          (planned file plan known target resource.boundary (sized divider present file plan fits)
+          sym (ap (λ (s : Sends). is_bare_tag (tag_sent files s)) same_sent) ∙ tagged in
+          rw (same_status, same_sent, same_own, h.status, h.fields)
+          (planned file plan target resource.boundary (sized divider present file plan fits)
           (target_bare divider present resource.state file bare))
 
       goes : (status : Option ℕ) (sent : Sends) (own : List Field) → Goes present resource request status sent own
-          → is_bare_tag (tag_sent files sent) ≡ true → Accepts Admitted status sent own
+          → is_bare_tag (tag_sent files sent) ≡ true → Accepts (status_for absent Admitted status) sent own
       goes status sent own g tagged =
           let on : GoesOn present resource request g.place (shown divider present (file_at files g.place)) status sent
           own =
           subst (λ (x : Option Representation). GoesOn present resource request g.place x status sent own)
           (represented_at g.place) g.goes in
-          going g.place (file_at files g.place) status sent own on.response refl on.answered on.has_status on.sends
-          on.has_fields tagged
+          going g.place status sent own on.response on.answered on.has_status on.sends on.has_fields tagged
 
-      opts : (status : Option ℕ) (sent : Sends) (own : List Field) → Stops resource request Options status sent own
-          → Accepts Options status sent own
-      opts status sent own s =
-          let code : status_for absent Options status ≡ 204 = ap (status_for absent Options) s.has_status in
-          accepted_as method (status_for absent Options status) 204
-          (len_of_answer (status_for absent Options status) sent) 0 own own code
-          ((λ i. len_of_answer (code i) (s.sends i))) refl
-          (optional own (ap (list_all is_plain_name) s.has_fields ∙ reason_plain resource request Options))
-
-    by_reason : (reason : Reason) (status : Option ℕ) (sent : Sends) (own : List Field)
-        → applies resource request reason ≡ true
+    by_reason : (admitted : Bool) (reason : Reason) → is_admitted reason ≡ admitted → (status : Option ℕ) (sent : Sends)
+        (own : List Field) → applies resource request reason ≡ true
         → ((reason ≡ Options) ⊎ (reason ≡ Admitted) → is_connect method ≡ false)
-        → Gives present resource request reason status sent own → is_bare_tag (tag_sent files sent) ≡ true
-        → Accepts reason status sent own
-    by_reason InvalidHost status sent own t free g tagged =
-        stops InvalidHost status sent own 400 (ap (status_for absent InvalidHost) g.has_status) at_400 g
-    by_reason Misdirected status sent own t free g tagged =
-        stops Misdirected status sent own 421 (ap (status_for absent Misdirected) g.has_status) at_421 g
-    by_reason UnknownMethod status sent own t free g tagged =
-        stops UnknownMethod status sent own 501 (ap (status_for absent UnknownMethod) g.has_status) at_501 g
-    by_reason MethodNotAllowed status sent own t free g tagged =
-        stops MethodNotAllowed status sent own 405 (ap (status_for absent MethodNotAllowed) g.has_status) at_405 g
-    by_reason Options status sent own t free g tagged = opts (free (inl refl)) status sent own g
-    by_reason UnmetExpectation status sent own t free g tagged =
-        stops UnmetExpectation status sent own 417 (ap (status_for absent UnmetExpectation) g.has_status) at_417 g
-    by_reason PartialContent status sent own t free g tagged =
-        stops PartialContent status sent own 400 (ap (status_for absent PartialContent) g.has_status) at_400 g
-    by_reason Moved status sent own t free g tagged =
-        stops Moved status sent own (moved_status resource.state) (ap (status_for absent Moved) g.has_status)
-        (moved_explained resource.state t) g
-    by_reason Gone status sent own t free g tagged =
-        stops Gone status sent own 410 (ap (status_for absent Gone) g.has_status) at_410 g
-    by_reason NotFound status sent own t free g tagged = stops NotFound status sent own absent refl missing g
-    by_reason LengthRequired status sent own t free g tagged =
-        stops LengthRequired status sent own 411 (ap (status_for absent LengthRequired) g.has_status) at_411 g
-    by_reason ContentTooLarge status sent own t free g tagged =
-        stops ContentTooLarge status sent own 413 (ap (status_for absent ContentTooLarge) g.has_status) at_413 g
-    by_reason UnsupportedMediaType status sent own t free g tagged =
-        stops UnsupportedMediaType status sent own 415 (ap (status_for absent UnsupportedMediaType) g.has_status) at_415
-        g
-    by_reason UnsupportedCoding status sent own t free g tagged =
-        stops UnsupportedCoding status sent own 415 (ap (status_for absent UnsupportedCoding) g.has_status) at_415 g
-    by_reason NotAcceptable status sent own t free g tagged =
-        stops NotAcceptable status sent own 406 (ap (status_for absent NotAcceptable) g.has_status) at_406 g
-    by_reason PreconditionRequired status sent own t free g tagged =
-        stops PreconditionRequired status sent own 428 (ap (status_for absent PreconditionRequired) g.has_status) at_428
-        g
-    by_reason Admitted status sent own t free g tagged = goes (free (inr refl)) status sent own g tagged
+        → GivesIf admitted present resource request reason status sent own → is_bare_tag (tag_sent files sent) ≡ true
+        → Accepts (status_for absent reason status) sent own
+    by_reason true Admitted is status sent own t free g tagged = goes (free (inr refl)) status sent own g tagged
+    by_reason true reason is status sent own t free g tagged = absurd (cc is)
+    by_reason false reason is status sent own t free g tagged =
+        let plain : list_all is_plain own ≡ true =
+        ap (list_all is_plain) g.has_fields ∙ reason_plain resource request reason in
+        elim
+        (reason_explained absent missing resource.state reason is
+        (λ moved. sym (ap (applies resource request) moved) ∙ t)) [
+          | inl options ↦
+              let code : status_for absent reason status ≡ 204 =
+              (λ i. status_for absent (options i) (g.has_status i))
+              ∙ ap (λ (r : Reason). status_for absent Options (Some (status_of resource.state r))) options in
+              rw (code, g.sends, options) (optional (free (inl options)) own plain)
+          | inr page ↦
+              explained method (status_for absent reason status) _ own
+              (ap (λ (s : Option ℕ). is_explained (status_for absent reason s)) g.has_status ∙ page) plain
+        ]
 
     -- with Vary, and with what the policy says
     answer_accepted : (answer : Answer) → (h : IsAnswer present resource request answer)
         → ((answer.reason ≡ Options) ⊎ (answer.reason ≡ Admitted) → is_connect method ≡ false)
         → IsBareIfAny resource.cors → is_bare_tag (tag_sent files answer.sends) ≡ true
-        → Accepts answer.reason answer.status answer.sends (encoded_fields answer.fields.items)
+        → Accepts (status_for absent answer.reason answer.status) answer.sends (encoded_fields answer.fields.items)
     answer_accepted answer h free bare tagged =
-        let x = by_reason answer.reason answer.status answer.sends h.own h.first.is free h.gives tagged in
-        let code = status_for absent answer.reason answer.status in
-        let n : ℕ = len_of_answer code answer.sends in
+        let x =
+        by_reason (is_admitted answer.reason) answer.reason refl answer.status answer.sends h.own h.first.is free h.gives
+        tagged in
         let lines = vary_lines resource answer.reason in
-        let vary = vary_plain lines in
-        let with_vary =
-        sets_before n x.stated h.own (vary_fields lines) x.sets (plain_quiet (vary_fields lines) vary) in
-        let with_policy =
-        sets_before n x.stated (h.own ++ vary_fields lines) h.shared with_vary
-        (shared_quiet resource.cors request lines h.shared h.is_shared) in
+        let own = length_field x.states in
         record {
           stated = x.stated;
-          sets = subst (λ (l : List Field). Sets n x.stated l) (sym h.fields) with_policy;
-          tidy =
-              ap (list_all is_tidy_field) h.fields
-              ∙ tidy_fields_append (h.own ++ vary_fields lines) h.shared
-              (tidy_fields_append h.own (vary_fields lines) x.tidy (plain_tidy (vary_fields lines) vary))
-              (shared_tidy resource.cors request lines h.shared bare h.is_shared);
+          states = x.states;
+          lines = x.lines;
+          fields =
+              subst (Between is_plain own) (sym h.fields)
+              (before_all is_plain own (h.own ++ vary_fields lines) h.shared
+              (before_all is_plain own h.own (vary_fields lines) x.fields (vary_plain lines))
+              (shared_plain resource.cors request lines h.shared bare h.is_shared));
           final = x.final;
           text = x.text;
         }
@@ -638,7 +486,7 @@ module _ (limits : Limits) (head : RequestHead) (framing : Framing) (now : Optio
   asked_kind : sender ≡ method_kind x.asked.method
   asked_kind = ap method_kind (method ∙ sym x.asks.2.method)
 
-  missing : IsExplained x.found.status
+  missing : is_explained x.found.status ≡ true
   missing =
       found_explained site.resource.negotiation.coding has (head_of request).uri x.found x.leads
 
@@ -691,45 +539,39 @@ module _ (limits : Limits) (head : RequestHead) (framing : Framing) (now : Optio
   abbrev page : List Header
   page = explained_fields code x.answer.sends
 
-  front_plain : list_all is_plain front ≡ true
+  front_plain : list_all is_plain_line front ≡ true
   front_plain =
-      lines_append (first_fields now left) (cache_sent x.answer.sends site.cache_control)
-      (lines_append (date_fields now ++ sniff_field ∷ []) (closing_fields left) (dates_plain now)
+      all_append is_plain_line (first_fields now left) (cache_sent x.answer.sends site.cache_control)
+      (all_append is_plain_line (date_fields now ++ sniff_field ∷ []) (closing_fields left) (dates_plain now)
       (closing_plain (nat_lt 1 left)))
       (cache_plain (is_stored x.answer.sends) site.cache_control)
 
-  tells : Tells len accepted.stated (plan_fields response)
-  tells =
-      let stated = accepted.stated in
-      let sent = tells_sent len stated (is_some site.resource.cors) given accepted.sets in
-      let joined =
-      tells_before len stated (front ++ own) page
-      (tells_after len stated front own (lines_quiet front front_plain) sent)
-      (lines_quiet page (explained_plain code x.answer.sends)) in
-      let short : len < 2 ^ 64 = subst (λ (n : ℕ). n < 2 ^ 64) len_is x.carries.short in
-      subst (λ (l : List Header). Tells len stated l) (sym x.carries.headers)
-      (tells_trimmed len stated ((front ++ own) ++ page) short joined)
+  short : len < 2 ^ 64
+  short = subst (λ (n : ℕ). n < 2 ^ 64) len_is x.carries.short
 
-  valid : list_all is_header (plan_fields response) ≡ true
-  valid =
-      let tidy =
-      tidy_append (front ++ own) page
-      (tidy_append front own (lines_tidy front front_plain)
-      (tidy_sent (is_some site.resource.cors) given accepted.tidy))
-      (lines_tidy page (explained_plain code x.answer.sends)) in
+  states : StatesLength len accepted.stated (plan_fields response)
+  states =
+      let stated = accepted.stated in
+      let sent =
+      subst (λ (l : List Header). Between is_plain_line l own) accepted.lines
+      (between_sent (is_some site.resource.cors) accepted.states given accepted.fields) in
+      let joined =
+      before_all is_plain_line (stated_line len stated) (front ++ own) page
+      (after_all is_plain_line (stated_line len stated) front own front_plain sent)
+      (explained_plain code x.answer.sends) in
       let lines = subst (λ (l : List Header). list_all is_line l ≡ true) x.carries.headers x.carries.valid in
-      ap (list_all is_header) x.carries.headers ∙ headers_valid ((front ++ own) ++ page) lines tidy
+      subst (StatesLength len stated) (sym x.carries.headers)
+      (states_trimmed len stated ((front ++ own) ++ page) short joined lines)
 
   pub answer_sent : response_refusal (answering limits head framing) response.status (reason_of response.status)
       (plan_size response) (plan_fields response) ≡ None
   answer_sent =
       let n : ℕ = content_len response in
       let stated = accepted.stated in
-      let told = subst (λ (m : ℕ). Tells m stated (plan_fields response)) (sym len_is) tells in
       let final =
       subst (λ (c : ℕ). IsFinal sender c n stated) (sym x.carries.status)
       (subst (λ (m : ℕ). IsFinal sender code m stated) (sym len_is) accepted.final) in
       let text =
       subst (λ (c : ℕ). is_field_value (reason_of c) ≡ true) (sym x.carries.status) accepted.text in
       plan_sent limits head framing response stated x.carries.short minor text
-      (states_length n stated (plan_fields response) x.carries.short valid told) final
+      (subst (λ (m : ℕ). StatesLength m stated (plan_fields response)) (sym len_is) states) final

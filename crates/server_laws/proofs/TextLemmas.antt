@@ -1,59 +1,32 @@
 -- The head of a response that is written out.
-use Rattle.std.proofs.Common.{◌≡◌, ℕ, ◌+◌, ◌^◌, ◌<◌, Bool, true, false, not, ◌&&◌, ◌||◌, List, [], ◌∷◌, ◌++◌, map}
-use Rattle.std.proofs.Common.{codes, Option}
-use Rattle.std.proofs.Common.{Some, None, Result, Ok, Err, refl, sym, ap, subst, ◌∙◌, arith, append-nil, cond, eqb, inl}
-use Rattle.std.proofs.Common.{inr}
-use Rattle.std.proofs.Common.{nat_lt}
-use Rattle.std.specs.Char.{digit_char}
-use Rattle.std.specs.Int.Digits.{AllBelowBase, digits_of}
+use Rattle.std.proofs.Common.{◌≡◌, ℕ, ◌+◌, ◌^◌, ◌<◌, Bool, true, false, not, ◌&&◌, ◌||◌, List, [], ◌∷◌, ◌++◌, codes}
+use Rattle.std.proofs.Common.{Option, Some, None, Result, Ok, Err, refl, sym, ap, ◌∙◌, arith, append-nil, cond, eqb}
+use Rattle.std.proofs.Common.{inl, inr, nat_lt}
 use Rattle.std.specs.List.{list_all}
 use Rattle.std.specs.Prelude.{decimal}
-use Rattle.std.proofs.lemmas.Bool.{and_parts, and_from, cond-false, eqb-false, eqb-true}
-use Rattle.std.proofs.lemmas.Bool.Decides.{nat_tests}
-use Rattle.std.proofs.lemmas.Fmt.{decimal-digits_of, decimal_digit}
-use Rattle.std.proofs.lemmas.Int.Digits.{all_below_base_digits_of}
+use Rattle.std.proofs.lemmas.Bool.{and_parts, cond-false}
 use Rattle.std.proofs.lemmas.List.Folds.{list_all-append}
-use Rattle.httparse.specs.Grammar.{RequestHead, print_response, trim_ows}
+use Rattle.httparse.specs.Grammar.{RequestHead, print_response}
 use Rattle.http1.specs.declared.conn.Limits.{Limits}
 use Rattle.http1.specs.declared.error.WriteError.{WriteError}
 use Rattle.http1.specs.declared.framing.Framing.{Framing}
-use Rattle.http1.specs.declared.framing.Framing.TheVariants.{NoBody, Length as Sized, UntilClose}
+use Rattle.http1.specs.declared.framing.Framing.TheVariants.{NoBody, Length as Sized}
 use Rattle.http1.specs.declared.server.Request.{Request}
 use Rattle.http1.specs.Conn.{Plan, connection_header, is_connect, keeps_alive, plan_refusal, planned_headers}
-use Rattle.http1.specs.Fields.{Header, elements, is_plain_number, known_fields}
-use Rattle.http1.specs.Framing.{has_no_body, is_bodiless_status, method_kind}
+use Rattle.http1.specs.Fields.{Header, known_fields}
+use Rattle.http1.specs.Framing.{has_no_body, method_kind}
 use Rattle.http1.specs.Head.{are_headers, is_header, is_status_line, response_text}
 use Rattle.http1.specs.Message.{known_of}
-use Rattle.http1.specs.Server.{connection_headers, is_head, planned_response, response_plan, response_refusal}
-use Rattle.http1.specs.Server.{stays_open}
-use Rattle.http1.specs.Text.{eq_ignore_case, numeral}
+use Rattle.http1.specs.Server.{connection_headers, planned_response, response_plan, response_refusal, stays_open}
+use Rattle.http1.specs.Text.{eq_ignore_case}
 use Rattle.http1.proofs.HeadRoundTrip.{not_refused}
-use Rattle.http1.proofs.NumeralLemmas.{decimal_is_plain}
 use Rattle.http1_typed.specs.Parts.{reason_of}
 use Rattle.http_server.specs.Encoding.{answering}
 use Rattle.server_connection.specs.Encoding.{content_len, head_text, plan_fields, plan_size, size_for}
 use Rattle.server_connection.specs.declared.plan.Plan.{Plan as ResponsePlan}
 use Rattle.server_laws.specs.Literal.{date_text, field_text, ok_fields, ok_text}
-use Rattle.server_laws.specs.Sendable.{IsFinal}
-use Rattle.server_laws.proofs.FramingLemmas.{States, planned_stated}
-
-digit_char_is : (d : ℕ) → d < 10 → digit_char d ≡ 48 + d
-digit_char_is d small = grind (arith, nat_tests)
-
-chars_are : (ds : List ℕ) → AllBelowBase 10 ds → map digit_char ds ≡ map (λ d. 48 + d) ds
-chars_are [] below = refl
-chars_are (d ∷ ds) below = λ i. digit_char_is d below.0 i ∷ chars_are ds below.1 i
-
--- the two ways to write a number are one
-pub decimal_is_numeral : (n : ℕ) → n < 2 ^ 64 → decimal n ≡ numeral 10 n
-unfolding numeral
-decimal_is_numeral n short = by_test (eqb n 0) refl
-  where
-    by_test : (t : Bool) → eqb n 0 ≡ t → decimal n ≡ cond t (48 ∷ []) (map digit_char (digits_of 10 n))
-    by_test true zero = ap decimal (eqb-true n 0 zero) ∙ decimal_digit 0 (omega arith)
-    by_test false some =
-        decimal-digits_of n (omega (arith, eqb-false n 0 some)) short
-        ∙ sym (chars_are (digits_of 10 n) (all_below_base_digits_of 10 n (omega arith)))
+use Rattle.server_laws.specs.Sendable.{IsFinal, StatesLength}
+use Rattle.server_laws.proofs.FramingLemmas.{planned_stated}
 
 -- ---- the response
 
@@ -69,27 +42,10 @@ module _ (tag : List ℕ) (len : ℕ) (media_type : List ℕ) (short : len < 2 ^
   abbrev fields : Option ℕ → List Header
   fields now = ok_fields now tag len media_type
 
-  plain : (is_plain_number (decimal len) && true) ≡ true
-  plain =
-      ap (λ (t : List ℕ). is_plain_number t && true) (decimal_is_numeral len short)
-      ∙ and_from _ _ (decimal_is_plain len short) refl
-
-  pub states : (now : Option ℕ) → list_all is_header (fields now) ≡ true → States len true (fields now)
+  pub states : (now : Option ℕ) → list_all is_header (fields now) ≡ true → StatesLength len true (fields now)
   unfolding eq_ignore_case
-  states None valid = record {
-    valid = valid;
-    codings = refl;
-    lengths = ap (λ (t : List ℕ). t ∷ []) (decimal_is_numeral len short);
-    count = refl;
-    plain = plain;
-  }
-  states (Some seconds) valid = record {
-    valid = valid;
-    codings = refl;
-    lengths = ap (λ (t : List ℕ). t ∷ []) (decimal_is_numeral len short);
-    count = refl;
-    plain = plain;
-  }
+  states None valid = record { valid = valid; codings = refl; lengths = refl }
+  states (Some seconds) valid = record { valid = valid; codings = refl; lengths = refl }
 
   goes_on : (now : Option ℕ) (r : Request) → r.keep_alive ≡ true → r.expects_continue ≡ false
       → stays_open r (known_fields (fields now ++ [])) (Sized len) ≡ true

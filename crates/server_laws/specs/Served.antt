@@ -1,62 +1,24 @@
 -- What a connection that got one request has sent.
-use Rattle.std.specs.Prelude.{◌≡◌, ◌≢◌, ℕ, ◌-◌, ◌≤◌, false, List, [], ◌++◌, length, map, All, Option, None, codes}
-use Rattle.http.specs.declared.request.Request.{Request}
-use Rattle.httparse.specs.Grammar.{RequestHead, print_response, status_code}
+use Rattle.std.specs.Prelude.{◌≡◌, ℕ, ◌-◌, ◌≤◌, List, [], ◌++◌, length, map, All, Option, None, codes}
+use Rattle.httparse.specs.Grammar.{print_response, status_code}
 use Rattle.httparse.specs.Spans.{name_and_value}
 use Rattle.http1.specs.declared.conn.Limits.{Limits}
-use Rattle.http1.specs.declared.framing.Framing.{Framing}
-use Rattle.http1.specs.declared.server.Server.{Server}
-use Rattle.http1.specs.Fields.{Header, known_fields}
+use Rattle.http1.specs.Fields.{Header}
 use Rattle.http1.specs.Framing.{method_kind}
 use Rattle.http1.specs.Message as Wire
 use Rattle.http1.specs.Message.{ReadsResponseMessage}
-use Rattle.http1.specs.Server.{response_refusal}
-use Rattle.http1_typed.specs.Parts.{reason_of}
 use Rattle.http_server.specs.declared.response.Response.{Response}
-use Rattle.http_server.specs.Encoding.{answering}
-use Rattle.http_server.specs.Exchange.{IsAdded, IsAnswer as IsAnswerOf}
+use Rattle.http_server.specs.Exchange.{IsAdded}
 use Rattle.headers.specs.Text.{trim}
-use Rattle.server_connection.specs.Encoding.{Frames, plan_fields, plan_size}
-use Rattle.server_connection.specs.Pieces.{AreSent, Gives}
-use Rattle.server_connection.specs.Plan.{HasHeadOf, Plans}
-use Rattle.server_connection.specs.declared.plan.Plan.{Plan}
+use Rattle.server_connection.specs.Pieces.{Gives}
+use Rattle.server_connection.specs.Plan.{Plans}
 use Rattle.server_service.specs.Answer.{IsAnswer, IsSameSite}
 use Rattle.server_service.specs.File.{gives_of}
 use Rattle.server_service.specs.Memory.{HasOne}
 use Rattle.server_files.specs.Tags.{content_digest, strong_tag}
 use Rattle.server_service.specs.declared.memory.Memory.{Memory}
 use Rattle.server_service.specs.declared.service.FileService.{FileService}
-use Rattle.server_laws.specs.Literal.{AsksForRoot, ok_fields, ok_text}
-
--- The plan is that of a final response to the request, which `http1` sends however the request was framed, and after
--- which the connection goes on.
-pub record GoesOn (limits : Limits) (head : RequestHead) (plan : Plan) : Type 0 where
-  pub stays : (known_fields (plan_fields plan)).close ≡ false
-  pub late : plan.status ≢ 101
-  pub accepted : (framing : Framing) → response_refusal (answering limits head framing) plan.status
-      (reason_of plan.status) (plan_size plan) (plan_fields plan) ≡ None
-
--- What was sent is one response, whole. The handler made a plan for the request, and the response has its status, its
--- field lines and the bytes of its pieces: a client that sent the request reads it so by the grammar of HTTP/1.1. It is
--- literally that content, between what `http1` puts before and after it.
-pub record IsOneAnswer {H : Type 0} (plans : Plans H) (gives : H → Gives) (limits : Limits) (head : RequestHead)
-    (first now : H) (sent : List ℕ) : Type 0 where
-  pub request : Request (List ℕ)
-  pub asks : AsksForRoot (codes "GET") request
-  pub plan : Plan
-  pub planned : plans first request plan now
-  pub response : Response
-  pub has_head : HasHeadOf plan response
-  pub content : AreSent (gives now) plan.pieces.items response.body.items
-  pub answer : IsAnswerOf head response sent
-  pub framing : Framing
-  pub server : Server
-  pub front : List ℕ
-  pub tail : List ℕ
-  pub frames : Frames false plan (answering limits head framing) [] [] server front tail
-  pub literal : sent ≡ front ++ (response.body.items ++ tail)
-
--- ---- a store of one file
+use Rattle.server_laws.specs.Literal.{ok_fields, ok_text}
 
 abbrev pub plans : Plans (FileService Memory)
 plans before request plan after =

@@ -1,0 +1,493 @@
+-- The fields of answers say nothing of where a message ends, but for one that states the length.
+use Rattle.std.proofs.Common.{◌≡◌, ℕ, ◌^◌, ◌<◌, Bool, true, false, not, ◌&&◌, ◌||◌, cond, List, [], ◌∷◌, ◌++◌, Option}
+use Rattle.std.proofs.Common.{Some, None, ap, append-nil, append_assoc, codes, refl, reverse, subst, sym, inl, inr, ◌∙◌}
+use Rattle.std.proofs.Math.Bool.{and-false}
+use Rattle.std.specs.List.{list_all, list_any}
+use Rattle.std.specs.Option.{is_some, option_map_or}
+use Rattle.std.specs.Prelude.{bytes_eq, decimal}
+use Rattle.std.proofs.lemmas.Bool.{and_from, and_parts, cases_Bool, cond-false, cond-true, not-true, or_cases}
+use Rattle.std.proofs.lemmas.List.{map-append}
+use Rattle.std.proofs.lemmas.List.Folds.{list_all-append, list_all-map}
+use Rattle.std.proofs.lemmas.Slice.Eq.{bytes_eq-Decides}
+use Rattle.httparse.specs.Grammar.{is_token}
+use Rattle.http_header.specs.FieldValue.{FieldValue}
+use Rattle.http1.specs.Fields.{Header, is_framing_field}
+use Rattle.http1.specs.Head.{is_field_value, is_header, starts_visible}
+use Rattle.http1.specs.Text.{eq_ignore_case}
+use Rattle.headers.specs.LineMap.{Field, LineMap}
+use Rattle.headers.specs.Lines.{Line, only_line}
+use Rattle.headers.specs.Text.{trim}
+use Rattle.decide_cors.specs.Elements.{is_filled}
+use Rattle.decide_cors.specs.Fields.{covers_origin, fields_sent as policy_fields, filled_line, grant, lines_if}
+use Rattle.decide_cors.specs.Fields.{vary_sent}
+use Rattle.decide_cors.specs.Kinds.{is_preflight}
+use Rattle.decide_cors.specs.Policy.{Policy}
+use Rattle.decide_preconditions.specs.Fields.{etag_of, etag_sent, fields_sent, is_known_by, is_whole, keeps_encoding}
+use Rattle.decide_preconditions.specs.Fields.{length_sent, lines_sent}
+use Rattle.decide_preconditions.specs.declared.content.Content.{Content}
+use Rattle.decide_preconditions.specs.declared.plan.Plan.{Plan}
+use Rattle.decide_preconditions.specs.declared.plan.Plan.TheVariants as plans
+use Rattle.decide_preconditions.specs.declared.resource.Resource.{Resource as Target}
+use Rattle.decide_resource.specs.Answers.{IsShared, with_metadata}
+use Rattle.decide_resource.specs.Applies.{rule, rule_for}
+use Rattle.decide_resource.specs.Fields.{accept_encoding_fields, describes, location_fields, metadata_fields}
+use Rattle.decide_resource.specs.Fields.{reason_fields, types_fields, vary_fields}
+use Rattle.decide_resource.specs.Requests.{Request as Asked}
+use Rattle.decide_resource.specs.declared.answer.Sends.{Sends}
+use Rattle.decide_resource.specs.declared.answer.Sends.TheVariants as sends
+use Rattle.decide_resource.specs.declared.reason.Reason.{Reason}
+use Rattle.decide_resource.specs.declared.reason.Reason.TheVariants.{MethodNotAllowed, Options, Moved}
+use Rattle.decide_resource.specs.declared.reason.Reason.TheVariants.{UnsupportedMediaType, UnsupportedCoding}
+use Rattle.decide_resource.specs.declared.representation.Representation.{Representation}
+use Rattle.decide_resource.specs.declared.resource.MethodRule.{MethodRule}
+use Rattle.decide_resource.specs.declared.resource.Resource.{Resource}
+use Rattle.decide_resource.specs.declared.resource.State.{State}
+use Rattle.decide_resource.specs.declared.resource.State.TheVariants as state
+use Rattle.server_service.specs.Answer.{cache_fields, date_fields, explained_fields, sniff_field}
+use Rattle.server_service.specs.Response.{headers_sent, html_field, is_bare, is_bare_tag, is_kept, is_line}
+use Rattle.server_service.specs.Response.{is_named as is_given, lines_under, lines_unless, trimmed_line, trimmed_lines}
+use Rattle.server_service.proofs.TrimLemmas.{trim_bare}
+use Rattle.server_laws.specs.Sendable.{IsBareIfAny, IsBarePolicy, StatesLength}
+use Rattle.server_laws.proofs.FramingLemmas.{decimal_is_numeral, states_before, states_length, states_none}
+use Rattle.server_laws.proofs.FramingLemmas.{states_other, states_then}
+use Rattle.server_laws.proofs.TrimmedLemmas.{decimal_trimmed}
+
+-- ---- lists with something in their midst
+
+-- the elements pass the test, but for these in their midst
+pub record Between {X : Type 0} (test : X → Bool) (middle xs : List X) : Type 0 where
+  pub before : List X
+  pub after : List X
+  pub are : xs ≡ before ++ (middle ++ after)
+  pub first : list_all test before ≡ true
+  pub last : list_all test after ≡ true
+
+module _ {X : Type 0} (test : X → Bool) where
+  pub all_append : (xs ys : List X) → list_all test xs ≡ true → list_all test ys ≡ true
+      → list_all test (xs ++ ys) ≡ true
+  all_append xs ys x y = list_all-append test xs ys ∙ and_from (list_all test xs) (list_all test ys) x y
+
+  pub alone : (xs : List X) → list_all test xs ≡ true → Between test [] xs
+  alone xs all = record { before = xs; after = []; are = sym (append-nil xs); first = all; last = refl }
+
+  pub after_all : (middle xs ys : List X) → list_all test xs ≡ true → Between test middle ys
+      → Between test middle (xs ++ ys)
+  after_all middle xs ys all b = record {
+    before = xs ++ b.before;
+    after = b.after;
+    are = ap (λ (l : List X). xs ++ l) b.are ∙ sym (append_assoc xs b.before (middle ++ b.after));
+    first = all_append xs b.before all b.first;
+    last = b.last;
+  }
+
+  pub before_all : (middle xs ys : List X) → Between test middle xs → list_all test ys ≡ true
+      → Between test middle (xs ++ ys)
+  before_all middle xs ys b all = record {
+    before = b.before;
+    after = b.after ++ ys;
+    are =
+        ap (λ (l : List X). l ++ ys) b.are ∙ append_assoc b.before (middle ++ b.after) ys
+        ∙ ap (λ (l : List X). b.before ++ l) (append_assoc middle b.after ys);
+    first = b.first;
+    last = all_append b.after ys b.last all;
+  }
+
+-- ---- plain fields
+
+-- The field says nothing of where the message ends. If its values stay as they are, they have no white space at their
+-- ends.
+abbrev pub is_plain : Field → Bool
+is_plain field = not (is_framing_field (field.0, [])) && (not (is_kept field.0) || list_all is_bare field.1)
+
+abbrev pub is_plain_line : Header → Bool
+is_plain_line h = is_plain (h.0, h.1 ∷ [])
+
+abbrev pub length_name : List ℕ
+length_name = codes "content-length"
+
+lines_plain : (free : Bool) (lines : List Line) → (free || list_all is_bare lines) ≡ true
+    → list_all (λ (line : Line). free || (is_bare line && true)) lines ≡ true
+lines_plain free [] t = refl
+lines_plain true (line ∷ lines) t = lines_plain true lines refl
+lines_plain false (line ∷ lines) t =
+    let both = and_parts (is_bare line) (list_all is_bare lines) t in
+    and_from (is_bare line && true) _ (and_from (is_bare line) true both.0 refl) (lines_plain false lines both.1)
+
+plain_under : (field : Field) → is_plain field ≡ true → list_all is_plain_line (lines_under field) ≡ true
+plain_under field t =
+    let both = and_parts (not (is_framing_field (field.0, []))) _ t in
+    list_all-map is_plain_line (λ (line : Line). (field.0, line)) field.1
+    ∙ ap
+    (λ (b : Bool). list_all (λ (line : Line). b && (not (is_kept field.0) || (is_bare line && true))) field.1) both.0
+    ∙ lines_plain (not (is_kept field.0)) field.1 both.1
+
+plain_unless : (b : Bool) (field : Field) → is_plain field ≡ true
+    → list_all is_plain_line (lines_unless b field) ≡ true
+plain_unless true field t = refl
+plain_unless false field t = plain_under field t
+
+-- ---- the field lines of fields
+
+-- the field of a length, if there is one, and its lines
+abbrev pub length_field : Option (List Line) → List Field
+length_field None = []
+length_field (Some lines) = (length_name, lines) ∷ []
+
+abbrev pub length_lines : Option (List Line) → List Header
+length_lines None = []
+length_lines (Some lines) = lines_under (length_name, lines)
+
+module _ (has_policy : Bool) where
+  abbrev is_replaced : Field → List Field → Bool
+  is_replaced field fields = has_policy && is_given field.0 fields
+
+  abbrev Follows : Bool → Field → List Field → Type 0
+  Follows b field fields =
+      headers_sent b (field ∷ fields)
+      ≡ lines_unless (b && is_given field.0 fields) field ++ headers_sent b fields
+
+  sent-cons : (field : Field) (fields : List Field) → Follows has_policy field fields
+  sent-cons field fields = by has_policy
+    where
+      by : (b : Bool) → Follows b field fields
+      by true = refl
+      by false = refl
+
+  sent-nil : headers_sent has_policy [] ≡ []
+  sent-nil = by has_policy
+    where
+      by : (b : Bool) → headers_sent b [] ≡ []
+      by true = refl
+      by false = refl
+
+  plain_sent : (fields : List Field) → list_all is_plain fields ≡ true
+      → list_all is_plain_line (headers_sent has_policy fields) ≡ true
+  plain_sent [] t = ap (list_all is_plain_line) sent-nil
+  plain_sent (field ∷ fields) t =
+      let both = and_parts (is_plain field) (list_all is_plain fields) t in
+      ap (list_all is_plain_line) (sent-cons field fields)
+      ∙ all_append is_plain_line (lines_unless (is_replaced field fields) field) (headers_sent has_policy fields)
+      (plain_unless (is_replaced field fields) field both.0) (plain_sent fields both.1)
+
+  not_given : (fields : List Field) → list_all is_plain fields ≡ true → is_given length_name fields ≡ false
+  unfolding eq_ignore_case
+  not_given [] t = refl
+  not_given (field ∷ fields) t =
+      let both = and_parts (is_plain field) (list_all is_plain fields) t in
+      elim (cases_Bool (bytes_eq field.0 length_name)) [
+        | inl same ↦
+            let is : field.0 ≡ length_name = (bytes_eq-Decides field.0 length_name).0 same in
+            let framing : is_plain field ≡ false = ap (λ (name : List ℕ). is_plain (name, field.1)) is in
+            absurd (cc (both.0, framing))
+        | inr other ↦ let later = not_given fields both.1 in λ i. other i || later i
+      ]
+
+  length_in : (lines : List Line) (before after : List Field) → list_all is_plain before ≡ true
+      → list_all is_plain after ≡ true
+      → Between is_plain_line (lines_under (length_name, lines))
+      (headers_sent has_policy (before ++ ((length_name, lines) ∷ after)))
+  length_in lines [] after first last = record {
+    before = [];
+    after = headers_sent has_policy after;
+    are =
+        sent-cons (length_name, lines) after
+        ∙ ap
+        (λ (b : Bool). lines_unless (has_policy && b) (length_name, lines) ++ headers_sent has_policy after)
+        (not_given after last)
+        ∙ ap (λ (b : Bool). lines_unless b (length_name, lines) ++ headers_sent has_policy after) (and-false has_policy);
+    first = refl;
+    last = plain_sent after last;
+  }
+  length_in lines (field ∷ before) after first last =
+      let both = and_parts (is_plain field) (list_all is_plain before) first in
+      let rest : List Field = before ++ ((length_name, lines) ∷ after) in
+      subst (Between is_plain_line (lines_under (length_name, lines))) (sym (sent-cons field rest))
+      (after_all is_plain_line (lines_under (length_name, lines)) (lines_unless (is_replaced field rest) field)
+      (headers_sent has_policy rest) (plain_unless (is_replaced field rest) field both.0)
+      (length_in lines before after both.1 last))
+
+  pub between_sent : (own : Option (List Line)) (fields : List Field) → Between is_plain (length_field own) fields
+      → Between is_plain_line (length_lines own) (headers_sent has_policy fields)
+  between_sent None fields b =
+      alone is_plain_line (headers_sent has_policy fields)
+      (plain_sent fields (ap (list_all is_plain) b.are ∙ all_append is_plain b.before b.after b.first b.last))
+  between_sent (Some lines) fields b =
+      subst (λ (l : List Field). Between is_plain_line (lines_under (length_name, lines)) (headers_sent has_policy l))
+      (sym b.are) (length_in lines b.before b.after b.first b.last)
+
+-- ---- what is left of the values
+
+header_by : (h : Header) → is_line h ≡ true → is_bare h.1 ≡ true → is_header h ≡ true
+header_by h line bare =
+    let parts = and_parts (is_token h.0) (is_field_value h.1) line in
+    let ends = and_parts (starts_visible h.1) (starts_visible (reverse h.1)) bare in
+    and_from (is_token h.0) _ parts.0
+    (and_from (starts_visible h.1) _ ends.0
+    (and_from (starts_visible (reverse h.1)) (is_field_value h.1) ends.1 parts.1))
+
+module _ (n : ℕ) where
+  states_line : (h : Header) → is_plain_line h ≡ true → is_line (trimmed_line h) ≡ true
+      → StatesLength n false (trimmed_line h ∷ [])
+  states_line h plain line =
+      let both = and_parts (not (is_framing_field (h.0, []))) _ plain in
+      let other : is_framing_field (h.0, []) ≡ false = not-true (is_framing_field (h.0, [])) both.0 in
+      elim (cases_Bool (is_kept h.0)) [
+        | inl kept ↦
+            let same : trimmed_line h ≡ h = cond-true (is_kept h.0) h (h.0, trim h.1) kept in
+            let bare : (is_bare h.1 && true) ≡ true =
+            sym (ap (λ (b : Bool). not b || (is_bare h.1 && true)) kept) ∙ both.1 in
+            subst (λ (l : Header). StatesLength n false (l ∷ [])) (sym same)
+            (states_other n h
+            (header_by h (sym (ap is_line same) ∙ line) (and_parts (is_bare h.1) true bare).0) other)
+        | inr free ↦
+            let same : trimmed_line h ≡ (h.0, trim h.1) = cond-false (is_kept h.0) h (h.0, trim h.1) free in
+            subst (λ (l : Header). StatesLength n false (l ∷ [])) (sym same)
+            (states_other n (h.0, trim h.1)
+            (header_by (h.0, trim h.1) (sym (ap is_line same) ∙ line) (trim_bare h.1)) other)
+      ]
+
+  states_plain : (hs : List Header) → list_all is_plain_line hs ≡ true → list_all is_line (trimmed_lines hs) ≡ true
+      → StatesLength n false (trimmed_lines hs)
+  states_plain [] plain lines = states_none n
+  states_plain (h ∷ hs) plain lines =
+      let p = and_parts (is_plain_line h) (list_all is_plain_line hs) plain in
+      let l = and_parts (is_line (trimmed_line h)) (list_all is_line (trimmed_lines hs)) lines in
+      states_then n (trimmed_line h ∷ []) (trimmed_lines hs) false (states_line h p.0 l.0) (states_plain hs p.1 l.1)
+
+  -- the field line of the length, if it is stated
+  abbrev pub stated_line : Bool → List Header
+  stated_line stated = cond stated ((length_name, decimal n) ∷ []) []
+
+  states_own : (stated : Bool) → n < 2 ^ 64 → StatesLength n stated (trimmed_lines (stated_line stated))
+  states_own true short =
+      subst (λ (text : List ℕ). StatesLength n true ((length_name, text) ∷ []))
+      (sym (decimal_trimmed n short ∙ decimal_is_numeral n short)) (states_length n short)
+  states_own false short = states_none n
+
+  pub states_trimmed : (stated : Bool) (hs : List Header) → n < 2 ^ 64 → Between is_plain_line (stated_line stated) hs
+      → list_all is_line (trimmed_lines hs) ≡ true → StatesLength n stated (trimmed_lines hs)
+  states_trimmed stated hs short b lines =
+      let own = trimmed_lines (stated_line stated) in
+      let same : trimmed_lines hs ≡ trimmed_lines b.before ++ (own ++ trimmed_lines b.after) =
+      ap trimmed_lines b.are ∙ map-append trimmed_line b.before (stated_line stated ++ b.after)
+      ∙ ap (λ (l : List Header). trimmed_lines b.before ++ l) (map-append trimmed_line (stated_line stated) b.after) in
+      let all = sym (list_all-append is_line (trimmed_lines b.before) (own ++ trimmed_lines b.after))
+      ∙ sym (ap (list_all is_line) same) ∙ lines in
+      let first = and_parts (list_all is_line (trimmed_lines b.before)) _ all in
+      let rest = sym (list_all-append is_line own (trimmed_lines b.after)) ∙ first.1 in
+      let last = and_parts (list_all is_line own) (list_all is_line (trimmed_lines b.after)) rest in
+      subst (StatesLength n stated) (sym same)
+      (states_then n (trimmed_lines b.before) (own ++ trimmed_lines b.after) stated
+      (states_plain b.before b.first first.0)
+      (states_before n own (trimmed_lines b.after) stated (states_own stated short)
+      (states_plain b.after b.last last.1)))
+
+-- ---- the fields of an answer
+
+location_plain : (now : State) → list_all is_plain (location_fields now) ≡ true
+unfolding eq_ignore_case
+location_plain (state.Moved redirect location) = refl
+location_plain now = refl
+
+codings_plain : (own : Option MethodRule) → list_all is_plain (accept_encoding_fields own) ≡ true
+unfolding eq_ignore_case
+codings_plain None = refl
+codings_plain (Some own) = refl
+
+offered_plain : (patch post : Option MethodRule)
+    → list_all is_plain (types_fields (codes "accept-patch") patch ++ types_fields (codes "accept-post") post) ≡ true
+unfolding eq_ignore_case
+offered_plain None None = refl
+offered_plain None (Some post) = refl
+offered_plain (Some patch) None = refl
+offered_plain (Some patch) (Some post) = refl
+
+accept_plain : (patches : Bool) (own : Option MethodRule)
+    → list_all is_plain
+    (types_fields (codes "accept") own ++ cond patches (types_fields (codes "accept-patch") own) []) ≡ true
+unfolding eq_ignore_case
+accept_plain true None = refl
+accept_plain true (Some own) = refl
+accept_plain false None = refl
+accept_plain false (Some own) = refl
+
+module _ (resource : Resource) (request : Asked) where
+  pub reason_plain : (reason : Reason) → list_all is_plain (reason_fields resource request reason) ≡ true
+  unfolding eq_ignore_case
+  reason_plain MethodNotAllowed = refl
+  reason_plain Options =
+      offered_plain (rule_for resource.rules.items (codes "PATCH")) (rule_for resource.rules.items (codes "POST"))
+  reason_plain Moved = location_plain resource.state
+  reason_plain UnsupportedMediaType = accept_plain (bytes_eq request.method (codes "PATCH")) (rule resource request)
+  reason_plain UnsupportedCoding = codings_plain (rule resource request)
+  reason_plain reason = refl
+
+pub vary_plain : (lines : List Line) → list_all is_plain (vary_fields lines) ≡ true
+unfolding eq_ignore_case
+vary_plain [] = refl
+vary_plain (line ∷ lines) = refl
+
+-- ---- the fields of a policy
+
+varied_plain : (listed covered : Bool) (lines : List Line)
+    → list_all is_plain (cond listed (cond covered [] ((codes "vary", lines) ∷ [])) []) ≡ true
+unfolding eq_ignore_case
+varied_plain true true lines = refl
+varied_plain true false lines = refl
+varied_plain false covered lines = refl
+
+abbrev is_bare_if_any : Option Line → Bool
+is_bare_if_any line = option_map_or is_bare line true
+
+lines_bare : (b : Bool) (line : Option Line) → is_bare_if_any line ≡ true → list_all is_bare (lines_if b line) ≡ true
+lines_bare b None bare = refl
+lines_bare true (Some line) bare = and_from (is_bare line) true bare refl
+lines_bare false (Some line) bare = refl
+
+line_if : (b : Bool) (line : Line) → (b ≡ true → is_bare line ≡ true) → is_bare_if_any (cond b (Some line) None) ≡ true
+line_if true line bare = bare refl
+line_if false line bare = refl
+
+listed_bare : (line : Line) (listed : List Line) → list_all is_bare listed ≡ true
+    → list_any (bytes_eq line) listed ≡ true → is_bare line ≡ true
+listed_bare line [] bare found = absurd (cc found)
+listed_bare line (other ∷ listed) bare found =
+    let both = and_parts (is_bare other) (list_all is_bare listed) bare in
+    elim (or_cases (bytes_eq line other) (list_any (bytes_eq line) listed) found) [
+      | inl same ↦ ap is_bare ((bytes_eq-Decides line other).0 same) ∙ both.0
+      | inr later ↦ listed_bare line listed both.1 later
+    ]
+
+grant_bare : (origins : Option (List Line)) (sent : Option Line) → option_map_or (list_all is_bare) origins true ≡ true
+    → is_bare_if_any (grant origins sent) ≡ true
+grant_bare None sent bare = refl
+grant_bare (Some listed) None bare = refl
+grant_bare (Some listed) (Some line) bare =
+    line_if (list_any (bytes_eq line) listed) line (listed_bare line listed bare)
+
+policy_plain : (policy : Policy) (leave : Bool) (sent varying : List Line) → IsBarePolicy policy
+    → list_all is_plain (policy_fields policy leave sent varying) ≡ true
+unfolding eq_ignore_case
+policy_plain policy leave sent varying bare =
+    let line : Option Line = grant policy.origins (only_line sent) in
+    let grants : Bool = is_some line in
+    and_from (list_all is_bare (lines_if grants line)) _
+    (lines_bare grants line (grant_bare policy.origins (only_line sent) bare.origins))
+    (and_from (list_all is_bare (lines_if (grants && policy.credentials) (Some (codes "true")))) _
+    (lines_bare (grants && policy.credentials) (Some (codes "true")) refl)
+    (and_from (list_all is_bare (lines_if (grants && not leave) (filled_line policy.exposed))) _
+    (lines_bare (grants && not leave) (filled_line policy.exposed)
+    (line_if (is_filled policy.exposed) policy.exposed (λ is. bare.exposed)))
+    (and_from (list_all is_bare (lines_if (grants && leave) (Some policy.methods))) _
+    (lines_bare (grants && leave) (Some policy.methods) bare.methods)
+    (and_from (list_all is_bare (lines_if (grants && leave) (filled_line policy.names))) _
+    (lines_bare (grants && leave) (filled_line policy.names)
+    (line_if (is_filled policy.names) policy.names (λ is. bare.names)))
+    (and_from (list_all is_bare (lines_if (grants && leave) policy.max_age))
+    (list_all is_plain (vary_sent policy varying))
+    (lines_bare (grants && leave) policy.max_age bare.max_age)
+    (varied_plain (is_some policy.origins) (covers_origin varying) (varying ++ codes "origin" ∷ [])))))))
+
+pub shared_plain : (cors : Option Policy) (request : Asked) (lines : List Line) (shared : List Field) → IsBareIfAny cors
+    → IsShared cors request lines shared → list_all is_plain shared ≡ true
+shared_plain None request lines shared bare h = ap (list_all is_plain) h
+shared_plain (Some policy) request lines shared bare h =
+    ap (list_all is_plain) (h.2 ∙ h.1.fields)
+    ∙ policy_plain policy (is_preflight h.0.kind) (request.fields (codes "origin")) lines bare
+
+-- ---- the fields of a plan
+
+removed_plain : (keeps whole : Bool)
+    → list_all is_plain
+    (cond keeps [] ((codes "content-encoding", []) ∷ [])
+    ++ cond whole [] ((codes "content-digest", []) ∷ (codes "content-md5", []) ∷ []))
+    ≡ true
+unfolding eq_ignore_case
+removed_plain true true = refl
+removed_plain true false = refl
+removed_plain false true = refl
+removed_plain false false = refl
+
+metadata_plain : (b : Bool) (x : Representation) → list_all is_plain (metadata_fields b x) ≡ true
+unfolding eq_ignore_case
+metadata_plain true x = refl
+metadata_plain false x = refl
+
+tag_bare : (tag : Option FieldValue) → is_bare_tag tag ≡ true
+    → list_all is_bare (lines_sent (λ (x : FieldValue). x.bytes) tag) ≡ true
+tag_bare None bare = refl
+tag_bare (Some tag) bare = and_from (is_bare tag.bytes) true bare refl
+
+etag_bare : (plan : Plan) (tag : Option FieldValue) → is_bare_tag tag ≡ true
+    → list_all is_bare (lines_sent (λ (x : FieldValue). x.bytes) (etag_sent plan tag)) ≡ true
+etag_bare plans.Failed tag bare = refl
+etag_bare plans.Unsatisfiable tag bare = refl
+etag_bare plan tag bare = tag_bare tag bare
+
+abbrev first_four : List Field → List Field
+first_four (a ∷ b ∷ c ∷ d ∷ more) = a ∷ b ∷ c ∷ d ∷ []
+first_four fields = []
+
+abbrev after_five : List Field → List Field
+after_five (a ∷ b ∷ c ∷ d ∷ e ∷ more) = more
+after_five fields = []
+
+module _ (present : ℕ) (plan : Plan) (target : Target) (content : Content) (multipart : FieldValue) where
+  -- the lines of Content-Length
+  abbrev pub own_lines : List Line
+  own_lines = lines_sent decimal (length_sent plan content.len)
+
+  abbrev own_field : List Field
+  own_field = (length_name, own_lines) ∷ []
+
+  sent_between : (known : Bool) → is_bare_tag (etag_of target) ≡ true
+      → Between is_plain own_field (fields_sent present plan known target content multipart)
+  unfolding eq_ignore_case
+  sent_between known bare =
+      let all : List Field = fields_sent present plan known target content multipart in
+      record {
+        before = first_four all;
+        after = after_five all;
+        are = refl;
+        first =
+            and_from (list_all is_bare (lines_sent (λ (x : FieldValue). x.bytes) (etag_sent plan (etag_of target)))) true
+            (etag_bare plan (etag_of target) bare) refl;
+        last = removed_plain (keeps_encoding plan known) (is_whole plan);
+      }
+
+  pub with_between : (fields : LineMap) (x : Option Representation) → is_bare_tag (etag_of target) ≡ true
+      → Between is_plain own_field
+      (with_metadata fields x plan (fields_sent present plan (is_known_by fields) target content multipart))
+  with_between fields None bare = sent_between (is_known_by fields) bare
+  with_between fields (Some x) bare =
+      after_all is_plain own_field (metadata_fields (describes plan (is_known_by fields)) x)
+      (fields_sent present plan (is_known_by fields) target content multipart)
+      (metadata_plain (describes plan (is_known_by fields)) x) (sent_between (is_known_by fields) bare)
+
+-- ---- the fields around those of the answer
+
+pub dates_plain : (now : Option ℕ) → list_all is_plain_line (date_fields now ++ sniff_field ∷ []) ≡ true
+unfolding eq_ignore_case
+dates_plain None = refl
+dates_plain (Some seconds) = refl
+
+pub closing_plain : (b : Bool) → list_all is_plain_line (cond b [] ((codes "connection", codes "close") ∷ [])) ≡ true
+unfolding eq_ignore_case
+closing_plain true = refl
+closing_plain false = refl
+
+pub cache_plain : (b : Bool) (value : Option FieldValue) → list_all is_plain_line (cond b (cache_fields value) []) ≡ true
+unfolding eq_ignore_case
+cache_plain true None = refl
+cache_plain true (Some value) = refl
+cache_plain false value = refl
+
+page_plain : (b : Bool) → list_all is_plain_line (cond b [] (html_field ∷ [])) ≡ true
+unfolding eq_ignore_case
+page_plain true = refl
+page_plain false = refl
+
+pub explained_plain : (code : ℕ) (sent : Sends) → list_all is_plain_line (explained_fields code sent) ≡ true
+explained_plain code sends.Nothing = page_plain _
+explained_plain code sends.Alternatives = page_plain _
+explained_plain code sent = refl
