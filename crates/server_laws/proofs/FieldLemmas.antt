@@ -67,8 +67,8 @@ module _ {X : Type 0} (test : X → Bool) where
       → list_all test (xs ++ ys) ≡ true
   all_append xs ys x y = list_all-append test xs ys ∙ and_from (list_all test xs) (list_all test ys) x y
 
-  pub alone : (xs : List X) → list_all test xs ≡ true → Between test [] xs
-  alone xs all = record { before = xs; after = []; are = sym (append-nil xs); first = all; last = refl }
+  pub none_between : (xs : List X) → list_all test xs ≡ true → Between test [] xs
+  none_between xs all = record { before = xs; after = []; are = sym (append-nil xs); first = all; last = refl }
 
   pub after_all : (middle xs ys : List X) → list_all test xs ≡ true → Between test middle ys
       → Between test middle (xs ++ ys)
@@ -209,7 +209,7 @@ module _ (has_policy : Bool) where
   pub between_sent : (own : Option (List Line)) (fields : List Field) → Between is_plain (length_field own) fields
       → Between is_plain_line (length_lines own) (headers_sent has_policy fields)
   between_sent None fields b =
-      alone is_plain_line (headers_sent has_policy fields)
+      none_between is_plain_line (headers_sent has_policy fields)
       (plain_sent fields (ap (list_all is_plain) b.are ∙ all_append is_plain b.before b.after b.first b.last))
   between_sent (Some lines) fields b =
       subst (λ (l : List Field). Between is_plain_line (lines_under (length_name, lines)) (headers_sent has_policy l))

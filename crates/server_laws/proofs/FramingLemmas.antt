@@ -1,7 +1,7 @@
 -- A response whose length is known is sent, unless its fields state another one.
 use Rattle.std.proofs.Common.{◌≡◌, ◌≢◌, ℕ, ◌+◌, ◌^◌, ◌<◌, ◌≤◌, ◌⊎◌, min, Bool, true, false, not, cond, eqb, ◌&&◌, ◌||◌}
 use Rattle.std.proofs.Common.{List, [], ◌∷◌, ◌++◌, codes, None, Result, Ok, Err, refl, sym, ap, ◌∙◌, subst, arith}
-use Rattle.std.proofs.Common.{append_assoc, append-nil, inl, inr, length, map, nat_lt}
+use Rattle.std.proofs.Common.{append_assoc, append-nil, inl, inr, length, map, nat_lt, zero-add, suc}
 use Rattle.std.specs.List.{list_all}
 use Rattle.std.specs.Str.Parse.{digits_value}
 use Rattle.std.proofs.lemmas.Bool.{and_parts, and_from, ne_eqb, eq-eqb, cond-true, cond-false, cases_Bool, eqb-true}
@@ -113,40 +113,45 @@ record Counts (lengths : List (List ℕ)) (hs : List Header) : Type 0 where
   count : count_by is_framing_field hs ≡ length lengths
   plain : list_all frames_plainly hs ≡ list_all is_plain_number lengths
 
+one_more : (a b : ℕ) → a ≡ b → 1 + a ≡ suc b
+one_more a b e = omega (arith, e)
+
 counts : (hs : List Header) → values_named (codes "transfer-encoding") hs ≡ []
     → Counts (values_named (codes "content-length") hs) hs
 counts [] none = record { codings = refl; count = refl; plain = refl }
 counts (h ∷ hs) none =
-    by (is_named (codes "content-length") h) (is_named (codes "transfer-encoding") h) refl refl none
+    by (is_named (codes "content-length") h) (is_named (codes "transfer-encoding") h) refl refl none (counts hs)
   where
     by : (sized coded : Bool) → is_named (codes "content-length") h ≡ sized
         → is_named (codes "transfer-encoding") h ≡ coded
         → cond coded (h.1 ∷ []) [] ++ values_named (codes "transfer-encoding") hs ≡ []
+        → (values_named (codes "transfer-encoding") hs ≡ [] → Counts (values_named (codes "content-length") hs) hs)
         → Counts (cond sized (h.1 ∷ []) [] ++ values_named (codes "content-length") hs) (h ∷ hs)
-    by sized true s c none = absurd (cc none)
-    by true false s c none =
-        let rest = counts hs none in
+    by sized true s c none more = absurd (cc none)
+    by true false s c none more =
+        let rest = more none in
+        let coding : Bool = cond (is_named (codes "transfer-encoding") h) (is_plain_chunked h.1) true in
         record {
           codings =
               ap
               (λ (b : Bool). cond b (elements h.1) [] ++ elements_named (codes "transfer-encoding") hs) c
               ∙ rest.codings;
           count =
-              sum_by-cons _ h hs ∙ ap (λ (b : Bool). cond (b || _) 1 0 + count_by is_framing_field hs) s
-              ∙ ap (λ (m : ℕ). 1 + m) rest.count;
+              sum_by-cons _ h hs ∙ ap (λ (b : Bool). cond (b || is_named (codes "transfer-encoding") h) 1 0 + count_by is_framing_field hs) s
+              ∙ one_more _ _ rest.count;
           plain =
-              ap (λ (b : Bool). cond b (is_plain_number h.1) _ && list_all frames_plainly hs) s
+              ap (λ (b : Bool). cond b (is_plain_number h.1) coding && list_all frames_plainly hs) s
               ∙ ap (λ (b : Bool). is_plain_number h.1 && b) rest.plain;
         }
-    by false false s c none =
-        let rest = counts hs none in
+    by false false s c none more =
+        let rest = more none in
         record {
           codings =
               ap
               (λ (b : Bool). cond b (elements h.1) [] ++ elements_named (codes "transfer-encoding") hs) c
               ∙ rest.codings;
           count =
-              sum_by-cons _ h hs ∙ (λ i. cond (s i || c i) 1 0 + count_by is_framing_field hs) ∙ rest.count;
+              sum_by-cons _ h hs ∙ (λ i. cond (s i || c i) 1 0 + count_by is_framing_field hs) ∙ zero-add _ ∙ rest.count;
           plain =
               (λ i. cond (s i) (is_plain_number h.1) (cond (c i) (is_plain_chunked h.1) true)
               && list_all frames_plainly hs)

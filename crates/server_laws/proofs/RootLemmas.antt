@@ -1,7 +1,6 @@
 -- The response to a GET of the root.
-use Rattle.std.proofs.Common.{◌≡◌, ℕ, Bool, true, false, List, [], ◌∷◌, ◌++◌, length, Option, Some, None, refl}
-use Rattle.std.proofs.Common.{sym, subst}
-use Rattle.std.proofs.Common.{◌∙◌, ap, inl, inr, arith, append-nil, map}
+use Rattle.std.proofs.Common.{◌≡◌, ℕ, Bool, true, false, List, [], ◌∷◌, ◌++◌, length, Option, Some, None, refl, sym}
+use Rattle.std.proofs.Common.{subst, ◌∙◌, ap, inl, inr, arith, append-nil, map, ◌≢◌}
 use Rattle.std.specs.Global.{Vec}
 use Rattle.std.specs.Option.{option_map_or}
 use Rattle.std.specs.Prelude.{codes, is_some, not, slice_get, string_bytes}
@@ -14,7 +13,6 @@ use Rattle.http_uri.specs.declared.uri.Uri.{Uri}
 use Rattle.http_uri.specs.Uri.{uri_path}
 use Rattle.headers.specs.LineMap.{Field, LineMap, fields_of as encoded_fields, lines_at}
 use Rattle.headers.specs.Lines.{Line}
-use Rattle.server_connection.specs.declared.piece.Piece.{Piece}
 use Rattle.server_connection.specs.declared.plan.Plan.{Plan as Response}
 use Rattle.gateway_messages.specs.Expectations.{has_known_expectation}
 use Rattle.gateway_messages.specs.HostTests.{is_reg_name}
@@ -27,44 +25,35 @@ use Rattle.decide_preconditions.specs.Fields.{fields_sent, is_known_by, status_o
 use Rattle.decide_preconditions.specs.Preconditions.{IsGetOrHead}
 use Rattle.decide_preconditions.specs.Responses.{IsAnswered}
 use Rattle.decide_preconditions.specs.declared.plan.Plan.{Plan}
-use Rattle.decide_preconditions.specs.declared.plan.Plan.TheVariants.{NotModified, Failed, Full, Single, Multiple}
-use Rattle.decide_preconditions.specs.declared.plan.Plan.TheVariants.{Unsatisfiable}
+use Rattle.decide_preconditions.specs.declared.plan.Plan.TheVariants.{Full}
 use Rattle.decide_preconditions.specs.declared.response.Response.{Response as Planning}
-use Rattle.decide_resource.specs.Answers.{Gives, Goes, GoesOn, IsAnswer, IsShared, at_place, is_sent, place_of}
-use Rattle.decide_resource.specs.Answers.{response_fields, status_sent}
+use Rattle.decide_resource.specs.Answers.{GivesIf, is_admitted, Goes, GoesOn, IsAnswer, IsShared, at_place, is_sent}
+use Rattle.decide_resource.specs.Answers.{place_of, response_fields, status_sent}
 use Rattle.decide_resource.specs.Applies.{applies, host_named, is_misdirected, is_own}
-use Rattle.decide_resource.specs.Fields.{describes, line_if, metadata_fields, vary_fields, vary_lines}
+use Rattle.decide_resource.specs.Fields.{status_of as code_of, describes, line_if, metadata_fields, vary_fields}
+use Rattle.decide_resource.specs.Fields.{vary_lines}
 use Rattle.decide_resource.specs.Representations.{score}
 use Rattle.decide_resource.specs.Requests.{Request as Asked, head_of as as_head}
 use Rattle.decide_resource.specs.declared.answer.Answer.{Answer}
 use Rattle.decide_resource.specs.declared.answer.Sends.{Sends}
 use Rattle.decide_resource.specs.declared.answer.Sends.TheVariants.{Planned}
 use Rattle.decide_resource.specs.declared.reason.Reason.{Reason}
-use Rattle.decide_resource.specs.declared.reason.Reason.TheVariants.{InvalidHost, Misdirected, UnknownMethod}
-use Rattle.decide_resource.specs.declared.reason.Reason.TheVariants.{MethodNotAllowed, Options, UnmetExpectation}
-use Rattle.decide_resource.specs.declared.reason.Reason.TheVariants.{PartialContent}
-use Rattle.decide_resource.specs.declared.reason.Reason.TheVariants.{Moved, Gone, NotFound, LengthRequired}
-use Rattle.decide_resource.specs.declared.reason.Reason.TheVariants.{ContentTooLarge, UnsupportedMediaType}
-use Rattle.decide_resource.specs.declared.reason.Reason.TheVariants.{UnsupportedCoding, NotAcceptable}
-use Rattle.decide_resource.specs.declared.reason.Reason.TheVariants.{PreconditionRequired, Admitted}
+use Rattle.decide_resource.specs.declared.reason.Reason.TheVariants.{Admitted, Moved}
 use Rattle.decide_resource.specs.declared.representation.Representation.{Representation}
 use Rattle.decide_resource.specs.declared.resource.Resource.{Resource}
 use Rattle.decide_resource.specs.declared.resource.State.{State}
 use Rattle.decide_resource.specs.declared.resource.State.TheVariants.{Current}
 use Rattle.server_service.specs.Answer.{AsksForAll, Decides, IsAnswerAt, cache_fields, cache_sent, clock}
 use Rattle.server_service.specs.Answer.{explained_fields, first_fields, pieces_for, source_sent, status_for}
-use Rattle.server_service.specs.Asked.{Asks}
 use Rattle.server_service.specs.File.{content_of, current_of, representation_of}
-use Rattle.server_service.specs.Found.{FindsEntry, LeadsTo}
+use Rattle.server_service.specs.Found.{FindsEntry}
 use Rattle.server_service.specs.Memory.{HasOne}
 use Rattle.server_files.specs.Path.{IsStorePath, Names}
 use Rattle.server_service.specs.Representations.{AreContents}
 use Rattle.server_service.specs.Response.{headers_of, headers_sent, trimmed_lines}
 use Rattle.server_service.specs.SiteSettings.{IsSiteOf, hosts_in}
-use Rattle.server_service.specs.Sites.{IsSite}
 use Rattle.server_service.specs.declared.file.Entry.{Entry}
-use Rattle.server_service.specs.declared.file.Entry.TheVariants.{Missing, Forbidden, Unavailable}
-use Rattle.server_service.specs.declared.file.Entry.TheVariants.{Folder, Listed, Readable}
+use Rattle.server_service.specs.declared.file.Entry.TheVariants.{Missing, Readable}
 use Rattle.server_service.specs.declared.file.File.{File}
 use Rattle.server_service.specs.declared.memory.Memory.{Memory}
 use Rattle.server_service.specs.declared.settings.Settings.{Settings}
@@ -78,19 +67,11 @@ use Rattle.server_laws.specs.Literal.{AsksForRoot}
 
 full_by : (plan : Plan) → status_of plan ≡ 200 → plan ≡ Full
 full_by Full is = refl
-full_by (Single part) is = absurd (omega (arith, is))
-full_by (Multiple parts) is = absurd (omega (arith, is))
-full_by NotModified is = absurd (omega (arith, is))
-full_by Failed is = absurd (omega (arith, is))
-full_by Unsatisfiable is = absurd (omega (arith, is))
+full_by plan is = absurd (omega (arith, is))
 
 place_some : (all : List Representation) (place : ℕ) → place_of all (Some place) ≡ Some place
 place_some [] place = refl
 place_some (x ∷ all) place = refl
-
-other_code : (reason : Reason) (status : Option ℕ) (n : ℕ) → status_for 404 reason (Some n) ≡ n → status ≡ Some n
-    → status_for 404 reason status ≡ 200 → n ≡ 200
-other_code reason status n same is e = sym same ∙ sym (ap (status_for 404 reason) is) ∙ e
 
 -- the fields of all of a file
 abbrev own_fields : ℕ → File → LineMap → FieldValue → List Field
@@ -153,40 +134,20 @@ module _ (present : ℕ) (site : Resource) (v : Vec Representation) (file : File
         (λ (at : Option ℕ). GoesOn present here asked at (at_place v.items at) status sent own) place h.goes) in
         response_full status sent own goes.response goes.answered goes.has_status goes.sends goes.has_fields is
 
-    by_reason : (reason : Reason) (status : Option ℕ) (sent : Sends) (own : List Field)
-        → applies here asked reason ≡ true → Gives present here asked reason status sent own
-        → status_for 404 reason status ≡ 200
+    no_other : (reason : Reason) → is_admitted reason ≡ false → applies here asked reason ≡ true
+        → status_for 404 reason (Some (code_of Current reason)) ≢ 200
+    no_other Admitted admits t is = cc admits
+    no_other Moved admits t is = cc t
+    no_other reason admits t is = omega (arith, is)
+
+    by_reason : (admitted : Bool) (reason : Reason) → is_admitted reason ≡ admitted → (status : Option ℕ) (sent : Sends)
+        (own : List Field) → applies here asked reason ≡ true
+        → GivesIf admitted present here asked reason status sent own → status_for 404 reason status ≡ 200
         → (reason ≡ Admitted) × IsFull present file asked.fields site.boundary sent own
-    by_reason InvalidHost status sent own t g is =
-        absurd (omega (arith, other_code InvalidHost status 400 refl g.has_status is))
-    by_reason Misdirected status sent own t g is =
-        absurd (omega (arith, other_code Misdirected status 421 refl g.has_status is))
-    by_reason UnknownMethod status sent own t g is =
-        absurd (omega (arith, other_code UnknownMethod status 501 refl g.has_status is))
-    by_reason MethodNotAllowed status sent own t g is =
-        absurd (omega (arith, other_code MethodNotAllowed status 405 refl g.has_status is))
-    by_reason Options status sent own t g is =
-        absurd (omega (arith, other_code Options status 204 refl g.has_status is))
-    by_reason UnmetExpectation status sent own t g is =
-        absurd (omega (arith, other_code UnmetExpectation status 417 refl g.has_status is))
-    by_reason PartialContent status sent own t g is =
-        absurd (omega (arith, other_code PartialContent status 400 refl g.has_status is))
-    by_reason Moved status sent own t g is = absurd (cc t)
-    by_reason Gone status sent own t g is = absurd (cc t)
-    by_reason NotFound status sent own t g is = absurd (omega (arith, is))
-    by_reason LengthRequired status sent own t g is =
-        absurd (omega (arith, other_code LengthRequired status 411 refl g.has_status is))
-    by_reason ContentTooLarge status sent own t g is =
-        absurd (omega (arith, other_code ContentTooLarge status 413 refl g.has_status is))
-    by_reason UnsupportedMediaType status sent own t g is =
-        absurd (omega (arith, other_code UnsupportedMediaType status 415 refl g.has_status is))
-    by_reason UnsupportedCoding status sent own t g is =
-        absurd (omega (arith, other_code UnsupportedCoding status 415 refl g.has_status is))
-    by_reason NotAcceptable status sent own t g is =
-        absurd (omega (arith, other_code NotAcceptable status 406 refl g.has_status is))
-    by_reason PreconditionRequired status sent own t g is =
-        absurd (omega (arith, other_code PreconditionRequired status 428 refl g.has_status is))
-    by_reason Admitted status sent own t g is = (refl, goes_full status sent own g is)
+    by_reason true Admitted admits status sent own t g is = (refl, goes_full status sent own g is)
+    by_reason true reason admits status sent own t g is = absurd (cc admits)
+    by_reason false reason admits status sent own t g is =
+        absurd (no_other reason admits t (sym (ap (status_for 404 reason) g.has_status) ∙ is))
 
   module _ (cors : site.cors ≡ None) (media_type : site.negotiation.media_type ≡ false)
       (language : site.negotiation.language ≡ false) (coding : site.negotiation.coding ≡ false) where
@@ -200,7 +161,9 @@ module _ (present : ℕ) (site : Resource) (v : Vec Representation) (file : File
         → status_for 404 answer.reason answer.status ≡ 200
         → IsFull present file asked.fields site.boundary answer.sends (encoded_fields answer.fields.items)
     answer_full asked reads answer h is =
-        let by = by_reason asked reads answer.reason answer.status answer.sends h.own h.first.is h.gives is in
+        let by =
+        by_reason asked reads (is_admitted answer.reason) answer.reason refl answer.status answer.sends h.own h.first.is
+        h.gives is in
         let alone : h.shared ≡ [] =
         subst
         (λ c. IsShared c asked (vary_lines here answer.reason) h.shared) cors h.is_shared in
@@ -241,10 +204,6 @@ file_found : (store : Memory) (negotiates : Bool) (uri : Uri) (named : List ℕ)
     → (file : File) × HasOne store named (Readable file)
     × HasFile file found.state found.status found.files.items
 file_found store negotiates uri named Missing found off same has finds = absurd (has same)
-file_found store negotiates uri named Forbidden found off same has finds = absurd has
-file_found store negotiates uri named Unavailable found off same has finds = absurd has
-file_found store negotiates uri named Folder found off same has finds = absurd has
-file_found store negotiates uri named (Listed listing) found off same has finds = absurd has
 file_found store negotiates uri named (Readable file) found off same has finds = (
   file,
   has,
@@ -254,6 +213,7 @@ file_found store negotiates uri named (Readable file) found off same has finds =
     files = subst (λ (b : Bool). AreContents b (HasOne store) named file found.files.items) off finds.2;
   },
 )
+file_found store negotiates uri named other found off same has finds = absurd has
 
 index_named : IsStorePath (codes "/") (codes "index.html")
 unfolding percent_decode

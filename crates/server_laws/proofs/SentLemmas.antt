@@ -4,9 +4,9 @@ use Rattle.std.proofs.Common.{◌∷◌, ◌++◌, Option, Some, None, ap, arith
 use Rattle.std.proofs.Common.{◌∙◌}
 use Rattle.std.specs.List.{list_all}
 use Rattle.std.specs.Option.{is_some, option_map}
-use Rattle.std.specs.Prelude.{bytes_eq, decimal, find, slice_get, string_bytes}
+use Rattle.std.specs.Prelude.{◌==◌, bytes_eq, decimal, find, nat_le, slice_get, string_bytes}
 use Rattle.std.proofs.Math.Bool.{and-false}
-use Rattle.std.proofs.lemmas.Bool.{cases_Bool}
+use Rattle.std.proofs.lemmas.Bool.{and_parts, cases_Bool, eq-eqb, leb-true, not-true}
 use Rattle.std.proofs.lemmas.Bool.Decides.{nat_tests}
 use Rattle.std.proofs.lemmas.Option.{slice_get-map}
 use Rattle.std.proofs.lemmas.Slice.Eq.{bytes_eq-Decides}
@@ -27,6 +27,7 @@ use Rattle.http1.specs.Server.{response_refusal}
 use Rattle.http1_typed.specs.Parts.{reason_of}
 use Rattle.http_server.specs.Encoding.{answering}
 use Rattle.headers.specs.LineMap.{Field, fields_of as encoded_fields}
+use Rattle.headers.specs.Lines.{Line}
 use Rattle.server_connection.specs.Encoding.{content_len, plan_fields, plan_size}
 use Rattle.server_connection.specs.Pieces.{total_len}
 use Rattle.server_connection.specs.declared.plan.Plan.{Plan as Response}
@@ -38,10 +39,10 @@ use Rattle.decide_preconditions.specs.declared.plan.Plan.{Plan}
 use Rattle.decide_preconditions.specs.declared.plan.Plan.TheVariants as plans
 use Rattle.decide_preconditions.specs.declared.resource.Resource.{Resource as Target}
 use Rattle.decide_preconditions.specs.declared.response.Response.{Response as Planning}
-use Rattle.decide_resource.specs.Answers.{Gives, Goes, GoesOn, IsAnswer, at_place, content_of, is_sent, response_fields}
-use Rattle.decide_resource.specs.Answers.{sent_for, status_sent, target_of, with_metadata}
+use Rattle.decide_resource.specs.Answers.{Gives, GivesIf, is_admitted, Goes, GoesOn, IsAnswer, at_place, content_of}
+use Rattle.decide_resource.specs.Answers.{is_sent, response_fields, sent_for, status_sent, target_of, with_metadata}
 use Rattle.decide_resource.specs.Applies.{applies, has_method, has_moved, rule_for}
-use Rattle.decide_resource.specs.Fields.{moved_status, vary_fields, vary_lines}
+use Rattle.decide_resource.specs.Fields.{moved_status, status_of, vary_fields, vary_lines}
 use Rattle.decide_resource.specs.Reasons.{IsFirst}
 use Rattle.decide_resource.specs.Requests.{Request as Asked, head_of as as_head}
 use Rattle.decide_resource.specs.declared.answer.Answer.{Answer}
@@ -51,7 +52,7 @@ use Rattle.decide_resource.specs.declared.reason.Reason.TheVariants.{Admitted, M
 use Rattle.decide_resource.specs.declared.reason.Reason.TheVariants.{NotFound, Options}
 use Rattle.decide_resource.specs.declared.representation.Representation.{Representation}
 use Rattle.decide_resource.specs.declared.resource.MethodRule.{MethodRule}
-use Rattle.decide_resource.specs.declared.resource.Redirect.TheVariants.{MovedPermanently, Temporary, Permanent}
+use Rattle.decide_resource.specs.declared.resource.Redirect.TheVariants as redirect
 use Rattle.decide_resource.specs.declared.resource.Resource.{Resource}
 use Rattle.decide_resource.specs.declared.resource.State.{State}
 use Rattle.decide_resource.specs.declared.resource.State.TheVariants as state
@@ -70,12 +71,13 @@ use Rattle.server_service.specs.declared.settings.Page.{Page}
 use Rattle.server_service.specs.declared.settings.Site.{Site}
 use Rattle.server_service.specs.declared.source.Source.{Source}
 use Rattle.server_service.proofs.AnswerLemmas.{Fits-from_plan}
-use Rattle.server_laws.specs.Sendable.{IsBareIfAny, IsFinal}
+use Rattle.server_laws.specs.Sendable.{IsBareIfAny, IsFinal, StatesLength}
 use Rattle.server_laws.proofs.FramingLemmas.{plan_sent}
-use Rattle.server_laws.proofs.FieldLemmas.{Between, after_all, all_append, alone, before_all, between_sent, cache_plain}
-use Rattle.server_laws.proofs.FieldLemmas.{closing_plain, dates_plain, explained_plain, is_plain, is_plain_line}
-use Rattle.server_laws.proofs.FieldLemmas.{length_field, length_lines, length_name, own_lines, reason_plain}
-use Rattle.server_laws.proofs.FieldLemmas.{shared_plain, stated_line, states_trimmed, vary_plain, with_between}
+use Rattle.server_laws.proofs.FieldLemmas.{Between, after_all, all_append, none_between, before_all, between_sent}
+use Rattle.server_laws.proofs.FieldLemmas.{cache_plain, closing_plain, dates_plain, explained_plain, is_plain}
+use Rattle.server_laws.proofs.FieldLemmas.{is_plain_line, length_field, length_lines, length_name, own_lines}
+use Rattle.server_laws.proofs.FieldLemmas.{reason_plain, shared_plain, stated_line, states_trimmed, vary_plain}
+use Rattle.server_laws.proofs.FieldLemmas.{with_between}
 
 -- ---- the status and the length
 
@@ -100,12 +102,13 @@ explained method code n own x plain =
     let high = and_parts (nat_le code 999) _ low.1 in
     let other = and_parts (not (code == 304)) (is_field_value (reason_of code)) high.1 in
     let least : 300 ≤ code = leb-true 300 code low.0 in
-    let not_304 : code ≢ 304 = λ is. (let yes = eq-eqb code 304 is in absurd (cc (other.0, yes))) in
+    let no : (code == 304) ≡ false = not-true (code == 304) other.0 in
+    let not_304 : code ≢ 304 = λ is. (let yes = eq-eqb code 304 is in cc (no, yes)) in
     record {
       stated = false;
       states = None;
       lines = refl;
-      fields = alone is_plain own plain;
+      fields = none_between is_plain own plain;
       final = record {
         least = omega (arith, least);
         greatest = leb-true code 999 high.0;
@@ -143,17 +146,17 @@ found_explained negotiates has uri found x =
 reason_explained : (absent : ℕ) → is_explained absent ≡ true → (now : State) (reason : Reason) → is_admitted reason ≡ false
     → (reason ≡ Moved → has_moved now ≡ true)
     → (reason ≡ Options) ⊎ (is_explained (status_for absent reason (Some (status_of now reason))) ≡ true)
-reason_explained absent missing now Admitted no moved = absurd (cc no)
-reason_explained absent missing now Options no moved = inl refl
-reason_explained absent missing now NotFound no moved = inr missing
-reason_explained absent missing now Moved no moved = inr (by now (moved refl))
+reason_explained absent missing now Admitted other moved = absurd (cc other)
+reason_explained absent missing now Options other moved = inl refl
+reason_explained absent missing now NotFound other moved = inr missing
+reason_explained absent missing now Moved other moved = inr (by now (moved refl))
   where
     by : (now : State) → has_moved now ≡ true → is_explained (moved_status now) ≡ true
     by (state.Moved redirect.MovedPermanently location) t = refl
     by (state.Moved redirect.Temporary location) t = refl
     by (state.Moved redirect.Permanent location) t = refl
     by now t = absurd (cc t)
-reason_explained absent missing now reason no moved = inr refl
+reason_explained absent missing now reason other moved = inr refl
 
 -- ---- the content of a plan
 
@@ -289,7 +292,7 @@ module _ (present : ℕ) (resource : Resource) (own_rule : MethodRule) (alone : 
         stated = false;
         states = None;
         lines = refl;
-        fields = alone is_plain [] refl;
+        fields = none_between is_plain [] refl;
         final = record {
           least = omega arith;
           greatest = omega arith;
@@ -305,7 +308,7 @@ module _ (present : ℕ) (resource : Resource) (own_rule : MethodRule) (alone : 
         stated = false;
         states = None;
         lines = refl;
-        fields = alone is_plain own plain;
+        fields = none_between is_plain own plain;
         final = record {
           least = omega arith;
           greatest = omega arith;
@@ -333,7 +336,7 @@ module _ (present : ℕ) (resource : Resource) (own_rule : MethodRule) (alone : 
               least = least plan;
               greatest = greatest plan;
               other = other plan;
-              bodiless = λ is. elim is [ inl a ↦ absurd (content plan a) | inr b ↦ x.bodiless b ];
+              bodiless = λ is. elim is [ inl a ↦ absurd (filled plan a) | inr b ↦ x.bodiless b ];
               connect = successful (plan_status plan);
             };
             text = text plan;
@@ -358,9 +361,9 @@ module _ (present : ℕ) (resource : Resource) (own_rule : MethodRule) (alone : 
           other plans.Full is = omega (arith, is)
           other plan is = omega (arith, is)
 
-          content : (plan : Plan) → plan_status plan ≢ 204
-          content plans.Full is = omega (arith, is)
-          content plan is = omega (arith, is)
+          filled : (plan : Plan) → plan_status plan ≢ 204
+          filled plans.Full is = omega (arith, is)
+          filled plan is = omega (arith, is)
 
           text : (plan : Plan) → is_field_value (reason_of (plan_status plan)) ≡ true
           text plans.Full = refl

@@ -1,6 +1,6 @@
 -- What the file server sends in answer to a literal request.
 use Rattle.std.proofs.Common.{◌≡◌, ℕ, ◌+◌, ◌^◌, ◌<◌, ◌≤◌, true, false, List, [], ◌∷◌, ◌++◌, length, codes, Option, Some}
-use Rattle.std.proofs.Common.{None, refl, sym, ap, subst, ◌∙◌, append-nil, arith, inl, inr, Bool, cond, tt}
+use Rattle.std.proofs.Common.{None, refl, sym, ap, subst, ◌∙◌, append-nil, arith, inl, inr, Bool, cond}
 use Rattle.std.specs.Prelude.{All, string_bytes}
 use Rattle.std.proofs.lemmas.Bool.{cond-true, lt-ltb}
 use Rattle.http.specs.declared.request.Request.{Request}
@@ -75,7 +75,10 @@ trimmed_ok None tag len media_type short = λ i.
     ∷ (codes "accept-ranges", codes "bytes") ∷ (codes "content-length", decimal_trimmed len short i)
     ∷ (codes "content-type", trim media_type) ∷ []
 trimmed_ok (Some seconds) tag len media_type short = λ i.
-    (codes "date", fixdate_trimmed seconds i) ∷ trimmed_ok None tag len media_type short i
+    (codes "date", fixdate_trimmed seconds i)
+    ∷ (codes "x-content-type-options", codes "nosniff") ∷ (codes "etag", tag)
+    ∷ (codes "accept-ranges", codes "bytes") ∷ (codes "content-length", decimal_trimmed len short i)
+    ∷ (codes "content-type", trim media_type) ∷ []
 
 -- ---- the answer
 
