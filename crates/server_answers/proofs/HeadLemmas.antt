@@ -88,7 +88,7 @@ head_answered law now left site look get head response source is x =
       asked = as_head x.asked;
       asks = asks_head get head is x.asked x.asks;
       answer = x.answer;
-      decides = decides_head law (clock now) x.resource x.asked (x.asks.2.method ∙ is.is_get) none
+      decides = decides_head law (clock now x.found.files.items) x.resource x.asked (x.asks.2.method ∙ is.is_get) none
           (string_bytes site.divider) x.found.files.items x.answer x.decides;
       carries = x.carries;
       opens = x.opens;

@@ -195,6 +195,9 @@ ResponseIsShared = (present : ℕ) (resource : Resource) (request : Asked) (answ
 module _ (now : Option ℕ) (left : ℕ) (site : Site) (look : List ℕ → Entry → Type 0) (request : Request (List ℕ))
     (response : Response) (source : Option Source) (policy : Policy) (has : site.resource.cors ≡ Some policy)
     (x : IsAnswerAt now left site look request response source) where
+  abbrev present : ℕ
+  present = clock now x.found.files.items
+
   abbrev given : List Field
   given = encoded_fields x.answer.fields.items
 
@@ -234,25 +237,25 @@ module _ (now : Option ℕ) (left : ℕ) (site : Site) (look : List ℕ → Entr
         representations = x.described.representations;
       } in
       let options : asked.method ≡ codes "OPTIONS" = asks.2.method ∙ preflight.options in
-      let decides : Decides (clock now) (string_bytes site.divider) x.found.files.items resource asked x.answer =
+      let decides : Decides present (string_bytes site.divider) x.found.files.items resource asked x.answer =
       subst
-      (λ (r : Resource). Decides (clock now) (string_bytes site.divider) x.found.files.items r asked x.answer)
+      (λ (r : Resource). Decides present (string_bytes site.divider) x.found.files.items r asked x.answer)
       x.described.is
       (subst
-      (λ (q : Asked). Decides (clock now) (string_bytes site.divider) x.found.files.items x.resource q x.answer) same
+      (λ (q : Asked). Decides present (string_bytes site.divider) x.found.files.items x.resource q x.answer) same
       x.decides) in
-      let a : IsAnswer (clock now) resource asked x.answer =
-      decided resource asked options host own (clock now) (string_bytes site.divider) x.found.files.items x.answer
+      let a : IsAnswer present resource asked x.answer =
+      decided resource asked options host own present (string_bytes site.divider) x.found.files.items x.answer
       decides in
-      let reason : x.answer.reason ≡ Options = reason_is resource asked options host own (clock now) x.answer a in
-      let stopped = stops resource asked options host own (clock now) x.answer a in
+      let reason : x.answer.reason ≡ Options = reason_is resource asked options host own present x.answer a in
+      let stopped = stops resource asked options host own present x.answer a in
       let asked_so : IsPreflightFor sent asked.method asked.fields = record {
         options = options;
         origin = ap (λ (m : LineMap). m (codes "origin")) asks.2.fields ∙ preflight.origin;
         asked = ap (λ (m : LineMap). m (codes "access-control-request-method")) asks.2.fields ∙ preflight.asked;
       } in
       let answered =
-      law (clock now) resource asked x.answer rules policy nothing sent has a reason lawful made asked_so in
+      law present resource asked x.answer rules policy nothing sent has a reason lawful made asked_so in
       let code : status_for x.found.status x.answer.reason x.answer.status ≡ 204 =
       ap (λ (r : Reason). status_for x.found.status r x.answer.status) reason
       ∙ ap (λ (status : Option ℕ). status_for x.found.status Options status) answered.0 in
@@ -288,9 +291,9 @@ module _ (now : Option ℕ) (left : ℕ) (site : Site) (look : List ℕ → Entr
       ↔ (AllowsOrigin rules sent.origin × AllowsCredentials rules sent.credentials) =
       elim x.decides [
         | inl h ↦
-            law (clock now) x.resource x.asked x.answer rules policy nothing sent own h.1 lawful made asked_origin
+            law present x.resource x.asked x.answer rules policy nothing sent own h.1 lawful made asked_origin
         | inr h ↦
-            law (clock now) x.resource (as_head x.asked) x.answer rules policy nothing sent own h.3 lawful made
+            law present x.resource (as_head x.asked) x.answer rules policy nothing sent own h.3 lawful made
             asked_origin
       ] in (
         λ passes. checks.0 (check_alike mine theirs sent read_alike passes),

@@ -92,6 +92,9 @@ module _ (now : Option ℕ) (left : ℕ) (site : Site) (look : List ℕ → Entr
   abbrev lines : LineMap
   lines = lines_at (head_of request).headers
 
+  abbrev present : ℕ
+  present = clock now x.found.files.items
+
   asked_is : x.asked ≡ reading x.asked.protocol x.asked.authority (head_of request).method lines
   asked_is =
       λ i. record {
@@ -102,18 +105,18 @@ module _ (now : Option ℕ) (left : ℕ) (site : Site) (look : List ℕ → Entr
         fields = x.asks.2.fields i;
       }
 
-  read_answer : IsReadBy (clock now)
+  read_answer : IsReadBy present
       (described_as site.resource x.found.state x.described.representations) x.asked.protocol x.asked.authority
       lines x.answer
   read_answer =
-      decided_read (clock now) (string_bytes site.divider) x.found.files.items
+      decided_read present (string_bytes site.divider) x.found.files.items
       (described_as site.resource x.found.state x.described.representations) x.asked.protocol x.asked.authority
       lines (head_of request).method read x.answer
       (subst
-      (λ (resource : Resource). Decides (clock now) (string_bytes site.divider) x.found.files.items resource
+      (λ (resource : Resource). Decides present (string_bytes site.divider) x.found.files.items resource
       (reading x.asked.protocol x.asked.authority (head_of request).method lines) x.answer) x.described.is
       (subst
-      (λ (q : Asked). Decides (clock now) (string_bytes site.divider) x.found.files.items x.resource q x.answer)
+      (λ (q : Asked). Decides present (string_bytes site.divider) x.found.files.items x.resource q x.answer)
       asked_is x.decides))
 
   -- the field lines of ETag are those of the answer's fields
@@ -153,20 +156,20 @@ kept_tag now left site look request response kept tag read x told =
     let files = x.found.files.items in
     let resource = described_as site.resource st x.described.representations in
     let asked = reading x.asked.protocol x.asked.authority by.0 (lines_at (head_of request).headers) in
-    let tagged : IsTagged (clock now) resource asked tag x.answer.sends =
-    is_tagged (clock now) resource asked by.1 x.answer by.2 (is_some site.resource.cors) tag
+    let tagged : IsTagged (clock now files) resource asked tag x.answer.sends =
+    is_tagged (clock now files) resource asked by.1 x.answer by.2 (is_some site.resource.cors) tag
     (sym (etag_lines now left site look request response source x read) ∙ told) in
-    let seen : tag_lines (target_at st (map (representation_of (clock now)) files) tagged.place) ≡ tag ∷ [] =
+    let seen : tag_lines (target_at st (map (representation_of (clock now files)) files) tagged.place) ≡ tag ∷ [] =
     sym (ap (λ (items : List Representation). tag_lines (target_at st items tagged.place)) x.described.are)
     ∙ tagged.tagged in
-    let found = file_of_tag st files tagged.place (clock now) tag seen in
+    let found = file_of_tag st files tagged.place (clock now files) tag seen in
     let opens : Some (InMemory kept) ≡ Some found.0.source =
     x.opens ∙ ap (source_sent files) tagged.sends ∙ ap source_of found.1 in
     let memory : InMemory kept ≡ found.0.source = cc opens in
     let labelled : label_at files tagged.place ≡ Some (label_of found.0) = ap (option_map label_of) found.1 in
     let own : digest_tag kept ∷ [] ≡ tag ∷ [] =
     ap (λ (s : Source). lines_sent (λ (t : FieldValue). t.bytes) (tag_of s)) memory
-    ∙ sym (ap tag_lines (target_of_label st files tagged.place (label_of found.0) labelled (clock now)))
+    ∙ sym (ap tag_lines (target_of_label st files tagged.place (label_of found.0) labelled (clock now files)))
     ∙ seen in
     let same : digest_tag kept ≡ tag = cc own in (
       sym same,
@@ -245,20 +248,20 @@ module _ (now later : Option ℕ) (left more : ℕ) (site : Site) (look other : 
   asked_alike =
       asked_once first x.asked (reading y.asked.protocol y.asked.authority (head_of first).method f) x.asks asks_alike
 
-  first_read : IsReadBy (clock now) before y.asked.protocol y.asked.authority f x.answer
+  first_read : IsReadBy (clock now fs) before y.asked.protocol y.asked.authority f x.answer
   first_read =
       subst
-      (λ (o : State). IsReadBy (clock now) (described_as site.resource o v) y.asked.protocol y.asked.authority f
+      (λ (o : State). IsReadBy (clock now fs) (described_as site.resource o v) y.asked.protocol y.asked.authority f
       x.answer) alike.state
       (subst
-      (λ (q : Option Line). IsReadBy (clock now) (described_as site.resource x.found.state v) y.asked.protocol q f
+      (λ (q : Option Line). IsReadBy (clock now fs) (described_as site.resource x.found.state v) y.asked.protocol q f
       x.answer) (ap (λ (q : Asked). q.authority) asked_alike)
       (subst
-      (λ (p : Protocol). IsReadBy (clock now) (described_as site.resource x.found.state v) p x.asked.authority f
+      (λ (p : Protocol). IsReadBy (clock now fs) (described_as site.resource x.found.state v) p x.asked.authority f
       x.answer) (ap (λ (q : Asked). q.protocol) asked_alike)
       (read_answer now left site look first r a x again.read)))
 
-  second_read : IsReadBy (clock later) after y.asked.protocol y.asked.authority g y.answer
+  second_read : IsReadBy (clock later gs) after y.asked.protocol y.asked.authority g y.answer
   second_read = read_answer later more site other second s b y again.read_again
 
   abbrev asked : Asked
@@ -267,18 +270,18 @@ module _ (now later : Option ℕ) (left more : ℕ) (site : Site) (look other : 
   abbrev asked_again : Asked
   asked_again = reading y.asked.protocol y.asked.authority second_read.0 g
 
-  tagged : IsTagged (clock now) before asked tag x.answer.sends
+  tagged : IsTagged (clock now fs) before asked tag x.answer.sends
   tagged =
-      is_tagged (clock now) before asked first_read.1 x.answer first_read.2 (is_some site.resource.cors) tag
+      is_tagged (clock now fs) before asked first_read.1 x.answer first_read.2 (is_some site.resource.cors) tag
       (sym (etag_lines now left site look first r a x again.read) ∙ told)
 
-  seen : tag_lines (target_at st (map (representation_of (clock now)) fs) tagged.place) ≡ tag ∷ []
+  seen : tag_lines (target_at st (map (representation_of (clock now fs)) fs) tagged.place) ≡ tag ∷ []
   seen =
       sym (ap (λ (items : List Representation). tag_lines (target_at st items tagged.place)) x.described.are)
       ∙ tagged.tagged
 
   found : (file : File) × (file_at fs tagged.place ≡ Some file)
-  found = file_of_tag st fs tagged.place (clock now) tag seen
+  found = file_of_tag st fs tagged.place (clock now fs) tag seen
 
   abbrev label : Label
   label = label_of found.0
@@ -289,21 +292,21 @@ module _ (now later : Option ℕ) (left more : ℕ) (site : Site) (look other : 
   labelled_now : label_at gs tagged.place ≡ Some label
   labelled_now = sym (same_label fs gs tagged.place alike.labels) ∙ labelled_then
 
-  then_seen : target_at st v.items tagged.place ≡ current_by (clock now) label
+  then_seen : target_at st v.items tagged.place ≡ current_by (clock now fs) label
   then_seen =
       ap (λ (items : List Representation). target_at st items tagged.place) x.described.are
-      ∙ target_of_label st fs tagged.place label labelled_then (clock now)
+      ∙ target_of_label st fs tagged.place label labelled_then (clock now fs)
 
-  now_seen : target_at st w.items tagged.place ≡ current_by (clock later) label
+  now_seen : target_at st w.items tagged.place ≡ current_by (clock later gs) label
   now_seen =
       ap (λ (items : List Representation). target_at st items tagged.place) y.described.are
-      ∙ target_of_label st gs tagged.place label labelled_now (clock later)
+      ∙ target_of_label st gs tagged.place label labelled_now (clock later gs)
 
   own_tag : lines_sent (λ (t : FieldValue). t.bytes) label.tag ≡ tag ∷ []
   own_tag = sym (ap tag_lines then_seen) ∙ tagged.tagged
 
-  was_kept : StateIsKept (clock now) f (current_by (clock now) label)
-  was_kept = subst (λ (target : Target). StateIsKept (clock now) f target) then_seen tagged.kept
+  was_kept : StateIsKept (clock now fs) f (current_by (clock now fs) label)
+  was_kept = subst (λ (target : Target). StateIsKept (clock now fs) f target) then_seen tagged.kept
 
   has_line : (lines : List Line) → lines ≡ tag ∷ [] → HasLine lines
   has_line lines are = subst HasLine (sym are) (omega arith)
@@ -326,23 +329,24 @@ module _ (now later : Option ℕ) (left more : ℕ) (site : Site) (look other : 
 
     first_there : IsFirst (applies after asked_again) Admitted
     first_there =
-        first_again site.resource st v w (clock now) (clock later) fs gs x.described.are y.described.are alike.labels
+        first_again site.resource st v w (clock now fs) (clock later gs) fs gs x.described.are y.described.are
+        alike.labels
         y.asked.protocol y.asked.authority f g same first_read.0 second_read.0 first_read.1 second_read.1
         tagged.first
 
     selected_there : IsSelected after g tagged.place
     selected_there =
-        selected_again site.resource st v w (clock now) (clock later) fs gs x.described.are y.described.are
+        selected_again site.resource st v w (clock now fs) (clock later gs) fs gs x.described.are y.described.are
         alike.labels y.asked.protocol y.asked.authority f g same tagged.place tagged.selected
 
-    module _ (decided : Decide (clock later) after asked_again (current_by (clock later) label)
+    module _ (decided : Decide (clock later gs) after asked_again (current_by (clock later gs) label)
         precondition.NotModified) where
-      unmodified : IsUnmodified (clock later) after asked_again y.answer second_read.2.own tagged.place
+      unmodified : IsUnmodified (clock later gs) after asked_again y.answer second_read.2.own tagged.place
       unmodified =
-          not_modified (clock later) after asked_again second_read.1 y.answer second_read.2 first_there tagged.place
+          not_modified (clock later gs) after asked_again second_read.1 y.answer second_read.2 first_there tagged.place
           selected_there
           (subst
-          (λ (target : Target). Decide (clock later) after asked_again target precondition.NotModified)
+          (λ (target : Target). Decide (clock later gs) after asked_again target precondition.NotModified)
           (sym now_seen) decided)
 
       told_unmodified : (s.status ≡ 304) × (lines_in (fields_of s) (codes "etag") ≡ tag ∷ []) × (s.pieces.items ≡ [])
@@ -353,7 +357,7 @@ module _ (now later : Option ℕ) (left more : ℕ) (site : Site) (look other : 
                 ∙ ap (λ (reason : Reason). status_for y.found.status reason y.answer.status) u.reason
                 ∙ ap (λ (status : Option ℕ). status_for y.found.status Admitted status) u.status,
             etag_lines later more site other second s b y again.read_again
-                ∙ tag_given (clock later) after asked_again y.answer second_read.2 (is_some site.resource.cors)
+                ∙ tag_given (clock later gs) after asked_again y.answer second_read.2 (is_some site.resource.cors)
                 (tag_lines (target_at st w.items tagged.place)) u.tag
                 ∙ ap tag_lines now_seen ∙ own_tag,
             y.carries.pieces
@@ -361,14 +365,14 @@ module _ (now later : Option ℕ) (left more : ℕ) (site : Site) (look other : 
                 ∙ no_pieces (string_bytes site.divider) (file_at gs tagged.place),
           )
 
-    module _ (passes : ¬ (Decide (clock later) after asked_again (current_by (clock later) label)
+    module _ (passes : ¬ (Decide (clock later gs) after asked_again (current_by (clock later gs) label)
         precondition.Failed)) where
       not_refused : y.answer.status ≢ Some 412
       not_refused =
-          not_failed (clock later) after asked_again second_read.1 y.answer second_read.2 first_there tagged.place
+          not_failed (clock later gs) after asked_again second_read.1 y.answer second_read.2 first_there tagged.place
           selected_there
           (λ decided. passes
-          (subst (λ (target : Target). Decide (clock later) after asked_again target precondition.Failed) now_seen
+          (subst (λ (target : Target). Decide (clock later gs) after asked_again target precondition.Failed) now_seen
           decided))
 
       other_code : (status : Option ℕ) → status ≢ Some 412 → status_for y.found.status Admitted status ≢ 412
@@ -381,7 +385,7 @@ module _ (now later : Option ℕ) (left more : ℕ) (site : Site) (look other : 
           (sym
           (y.carries.status
           ∙ ap (λ (reason : Reason). status_for y.found.status reason y.answer.status)
-          (reason_is (clock later) after asked_again second_read.1 y.answer second_read.2 first_there tagged.place
+          (reason_is (clock later gs) after asked_again second_read.1 y.answer second_read.2 first_there tagged.place
           selected_there))
           ∙ is)
 
@@ -395,15 +399,15 @@ module _ (now later : Option ℕ) (left more : ℕ) (site : Site) (look other : 
         told_unmodified
         (record {
           unconditional =
-              λ is. absurd (never_ignored (validators_by (clock later) label) second_read.0 second_read.1 is);
+              λ is. absurd (never_ignored (validators_by (clock later gs) label) second_read.0 second_read.1 is);
           conditional = λ counts. (
-            kept_again (clock now) (clock later) f g label matching undated was_kept,
+            kept_again (clock now fs) (clock later gs) f g label matching undated was_kept,
             second_read.1,
             inl (
               has_line (g (codes "if-none-match")) asks,
-              subst (λ (ls : List Line). IfNoneMatchIsFalse (λ (o : List ℕ). ls) (current_by (clock later) label))
+              subst (λ (ls : List Line). IfNoneMatchIsFalse (λ (o : List ℕ). ls) (current_by (clock later gs) label))
                   (sym asks)
-                  (weakly_named parse tag some.0 some.1 (validators_by (clock later) label) own_tag),
+                  (weakly_named parse tag some.0 some.1 (validators_by (clock later gs) label) own_tag),
             ),
           );
         })
@@ -414,14 +418,14 @@ module _ (now later : Option ℕ) (left more : ℕ) (site : Site) (look other : 
     by_match parse asks parts is strong =
         told_passed
         (λ failed.
-        elim (failed.conditional (never_ignored (validators_by (clock later) label) second_read.0 second_read.1)) [
+        elim (failed.conditional (never_ignored (validators_by (clock later gs) label) second_read.0 second_read.1)) [
           | inl lost ↦
               elim lost [
                 | inl l ↦
                     l.1
-                    (subst (λ (ls : List Line). IfMatchIsTrue (λ (o : List ℕ). ls) (current_by (clock later) label))
+                    (subst (λ (ls : List Line). IfMatchIsTrue (λ (o : List ℕ). ls) (current_by (clock later gs) label))
                     (sym asks)
-                    (strongly_named parse tag parts is (validators_by (clock later) label) own_tag strong))
+                    (strongly_named parse tag parts is (validators_by (clock later gs) label) own_tag strong))
                 | inr l ↦ l.0 (has_line (g (codes "if-match")) asks)
               ]
           | inr other ↦ other.1 second_read.1

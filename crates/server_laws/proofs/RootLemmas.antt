@@ -263,7 +263,7 @@ module _ (now : Option ℕ) (left : ℕ) (settings : Settings) (site : Site) (st
     resource = site.resource
 
     abbrev present : ℕ
-    present = clock now
+    present = clock now x.found.files.items
 
     negotiates : resource.negotiation.coding ≡ false
     negotiates = of.coding ∙ bare.negotiates
@@ -374,10 +374,12 @@ module _ (now : Option ℕ) (left : ℕ) (settings : Settings) (site : Site) (st
     abbrev last_code : ℕ
     last_code = status_for x.found.status x.answer.reason x.answer.status
 
-    shown : headers_sent (is_some resource.cors) (encoded_fields x.answer.fields.items) ≡ whole_fields present file
+    shown : headers_sent (is_some resource.cors) (encoded_fields x.answer.fields.items)
+        ≡ whole_fields (clock now (file ∷ [])) file
     shown =
         (λ i. headers_sent (is_some (cors i)) (full.fields i))
         ∙ shown_whole present file x.asked.fields resource.boundary
+        ∙ ap (λ (l : List File). whole_fields (clock now l) file) given.2.files
 
     whole : IsWhole now left site file response source
     whole = record {

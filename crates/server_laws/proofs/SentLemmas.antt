@@ -457,7 +457,7 @@ module _ (limits : Limits) (head : RequestHead) (framing : Framing) (now : Optio
     (method : head.method ≡ (head_of request).method)
     (x : IsAnswerAt now left site has request response source) where
   abbrev present : ℕ
-  present = clock now
+  present = clock now x.found.files.items
 
   abbrev divider : List ℕ
   divider = string_bytes site.divider

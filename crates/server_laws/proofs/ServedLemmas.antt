@@ -58,14 +58,14 @@ kept_in : (content : List ℕ) (source : Source) → IsKept content source
 kept_in content (InMemory kept) is = (kept, refl, is)
 kept_in content (Opened opened) is = absurd is
 
--- the field lines of a file in memory, in no coding and of no date
-memory_fields : (now : Option ℕ) (kept : Kept) (media_type : FieldValue)
+-- the field lines of a file in memory, in no coding and of no date, whatever the present
+memory_fields : (now : Option ℕ) (present : ℕ) (kept : Kept) (media_type : FieldValue)
     → (((date_fields now ++ sniff_field ∷ []) ++ []) ++ [])
-    ++ whole_fields (clock now)
+    ++ whole_fields present
     (record { source = InMemory kept; media_type = media_type; modified = None; coding = Identity })
     ≡ ok_fields now (strong_tag (content_digest kept.content)) (length kept.content) media_type.bytes
-memory_fields None kept media_type = refl
-memory_fields (Some seconds) kept media_type = refl
+memory_fields None present kept media_type = refl
+memory_fields (Some seconds) present kept media_type = refl
 
 -- the fields are those of a 200, whose media type has no white space at its ends
 trimmed_ok : (now : Option ℕ) (tag : List ℕ) (len : ℕ) (media_type : List ℕ) → len < 2 ^ 64
@@ -133,10 +133,10 @@ module _ (config : Config) (settings : Settings) (first : FileService Memory) (r
         let modified : file.modified ≡ None = root.1.3 ∙ undated in
         whole.fields
         ∙ (λ i. trimmed_lines ((((date_fields time ++ sniff_field ∷ []) ++ going i) ++ cache_fields (bare i))
-        ++ whole_fields (clock time)
+        ++ whole_fields (clock time (file ∷ []))
         (record { source = kept.1 i; media_type = root.1.2 i; modified = modified i; coding = root.1.4 i })))
         ∙ ap trimmed_lines
-        (memory_fields time kept.0 store.media_type
+        (memory_fields time (clock time (file ∷ [])) kept.0 store.media_type
         ∙ (λ i. ok_fields time (strong_tag (content_digest (kept.2 i))) (length (kept.2 i)) store.media_type.bytes))
         ∙ trimmed_ok time content_tag (length content) store.media_type.bytes
         (subst (λ (n : ℕ). n < 2 ^ 64) len_is x.0.1.carries.short)

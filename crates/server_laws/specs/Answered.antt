@@ -48,7 +48,8 @@ pub record IsWhole (now : Option ℕ) (left : ℕ) (site : Site) (file : File) (
     (source : Option Source) : Type 0 where
   pub status : response.status ≡ 200
   pub fields : fields_of response
-      ≡ trimmed_lines ((first_fields now left ++ cache_fields site.cache_control) ++ whole_fields (clock now) file)
+      ≡ trimmed_lines ((first_fields now left ++ cache_fields site.cache_control)
+      ++ whole_fields (clock now (file ∷ [])) file)
   pub pieces : response.pieces.items ≡ all_of file.source
   pub opens : source ≡ Some file.source
 

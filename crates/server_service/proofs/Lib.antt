@@ -1,5 +1,6 @@
 pub mod AnswerLemmas
 pub mod ContentLemmas
+pub mod DateLemmas
 pub mod FieldLemmas
 pub mod OneResponseLemmas
 pub mod PartLemmas

@@ -339,16 +339,19 @@ pub one_response : (now : Option ℕ) (left : ℕ) (site : Site) (look : List �
     → IsAnswerAt now left site (λ path entry. entry ≡ look path) request r a
     → IsAnswerAt now left site (λ path entry. entry ≡ look path) request s b → IsSameResponse r s
 one_response now left site look request r s a b x y =
-    let present : ℕ = clock now in
     let divider : List ℕ = string_bytes site.divider in
     let alike =
     leads_alike site.resource.negotiation.coding look (head_of request).uri x.found y.found x.leads y.leads in
     let asked : x.asked ≡ y.asked = asked_once request x.asked y.asked x.asks y.asks in
+    let present : ℕ = clock now y.found.files.items in
+    let described =
+    subst (λ (l : List File). IsDescribed (clock now l) site.resource x.found x.resource) alike.files x.described in
     let decided =
-    moves_decided present site.resource x.found y.found alike x.resource y.resource x.described y.described divider
+    moves_decided present site.resource x.found y.found alike x.resource y.resource described y.described divider
     y.found.files.items y.asked x.answer
-    (subst (λ (l : List File). Decides present divider l x.resource y.asked x.answer) alike.files
-    (subst (λ (q : Asked). Decides present divider x.found.files.items x.resource q x.answer) asked x.decides)) in
+    (subst (λ (l : List File). Decides (clock now l) divider l x.resource y.asked x.answer) alike.files
+    (subst (λ (q : Asked). Decides (clock now x.found.files.items) divider x.found.files.items x.resource q x.answer)
+    asked x.decides)) in
     let one =
     decided_once present divider y.found.files.items y.resource y.asked x.answer y.answer decided y.decides in
     response_same present y.resource (first_fields now left) site y.found.files.items y.found.status x.answer y.answer

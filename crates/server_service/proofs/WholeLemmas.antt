@@ -368,7 +368,7 @@ module _ (now : Option ℕ) (left : ℕ) (site : Site) (divider : List ℕ) (loo
       → (own : File) (others : List File) → x.found.state ≡ Current → x.found.files.items ≡ own ∷ others
       → HasAll own.source response source
   get_has_all is_site asks host own_host expects method all x own others current contents =
-      let present : ℕ = clock now in
+      let present : ℕ = clock now x.found.files.items in
       let by : List ℕ = string_bytes site.divider in
       let reads : x.asked ≡ reading asked.protocol asked.authority asked.fields =
       sym (asked_once request asked x.asked asks x.asks)

@@ -1,8 +1,9 @@
 -- What a request is answered with.
-use Rattle.std.specs.Prelude.{◌≡◌, ◌⊎◌, ℕ, ◌^◌, ◌<◌, Bool, true, false, nat_lt, List, [], ◌∷◌, ◌++◌, codes, map}
+use Rattle.std.specs.Prelude.{◌≡◌, ◌⊎◌, ℕ, ◌^◌, ◌<◌, Bool, true, false, nat_lt, List, [], ◌∷◌, ◌++◌, codes, map, max}
 use Rattle.std.specs.Prelude.{slice_get, Option, Some, None, ⊤, if◌then◌else◌, is_some, string_bytes}
-use Rattle.std.specs.List.{list_all}
+use Rattle.std.specs.List.{fold, list_all}
 use Rattle.std.specs.Global.{Vec}
+use Rattle.std.specs.Option.{unwrap_or}
 use Rattle.http.specs.declared.request.Request.{Request}
 use Rattle.http.specs.Request.{head_of}
 use Rattle.http_header.specs.FieldValue.{FieldValue}
@@ -213,10 +214,15 @@ sniff_field = (codes "x-content-type-options", codes "nosniff")
 abbrev pub closing_fields : ℕ → List Header
 closing_fields left = if nat_lt 1 left then [] else (codes "connection", codes "close") ∷ []
 
--- the time by which a request is answered: the start of 1970 where there is no clock
-abbrev pub clock : Option ℕ → ℕ
-clock None = 0
-clock (Some seconds) = seconds
+-- the later of a time and the date of a content, if it has one
+abbrev pub later : ℕ → File → ℕ
+later time file = max time (unwrap_or file.modified 0)
+
+-- The time by which a request for these contents is answered. Without a clock it is the latest of their dates, so that
+-- each has its own date: section 8.8.2.1 limits it by the time of the response, which is known by a clock alone.
+abbrev pub clock : Option ℕ → List File → ℕ
+clock None files = fold later 0 files
+clock (Some seconds) files = seconds
 
 -- the fields before those of the answer: the date, that browsers shall not guess the type, and whether it is the last
 abbrev pub first_fields : Option ℕ → ℕ → List Header
@@ -229,11 +235,12 @@ pub record IsAnswerAt (now : Option ℕ) (left : ℕ) (site : Site) (has : List 
   pub found : Found
   pub leads : LeadsTo site.resource.negotiation.coding has (head_of request).uri found
   pub resource : Resource
-  pub described : IsDescribed (clock now) site.resource found resource
+  pub described : IsDescribed (clock now found.files.items) site.resource found resource
   pub asked : Asked
   pub asks : Asks request asked
   pub answer : Answer
-  pub decides : Decides (clock now) (string_bytes site.divider) found.files.items resource asked answer
+  pub decides : Decides (clock now found.files.items) (string_bytes site.divider) found.files.items resource asked
+      answer
   pub carries : Carries (first_fields now left) site found.files.items
       (status_for found.status answer.reason answer.status) answer.sends (encoded_fields answer.fields.items) response
   pub opens : source ≡ source_sent found.files.items answer.sends

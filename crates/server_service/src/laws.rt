@@ -1,6 +1,6 @@
 //! What follows from the definitions alone. A proof cites a law by calling it.
 ghost use Rattle.std.specs.Prelude.{◌≡◌, ℕ, true, false, List};
-ghost use Rattle.std.specs.Prelude.{Option, Some, codes, map, string_bytes};
+ghost use Rattle.std.specs.Prelude.{Option, None, Some, codes, map, slice_get, string_bytes};
 ghost use Rattle.http.specs.Request.{head_of};
 ghost use Rattle.http.specs.declared.request.Request.{Request};
 ghost use Rattle.http_uri.specs.Uri.{uri_path};
@@ -10,12 +10,14 @@ ghost use Rattle.server_connection.specs.declared.piece.Piece.{Piece};
 ghost use Rattle.server_connection.specs.declared.plan.Plan.{Plan as Response};
 ghost use Rattle.gateway_messages.specs.Expectations.{has_known_expectation};
 ghost use Rattle.gateway_messages.specs.Requests.{has_host};
+ghost use Rattle.decide_preconditions.specs.Fields.{not_after};
 ghost use Rattle.decide_preconditions.specs.declared.part.Part.{Part};
 ghost use Rattle.decide_resource.specs.Applies.{is_misdirected};
 ghost use Rattle.decide_resource.specs.Requests.{Request as Asked};
 ghost use Rattle.decide_resource.specs.declared.answer.Answer.{Answer};
 ghost use Rattle.decide_resource.specs.declared.resource.Resource.{Resource};
-ghost use Rattle.server_service.specs.Answer.{AsksForAll, Decides, IsAnswerAt, file_sent, sends_several};
+ghost use Rattle.server_service.specs.Answer.{AsksForAll, Decides, IsAnswerAt, clock, file_sent};
+ghost use Rattle.server_service.specs.Answer.{sends_several};
 ghost use Rattle.server_service.specs.Asked.{Asks};
 ghost use Rattle.server_service.specs.File.{gives_at, gives_of};
 ghost use Rattle.server_service.specs.Parts.{Occurs, bytes_of, part_bytes};
@@ -44,6 +46,13 @@ pub fn request_has_one_response()
         → IsAnswerAt now left site (λ path entry. entry ≡ look path) request r a
         → IsAnswerAt now left site (λ path entry. entry ≡ look path) request s b
         → IsSameResponse r s }
+{}
+
+/// Without a clock each content is sent with its own date, since none is later than the time by which the
+/// request is answered (RFC 9110, section 8.8.2.1).
+pub fn date_without_clock_is_its_own()
+    ensures { (files : List File) (place : ℕ) (file : File) → slice_get files place ≡ Some file
+        → not_after (clock None files) file.modified ≡ file.modified }
 {}
 
 /// Where the ranges of pieces are of bytes in memory, exactly the bytes of these ranges are sent, each in

@@ -1,9 +1,11 @@
 //! The service: a request is answered from a store.
 ghost use Rattle.std.specs.Prelude.{◌≡◌, true, [], ◌++◌, IfOk, OnOk, take};
 ghost use Rattle.std.specs.Io.{ReadsAtMost};
+ghost use Rattle.std.specs.List.{fold};
+ghost use Rattle.std.specs.Option.{unwrap_or};
 ghost use Rattle.headers.specs.LineMap.{fields_of as encoded_fields};
-ghost use Rattle.server_service.specs.Answer.{Carries, FitsIn, IsDescribed, clock, explained_fields, pieces_for};
-ghost use Rattle.server_service.specs.Answer.{pieces_sent, source_sent, status_for, tag_sent};
+ghost use Rattle.server_service.specs.Answer.{Carries, FitsIn, IsDescribed, clock, explained_fields, later};
+ghost use Rattle.server_service.specs.Answer.{pieces_for, pieces_sent, source_sent, status_for, tag_sent};
 ghost use Rattle.server_service.specs.File.{ReadsOf, gives_of, len_of};
 ghost use Rattle.server_service.specs.Parts.{Fits};
 ghost use Rattle.server_service.specs.Response.{fields_of, is_bare_tag};
@@ -23,7 +25,7 @@ use crate::store::Store;
 use bytes::Bytes;
 use decide_preconditions::Plan;
 use decide_resource::{Answer, Reason, Resource, Sends, State};
-use headers::{Date, Encoded};
+use headers::{Date, Encoded, LastModified};
 use http::{Request, StatusCode};
 use server_connection::{Extent, Handler, Piece, Plan as Response};
 use std::alloc::{AllocError, Global};
@@ -147,13 +149,40 @@ fn carry(
     Ok(())
 }
 
-// The time by which a request is answered: the start of 1970 where there is no clock.
-fn clock(date: &Option<Date>) -> u64
-    ensures { result ≡ clock date.now }
+// The latest date of contents: the start of 1970 if none has one.
+fn latest_date(files: &[File]) -> u64
+    ensures { result ≡ fold later 0 files.now }
+{
+    let mut latest = 0;
+    for file in files {
+        latest = later(latest, file);
+    }
+    latest
+}
+
+// The later of a time and the date of a content, if it has one.
+fn later(time: u64, file: &File) -> u64
+    ensures { result ≡ later time file.now }
+{
+    time.max(seconds_or_0(file.modified))
+}
+
+fn seconds_or_0(modified: Option<LastModified>) -> u64
+    ensures { result ≡ unwrap_or modified 0 }
+{
+    match modified {
+        Some(modified) => modified.unix_secs(),
+        None => 0,
+    }
+}
+
+// The time by which a request for contents is answered: without a clock the latest of their dates.
+fn clock(date: &Option<Date>, files: &[File]) -> u64
+    ensures { result ≡ clock date.now files.now }
 {
     match date {
         Some(date) => date.unix_secs(),
-        None => 0,
+        None => latest_date(files),
     }
 }
 
@@ -201,13 +230,13 @@ impl<S: Store> Handler for FileService<S> {
     fn plan(&mut self, request: &Request<Bytes>, plan: &mut Response) -> Result<(), AllocError> {
         let alloc = self.alloc;
         let date = date_of(self.store.now());
-        let present = clock(&date);
         put_date(alloc, plan, &date)?;
         put_sniff(plan)?;
         put_closing(plan, self.left)?;
         self.left = self.left.saturating_sub(1);
         let negotiates = self.site.resource.negotiation.coding;
         let mut found = look_up(alloc, &self.store, negotiates, request)?;
+        let present = clock(&date, &found.files);
         let authority = authority_of(alloc, request)?;
         let head = asked(request, authority.as_ref());
         describe(alloc, &mut self.site.resource, present, &mut found)?;

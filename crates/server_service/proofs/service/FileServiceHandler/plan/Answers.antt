@@ -6,8 +6,8 @@ use Rattle.headers.specs.LineMap.{fields_of as encoded_fields}
 use Rattle.headers.specs.Lines.{Line}
 use Rattle.decide_resource.specs.Requests.{request_of}
 use Rattle.decide_resource.specs.declared.resource.Resource.{Resource}
-use Rattle.server_service.specs.Answer.{Carries, Decides, IsAnswerAt, IsDescribed, closing_fields, first_fields}
-use Rattle.server_service.specs.Answer.{sniff_field, source_sent, status_for}
+use Rattle.server_service.specs.Answer.{Carries, Decides, IsAnswerAt, IsDescribed, clock, closing_fields}
+use Rattle.server_service.specs.Answer.{first_fields, sniff_field, source_sent, status_for}
 use Rattle.server_service.specs.Asked.{IsAsked}
 use Rattle.server_service.specs.Response.{fields_of}
 use Rattle.server_service.specs.declared.file.File.{File}
@@ -40,18 +40,20 @@ returns g c =
     let first = c.in_ok-put_closing.ensures.headers ∙ ap (λ (l : List Header). l ++ closing_fields left) sniff in
     let described = c.in_ok-describe.ensures.described in
     let files = ap (λ (v : _). v.items) c.in_ok-describe.ensures.files in
+    let time : c.clock-present.result ≡ clock now found.files.items =
+    c.clock-present.ensures ∙ ap (clock now) c.deref.ensures.value in
     let cors : resource.cors ≡ site.resource.cors = ap (λ (r : Resource). r.cors) described.is in
     let status =
     c.status_for-status.ensures
     ∙ ap (λ (n : ℕ). status_for n answer.reason answer.status) c.in_ok-describe.ensures.status in
     let decides =
     subst (λ (t : ℕ). Decides t (string_bytes site.divider) found.files.items resource asked answer)
-    c.clock-present.ensures
+    time
     (subst
     (λ (d : List ℕ). Decides c.clock-present.result d found.files.items resource asked answer) c.as_str.ensures.value
     (subst
     (λ (l : List File). Decides c.clock-present.result c.as_str.result.now l resource asked answer)
-    (c.deref.ensures.value ∙ files) c.in_ok-reason.ensures.answers)) in
+    (c.deref-2.ensures.value ∙ files) c.in_ok-reason.ensures.answers)) in
     let Carried : List Header → List File → ℕ → Type 0 =
     λ h l n. Carries h after l n answer.sends given c.carry.new.response in
     let carries =
@@ -59,7 +61,7 @@ returns g c =
     refl refl cors
     (subst (λ (h : List Header). Carried h found.files.items code) first
     (subst (λ (n : ℕ). Carried before found.files.items n) status
-    (subst (λ (l : List File). Carried before l c.status_for-status.result) (c.deref-2.ensures.value ∙ files)
+    (subst (λ (l : List File). Carried before l c.status_for-status.result) (c.deref-3.ensures.value ∙ files)
     c.in_ok-carry.ensures))) in
     let Answered : Option ℕ → Type 0 =
     λ time.
@@ -73,7 +75,7 @@ returns g c =
               leads = c.in_ok-found.ensures;
               resource = resource;
               described =
-                  subst (λ (t : ℕ). IsDescribed t site.resource found resource) c.clock-present.ensures described;
+                  subst (λ (t : ℕ). IsDescribed t site.resource found resource) time described;
               asked = asked;
               asks = (
                 option_map (λ (it : FieldValue). it.bytes) c.in_ok-authority.authority,
