@@ -3,11 +3,14 @@
     changes.py PROGRAM FOLDER
 
 The server keeps short files that it read. Each answer has to be that of the file as it stands: its content, and a tag
-that is the same exactly if the content is.
+that is the same exactly if the content is. At last another file of the same length and time takes the name of one that
+is kept, and a link to a file outside the folder takes it again and again while the file is asked for.
 """
 import os
 import subprocess
 import sys
+import threading
+import time
 
 REQUEST = b"GET /file.txt HTTP/1.1\r\nHost: a\r\n\r\n"
 
@@ -22,6 +25,50 @@ def answer(server):
     fields = dict(line.split(": ", 1) for line in head[1:])
     body = server.stdout.read(int(fields["content-length"]))
     return head[0].split(" ")[1], fields.get("etag"), body
+
+
+def replaced(server, path):
+    """How many answers are wrong when another file of the same length and time takes the name."""
+    other = f"{path}.other"
+    for name, content in (path, b"old\n"), (other, b"new\n"):
+        with open(name, "wb") as file:
+            file.write(content)
+        os.utime(name, (1_700_000_000, 1_700_000_000))
+    # A file that changed less than two seconds ago isn't kept.
+    time.sleep(3.5)
+    before = [answer(server)[2] for _ in range(2)]
+    os.replace(other, path)
+    after = answer(server)[2]
+    if before != [b"old\n"] * 2 or after != b"new\n":
+        print(f"replaced: {before} {after}")
+        return 1
+    return 0
+
+
+def raced(server, path):
+    """How many answers have what a link leads to outside the folder."""
+    outside, inside, link = (f"{os.path.dirname(path)}.{name}" for name in ("outside", "inside", "link"))
+    with open(outside, "wb") as file:
+        file.write(b"outside\n")
+    is_done = threading.Event()
+
+    def swap():
+        while not is_done.is_set():
+            os.symlink(outside, link)
+            os.replace(link, path)
+            with open(inside, "wb") as file:
+                file.write(b"inside\n")
+            os.replace(inside, path)
+
+    swapping = threading.Thread(target=swap)
+    swapping.start()
+    sent = [answer(server)[2] for _ in range(4000)]
+    is_done.set()
+    swapping.join()
+    leaked = sent.count(b"outside\n")
+    if leaked:
+        print(f"raced: {leaked} of {len(sent)} answers are of a file outside the folder")
+    return int(leaked > 0)
 
 
 def main():
@@ -46,6 +93,7 @@ def main():
     if len(set(tags.values())) != len(tags):
         wrong += 1
         print(f"contents share a tag: {tags}")
+    wrong += replaced(server, path) + raced(server, path)
     server.stdin.close()
     sys.exit(1 if wrong or server.wait() else 0)
 

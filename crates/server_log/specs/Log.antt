@@ -74,6 +74,11 @@ log_end fields =
     codes " \"" ++ first_of (fields (codes "referer")) ++ codes "\" \"" ++ first_of (fields (codes "user-agent"))
     ++ codes "\"\n"
 
+-- the line of what came from this client, was rejected with this status, and so is no request of which more is known
+abbrev pub log_rejection : List ℕ → Option ℕ → ℕ → List ℕ
+log_rejection client now status =
+    ((log_front client now ++ codes "-\" ") ++ decimal status) ++ codes " - \"-\" \"-\"\n"
+
 -- the line of a request from this client, that was answered so at this time
 pub record IsLogLine (client : List ℕ) (now : Option ℕ) (request : Request (List ℕ)) (response : Response)
     (line : List ℕ) : Type 0 where

@@ -4,4 +4,4 @@
 pub mod laws;
 mod log;
 
-pub use crate::log::log_line;
+pub use crate::log::{log_line, rejection_line};

@@ -5,13 +5,13 @@ ghost use Rattle.headers.specs.Date.{fixdate};
 ghost use Rattle.headers.specs.LineMap.{lines_at};
 ghost use Rattle.server_connection.specs.Encoding.{content_len};
 ghost use Rattle.server_log.specs.Log.{IsLogLine, IsProtocol, first_of, is_plain_byte, is_quotable};
-ghost use Rattle.server_log.specs.Log.{log_answered, log_asked, log_end, log_front, log_request, log_size};
-ghost use Rattle.server_log.specs.Log.{log_time, logged, logged_byte};
+ghost use Rattle.server_log.specs.Log.{log_answered, log_asked, log_end, log_front, log_rejection, log_request};
+ghost use Rattle.server_log.specs.Log.{log_size, log_time, logged, logged_byte};
 ghost use Rattle.server_files.specs.Redirect.{query_text};
 
 use bytes::Bytes;
 use headers::{Date, HeaderMap, HeaderName};
-use http::{Method, Request, Uri, Version};
+use http::{Method, Request, StatusCode, Uri, Version};
 use http_header::{REFERER, USER_AGENT};
 use httpdate::HttpDate;
 use server_connection::Plan as Response;
@@ -227,5 +227,23 @@ pub fn log_line(
     push_asked(alloc, &mut line, request, protocol)?;
     push_answered(alloc, &mut line, request.method(), response)?;
     push_end(alloc, &mut line, request.headers())?;
+    Ok(line)
+}
+
+/// The line of an access log, in the combined format, for what came from this client (an address, or a
+/// hyphen) at this time and was rejected with this status. Of the request it has hyphens.
+pub fn rejection_line(
+    alloc: Global,
+    client: &str,
+    now: Option<Date>,
+    status: StatusCode,
+) -> Result<Vec<u8>, AllocError>
+    ensures { IfOk result (λ line. line.items ≡ log_rejection client.now now status) }
+{
+    let mut line = Vec::new(alloc);
+    push_front(alloc, &mut line, client, now)?;
+    line.extend_from_slice(b"-\" ")?;
+    push_number(alloc, &mut line, u64::from(status.as_u16()))?;
+    line.extend_from_slice(b" - \"-\" \"-\"\n")?;
     Ok(line)
 }

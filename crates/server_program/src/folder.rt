@@ -7,27 +7,23 @@ ghost use Rattle.server_program.specs.Entries.{entry_for, is_missing};
 use crate::kept::KeptFiles;
 use crate::names::names_in;
 use crate::place::Place;
+use crate::stamp::Stamp;
 use bytes::Bytes;
 use headers::{Date, ETag, HeaderValue, LastModified, Refused};
-use http::Request;
+use http::{Request, StatusCode};
 use server_connection::Plan as Response;
-use server_log::log_line;
+use server_log::{log_line, rejection_line};
 use server_service::{
     Coding, Entry, File, Kept, Listing, Opened, Source, Store, folder_of, media_type_of,
 };
 use std::alloc::{AllocError, Global};
 use std::io::{ErrorKind, Read, Write};
-use std::os::unix::fs::MetadataExt;
 use std::time::{SystemTime, UNIX_EPOCH};
 use std::{fs, io};
 
 /// A file of at most so many bytes is read whole, and its tag is their digest. A longer one is read while
 /// it is sent.
 const MAX_KEPT: u64 = 64 * 1024;
-
-/// A longer file that changed fewer seconds before it was opened has no tag: it may change again without
-/// another time.
-const SETTLED: u64 = 2;
 
 /// A folder of the system. A link that leads out of it is treated as missing.
 #[derive(Drop)]
@@ -77,27 +73,11 @@ fn media_type_at(alloc: Global, name: &str) -> Result<HeaderValue, AllocError> {
     Ok(media_type_of(extension.as_str()))
 }
 
-// Whether a file whose times are these had not changed of late.
-fn is_settled(metadata: &fs::Metadata, now: SystemTime) -> bool {
-    let Ok(changed) = u64::try_from(metadata.ctime()) else {
-        return false;
-    };
-    match seconds_of(now) {
-        Some(seconds) => seconds.saturating_sub(changed) > SETTLED,
-        None => false,
-    }
-}
-
-// The tag of a file that isn't read whole: which file it is, its length, and the nanosecond of its last
-// change.
-fn stamp_of(alloc: Global, metadata: &fs::Metadata) -> io::Result<Option<ETag>> {
+// The tag of a file that isn't read whole: its stamp.
+fn tag_of(alloc: Global, stamp: Stamp) -> io::Result<Option<ETag>> {
     let text = format!(in alloc;
         "\"{:x}-{:x}-{:x}-{:x}.{:x}\"",
-        metadata.dev(),
-        metadata.ino(),
-        metadata.len(),
-        metadata.ctime(),
-        metadata.ctime_nsec()
+        stamp.device, stamp.inode, stamp.len, stamp.second, stamp.nanosecond
     )?;
     match ETag::from_str(alloc, text.as_str()) {
         Ok(tag) => Ok(Some(tag)),
@@ -122,37 +102,34 @@ impl Folder<'_> {
         }
     }
 
-    // The bytes of a short file as they stand now. They are kept.
+    // The bytes of a short file as they stand now. They are kept, unless it changed of late.
     fn keep(
         &self,
         place: &Place<'_>,
         file: fs::File,
-        metadata: &fs::Metadata,
+        stamp: Stamp,
         now: SystemTime,
     ) -> io::Result<Kept> {
         let alloc = self.rt.alloc();
-        let mut bytes = Vec::with_capacity(alloc, (metadata.len() as usize).saturating_add(1))?;
+        let mut bytes = Vec::with_capacity(alloc, (stamp.len as usize).saturating_add(1))?;
         file.take(MAX_KEPT).read_to_end(&mut bytes)?;
         let kept = Kept::new(alloc, Bytes::from_vec(bytes)?)?;
-        self.kept.put(alloc, place.as_str(), &kept, metadata.modified().ok(), now)?;
+        if stamp.is_settled(now) {
+            self.kept.put(alloc, place.as_str(), &kept, stamp)?;
+        }
         Ok(kept)
     }
 
-    // A longer file, to be read while it is sent.
-    fn leave_open(
-        &self,
-        file: fs::File,
-        metadata: &fs::Metadata,
-        now: SystemTime,
-    ) -> io::Result<Opened> {
-        let tag = if is_settled(metadata, now) {
-            stamp_of(self.rt.alloc(), metadata)?
+    // A longer file, to be read while it is sent. It has a tag, unless it changed of late.
+    fn leave_open(&self, file: fs::File, stamp: Stamp, now: SystemTime) -> io::Result<Opened> {
+        let tag = if stamp.is_settled(now) {
+            tag_of(self.rt.alloc(), stamp)?
         } else {
             None
         };
         Ok(Opened {
             file,
-            len: metadata.len(),
+            len: stamp.len,
             tag,
         })
     }
@@ -162,15 +139,18 @@ impl Folder<'_> {
         ensures { (p : List ℕ) → IfOk result (ListsOwn p) }
     {
         let now = SystemTime::now(self.rt)?;
-        let file = place.open(self.rt)?;
+        let Some(file) = place.open(self.rt)? else {
+            return Ok(Entry::Missing);
+        };
         let metadata = file.metadata()?;
         if !metadata.is_file() || metadata.len() > self.max_file {
             return Ok(Entry::Forbidden);
         }
-        let source = if metadata.len() > MAX_KEPT {
-            Source::Opened(self.leave_open(file, &metadata, now)?)
+        let stamp = Stamp::of(&metadata);
+        let source = if stamp.len > MAX_KEPT {
+            Source::Opened(self.leave_open(file, stamp, now)?)
         } else {
-            Source::Kept(self.keep(place, file, &metadata, now)?)
+            Source::Kept(self.keep(place, file, stamp, now)?)
         };
         Ok(Entry::Readable(File {
             source,
@@ -239,10 +219,7 @@ impl Folder<'_> {
         let modified = metadata.modified().ok();
         let media_type = media_type_at(self.rt.alloc(), name)?;
         let alloc = self.rt.alloc();
-        match self
-            .kept
-            .get(alloc, place.as_str(), metadata.len(), modified)?
-        {
+        match self.kept.get(alloc, place.as_str(), Stamp::of(&metadata))? {
             Some(kept) => Ok(Entry::Readable(File {
                 source: Source::Kept(kept),
                 media_type,
@@ -280,6 +257,20 @@ impl Store for Folder<'_> {
             let _ = log(self.rt, client.as_str(), request, response);
         }
     }
+
+    fn note_rejection(&self, status: StatusCode) {
+        if let Some(client) = &self.logged {
+            let _ = log_rejection(self.rt, client.as_str(), status);
+        }
+    }
+}
+
+// The time of a line of the log, if its year has four digits.
+fn log_time(rt: &HostRuntime) -> io::Result<Option<Date>> {
+    match seconds_of(SystemTime::now(rt)?) {
+        Some(seconds) if seconds < 253_402_300_800 => Ok(Some(Date::from_unix_secs(seconds))),
+        _ => Ok(None),
+    }
 }
 
 // Writes the line of a request to standard error.
@@ -289,10 +280,12 @@ fn log(
     request: &Request<Bytes>,
     response: &Response,
 ) -> io::Result<()> {
-    let now = match seconds_of(SystemTime::now(rt)?) {
-        Some(seconds) if seconds < 253_402_300_800 => Some(Date::from_unix_secs(seconds)),
-        _ => None,
-    };
-    let line = log_line(rt.alloc(), client, now, request, response)?;
+    let line = log_line(rt.alloc(), client, log_time(rt)?, request, response)?;
+    rt.stderr().write_all(line.as_slice())
+}
+
+// Writes the line of what was rejected to standard error.
+fn log_rejection(rt: &HostRuntime, client: &str, status: StatusCode) -> io::Result<()> {
+    let line = rejection_line(rt.alloc(), client, log_time(rt)?, status)?;
     rt.stderr().write_all(line.as_slice())
 }

@@ -8,6 +8,7 @@ mod names;
 mod options;
 mod pages;
 mod place;
+mod stamp;
 
 use crate::cors::{NoOrigin, policy_for};
 use crate::folder::Folder;

@@ -2,6 +2,7 @@
 ghost use Rattle.std.specs.Prelude.{◌↔◌, ◌≢◌, All, IsTrue, codes};
 ghost use Rattle.std.specs.Path.{PathStartsWith, path_buf_bytes, path_components};
 
+use std::os::fd::AsRawFd;
 use std::path::PathBuf;
 use std::{fs, io};
 
@@ -15,6 +16,14 @@ pub struct Place<'a> {
     ghost goes_down: { All (λ part. part ≢ codes "..") (path_components (path_buf_bytes path)) },
 }
 
+// Whether a path with every link resolved is in a root.
+fn is_within(root: &str, path: &PathBuf) -> bool
+    ensures inside { IsTrue result → ∥ PathStartsWith (path_buf_bytes path.now) root.now ∥₁ }
+    ensures down { IsTrue result → All (λ part. part ≢ codes "..") (path_components (path_buf_bytes path.now)) }
+{
+    path.starts_with(root) && has_no_way_up(path)
+}
+
 // Whether no component of a path is `..`.
 fn has_no_way_up(path: &PathBuf) -> bool
     ensures { IsTrue result ↔ All (λ part. part ≢ codes "..") (path_components (path_buf_bytes path.now)) }
@@ -26,7 +35,7 @@ impl<'a> Place<'a> {
     /// Resolves the links of a path. `None` if it leads out of the root, or if the resolved path has a `..`.
     pub fn resolve(rt: &HostRuntime, root: &'a str, path: &str) -> io::Result<Option<Place<'a>>> {
         let path = fs::canonicalize(rt, path)?;
-        if path.starts_with(root) && has_no_way_up(&path) {
+        if is_within(root, &path) {
             Ok(Some(Place { root, path }))
         } else {
             Ok(None)
@@ -48,8 +57,13 @@ impl<'a> Place<'a> {
         fs::read_dir(rt, self.path.as_str())
     }
 
-    /// The file that stands there, to be read.
-    pub fn open(&self, rt: &HostRuntime) -> io::Result<fs::File> {
-        fs::File::open(rt, self.path.as_str())
+    /// Opens the file that stands there, to be read. `None` if the file that was opened isn't in the root, as if a
+    /// link took the place of a folder after the path was resolved. The system tells its path in
+    /// `/proc/self/fd`.
+    pub fn open(&self, rt: &HostRuntime) -> io::Result<Option<fs::File>> {
+        let file = fs::File::open(rt, self.path.as_str())?;
+        let link = format!(in rt.alloc(); "/proc/self/fd/{}", file.as_raw_fd())?;
+        let path = fs::read_link(rt, link.as_str())?;
+        Ok(is_within(self.root, &path).then_some(file))
     }
 }

@@ -279,4 +279,8 @@ impl<S: Store> Handler for FileService<S> {
             None => Ok(0),
         }
     }
+
+    fn note_rejection(&self, status: StatusCode) {
+        self.store.note_rejection(status);
+    }
 }

@@ -6,7 +6,7 @@ ghost use Rattle.server_service.specs.declared.file.Entry.{Entry};
 
 use crate::file::Entry;
 use bytes::Bytes;
-use http::Request;
+use http::{Request, StatusCode};
 use server_connection::Plan as Response;
 use std::alloc::{AllocError, Global};
 
@@ -32,4 +32,7 @@ pub trait Store {
 
     /// Is told each request and its response before that is sent, as for a log.
     fn note(&self, request: &Request<Bytes>, response: &Response);
+
+    /// Is told the status by which a connection rejects what came, before that is sent, as for a log.
+    fn note_rejection(&self, _status: StatusCode) {}
 }
