@@ -591,6 +591,9 @@ struct typed_headers_gateway {
     /* Whether clients authenticate to it as their proxy. Proxy-Authorization and the challenges of other proxies go no
        further then (RFC 9110, section 11.7). */
     bool consumes_credentials;
+    /* Whether fields whose name has an underscore are forwarded. Servers that pass fields on as variables take it for a
+       dash. Those that have a protected name but for such marks never are. */
+    bool passes_underscores;
 };
 
 /*

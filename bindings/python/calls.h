@@ -98,7 +98,7 @@ SHAPE(resource, MEMBER(resource, hosts, A_TEXT), MEMBER(resource, methods, A_TEX
       MEMBER(resource, by_coding, BOOL), MEMBER(resource, is_strict, BOOL), MEMBER(resource, needs_length, BOOL),
       MEMBER(resource, has_cors, BOOL))
 SHAPE(gateway, MEMBER(gateway, name, A_TEXT), MEMBER(gateway, protected_fields, A_TEXT),
-      MEMBER(gateway, consumes_credentials, BOOL))
+      MEMBER(gateway, consumes_credentials, BOOL), MEMBER(gateway, passes_underscores, BOOL))
 SHAPE(hop, MEMBER(hop, client, A_TEXT), MEMBER(hop, interface_node, A_TEXT), MEMBER(hop, client_port, U16),
       MEMBER(hop, interface_port, U16), MEMBER(hop, server_version, U8), MEMBER(hop, is_secure, BOOL),
       MEMBER(hop, is_trusted, BOOL), MEMBER(hop, writes_forwarded, BOOL), MEMBER(hop, writes_x_forwarded, BOOL),

@@ -1739,11 +1739,12 @@ static struct gateway_call new_gateway_call(void) {
 
 static uint8_t read_version(const struct word *word) { return is_word(word, "1.0") ? 10 : 11; }
 
-/* `NAME consumed|relayed VERSION` */
+/* `NAME consumed|relayed|underscores VERSION` */
 static struct gateway_call read_gateway(const struct row *row) {
     struct gateway_call call = new_gateway_call();
     call.gateway.name = put_text(rule_areas[0], row->words[0].bytes, row->words[0].length);
-    call.gateway.consumes_credentials = is_word(&row->words[1], "consumed");
+    call.gateway.passes_underscores = is_word(&row->words[1], "underscores");
+    call.gateway.consumes_credentials = call.gateway.passes_underscores || is_word(&row->words[1], "consumed");
     call.version = read_version(&row->words[2]);
     return call;
 }

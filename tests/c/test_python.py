@@ -379,7 +379,8 @@ def commas(word):
 
 
 def gateway_of(words):
-    return headers.Gateway(decode(words[0]).decode("latin-1"), ["X-Client"], words[1] == "consumed")
+    name, kind = decode(words[0]).decode("latin-1"), words[1]
+    return headers.Gateway(name, ["X-Client"], kind != "relayed", passes_underscores=kind == "underscores")
 
 
 def version_of(word):

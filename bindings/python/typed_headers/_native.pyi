@@ -53,7 +53,7 @@ LookedUp = Tuple[Stored, int, int]
 Content = Tuple[bytes, Optional[int], bool]
 Resource = Tuple[bytes, bytes, bytes, bytes, bytes, bytes, bytes, bytes, bytes, bytes, bytes, bytes, Optional[int],
                  int, bool, bool, bool, bool, bool, bool]
-Gateway = Tuple[bytes, bytes, bool]
+Gateway = Tuple[bytes, bytes, bool, bool]
 Hop = Tuple[bytes, bytes, int, int, int, bool, bool, bool, bool, bool, bool, bool]
 RequestOutcome = Tuple[Framing, int, int, int, int]
 ResponseOutcome = Tuple[Framing, Framing, int, int, int]

@@ -219,14 +219,18 @@ class Gateway:
     protected: Union[str, Iterable[str]] = ()
     #: Whether clients authenticate to it as their proxy.
     consumes_credentials: bool = False
+    #: Whether it forwards fields whose name has an underscore, which WSGI and CGI take for a dash. Those that have a
+    #: protected name but for such marks never are.
+    passes_underscores: bool = False
     # The gateway as the library takes it.
-    _parts: ClassVar[Tuple[bytes, bytes, bool]]
+    _parts: ClassVar[Tuple[bytes, bytes, bool, bool]]
 
     def __post_init__(self) -> None:
         protected = (self.protected,) if isinstance(self.protected, str) else tuple(self.protected)
         object.__setattr__(self, "protected", protected)
         lines = _library.joined(_library.to_lines("protected", protected))
-        parts = (_library.to_bytes(self.name, "name"), lines, bool(self.consumes_credentials))
+        flags = (bool(self.consumes_credentials), bool(self.passes_underscores))
+        parts = (_library.to_bytes(self.name, "name"), lines, *flags)
         object.__setattr__(self, "_parts", parts)
         self.forward_request("GET", {"Host": "a"})
 

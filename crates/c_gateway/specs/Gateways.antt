@@ -1,5 +1,5 @@
 -- A gateway, as a caller hands it in.
-use Rattle.std.specs.Prelude.{◌≡◌, ◌⊎◌, ℕ, false, List, Result, Ok, Err}
+use Rattle.std.specs.Prelude.{◌≡◌, ◌⊎◌, ℕ, List, Result, Ok, Err}
 use Rattle.http_header.specs.Token.{IsToken}
 use Rattle.gateway_messages.specs.declared.gateway.Gateway.{Gateway}
 use Rattle.c_gateway.specs.Names.{AreNamesOf}
@@ -15,12 +15,12 @@ IsPseudonymOf text (Err Memory) = IsToken text
 IsPseudonymOf text (Err Absent) = ⊥
 IsPseudonymOf text (Err TooLarge) = ⊥
 
--- the gateway of this name, with these protected fields, which forwards no name with an underscore
+-- the gateway of this name, with these protected fields and settings
 abbrev pub IsGatewayOf : GatewayOptions → Result Gateway Failure → Type 0
 IsGatewayOf options (Ok gateway) =
     IsPseudonymOf options.pseudonym.now (Ok gateway.pseudonym)
     × AreNamesOf options.protected.now (Ok gateway.protected)
     × (gateway.consumes_credentials ≡ options.consumes_credentials)
-    × (gateway.passes_underscores ≡ false)
+    × (gateway.passes_underscores ≡ options.passes_underscores)
 IsGatewayOf options (Err failure) =
     IsPseudonymOf options.pseudonym.now (Err failure) ⊎ AreNamesOf options.protected.now (Err failure)

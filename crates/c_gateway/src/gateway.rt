@@ -18,6 +18,8 @@ pub struct GatewayOptions<'a> {
     pub protected: &'a [u8],
     /// Whether clients authenticate to it as their proxy.
     pub consumes_credentials: bool,
+    /// Whether fields whose name has an underscore are forwarded.
+    pub passes_underscores: bool,
 }
 
 fn read_pseudonym(alloc: Global, text: &[u8]) -> Result<Pseudonym, Failure>
@@ -43,6 +45,6 @@ pub(crate) fn read_gateway(alloc: Global, options: &GatewayOptions<'_>) -> Resul
         pseudonym,
         consumes_credentials: options.consumes_credentials,
         protected,
-        passes_underscores: false,
+        passes_underscores: options.passes_underscores,
     })
 }

@@ -190,6 +190,7 @@ pub struct Gateway {
     pub name: Text,
     pub protected_fields: Text,
     pub consumes_credentials: bool,
+    pub passes_underscores: bool,
 }
 
 #[repr(C)]

@@ -16,6 +16,9 @@ pub struct Gateway<'a> {
     pub protected_fields: &'a [&'a str],
     /// Whether clients authenticate to it as their proxy.
     pub consumes_credentials: bool,
+    /// Whether it forwards fields whose name has an underscore, which servers that pass fields on as variables take for
+    /// a dash. Those that have a protected name but for such marks never are.
+    pub passes_underscores: bool,
 }
 
 /// How a request arrived, and what is known of the next connection. The default tells nothing of the client, and the
@@ -197,6 +200,7 @@ impl Gateway<'_> {
             name: text(self.name.as_bytes()),
             protected_fields: text(&protected),
             consumes_credentials: self.consumes_credentials,
+            passes_underscores: self.passes_underscores,
         })
     }
 
