@@ -1352,8 +1352,8 @@ uint8_t typed_headers_cookies(const uint8_t *lines, size_t lines_length, uint8_t
 
 /*
  * The host and the port of `host`: its first line (RFC 9110, section 7.2). The text is the host; an IPv6 address has
- * its brackets. `*port` is given also if the text doesn't fit. Refused: the line is no host with a port or without, or
- * has more than 65,534 bytes.
+ * its brackets. `*port` is given also if the text doesn't fit. Refused: the line is no host with a port below 65,536 or
+ * without, has a user, or has more than 65,534 bytes.
  */
 uint8_t typed_headers_host(const uint8_t *lines, size_t lines_length, struct typed_headers_port *port, uint8_t *room,
                            size_t room_length, size_t *written);
@@ -1361,7 +1361,8 @@ uint8_t typed_headers_host(const uint8_t *lines, size_t lines_length, struct typ
 /*
  * The scheme, the host and the port of `origin`: the only line (RFC 6454, section 7). The text is the scheme and, right
  * after its `parts->scheme_length` bytes, the host; it is empty for `null`. `*parts` is given also if the text doesn't
- * fit. Refused: there are several lines, or the line is neither `null` nor an origin.
+ * fit. Refused: there are several lines, the line is neither `null` nor an origin, or it has a user, or a port that is
+ * no number below 65,536.
  */
 uint8_t typed_headers_origin(const uint8_t *lines, size_t lines_length, struct typed_headers_origin_parts *parts,
                              uint8_t *room, size_t room_length, size_t *written);

@@ -2107,6 +2107,21 @@ static struct typed_headers_port port_of(const struct word *word) {
     return port;
 }
 
+/* Whether a text is a start that ends in a host, and then nothing, or a colon and perhaps a port. */
+static bool has_whole_port(const struct word *text, struct word start, const struct word *port) {
+    if (text->length < start.length || memcmp(text->bytes, start.bytes, start.length) != 0) {
+        return false;
+    }
+    const char *rest = text->bytes + start.length;
+    const size_t length = text->length - start.length;
+    for (size_t i = 0; i < length; i++) {
+        if (i ? rest[i] < '0' || rest[i] > '9' : rest[i] != ':') {
+            return false;
+        }
+    }
+    return length < 2 || !is_word(port, "(none)");
+}
+
 static void check_host(const struct row *row) {
     struct text text = lines(row, 0);
     if (is_answer(row, "(refused)")) {
@@ -2114,6 +2129,10 @@ static void check_host(const struct row *row) {
         return;
     }
     const struct word *answer = answer_words(row)->words;
+    if (!has_whole_port(&answer[1], answer[2], &answer[3])) {
+        check(row, call_host, &text, TYPED_HEADERS_REFUSED, NO_NUMBER, NO_TEXT);
+        return;
+    }
     check(row, call_host, &text, TYPED_HEADERS_DONE, number_of_port(port_of(&answer[3])), answer[2]);
 }
 
@@ -2141,6 +2160,12 @@ static void check_origin(const struct row *row) {
     const struct word *answer = answer_words(row)->words;
     struct typed_headers_origin_parts parts = {answer[3].length, port_of(&answer[5]), is_word(&answer[2], "true")};
     check(row, call_origin, &text, TYPED_HEADERS_DONE, number_of_origin(parts), both(&answer[3], &answer[4]));
+    if (!parts.is_null && !parts.port.is_set) {
+        static char bytes[AREA];
+        int length = snprintf(bytes, sizeof bytes, "%s:65536", answer[1].bytes);
+        struct text other = put(first_area, bytes, (size_t)length);
+        check(row, call_origin, &other, TYPED_HEADERS_REFUSED, NO_NUMBER, NO_TEXT);
+    }
 }
 
 /* Structs that a call gives: their bytes are what is compared. */

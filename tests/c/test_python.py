@@ -491,9 +491,16 @@ def port_of(word):
     return None if word == "(none)" else int(word)
 
 
+def has_whole_port(text, start, port):
+    """Whether a text is a start that ends in a host, and then nothing, or a colon and perhaps a port."""
+    rest = text[len(start):]
+    has_port = rest[:1] == b":" and rest[1:].isdigit() and port != "(none)"
+    return text.startswith(start) and (rest in (b"", b":") or has_port)
+
+
 def host(words, wanted):
     given = decoded(headers.Host.parse, words)
-    if wanted[0] == REFUSED:
+    if wanted[0] == REFUSED or not has_whole_port(decode(wanted[1]), decode(wanted[2]), wanted[3]):
         return given == (REFUSED if words else None)
     return (given.name.encode("latin-1"), given.port) == (decode(wanted[2]), port_of(wanted[3]))
 
@@ -503,6 +510,8 @@ def origin(words, wanted):
     if wanted[0] == REFUSED:
         return given == (REFUSED if words else None)
     texts = [given.scheme.encode("latin-1"), given.host.encode("latin-1")]
+    if not given.is_null and decoded(headers.Origin.parse, [f"{given.scheme}://{given.host}:65536"]) != REFUSED:
+        return False
     return (given.is_null, texts, given.port) == (
         wanted[2] == "true", list(map(decode, wanted[3:5])), port_of(wanted[5])
     )

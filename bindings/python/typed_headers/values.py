@@ -624,7 +624,7 @@ class Host:
 
     @classmethod
     def parse(cls, line: Text, *more: Text) -> "Host":
-        """The host of the first field line."""
+        """The host of the first field line, which has no user, and a port below 65,536 or none."""
         status, port, found = _library.calls.host((line, *more))
         if status:
             raise _library.failed(status, "host", (line, *more))
@@ -658,7 +658,7 @@ class Origin:
 
     @classmethod
     def parse(cls, line: Text, *more: Text) -> "Origin":
-        """The origin that the only field line is."""
+        """The origin that the only field line is, which has no user, and a port below 65,536 or none."""
         status, (length, port, _), found = _library.calls.origin((line, *more))
         if status:
             raise _library.failed(status, "origin", (line, *more))

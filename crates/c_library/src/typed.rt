@@ -9,10 +9,10 @@ ghost use Rattle.c_parts.specs.Endings.{Gives, TellsAndWrites, Writes, done};
 ghost use Rattle.c_typed.specs.Contents.{ShowsContentRange, ShowsDisposition, reads_disposition};
 ghost use Rattle.c_typed.specs.Cookies.{FindsCookie, ShowsCookies, reads_cookies};
 ghost use Rattle.c_typed.specs.Credentials.{ShowsToken, ShowsUserPassword, basic_reads, bearer_reads};
-ghost use Rattle.c_typed.specs.Hosts.{ShowsHost, ShowsOrigin};
+ghost use Rattle.c_typed.specs.Hosts.{ShowsHost, ShowsOrigin, is_whole_host, is_whole_origin};
 ghost use Rattle.c_typed.specs.Members.{ShowsMembers, ShowsMembership, reads_list};
 ghost use Rattle.c_typed.specs.Policies.{ShowsRetryTime, ShowsSecurity};
-ghost use Rattle.c_typed.specs.Shown.{FieldShows};
+ghost use Rattle.c_typed.specs.Shown.{FieldShows, FieldShowsIf};
 
 use crate::giving::give;
 use c_fields::ContentRangeParts;
@@ -111,7 +111,7 @@ pub extern "C" fn typed_headers_host(
     written: &mut usize,
 ) -> u8
     ensures { TellsAndWrites (λ shown. shown.port) (λ shown. shown.text.items)
-        (FieldShows host_reads ShowsHost lines.now)
+        (FieldShowsIf is_whole_host host_reads ShowsHost lines.now)
         port.old port.new room.old room.new written.old written.new result }
 {
     match read_host(alloc, lines) {
@@ -133,7 +133,7 @@ pub extern "C" fn typed_headers_origin(
     written: &mut usize,
 ) -> u8
     ensures { TellsAndWrites (λ shown. shown.parts) (λ shown. shown.text.items)
-        (FieldShows origin_reads ShowsOrigin lines.now)
+        (FieldShowsIf is_whole_origin origin_reads ShowsOrigin lines.now)
         parts.old parts.new room.old room.new written.old written.new result }
 {
     match read_origin(alloc, lines) {

@@ -1,2 +1,3 @@
+pub mod HostLemmas
 pub mod MemberLemmas
 pub mod RetryLemmas
