@@ -6,7 +6,7 @@
 Random clients ask an application that is behind `Cached`, by WSGI and by ASGI, and in each framework that is there.
 Its responses are those of tests/chain: freshness, Vary, credentials, dates and errors at random, by a clock that is
 moved by hand. The checker of tests/chain, which asks no call of the library, judges each answer by what was sent on
-both sides. The status is 0 exactly if nothing is found.
+both sides. The status is 0 exactly if nothing is found. PYTHONPATH names the package as it was built.
 """
 import asyncio
 import importlib.util
@@ -19,7 +19,7 @@ from typing import Any
 from urllib.parse import unquote
 
 HERE = Path(__file__).resolve().parent
-sys.path[:0] = [str(HERE.parent / "chain"), str(HERE.parent / "peers"), str(HERE.parent.parent / "bindings/python")]
+sys.path[:0] = [str(HERE.parent / "chain"), str(HERE.parent / "peers")]
 
 from checker import Checker, Hop  # noqa: E402
 from common.fields import Fields  # noqa: E402
