@@ -1,10 +1,9 @@
 -- The first of the greatest score in a list.
-use Rattle.std.proofs.Common.{◌≡◌, ℕ, zero, suc, ◌+◌, ◌<◌, ◌≤◌, Bool, true, false, List, [], ◌∷◌, length}
-use Rattle.std.proofs.Common.{get_or, Option, Some, None, inl, inr, refl, sym, ◌∙◌, ap, subst, arith}
-use Rattle.std.specs.Prelude.{MatchOption, nat_lt, if◌then◌else◌}
+use Rattle.std.proofs.Common.{◌≡◌, ℕ, zero, suc, ◌+◌, ◌<◌, ◌≤◌, Bool, true, false, List, [], ◌∷◌, length, get_or}
+use Rattle.std.proofs.Common.{Option, Some, None, inl, inr, refl, sym, ◌∙◌, ap, arith}
 use Rattle.std.proofs.lemmas.Bool.{cases_order, ltb-false, ltb-true}
-use Rattle.decide_negotiation.specs.Choice.{IsFirstOfGreatest, Picks, led}
-use Rattle.decide_negotiation.specs.declared.choice.Leader.{Leader}
+use Rattle.std.specs.Prelude.{MatchOption, nat_lt, if◌then◌else◌}
+use Rattle.decide_negotiation.specs.{Choice.IsFirstOfGreatest, Choice.Picks, Choice.led, declared.choice.Leader.Leader}
 
 -- a place within a list has one element
 pub at_place : {A : Type 0} (xs : List A) (k : ℕ) (a b : A) → k < length xs → get_or xs k a ≡ get_or xs k b
@@ -135,8 +134,7 @@ module _ {A : Type 0} (score : A → ℕ) (xs : List A) where
       let is : x ≡ get_or xs n x = at_place xs n (element_at n xs within) x within in
       let more : n + 1 ≡ suc n = omega arith in (
         led before.0 (Some n) (score x),
-        subst (λ (m : ℕ). IsLeading m (led before.0 (Some n) (score x))) more
-            (leading_on n x within is before.0 before.1),
+        rw more at (leading_on n x within is before.0 before.1),
       )
 
   pub picks_some : (choice : Option ℕ) × Picks score xs choice

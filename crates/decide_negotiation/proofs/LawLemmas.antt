@@ -1,40 +1,30 @@
 -- What the definitions say, in the words of the RFCs.
-use Rattle.std.proofs.Common.{◌≡◌, ◌∙◌, ◌⊎◌, ℕ, zero, suc, ◌<◌, ◌≤◌, Bool, true, false, List, [], ◌∷◌, ◌++◌}
-use Rattle.std.proofs.Common.{get_or, Option, Some, None, inl, inr, refl, sym, ap, subst, arith, codes, fold, rules}
-use Rattle.std.proofs.Common.{tests}
-use Rattle.std.specs.Prelude.{Any, Contains, filter_map, ◌&&◌, ◌==◌, nat_le, option_and_then}
-use Rattle.std.specs.Bool.{MatchBool}
-use Rattle.std.specs.List.{cons_option, list_all, list_any}
-use Rattle.std.proofs.Math.Bool.{or-true}
+use Rattle.std.proofs.Common.{◌≡◌, ◌∙◌, ◌⊎◌, ℕ, zero, suc, ◌<◌, ◌≤◌, Bool, true, false, List, [], ◌∷◌, ◌++◌, get_or}
+use Rattle.std.proofs.Common.{Option, Some, None, inl, inr, refl, sym, ap, subst, arith, codes, fold, rules, tests}
+use Rattle.std.proofs.{Math.Bool.or-true, lemmas.Slice.Eq.bytes_eq-Decides}
 use Rattle.std.proofs.lemmas.Bool.{and_parts, cases_Bool, eqb-true, leb-false, leb-true, or_cases}
-use Rattle.std.proofs.lemmas.Slice.Eq.{bytes_eq-Decides}
-use Rattle.http_header.specs.FieldValue.{FieldValue}
-use Rattle.http_header.specs.Token.{lowercase}
-use Rattle.headers_syntax.specs.AsciiCase.{SameButForCase, same_name}
-use Rattle.headers_syntax.specs.Lines.{Line}
+use Rattle.std.specs.Prelude.{Any, Contains, filter_map, ◌&&◌, ◌==◌, nat_le, option_and_then}
+use Rattle.std.specs.{Bool.MatchBool, List.cons_option, List.list_all, List.list_any}
+use Rattle.http_header.specs.{FieldValue.FieldValue, Token.lowercase}
+use Rattle.headers_syntax.specs.{AsciiCase.SameButForCase, AsciiCase.same_name, Lines.Line}
 use Rattle.rfc_fields.specs.Members.{field_members, members}
-use Rattle.rfc_fields.specs.Scan.{Member}
-use Rattle.rfc_fields.specs.Scan.Member.{Malformed}
-use Rattle.rfc_fields.specs.Values.{octets_of}
+use Rattle.rfc_fields.specs.{Scan.Member, Scan.Member.Malformed, Values.octets_of}
 use Rattle.decide_negotiation.specs.Choice.{Chooses, IsFirstOfGreatest, Picks, first_place, offer_rank}
 use Rattle.decide_negotiation.specs.Codings.{coding_quality, coding_says, encoding_quality, is_same_coding}
 use Rattle.decide_negotiation.specs.Codings.{member_quality, quality_of_all, quality_or, says_of, unlisted}
-use Rattle.decide_negotiation.specs.Elements.{ElementParts, bare_element_of}
+use Rattle.decide_negotiation.specs.{Elements.ElementParts, Elements.bare_element_of, Preferences.strongest}
+use Rattle.decide_negotiation.specs.{declared.acceptability.Quality.Quality, declared.preference.Preference.Preference}
 use Rattle.decide_negotiation.specs.Languages.{covers, hyphen, is_front}
 use Rattle.decide_negotiation.specs.Laws.{EachCodingIsAccepted, ExcludesIdentity, HasOneChoice, HasOneLookup}
-use Rattle.decide_negotiation.specs.Laws.{HasTwoNames}
-use Rattle.decide_negotiation.specs.Laws.{IdentityIsExcludedByName, IsSameParameter, IsStarOrSame, ListedComesFirst}
-use Rattle.decide_negotiation.specs.Laws.{Matches, MostSpecificDecides, RangesCover, RangesMatch}
+use Rattle.decide_negotiation.specs.Laws.{HasTwoNames, IdentityIsExcludedByName, IsSameParameter, IsStarOrSame}
+use Rattle.decide_negotiation.specs.Laws.{ListedComesFirst, Matches, MostSpecificDecides, RangesCover, RangesMatch}
 use Rattle.decide_negotiation.specs.Laws.{TakesTheFirst}
 use Rattle.decide_negotiation.specs.Lookup.{Finds, IsDefault, IsLookedUp, LooksUp, LooksUpIn, accepts_any}
 use Rattle.decide_negotiation.specs.Lookup.{offer_nearness, range_weight}
 use Rattle.decide_negotiation.specs.MediaRanges.{are_had, is_star, is_star_or_same, matches}
 use Rattle.decide_negotiation.specs.Parameters.{ParameterParts, is_same_parameter, is_same_value}
-use Rattle.decide_negotiation.specs.Preferences.{IsBest, strongest}
 use Rattle.decide_negotiation.specs.Qualities.{least, quality_in, rank, weighed}
-use Rattle.decide_negotiation.specs.declared.acceptability.Quality.{Quality}
 use Rattle.decide_negotiation.specs.declared.acceptability.Quality.TheVariants.{NotAcceptable, Unlisted, Weight}
-use Rattle.decide_negotiation.specs.declared.preference.Preference.{Preference}
 use Rattle.decide_negotiation.proofs.ChoiceLemmas.{at_place, picks_one, picks_some}
 use Rattle.decide_negotiation.proofs.LookupLemmas.{no_element, range_finds_nothing, star_finds_nothing}
 use Rattle.decide_negotiation.proofs.PreferenceLemmas.{one_best, strongest_is_best}
@@ -154,8 +144,8 @@ ranges_match r t = (forward, back)
         let others =
         and_parts (is_star_or_same r.names.subtype t.names.subtype) (are_had r.parameters t.parameters) first.1 in
         record {
-          type_name = name_matches r.names.type_name t.names.type_name first.0;
-          subtype = name_matches r.names.subtype t.names.subtype others.0;
+          type_name = name_matches _ _ first.0;
+          subtype = name_matches _ _ others.0;
           parameters = λ p among.
               Any-more (λ (q : ParameterParts). is_same_parameter p q ≡ true) (IsSameParameter p) (same_parameter p)
               t.parameters
@@ -168,14 +158,12 @@ ranges_match r t = (forward, back)
     back h =
         both (is_star_or_same r.names.type_name t.names.type_name)
         (is_star_or_same r.names.subtype t.names.subtype && are_had r.parameters t.parameters)
-        (name_matching r.names.type_name t.names.type_name h.type_name)
-        (both (is_star_or_same r.names.subtype t.names.subtype) (are_had r.parameters t.parameters)
-        (name_matching r.names.subtype t.names.subtype h.subtype)
-        (all_by (λ (p : ParameterParts). list_any (is_same_parameter p) t.parameters) r.parameters
-        (λ p among.
-        any_by (is_same_parameter p) t.parameters
-        (Any-more (IsSameParameter p) (λ (q : ParameterParts). is_same_parameter p q ≡ true) (parameter_same p)
-        t.parameters (h.parameters p among)))))
+        (name_matching _ _ h.type_name) (both (is_star_or_same r.names.subtype t.names.subtype)
+        (are_had r.parameters t.parameters) (name_matching _ _ h.subtype) (all_by
+        (λ (p : ParameterParts). list_any (is_same_parameter p) t.parameters) r.parameters (λ p among. any_by
+        (is_same_parameter p) t.parameters (Any-more (IsSameParameter p)
+        (λ (q : ParameterParts). is_same_parameter p q ≡ true) (parameter_same p) t.parameters
+        (h.parameters p among)))))
 
 -- ---- codings
 
@@ -313,9 +301,7 @@ identity_excluded field e = by (strongest (coding_says (codes "identity")) field
         → quality_or best (unlisted (codes "identity")) ≡ NotAcceptable → Any ExcludesIdentity field
     by None is e = let no : Unlisted ≡ NotAcceptable = e in absurd (cc no)
     by (Some p) is e =
-        let best =
-        subst (λ (o : Option Preference). IsBest (filter_map (coding_says (codes "identity")) field) o) is
-        (strongest_is_best (coding_says (codes "identity")) field) in
+        let best = rw is at (strongest_is_best (coding_says (codes "identity")) field) in
         Any-more (λ (member : Member). coding_says (codes "identity") member ≡ Some p) ExcludesIdentity
         (λ member says. excluding_member member p says (weighed-zero p.quality e)) field
         (said_by (coding_says (codes "identity")) field p best.among)
@@ -365,8 +351,7 @@ module _ (field : List Member) (offers : List FieldValue) where
       let element : h.element ≡ k.element = cc elements in
       let places : Some a ≡ Some b =
       picks_one (offer_nearness field (Some h.element.range)) offers (Some a) (Some b) h.nearest
-      (subst (λ (e : ElementParts). IsFirstOfGreatest (offer_nearness field (Some e.range)) offers b) (sym element)
-      k.nearest) in
+      (rw (← element) at k.nearest) in
       cc places
 
   not_both : (a : ℕ) → IsLookedUp field offers a → ¬ (Finds field offers None)
@@ -435,8 +420,7 @@ module _ (field : List Member) (offers : List FieldValue) where
               index = index;
               element = e;
               first = first;
-              is = λ other.
-                  ap (λ (m : Member). bare_element_of m) (at_place field index other Malformed first.within) ∙ is;
+              is = λ other. ap (λ (m : Member). bare_element_of m) (at_place _ _ _ _ first.within) ∙ is;
               nearest = nearest.1;
             },
           )

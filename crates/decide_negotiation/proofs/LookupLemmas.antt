@@ -1,19 +1,13 @@
 -- What the ranges of a field find.
 use Rattle.std.proofs.Common.{◌≡◌, ◌∙◌, ℕ, zero, suc, ◌+◌, ◌<◌, ◌≤◌, Bool, true, false, List, [], ◌∷◌, length, drop}
 use Rattle.std.proofs.Common.{get_or, Option, Some, None, refl, sym, ap, subst, arith, length-drop}
-use Rattle.std.specs.Prelude.{⊤, nat_lt, if◌then◌else◌}
-use Rattle.std.specs.List.{list_any}
-use Rattle.std.specs.Option.{option_map_or}
-use Rattle.std.proofs.Math.Seq.{drop-cons}
-use Rattle.std.proofs.Math.Bool.{or-true}
-use Rattle.std.proofs.lemmas.Bool.{ltb-true, lt-ltb}
+use Rattle.std.proofs.{Math.Seq.drop-cons, Math.Bool.or-true, lemmas.Bool.ltb-true, lemmas.Bool.lt-ltb}
+use Rattle.std.specs.{Prelude.⊤, Prelude.nat_lt, Prelude.if◌then◌else◌, List.list_any, Option.option_map_or}
 use Rattle.http_header.specs.FieldValue.{FieldValue}
 use Rattle.rfc_fields.specs.Scan.{Member}
-use Rattle.decide_negotiation.specs.Choice.{IsFirstOfGreatest, Picks, led}
-use Rattle.decide_negotiation.specs.Elements.{ElementParts, bare_element_of}
+use Rattle.decide_negotiation.specs.{Choice.IsFirstOfGreatest, Choice.Picks, Choice.led, Elements.ElementParts}
+use Rattle.decide_negotiation.specs.{Elements.bare_element_of, MediaRanges.is_star, declared.choice.Leader.Leader}
 use Rattle.decide_negotiation.specs.Lookup.{Finds, FoundBy, finds, offer_nearness, range_weight, weight_if_found}
-use Rattle.decide_negotiation.specs.MediaRanges.{is_star}
-use Rattle.decide_negotiation.specs.declared.choice.Leader.{Leader}
 use Rattle.decide_negotiation.proofs.ChoiceLemmas.{IsLeading, at_place, leading_on, leader_is_picked, none_leads}
 
 -- ---- whether anything has a score
@@ -165,12 +159,8 @@ module _ (field : List Member) (offers : List FieldValue) where
       let gone : SoFar rest
       (led (record { place = leader.place; score = h.indices.score }) found.place (range_weight field offers member)) =
       step h.n h.indices leader.place found.place member rest low head h.leading h.follows
-      (λ some. by_member.place (subst (λ (n : ℕ). 0 < n) (sym by_member.score) some))
-      (tail ∙ ap (λ (n : ℕ). drop n field) more) in
-      subst (λ (s : ℕ). SoFar rest (led leader found.place s)) (sym by_member.score)
-      (subst
-      (λ (s : ℕ). SoFar rest
-      (led (record { place = leader.place; score = s }) found.place (range_weight field offers member))) h.score gone)
+      (λ some. by_member.place (rw (← by_member.score) at some)) (tail ∙ ap (λ (n : ℕ). drop n field) more) in
+      rw (← by_member.score) at (rw h.score at gone)
 
   ends : (index place : Option ℕ) → Picks (range_weight field offers) field index → Follows index place
       → Finds field offers place
@@ -186,5 +176,4 @@ module _ (field : List Member) (offers : List FieldValue) where
       let lengths : 0 ≡ length (drop h.n field) = ap length (sym none ∙ h.rest) in
       let whole : h.n ≡ length field = omega (arith, lengths, length-drop h.n field, h.within) in
       ends h.indices.place leader.place
-      (leader_is_picked (range_weight field offers) field h.indices
-      (subst (λ (n : ℕ). IsLeading (range_weight field offers) field n h.indices) whole h.leading)) h.follows
+      (leader_is_picked (range_weight field offers) field h.indices (rw whole at h.leading)) h.follows

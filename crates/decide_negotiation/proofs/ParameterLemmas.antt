@@ -1,8 +1,6 @@
 -- What the parameters of a text are, one after the other.
-use Rattle.std.proofs.Common.{◌≡◌, ◌∙◌, List, ◌∷◌, Some, None}
-use Rattle.std.proofs.Common.{ap}
-use Rattle.std.specs.Prelude.{not, filter, filter_map}
-use Rattle.std.specs.List.{cons_option}
+use Rattle.std.proofs.Common.{◌≡◌, ◌∙◌, List, ◌∷◌, Some, None, ap}
+use Rattle.std.specs.{Prelude.not, Prelude.filter, Prelude.filter_map, List.cons_option}
 use Rattle.rfc_fields.specs.Scan.{Member}
 use Rattle.decide_negotiation.specs.Parameters.{ParameterParts, is_weight, parameter_of}
 

@@ -1,17 +1,15 @@
 -- The order of what elements say, and the strongest of a list.
-use Rattle.std.proofs.Common.{◌≡◌, ◌⊎◌, ℕ, zero, suc, ◌<◌, ◌≤◌, Bool, true, false, List, [], ◌∷◌, length, Option}
-use Rattle.std.proofs.Common.{Some}
+use Rattle.std.proofs.Common.{◌≡◌, ◌⊎◌, ℕ, zero, suc, ◌<◌, ◌≤◌, Bool, true, false, List, [], ◌∷◌, length, Option, Some}
 use Rattle.std.proofs.Common.{None, inl, inr, refl, sym, ◌∙◌, ap, arith}
-use Rattle.std.specs.Prelude.{Contains, filter_map, nat_lt, ◌==◌, ◌&&◌, if◌then◌else◌}
-use Rattle.std.specs.List.{fold}
 use Rattle.std.proofs.lemmas.Bool.{and_cases, and_parts, cases_order, eqb-false, eqb-true, ltb-false, ltb-true}
 use Rattle.std.proofs.lemmas.Bool.{or_cases, or_parts}
 use Rattle.std.proofs.lemmas.List.Elements.{All-cons, All-contains, All-head, All-nil, All-tail}
+use Rattle.std.specs.Prelude.{Contains, filter_map, nat_lt, ◌==◌, ◌&&◌, if◌then◌else◌}
+use Rattle.std.specs.List.{fold}
 use Rattle.rfc_fields.specs.Scan.{Member}
 use Rattle.decide_negotiation.specs.Preferences.{AtMost, IsBest, IsStrongest, is_below, is_below_or, stronger}
 use Rattle.decide_negotiation.specs.Preferences.{strongest}
-use Rattle.decide_negotiation.specs.Qualities.{preferred, weighed}
-use Rattle.decide_negotiation.specs.declared.preference.Preference.{Preference}
+use Rattle.decide_negotiation.specs.{Qualities.preferred, Qualities.weighed, declared.preference.Preference.Preference}
 
 -- x is below y, or they are the same and the rest decides
 abbrev BelowOr : ℕ → ℕ → Type 0 → Type 0
@@ -60,9 +58,8 @@ at_most_itself a = inr (refl, inr (refl, omega arith))
 
 at_most_along : (a b c : Preference) → AtMost a b → AtMost b c → AtMost a c
 at_most_along a b c =
-    join_below_or a.names b.names c.names _ _ _
-    (join_below_or a.extent b.extent c.extent _ _ _ (λ (h : a.quality ≤ b.quality) (k : b.quality ≤ c.quality).
-    omega (arith, h, k)))
+    join_below_or _ _ _ _ _ _
+    (join_below_or _ _ _ _ _ _ (λ (h : a.quality ≤ b.quality) (k : b.quality ≤ c.quality). omega (arith, h, k)))
 
 is_below-true : (a b : Preference) → is_below a b ≡ true → AtMost a b
 unfolding is_below
@@ -78,12 +75,9 @@ is_below-true a b e =
 is_below-false : (a b : Preference) → is_below a b ≡ false → AtMost b a
 unfolding is_below
 is_below-false a b e =
-    map_below_or b.names a.names _ _
-    (λ (f : is_below_or a.extent b.extent (nat_lt a.quality b.quality) ≡ false).
-    map_below_or b.extent a.extent _ _
-    (λ (g : nat_lt a.quality b.quality ≡ false). ltb-false a.quality b.quality g)
-    (below_or-false a.extent b.extent (nat_lt a.quality b.quality) f))
-    (below_or-false a.names b.names (is_below_or a.extent b.extent (nat_lt a.quality b.quality)) e)
+    map_below_or _ _ _ _ (λ (f : is_below_or a.extent b.extent (nat_lt a.quality b.quality) ≡ false). map_below_or _ _ _
+    _ (λ (g : nat_lt a.quality b.quality ≡ false). ltb-false a.quality b.quality g) (below_or-false _ _ _ f))
+    (below_or-false _ _ _ e)
 
 -- two that are at most each other have one quality
 same_quality : (a b : Preference) → AtMost a b → AtMost b a → a.quality ≡ b.quality
@@ -152,9 +146,7 @@ strongest_fold x [] =
           All-cons (λ (other : Preference). AtMost other x) x [] (at_most_itself x)
           (All-nil (λ (other : Preference). AtMost other x));
     }
-strongest_fold x (y ∷ xs) =
-    best_of_more x y xs (fold stronger (Some (if is_below x y then y else x)) xs)
-    (strongest_fold (if is_below x y then y else x) xs)
+strongest_fold x (y ∷ xs) = best_of_more x y xs _ (strongest_fold (if is_below x y then y else x) xs)
 
 -- what is kept of a list is its strongest
 best_of_fold : (said : List Preference) → IsBest said (fold stronger None said)

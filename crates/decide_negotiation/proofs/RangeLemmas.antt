@@ -1,37 +1,28 @@
 -- No weight is above 1.
-use Rattle.std.proofs.Common.{◌≡◌, ℕ, ◌-◌, ◌≤◌, ◌*◌, ◌^◌, Bool, true, false, List, [], ◌∷◌, length, Option, Some}
-use Rattle.std.proofs.Common.{None, refl, arith, codes}
+use Rattle.std.proofs.Common.{◌≡◌, ℕ, ◌-◌, ◌≤◌, ◌*◌, ◌^◌, Bool, true, false, List, [], ◌∷◌, length, Option, Some, None}
+use Rattle.std.proofs.Common.{refl, arith, codes}
+use Rattle.std.proofs.lemmas.Bool.{and_parts, eqb-false, leb-true}
 use Rattle.std.specs.Prelude.{⊤, IfSome, filter_map, find, fold, nat_le, option_and_then, option_map, ◌&&◌, ◌==◌}
 use Rattle.std.specs.Prelude.{if◌then◌else◌}
-use Rattle.std.specs.Char.{is_ascii_digit}
-use Rattle.std.specs.List.{cons_option}
-use Rattle.std.specs.Str.{all_ascii_digits}
+use Rattle.std.specs.{Char.is_ascii_digit, List.cons_option, Str.all_ascii_digits, Option.option_map_or}
 use Rattle.headers_syntax.specs.Number.{decimal_value}
-use Rattle.std.specs.Option.{option_map_or}
-use Rattle.std.proofs.lemmas.Bool.{and_parts, eqb-false, leb-true}
-use Rattle.rfc_fields.specs.Members.{members}
-use Rattle.rfc_fields.specs.Scan.{Member}
-use Rattle.rfc_fields.specs.Scan.Member.{Whole, Malformed}
-use Rattle.rfc_fields.specs.Values.{ValueParts, is_token}
-use Rattle.rfc_fields.specs.Values.ValueParts.{TokenText, QuotedText}
+use Rattle.rfc_fields.specs.{Members.members, Scan.Member, Scan.Member.Whole, Scan.Member.Malformed, Values.ValueParts}
+use Rattle.rfc_fields.specs.{Values.is_token, Values.ValueParts.TokenText, Values.ValueParts.QuotedText}
 use Rattle.rfc_fields.specs.Weights.{fraction, one, thousandths, weight}
 use Rattle.decide_negotiation.specs.Codings.{coding_quality, coding_says, encoding_quality, member_quality}
-use Rattle.decide_negotiation.specs.Codings.{quality_of_all, quality_or, says_of, unlisted}
+use Rattle.decide_negotiation.specs.Codings.{quality_of_all, quality_or, says_of, unlisted, is_same_coding}
 use Rattle.decide_negotiation.specs.Elements.{ElementParts, bare, bare_element_of, element_in, element_of}
 use Rattle.decide_negotiation.specs.Elements.{excluding_nothing, has_only_parameters, parameters_of, weight_in}
 use Rattle.decide_negotiation.specs.Elements.{weight_of, weight_or_least}
 use Rattle.decide_negotiation.specs.Languages.{covers, language_says, says_of as language_says_of}
 use Rattle.decide_negotiation.specs.Laws.{IsInRange, WeightsAreInRange}
-use Rattle.decide_negotiation.specs.MediaRanges.{MediaRangeParts, if_range, is_range, is_star, matches}
-use Rattle.decide_negotiation.specs.MediaRanges.{media_range_in, media_type_in, media_type_says, names_in}
-use Rattle.decide_negotiation.specs.MediaRanges.{says_of as media_says_of}
+use Rattle.decide_negotiation.specs.MediaRanges.{MediaRangeParts, if_range, is_range, is_star, matches, media_range_in}
+use Rattle.decide_negotiation.specs.MediaRanges.{media_type_in, media_type_says, names_in, says_of as media_says_of}
 use Rattle.decide_negotiation.specs.Parameters.{ParameterParts, is_weight}
 use Rattle.decide_negotiation.specs.Preferences.{is_below, stronger, strongest}
 use Rattle.decide_negotiation.specs.Qualities.{least, preferred, rank, weighed}
-use Rattle.decide_negotiation.specs.Codings.{is_same_coding}
-use Rattle.decide_negotiation.specs.declared.acceptability.Quality.{Quality}
+use Rattle.decide_negotiation.specs.{declared.acceptability.Quality.Quality, declared.preference.Preference.Preference}
 use Rattle.decide_negotiation.specs.declared.acceptability.Quality.TheVariants.{NotAcceptable, Unlisted, Weight}
-use Rattle.decide_negotiation.specs.declared.preference.Preference.{Preference}
 
 module _ {A : Type 0} (P : A → Type 0) where
   either : (test : Bool) (x y : Option A) → IfSome x P → IfSome y P → IfSome (if test then x else y) P
@@ -137,10 +128,8 @@ element_range text =
 bare_range : (member : Member) → IfSome (bare_element_of member) IsUpTo1
 bare_range Malformed = tt
 bare_range (Whole text) =
-    then_some IsUpTo1 bare IsUpTo1 (element_in text) (element_range text)
-    (λ e low.
-    either IsUpTo1 (is_token e.range) _ None
-    (either IsUpTo1 (length e.parameters == 0) (Some e) (excluding_nothing e) low (excluding_nothing_range e)) tt)
+    then_some IsUpTo1 bare IsUpTo1 (element_in text) (element_range _) (λ e low. either IsUpTo1 (is_token e.range) _
+    None (either IsUpTo1 (length e.parameters == 0) (Some e) (excluding_nothing e) low (excluding_nothing_range e)) tt)
 
 -- ---- what is said
 
@@ -168,18 +157,14 @@ media_range_range : (text : List ℕ) → IfSome (media_range_in text) IsLowRang
 unfolding media_range_in
 media_range_range text =
     then_some IsLowRange (λ e. option_and_then (if_range e) (names_in e.range)) IsUpTo1 (element_in text)
-    (element_range text)
-    (λ e low.
-    then_some IsLowRange (if_range e) (λ n. ⊤) (names_in e.range) (always (names_in e.range))
+    (element_range _) (λ e low. then_some IsLowRange (if_range e) (λ n. ⊤) (names_in e.range) (always _)
     (λ n any. either IsLowRange (is_range n) _ None low tt))
 
 media_range : (offer : List ℕ) (member : Member) → IfSome (media_type_says offer member) IsLow
 media_range offer Malformed = tt
 media_range offer (Whole text) =
     then_some IsLow (λ r. option_and_then (media_says_of r) (media_type_in offer)) IsLowRange (media_range_in text)
-    (media_range_range text)
-    (λ r low.
-    then_some IsLow (media_says_of r) (λ t. ⊤) (media_type_in offer) (always (media_type_in offer))
+    (media_range_range _) (λ r low. then_some IsLow (media_says_of r) (λ t. ⊤) (media_type_in offer) (always _)
     (λ t any. either IsLow (matches r t) _ None low tt))
 
 -- ---- qualities
@@ -252,8 +237,7 @@ all_range : (field : List Member) (q : Quality) (codings : List Member) → IsIn
     → IsInRange (fold (λ q c. least q (member_quality field c)) q codings)
 all_range field q [] h = h
 all_range field q (coding ∷ codings) h =
-    all_range field (least q (member_quality field coding)) codings
-    (least_range q (member_quality field coding) h (member_range field coding))
+    all_range field (least q (member_quality field coding)) codings (least_range q _ h (member_range _ _))
 
 of_all_range : (field codings : List Member) → IsInRange (quality_of_all field codings)
 of_all_range field [] = coding_quality_range field (codes "identity")
@@ -267,11 +251,7 @@ encoding_range field offer = of_all_range field (members true offer)
 pub weights_in_range : WeightsAreInRange
 weights_in_range =
     record {
-      media = λ field offer.
-          preferred_range (strongest (media_type_says offer) field)
-          (strongest_range (media_type_says offer) (media_range offer) field);
+      media = λ field offer. preferred_range _ (strongest_range (media_type_says offer) (media_range _) field);
       encoding = encoding_range;
-      language = λ field offer.
-          preferred_range (strongest (language_says offer) field)
-          (strongest_range (language_says offer) (language_range offer) field);
+      language = λ field offer. preferred_range _ (strongest_range (language_says offer) (language_range _) field);
     }

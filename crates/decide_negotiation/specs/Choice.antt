@@ -2,9 +2,8 @@
 use Rattle.std.specs.Prelude.{◌≡◌, ℕ, ◌<◌, ◌≤◌, List, [], ◌∷◌, length, get_or, Option, Some, None, nat_lt}
 use Rattle.std.specs.Prelude.{if◌then◌else◌}
 use Rattle.http_header.specs.FieldValue.{FieldValue}
-use Rattle.decide_negotiation.specs.Qualities.{rank}
-use Rattle.decide_negotiation.specs.declared.choice.Leader.{Leader}
-use Rattle.decide_negotiation.specs.declared.acceptability.Quality.{Quality}
+use Rattle.decide_negotiation.specs.{Qualities.rank, declared.choice.Leader.Leader}
+use Rattle.decide_negotiation.specs.{declared.acceptability.Quality.Quality}
 
 module _ {A : Type 0} (score : A → ℕ) (xs : List A) where
   -- the item at this place has a score, no item has a greater one, and each item before it has a lesser one

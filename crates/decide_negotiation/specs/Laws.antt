@@ -1,26 +1,18 @@
 -- Theorems about the definitions, in the words of the RFCs.
 use Rattle.std.specs.Prelude.{⊤, ◌≡◌, ◌⊎◌, ◌↔◌, ℕ, ◌≤◌, ◌<◌, true, List, [], ◌∷◌, ◌++◌, Any, Contains, filter_map}
-use Rattle.std.specs.Prelude.{codes}
-use Rattle.std.specs.Prelude.{Option, Some, get_or, length}
-use Rattle.http_header.specs.FieldValue.{FieldValue}
-use Rattle.http_header.specs.Token.{lowercase}
-use Rattle.headers_syntax.specs.AsciiCase.{SameButForCase}
-use Rattle.headers_syntax.specs.Lines.{Line}
-use Rattle.rfc_fields.specs.Members.{members}
-use Rattle.rfc_fields.specs.Scan.{Member}
-use Rattle.rfc_fields.specs.Values.{octets_of}
-use Rattle.decide_negotiation.specs.Choice.{Chooses, first_place}
+use Rattle.std.specs.Prelude.{codes, Option, Some, get_or, length}
+use Rattle.http_header.specs.{FieldValue.FieldValue, Token.lowercase}
+use Rattle.headers_syntax.specs.{AsciiCase.SameButForCase, Lines.Line}
+use Rattle.rfc_fields.specs.{Members.members, Scan.Member, Values.octets_of}
+use Rattle.decide_negotiation.specs.{Choice.Chooses, Choice.first_place, Elements.ElementParts}
+use Rattle.decide_negotiation.specs.{Elements.bare_element_of, Lookup.LooksUp, Parameters.ParameterParts}
+use Rattle.decide_negotiation.specs.{Preferences.IsBest, Preferences.strongest, declared.acceptability.Quality.Quality}
+use Rattle.decide_negotiation.specs.{declared.preference.Preference.Preference}
 use Rattle.decide_negotiation.specs.Codings.{coding_quality, encoding_quality, member_quality}
-use Rattle.decide_negotiation.specs.Elements.{ElementParts, bare_element_of}
 use Rattle.decide_negotiation.specs.Languages.{covers, hyphen, language_says}
-use Rattle.decide_negotiation.specs.Lookup.{LooksUp}
 use Rattle.decide_negotiation.specs.MediaRanges.{MediaRangeParts, MediaTypeParts, matches, media_type_says}
-use Rattle.decide_negotiation.specs.Parameters.{ParameterParts}
-use Rattle.decide_negotiation.specs.Preferences.{IsBest, strongest}
 use Rattle.decide_negotiation.specs.Qualities.{preferred, quality_by, quality_in, rank}
-use Rattle.decide_negotiation.specs.declared.acceptability.Quality.{Quality}
 use Rattle.decide_negotiation.specs.declared.acceptability.Quality.TheVariants.{NotAcceptable, Unlisted, Weight}
-use Rattle.decide_negotiation.specs.declared.preference.Preference.{Preference}
 
 -- ---- which element decides (RFC 9110, section 12.5.1)
 

@@ -1,11 +1,9 @@
 -- Qualities of offers, in order.
 use Rattle.std.specs.Prelude.{ℕ, ◌+◌, ◌==◌, true, nat_le, List, [], ◌∷◌, Option, Some, None, if◌then◌else◌}
 use Rattle.headers_syntax.specs.Lines.{Line}
-use Rattle.rfc_fields.specs.Members.{field_members}
-use Rattle.rfc_fields.specs.Scan.{Member}
-use Rattle.decide_negotiation.specs.Preferences.{strongest}
-use Rattle.decide_negotiation.specs.declared.preference.Preference.{Preference}
-use Rattle.decide_negotiation.specs.declared.acceptability.Quality.{Quality}
+use Rattle.rfc_fields.specs.{Members.field_members, Scan.Member}
+use Rattle.decide_negotiation.specs.{Preferences.strongest, declared.preference.Preference.Preference}
+use Rattle.decide_negotiation.specs.{declared.acceptability.Quality.Quality}
 use Rattle.decide_negotiation.specs.declared.acceptability.Quality.TheVariants.{NotAcceptable, Unlisted, Weight}
 
 -- the place of a quality in their order: 0 is not acceptable

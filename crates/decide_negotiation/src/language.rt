@@ -1,7 +1,6 @@
 //! Languages.
 ghost use Rattle.std.specs.Prelude.{◌≡◌};
-ghost use Rattle.decide_negotiation.specs.Elements.{element_parts};
-ghost use Rattle.decide_negotiation.specs.Languages.{covers, says_of};
+ghost use Rattle.decide_negotiation.specs.{Elements.element_parts, Languages.covers, Languages.says_of};
 
 use crate::acceptability::{Quality, preferred};
 use crate::dimension::Dimension;
@@ -75,8 +74,7 @@ impl Ranges for AcceptLanguage {
 
 impl Dimension for AcceptLanguage {
     ghost use Rattle.std.specs.Prelude.{codes};
-    ghost use Rattle.decide_negotiation.specs.Languages.{language_says};
-    ghost use Rattle.decide_negotiation.specs.Qualities.{quality_by};
+    ghost use Rattle.decide_negotiation.specs.{Languages.language_says, Qualities.quality_by};
 
     ghost NAME = { codes "accept-language" };
 

@@ -1,9 +1,8 @@
 //! Media types.
 ghost use Rattle.std.specs.Prelude.{◌≡◌, ◌≤◌, option_map, position};
-ghost use Rattle.decide_negotiation.specs.MediaRanges.{given, is_range, is_slash, is_star, is_star_or_same};
-ghost use Rattle.decide_negotiation.specs.MediaRanges.{matches, media_range_in, media_range_parts, media_type_in};
-ghost use Rattle.decide_negotiation.specs.MediaRanges.{media_type_parts};
-ghost use Rattle.decide_negotiation.specs.MediaRanges.{names_in, names_parts, says_in, says_of};
+ghost use Rattle.decide_negotiation.specs.MediaRanges.{given, is_range, is_slash, is_star, is_star_or_same, matches};
+ghost use Rattle.decide_negotiation.specs.MediaRanges.{media_range_in, media_range_parts, media_type_in};
+ghost use Rattle.decide_negotiation.specs.MediaRanges.{media_type_parts, names_in, names_parts, says_in, says_of};
 
 use crate::acceptability::{Quality, preferred};
 use crate::dimension::Dimension;
@@ -179,8 +178,7 @@ impl Ranges for Accept {
 
 impl Dimension for Accept {
     ghost use Rattle.std.specs.Prelude.{codes};
-    ghost use Rattle.decide_negotiation.specs.MediaRanges.{media_type_says};
-    ghost use Rattle.decide_negotiation.specs.Qualities.{quality_by};
+    ghost use Rattle.decide_negotiation.specs.{MediaRanges.media_type_says, Qualities.quality_by};
 
     ghost NAME = { codes "accept" };
 

@@ -1,8 +1,6 @@
 //! Parameters (RFC 9110, section 5.6.6).
 ghost use Rattle.std.specs.Prelude.{◌≡◌, option_map};
-ghost use Rattle.rfc_fields.specs.Directives.{directive_parts};
-ghost use Rattle.rfc_fields.specs.Members.{member_of};
-ghost use Rattle.rfc_fields.specs.Values.{value_parts};
+ghost use Rattle.rfc_fields.specs.{Directives.directive_parts, Members.member_of, Values.value_parts};
 ghost use Rattle.decide_negotiation.specs.Parameters.{is_same_parameter, is_same_value, is_weight, parameter_of};
 ghost use Rattle.decide_negotiation.specs.Parameters.{parameter_parts, with_value};
 

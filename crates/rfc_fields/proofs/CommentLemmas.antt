@@ -1,12 +1,9 @@
 -- A comment by the grammar ends where the scan over its bytes ends, and what the scan passes is a comment.
-use Rattle.std.proofs.Common.{◌≡◌, ℕ, zero, suc, Bool, true, false, not, cond, List, [], ◌∷◌, ◌++◌, refl, sym, ◌∙◌}
-use Rattle.std.proofs.Common.{ap, subst}
-use Rattle.std.proofs.Common.{◌+◌, ◌<◌, ◌≤◌, length, get_or, drop, Option, Some, None, add-one, arith}
+use Rattle.std.proofs.Common.{◌≡◌, ℕ, zero, suc, Bool, true, false, not, cond, List, [], ◌∷◌, ◌++◌, refl, sym, ◌∙◌, ap}
+use Rattle.std.proofs.Common.{subst, ◌+◌, ◌<◌, ◌≤◌, length, get_or, drop, Option, Some, None, add-one, arith}
+use Rattle.std.proofs.{lemmas.Bool.and_parts, lemmas.Bool.eqb-true, lemmas.List.append_assoc, lemmas.List.drop_all}
+use Rattle.std.proofs.{lemmas.Option.none-some, lemmas.Option.same_Some, Math.Seq.drop-cons}
 use Rattle.std.specs.Prelude.{◌&&◌, ◌==◌}
-use Rattle.std.proofs.lemmas.Bool.{and_parts, eqb-true}
-use Rattle.std.proofs.lemmas.List.{append_assoc, drop_all}
-use Rattle.std.proofs.lemmas.Option.{none-some, same_Some}
-use Rattle.std.proofs.Math.Seq.{drop-cons}
 use Rattle.http_header.specs.Token.{is_value_byte}
 use Rattle.rfc_fields.specs.Comments.{Content, HasComment, CommentsParseOneWay, content_text, is_content, is_ctext}
 use Rattle.rfc_fields.specs.Comments.Content.{Nothing, Text, Pair, Inner}
@@ -61,13 +58,10 @@ after-ctext d b h =
     let x = and_parts (is_value_byte b && not (b == 40) && not (b == 41)) (not (b == 92)) h in
     let y = and_parts (is_value_byte b && not (b == 40)) (not (b == 41)) x.0 in
     let z = and_parts (is_value_byte b) (not (b == 40)) y.0 in
-    ap (λ v. cond v (after_plain d b) Never) z.0
-    ∙ ap (λ v. cond v (Within (at d true)) (cond (b == 40) (Within (at (suc d) false))
-    (cond (b == 41) (closing d) (Within (at d false)))))
-    (not_true (b == 92) x.1)
-    ∙ ap (λ v. cond v (Within (at (suc d) false)) (cond (b == 41) (closing d) (Within (at d false))))
-    (not_true (b == 40) z.1)
-    ∙ ap (λ v. cond v (closing d) (Within (at d false))) (not_true (b == 41) y.1)
+    ap (λ v. cond v (after_plain d b) Never) z.0 ∙ ap (λ v. cond v (Within (at d true))
+    (cond (b == 40) (Within (at (suc d) false)) (cond (b == 41) (closing d) (Within (at d false))))) (not_true _ x.1) ∙
+    ap (λ v. cond v (Within (at (suc d) false)) (cond (b == 41) (closing d) (Within (at d false)))) (not_true _ z.1) ∙
+    ap (λ v. cond v (closing d) (Within (at d false))) (not_true _ y.1)
 
 after-escaped : (d b : ℕ) → is_value_byte b ≡ true → after (at d true) b ≡ Within (at d false)
 after-escaped d b h = ap (λ v. cond v (Within (at d false)) Never) h
@@ -145,12 +139,10 @@ module _ (pre : List ℕ) (f : Content → Content) (text : (c : Content) → co
 
 inner_layer : (d : ℕ) (s t r : List ℕ) → Layer s t → Closes d t r → Closes d (40 ∷ s) r
 inner_layer d s t r l h =
-    subst (λ x. Closes d (40 ∷ x) r)
-    (append_assoc (content_text l.content) (41 ∷ []) t ∙ sym l.written)
-    (grow (40 ∷ (content_text l.content ++ 41 ∷ [])) (Inner l.content)
+    rw (append_assoc (content_text l.content) (41 ∷ []) t ∙ sym l.written) at (grow
+    (40 ∷ (content_text l.content ++ 41 ∷ [])) (Inner l.content)
     (λ c. ap (λ x. 40 ∷ x) (sym (append_assoc (content_text l.content) (41 ∷ []) (content_text c))))
-    (λ c v. ap (λ x. x && is_content c) l.valid ∙ v)
-    d t r h)
+    (λ c v. ap (λ x. x && is_content c) l.valid ∙ v) d t r h)
 
 close_layer : (s : List ℕ) → Layer (41 ∷ s) s
 close_layer s = record { content = Nothing; valid = refl; written = refl }
@@ -163,9 +155,8 @@ close_case (suc d) s r ih h = (s, close_layer s, ih d false r h)
 
 slash_case : (d : ℕ) (s r : List ℕ) → ClosesEscaped d s r → Closes d (92 ∷ s) r
 slash_case d s r h =
-    subst (λ x. Closes d (92 ∷ x) r) (sym h.begins)
-    (grow (92 ∷ h.octet ∷ []) (Pair h.octet) (λ c. refl) (λ c v. ap (λ x. x && is_content c) h.value ∙ v)
-    d h.next r h.closes)
+    rw (← h.begins) at (grow (92 ∷ h.octet ∷ []) (Pair h.octet) (λ c. refl)
+    (λ c v. ap (λ x. x && is_content c) h.value ∙ v) d h.next r h.closes)
 
 text_case : (d b : ℕ) (s r : List ℕ) → is_ctext b ≡ true → Closes d s r → Closes d (b ∷ s) r
 text_case d b s r h =
@@ -226,6 +217,5 @@ pub closed_comment : (n : Nesting) (i : ℕ) (s : List ℕ) → i < length s →
     → after n (get_or s i 0) ≡ Closed → behind (at 0 false) (drop 1 s) ≡ behind n (drop i s)
     → HasComment s (drop (i + 1) s)
 closed_comment n i s h first e a =
-    subst (λ x. HasComment x (drop (i + 1) s))
-    (ap (λ b. b ∷ drop 1 s) (sym first) ∙ sym (drop-cons s 0 0 (omega (arith, h))))
-    (comment-behind (drop 1 s) (drop (i + 1) s) (closed-next n i s _ h e a))
+    rw (ap (λ b. b ∷ drop 1 s) (sym first) ∙ sym (drop-cons s 0 0 (omega (arith, h)))) at
+    (comment-behind _ _ (closed-next n i s _ h e a))

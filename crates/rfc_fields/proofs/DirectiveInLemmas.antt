@@ -1,18 +1,15 @@
 -- The directive that a text is, by the grammar.
 use Rattle.std.proofs.Common.{◌≡◌, ◌∙◌, ℕ, ◌-◌, Bool, true, false, List, [], ◌∷◌, ◌++◌, length, take, drop, Option}
 use Rattle.std.proofs.Common.{Some, None, refl, sym, ap, subst, inl, inr, arith}
+use Rattle.std.proofs.{lemmas.Bool.and_parts, lemmas.Bool.and_right, lemmas.Bool.cases_Bool, lemmas.List.length-append}
+use Rattle.std.proofs.{lemmas.Slice.Eq.bytes_eq-Decides, Math.Seq.drop-append_seam, Math.Seq.take-append_seam}
 use Rattle.std.specs.Prelude.{⊤, ◌&&◌, ◌==◌, not, bytes_eq, if◌then◌else◌}
 use Rattle.std.specs.List.{list_all, prefix_len}
-use Rattle.std.proofs.lemmas.Bool.{and_parts, and_right, cases_Bool}
-use Rattle.std.proofs.lemmas.List.{length-append}
-use Rattle.std.proofs.lemmas.Slice.Eq.{bytes_eq-Decides}
-use Rattle.std.proofs.Math.Seq.{drop-append_seam, take-append_seam}
 use Rattle.http_header.specs.Token.{is_token_byte}
-use Rattle.rfc_fields.specs.Directives.{DirectiveParts, IsDirective, argument_text, directive_text, equals}
-use Rattle.rfc_fields.specs.Directives.{argument_at, directive_in, is_argument, is_directive, parts_at, value_at}
-use Rattle.rfc_fields.specs.Grammar.{quote}
+use Rattle.rfc_fields.specs.Directives.{DirectiveParts, IsDirective, argument_text, directive_text, equals, argument_at}
+use Rattle.rfc_fields.specs.Directives.{directive_in, is_argument, is_directive, parts_at, value_at}
+use Rattle.rfc_fields.specs.{Grammar.quote, Values.ValueParts.TokenText, Values.ValueParts.QuotedText}
 use Rattle.rfc_fields.specs.Values.{ValueParts, is_token, is_value, value_text}
-use Rattle.rfc_fields.specs.Values.ValueParts.{TokenText, QuotedText}
 
 -- the text begins with no byte of a token
 abbrev pub Stops : List ℕ → Type 0
@@ -62,14 +59,13 @@ parts_again : (d : DirectiveParts) → is_directive d ≡ true → parts_at (dir
 parts_again d h =
     let valid = and_parts (is_token d.name) (is_argument d.argument) h in
     let bytes : list_all is_token_byte d.name ≡ true = (and_parts _ (list_all is_token_byte d.name) valid.0).1 in
-    let end : prefix_len is_token_byte (directive_text d) ≡ length d.name =
-    name_length d.name (argument_text d.argument) bytes (argument_stops d.argument) in
+    let end : prefix_len is_token_byte (directive_text d) ≡ length d.name = name_length _ _ bytes (argument_stops _) in
     let name : take (prefix_len is_token_byte (directive_text d)) (directive_text d) ≡ d.name =
     ap (λ (n : ℕ). take n (directive_text d)) end ∙ take-append_seam d.name (argument_text d.argument) in
     let rest : drop (prefix_len is_token_byte (directive_text d)) (directive_text d) ≡ argument_text d.argument =
     ap (λ (n : ℕ). drop n (directive_text d)) end ∙ drop-append_seam d.name (argument_text d.argument) in
     let argument : argument_at (drop (prefix_len is_token_byte (directive_text d)) (directive_text d)) ≡ d.argument =
-    ap argument_at rest ∙ argument_again d.argument valid.1 in
+    ap argument_at rest ∙ argument_again _ valid.1 in
     rw (name, argument) refl
 
 both_hold : (d : DirectiveParts) (b c : Bool) → b ≡ true → c ≡ true → (if b && c then Some d else None) ≡ Some d
@@ -81,9 +77,7 @@ unfolding directive_in
 directive_in-from text d h =
     subst
     (λ (q : DirectiveParts). (if is_directive q && bytes_eq text (directive_text q) then Some q else None) ≡ Some d)
-    (sym parts)
-    (both_hold d (is_directive d) (bytes_eq text (directive_text d)) h.valid
-    ((bytes_eq-Decides text (directive_text d)).1 h.written))
+    (sym parts) (both_hold d _ _ h.valid ((bytes_eq-Decides text (directive_text d)).1 h.written))
   where
     parts : parts_at text ≡ d
     parts = ap parts_at h.written ∙ parts_again d h.valid

@@ -1,13 +1,9 @@
 -- What a text that is a directive begins with, and that it is one directive only.
 use Rattle.std.proofs.Common.{◌≡◌, ℕ, suc, ◌+◌, ◌-◌, ◌<◌, ◌≤◌, Bool, true, false, not, cond, List, [], ◌∷◌, ◌++◌}
-use Rattle.std.proofs.Common.{length, get_or, take, drop, Option, Some, None, refl, sym, ◌∙◌, ap, subst, arith}
-use Rattle.std.proofs.Common.{length-drop}
-use Rattle.std.proofs.Math.Seq.{take-append_seam}
-use Rattle.std.proofs.lemmas.List.{take_all, take-append-drop}
-use Rattle.std.proofs.lemmas.List.Folds.{length-prefix_len}
-use Rattle.std.proofs.lemmas.Bool.{and_parts, ne_eqb}
-use Rattle.std.specs.Prelude.{◌&&◌, ◌==◌}
-use Rattle.std.specs.List.{list_all, prefix_len}
+use Rattle.std.proofs.Common.{length, get_or, take, drop, Option, Some, None, refl, sym, ◌∙◌, ap, arith, length-drop}
+use Rattle.std.proofs.{Math.Seq.take-append_seam, lemmas.List.take_all, lemmas.List.take-append-drop}
+use Rattle.std.proofs.{lemmas.List.Folds.length-prefix_len, lemmas.Bool.and_parts, lemmas.Bool.ne_eqb}
+use Rattle.std.specs.{Prelude.◌&&◌, Prelude.◌==◌, List.list_all, List.prefix_len}
 use Rattle.http_header.specs.Token.{is_token_byte}
 use Rattle.rfc_fields.specs.Values.{ValueParts, is_token, is_value, value_text}
 use Rattle.rfc_fields.specs.Values.ValueParts.{TokenText, QuotedText}
@@ -37,10 +33,8 @@ argument_valid d h = (and_parts (is_token d.name) (is_argument d.argument) h).1
 
 pub name-len : (m : List ℕ) (d : DirectiveParts) → IsDirective m d → prefix_len is_token_byte m ≡ length d.name
 name-len m d h =
-    ap (prefix_len is_token_byte) h.written
-    ∙ front-len d.name (argument_text d.argument)
-    (and_parts (not (length d.name == 0)) (list_all is_token_byte d.name) (name_valid d h.valid)).1
-    (argument_ends d.argument)
+    ap (prefix_len is_token_byte) h.written ∙ front-len _ _
+    (and_parts (not (length d.name == 0)) (list_all is_token_byte d.name) (name_valid d h.valid)).1 (argument_ends _)
 
 drop-front : (xs ys : List ℕ) → drop (length xs) (xs ++ ys) ≡ ys
 drop-front [] ys = refl
@@ -74,9 +68,8 @@ length-prefix s = length-prefix_len is_token_byte s
 -- the bytes of a token at the front of a text are a name, if there's one
 front_valid : (m : List ℕ) → 0 < prefix_len is_token_byte m → is_token (take (prefix_len is_token_byte m) m) ≡ true
 front_valid m h =
-    ap (λ c. c && list_all is_token_byte (take (prefix_len is_token_byte m) m))
-    (nonzero (length (take (prefix_len is_token_byte m) m)) (rw (length-prefix m) h))
-    ∙ list_all-prefix m
+    ap (λ c. c && list_all is_token_byte (take (prefix_len is_token_byte m) m)) (nonzero _ (rw (length-prefix m) h)) ∙
+    list_all-prefix m
 
 pub no_name : (m : List ℕ) → prefix_len is_token_byte m ≡ 0 → (d : DirectiveParts) → IsDirective m d → ⊥
 no_name m e d h =
@@ -101,8 +94,7 @@ argument_at m n d e h =
 pub directive_at : (m : List ℕ) (n : ℕ) (a : Option ValueParts) → n ≡ prefix_len is_token_byte m → 0 < n
     → IsArgument (take (length m - n) (drop n m)) a → IsDirective m (record { name = take n m; argument = a })
 directive_at m n a e h t =
-    let named : is_token (take n m) ≡ true =
-    ap (λ k. is_token (take k m)) e ∙ front_valid m (subst (λ (k : ℕ). 0 < k) e h) in
+    let named : is_token (take n m) ≡ true = ap (λ k. is_token (take k m)) e ∙ front_valid m (rw e at h) in
     record {
       valid = ap (λ c. c && is_argument a) named ∙ t.valid;
       written = sym (take-append-drop n m) ∙ ap (λ x. take n m ++ x) (sym (take_rest n m) ∙ t.written);

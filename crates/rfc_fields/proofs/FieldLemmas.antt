@@ -1,25 +1,17 @@
 -- The loops over the members of a field.
-use Rattle.std.proofs.Common.{◌≡◌, ℕ, Bool, true, false, cond, List, [], ◌∷◌, ◌++◌, map, find, Option, Some, None}
-use Rattle.std.proofs.Common.{refl, sym, ◌∙◌, ap, subst}
-use Rattle.std.specs.Prelude.{◌&&◌}
-use Rattle.std.specs.List.{list_all}
-use Rattle.std.proofs.lemmas.Bool.{and_parts}
-use Rattle.std.proofs.lemmas.List.{append-nil}
-use Rattle.std.proofs.lemmas.List.Folds.{list_all-append}
+use Rattle.std.proofs.Common.{◌≡◌, ℕ, Bool, true, false, cond, List, [], ◌∷◌, ◌++◌, map, find, Option, Some, None, refl}
+use Rattle.std.proofs.Common.{sym, ◌∙◌, ap, subst}
+use Rattle.std.proofs.{lemmas.Bool.and_parts, lemmas.List.append-nil, lemmas.List.Folds.list_all-append}
+use Rattle.std.specs.{Prelude.◌&&◌, List.list_all}
 use Rattle.headers_syntax.specs.Lines.{Line}
-use Rattle.rfc_fields.specs.Scan.{Member}
-use Rattle.rfc_fields.specs.Scan.Member.{Whole, Malformed}
-use Rattle.rfc_fields.specs.Scan.{closes}
+use Rattle.rfc_fields.specs.{Scan.Member, Scan.closes, Scan.Member.Whole, Scan.Member.Malformed}
+use Rattle.rfc_fields.specs.{Laws.DirectivesParseOneWay, Laws.JoinKeepsDirectives, Laws.WellFormedFieldIsWhole}
+use Rattle.rfc_fields.specs.{Laws.MalformedIsClearOfNone, declared.scan.State.TheVariants.Outside}
 use Rattle.rfc_fields.specs.Members.{members, field_members, combined, is_whole, is_well_formed}
-use Rattle.rfc_fields.specs.Laws.{DirectivesParseOneWay, JoinKeepsDirectives, WellFormedFieldIsWhole}
-use Rattle.rfc_fields.specs.Laws.{MalformedIsClearOfNone}
-use Rattle.rfc_fields.specs.declared.scan.State.TheVariants.{Outside}
-use Rattle.rfc_fields.specs.Directives.{DirectiveParts, IsMemberDirective}
-use Rattle.rfc_fields.specs.Directives.{AreDirectives, FindsDirective, IsClearOf, HasOtherThanDirectives}
-use Rattle.rfc_fields.specs.Directives.{directive_text, directive_member, is_directive, is_named, or_named}
-use Rattle.rfc_fields.proofs.DirectiveLemmas.{directive_once}
-use Rattle.rfc_fields.proofs.JoinLemmas.{join_keeps_members}
-use Rattle.rfc_fields.proofs.PieceLemmas.{whole_members}
+use Rattle.rfc_fields.specs.Directives.{DirectiveParts, IsMemberDirective, AreDirectives, FindsDirective, IsClearOf}
+use Rattle.rfc_fields.specs.Directives.{HasOtherThanDirectives, directive_text, directive_member, is_directive}
+use Rattle.rfc_fields.specs.Directives.{is_named, or_named}
+use Rattle.rfc_fields.proofs.{DirectiveLemmas.directive_once, JoinLemmas.join_keeps_members, PieceLemmas.whole_members}
 
 -- the members up to what is left are directives, and the first of the name among them was found
 pub record SoFar (name : List ℕ) (initial left : List Member) (found : Option DirectiveParts) : Type 0 where
@@ -116,8 +108,7 @@ directives_once (x ∷ ds) (y ∷ es) v w e =
     let q = and_parts (is_directive y) (list_all is_directive es) w in
     let texts : directive_text x ≡ directive_text y = cc in
     let tails : map directive_member ds ≡ map directive_member es = cc in
-    let same : x ≡ y =
-    directive_once (directive_text x) x y (record { valid = p.0; written = refl })
+    let same : x ≡ y = directive_once _ x y (record { valid = p.0; written = refl })
     (record { valid = q.0; written = texts }) in
     ap (λ d. d ∷ ds) same ∙ ap (λ ds. y ∷ ds) (directives_once ds es p.1 q.1 tails)
 

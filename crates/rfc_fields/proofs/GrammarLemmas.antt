@@ -1,18 +1,13 @@
 -- A list by the grammar is cut in its elements.
 use Rattle.std.proofs.Common.{◌≡◌, ℕ, Bool, true, false, not, cond, List, [], ◌∷◌, ◌++◌, map, refl, sym, ◌∙◌, ap}
-use Rattle.std.specs.Prelude.{◌&&◌, ◌==◌}
-use Rattle.std.specs.List.{flat_map, list_all}
-use Rattle.std.proofs.lemmas.Bool.{and_parts, eq-eqb}
-use Rattle.std.proofs.lemmas.List.{append_assoc, append-nil}
+use Rattle.std.proofs.{lemmas.Bool.and_parts, lemmas.Bool.eq-eqb, lemmas.List.append_assoc, lemmas.List.append-nil}
+use Rattle.std.specs.{Prelude.◌&&◌, Prelude.◌==◌, List.flat_map, List.list_all}
 use Rattle.http_header.specs.Token.{is_value_byte}
-use Rattle.rfc_fields.specs.Grammar.{Octet, Part, Element, is_octet, octet_text, is_part}
-use Rattle.rfc_fields.specs.Grammar.{part_text, is_element, element_text, list_text, IsSeparator}
-use Rattle.rfc_fields.specs.Grammar.Octet.{Plain, Pair}
-use Rattle.rfc_fields.specs.Grammar.Part.{Byte, Quoted}
+use Rattle.rfc_fields.specs.Grammar.{Octet, Part, Element, is_octet, octet_text, is_part, part_text, is_element}
+use Rattle.rfc_fields.specs.Grammar.{element_text, list_text, IsSeparator}
+use Rattle.rfc_fields.specs.{Grammar.Octet.Plain, Grammar.Octet.Pair, Grammar.Part.Byte, Grammar.Part.Quoted}
+use Rattle.rfc_fields.specs.{Scan.Member.Whole, Laws.ParsesOneWay, declared.scan.State.State}
 use Rattle.rfc_fields.specs.Scan.{Member, state_after, is_cut, closes, push, pieces}
-use Rattle.rfc_fields.specs.Scan.Member.{Whole}
-use Rattle.rfc_fields.specs.Laws.{ParsesOneWay}
-use Rattle.rfc_fields.specs.declared.scan.State.{State}
 use Rattle.rfc_fields.specs.declared.scan.State.TheVariants.{Outside, Inside, Escaped}
 use Rattle.rfc_fields.proofs.ScanLemmas.{pieces-push, pieces-cut}
 
@@ -70,14 +65,13 @@ pub runs_octet : (sep : ℕ) (q : Bool) (o : Octet) → is_octet q o ≡ true �
 runs_octet sep q (Plain b) h =
     let x = and_parts (is_value_byte b && not (b == 34)) (not (q && b == 92)) h in
     let y = and_parts (is_value_byte b) (not (b == 34)) x.0 in
-    runs_byte sep q Inside Inside b (never_cut sep b)
-    (ap (λ c. cond c Outside (cond (q && b == 92) Escaped Inside)) (not_true (b == 34) y.1)
-    ∙ ap (λ c. cond c Escaped Inside) (not_true (q && b == 92) x.1))
+    runs_byte sep q Inside Inside b (never_cut _ b) (ap (λ c. cond c Outside (cond (q && b == 92) Escaped Inside))
+    (not_true (b == 34) y.1) ∙ ap (λ c. cond c Escaped Inside) (not_true (q && b == 92) x.1))
 runs_octet sep q (Pair b) h =
     let x = and_parts q (is_value_byte b) h in
     runs_append sep q Inside Escaped Inside (92 ∷ []) (b ∷ [])
-    (runs_byte sep q Inside Escaped 92 (never_cut sep 92) (ap (λ c. cond (c && true) Escaped Inside) x.0))
-    (runs_byte sep q Escaped Inside b (never_cut' sep b) refl)
+    (runs_byte sep q Inside Escaped 92 (never_cut _ 92) (ap (λ c. cond (c && true) Escaped Inside) x.0))
+    (runs_byte sep q Escaped Inside b (never_cut' _ b) refl)
 
 pub runs_octets : (sep : ℕ) (q : Bool) (os : List Octet) → list_all (is_octet q) os ≡ true
     → Runs sep q Inside (flat_map octet_text os) Inside
@@ -134,11 +128,10 @@ pieces-list_text sep q g e [] h =
     ∙ push_all-cons (element_text e) [] [] ∙ ap (λ t. Whole t ∷ []) (append-nil (element_text e))
 pieces-list_text sep q g e (f ∷ es) h =
     let x = and_parts (is_element sep q e) (list_all (is_element sep q) (f ∷ es)) h in
-    (runs_element sep q g e x.0).splits (sep ∷ list_text sep f es)
-    ∙ ap (push_all (element_text e)) (cut_here sep q (list_text sep f es))
-    ∙ push_all-cons (element_text e) [] (pieces sep q Outside (list_text sep f es))
-    ∙ ap (λ t. Whole t ∷ pieces sep q Outside (list_text sep f es)) (append-nil (element_text e))
-    ∙ ap (λ ps. Whole (element_text e) ∷ ps) (pieces-list_text sep q g f es x.1)
+    (runs_element sep q g e x.0).splits (sep ∷ list_text sep f es) ∙ ap (push_all (element_text e)) (cut_here _ q _) ∙
+    push_all-cons (element_text e) [] (pieces sep q Outside (list_text sep f es)) ∙ ap
+    (λ t. Whole t ∷ pieces sep q Outside (list_text sep f es)) (append-nil (element_text e)) ∙ ap
+    (λ ps. Whole (element_text e) ∷ ps) (pieces-list_text sep q g f es x.1)
 
 pub parses_one_way : ParsesOneWay
 parses_one_way sep q e es g h = (closes-list_text sep q g e es h, pieces-list_text sep q g e es h)

@@ -1,21 +1,17 @@
 -- Lines that are joined by a comma and a space, and lines that end malformed.
-use Rattle.std.proofs.Common.{◌≡◌, ℕ, suc, ◌+◌, Bool, true, false, cond, List, [], ◌∷◌, ◌++◌, map, filter, drop}
-use Rattle.std.proofs.Common.{refl, sym, ◌∙◌, ap, subst, arith, inl, inr, ◌⊎◌}
-use Rattle.std.specs.Prelude.{◌==◌}
-use Rattle.std.specs.List.{list_all, prefix_len}
-use Rattle.std.proofs.lemmas.Bool.{and_parts, eqb-true}
+use Rattle.std.proofs.Common.{◌≡◌, ℕ, suc, ◌+◌, Bool, true, false, cond, List, [], ◌∷◌, ◌++◌, map, filter, drop, refl}
+use Rattle.std.proofs.Common.{sym, ◌∙◌, ap, arith, inl, inr, ◌⊎◌}
+use Rattle.std.proofs.{lemmas.Bool.and_parts, lemmas.Bool.eqb-true, lemmas.List.Elements.filter-append}
 use Rattle.std.proofs.lemmas.List.{map-append, append_assoc, append-nil}
-use Rattle.std.proofs.lemmas.List.Elements.{filter-append}
+use Rattle.std.specs.{Prelude.◌==◌, List.list_all, List.prefix_len}
 use Rattle.headers_syntax.specs.Text.{trim, trim_end, is_blank}
 use Rattle.rfc_fields.specs.Scan.{Member, state_after, is_cut, is_outside, closes, push, pieces}
-use Rattle.rfc_fields.specs.Scan.Member.{Whole, Malformed}
+use Rattle.rfc_fields.specs.{Scan.Member.Whole, Scan.Member.Malformed, declared.scan.State.State}
 use Rattle.rfc_fields.specs.Members.{members_of, members, combined, is_member, trimmed}
 use Rattle.rfc_fields.specs.Laws.{KeepsMembersBefore, JoinKeepsMembers, EndsMalformed, MalformedComesLast}
-use Rattle.rfc_fields.specs.declared.scan.State.{State}
 use Rattle.rfc_fields.specs.declared.scan.State.TheVariants.{Outside, Inside, Escaped}
-use Rattle.rfc_fields.proofs.ScanLemmas.{pieces-push}
+use Rattle.rfc_fields.proofs.{ScanLemmas.pieces-push, GrammarLemmas.false_true}
 use Rattle.rfc_fields.proofs.PieceLemmas.{SomePieces, some_pieces, cut_outside, no_members}
-use Rattle.rfc_fields.proofs.GrammarLemmas.{false_true}
 
 push-append : (b : ℕ) (ps qs : List Member) → SomePieces ps → push b (ps ++ qs) ≡ push b ps ++ qs
 unfolding push
@@ -40,10 +36,7 @@ join_step q st b a s true e k =
     let o = cut_outside 44 q st b refl e in
     ap (λ t. Whole [] ∷ pieces 44 q t (a ++ 44 ∷ s)) (sym o) ∙ ap (λ x. Whole [] ∷ x) k
     ∙ ap (λ t. (Whole [] ∷ pieces 44 q t a) ++ pieces 44 q Outside s) o
-join_step q st b a s false e k =
-    ap (push b) k
-    ∙ push-append b (pieces 44 q (state_after q st b) a) (pieces 44 q Outside s)
-    (some_pieces 44 q (state_after q st b) a)
+join_step q st b a s false e k = ap (push b) k ∙ push-append b _ _ (some_pieces 44 q _ a)
 
 pub pieces-join : (q : Bool) (st : State) (a s : List ℕ) → closes q st a ≡ true
     → pieces 44 q st (a ++ 44 ∷ s) ≡ pieces 44 q st a ++ pieces 44 q Outside s
@@ -51,8 +44,7 @@ unfolding closes pieces
 pieces-join q st [] s h =
     ap (λ t. pieces 44 q t (44 ∷ s)) (closed_outside st h)
     ∙ ap (λ t. pieces 44 q t [] ++ pieces 44 q Outside s) (sym (closed_outside st h))
-pieces-join q st (b ∷ a) s h =
-    join_step q st b a s (is_cut 44 st b) refl (pieces-join q (state_after q st b) a s h)
+pieces-join q st (b ∷ a) s h = join_step q st b a s _ refl (pieces-join q (state_after q st b) a s h)
 
 trim-space : (s : List ℕ) → trim (32 ∷ s) ≡ trim s
 trim-space s =
@@ -65,8 +57,7 @@ members_of_push (Whole s) ps = ap (λ t. filter is_member (Whole t ∷ map trimm
 members_of_push Malformed ps = refl
 
 members_of-space : (ps : List Member) → SomePieces ps → members_of (push 32 ps) ≡ members_of ps
-members_of-space ps h =
-    ap (λ x. members_of (push 32 x)) h.is ∙ members_of_push h.head h.tail ∙ ap members_of (sym h.is)
+members_of-space ps h = ap (λ x. members_of (push 32 x)) h.is ∙ members_of_push _ _ ∙ ap members_of (sym h.is)
 
 members_of-append : (ps qs : List Member) → members_of (ps ++ qs) ≡ members_of ps ++ members_of qs
 members_of-append ps qs =
@@ -79,9 +70,7 @@ members-join q a s h =
     ap members_of (pieces-join q Outside a s h) ∙ members_of-append (pieces 44 q Outside a) (pieces 44 q Outside s)
 
 members-space : (q : Bool) (s : List ℕ) → members q (32 ∷ s) ≡ members q s
-members-space q s =
-    ap members_of (pieces-push 44 q Outside Outside 32 s refl refl)
-    ∙ members_of-space (pieces 44 q Outside s) (some_pieces 44 q Outside s)
+members-space q s = ap members_of (pieces-push 44 q _ _ 32 s refl refl) ∙ members_of-space _ (some_pieces 44 q _ s)
 
 pub keeps_members_before : KeepsMembersBefore
 unfolding closes
@@ -140,8 +129,7 @@ malforms_cut q st b s e o (inr h) =
 malforms_push : (q : Bool) (st : State) (b : ℕ) (s : List ℕ) → is_cut 44 st b ≡ false
     → Malforms q (state_after q st b) s → Malforms q st (b ∷ s)
 unfolding push closes
-malforms_push q st b s e (inl h) =
-    inl (pieces-push 44 q st (state_after q st b) b s e refl ∙ ap (push b) h)
+malforms_push q st b s e (inl h) = inl (pieces-push 44 q st _ b s e refl ∙ ap (push b) h)
 malforms_push q st b s e (inr h) =
     inr (record {
       before = b ∷ h.before;
@@ -154,8 +142,7 @@ malforms_push q st b s e (inr h) =
 malforms_step : (q : Bool) (st : State) (b : ℕ) (s : List ℕ) (c : Bool) → is_cut 44 st b ≡ c
     → Malforms q (state_after q st b) s → Malforms q st (b ∷ s)
 malforms_step q st b s true e h =
-    malforms_cut q st b s e (closed_at_cut q st b e)
-    (subst (λ (t : State). Malforms q t s) (cut_outside 44 q st b refl e) h)
+    malforms_cut q st b s e (closed_at_cut q st b e) (rw (cut_outside 44 q st b refl e) at h)
 malforms_step q st b s false e h = malforms_push q st b s e h
 
 malforms : (q : Bool) (st : State) (s : List ℕ) → closes q st s ≡ false → Malforms q st s

@@ -1,10 +1,8 @@
 -- Digits, read with a greatest number.
-use Rattle.std.proofs.Common.{◌≡◌, ℕ, suc, ◌+◌, ◌-◌, ◌*◌, ◌^◌, Bool, true, false, cond, List, [], ◌∷◌, length}
-use Rattle.std.proofs.Common.{Option, Some, None, refl, sym, ◌∙◌, ap, arith}
+use Rattle.std.proofs.Common.{◌≡◌, ℕ, ◌+◌, ◌-◌, ◌*◌, ◌^◌, Bool, true, false, cond, List, [], ◌∷◌, length, Option, Some}
+use Rattle.std.proofs.Common.{None, refl, sym, ◌∙◌, ap, arith}
 use Rattle.std.proofs.Math.Nat.{pow-suc}
-use Rattle.std.specs.Prelude.{◌&&◌, min, option_and_then}
-use Rattle.std.specs.Char.{is_ascii_digit}
-use Rattle.std.specs.Str.{all_ascii_digits}
+use Rattle.std.specs.{Prelude.◌&&◌, Prelude.min, Prelude.option_and_then, Char.is_ascii_digit, Str.all_ascii_digits}
 use Rattle.headers_syntax.specs.Number.{decimal_value}
 use Rattle.rfc_fields.specs.Numbers.{with_digit, number_within}
 
@@ -35,10 +33,8 @@ number_some g n m [] e = ap (λ k. Some k) (e ∙ ap (λ k. min k g) (omega arit
 number_some g n m (b ∷ s) e =
     let d = b - 48 in
     let next : min (m * 10 + d) g ≡ min (n * 10 + d) g = ap (λ k. min (k * 10 + d) g) e ∙ cap_step n d g in
-    digit_step g (n * 10 + d) (min (m * 10 + d) g) b s (is_ascii_digit b)
-    (number_some g (n * 10 + d) (min (m * 10 + d) g) s next)
-    ∙ ap (λ k. cond (is_ascii_digit b && all_ascii_digits s) (Some (min k g)) None)
-    (weigh n d (10 ^ length s) (10 ^ suc (length s)) (decimal_value s) (pow-suc 10 (length s)))
+    digit_step g _ _ b s _ (number_some g (n * 10 + d) (min (m * 10 + d) g) s next) ∙ ap
+    (λ k. cond (is_ascii_digit b && all_ascii_digits s) (Some (min k g)) None) (weigh n d _ _ _ (pow-suc 10 (length s)))
 
 -- the loop reads the number
 pub number_from-none : (g : ℕ) (s : List ℕ) → number_from g None s ≡ number_within g s
@@ -47,10 +43,9 @@ number_from-none g [] = refl
 number_from-none g (b ∷ s) =
     let d = b - 48 in
     let zero_more : 0 * 10 + d ≡ d = omega arith in
-    digit_step g (0 * 10 + d) (min (0 * 10 + d) g) b s (is_ascii_digit b)
-    (number_some g (0 * 10 + d) (min (0 * 10 + d) g) s refl)
-    ∙ ap (λ k. cond (is_ascii_digit b && all_ascii_digits s)
-    (Some (min (k * 10 ^ length s + decimal_value s) g)) None) zero_more
+    digit_step g _ _ b s _ (number_some g _ _ s refl) ∙ ap
+    (λ k. cond (is_ascii_digit b && all_ascii_digits s) (Some (min (k * 10 ^ length s + decimal_value s) g)) None)
+    zero_more
 
 -- the loop's fact, carried over an octet and to the end
 pub number_from-next : (g : ℕ) (m r : Option ℕ) (b : ℕ) (left rest : List ℕ) (all : Option ℕ) → left ≡ b ∷ rest

@@ -1,16 +1,11 @@
 -- Pieces: that there is one, and which of them are whole.
-use Rattle.std.proofs.Common.{◌≡◌, ℕ, Bool, true, false, not, cond, List, [], ◌∷◌}
-use Rattle.std.proofs.Common.{length, refl, sym, ◌∙◌, ap}
-use Rattle.std.specs.Prelude.{◌&&◌, ◌==◌}
-use Rattle.std.specs.List.{list_all}
+use Rattle.std.proofs.Common.{◌≡◌, ℕ, Bool, true, false, not, cond, List, [], ◌∷◌, length, refl, sym, ◌∙◌, ap}
 use Rattle.std.proofs.lemmas.Bool.{and_parts, eqb-true}
+use Rattle.std.specs.{Prelude.◌&&◌, Prelude.◌==◌, List.list_all}
 use Rattle.headers_syntax.specs.Text.{trim}
-use Rattle.rfc_fields.specs.Grammar.{comma}
-use Rattle.rfc_fields.specs.Scan.{Member, state_after, is_cut, closes, last_member, with_byte, push}
-use Rattle.rfc_fields.specs.Scan.{pieces}
-use Rattle.rfc_fields.specs.Scan.Member.{Whole, Malformed}
+use Rattle.rfc_fields.specs.{Grammar.comma, Scan.Member.Whole, Scan.Member.Malformed, declared.scan.State.State}
+use Rattle.rfc_fields.specs.Scan.{Member, state_after, is_cut, closes, last_member, with_byte, push, pieces}
 use Rattle.rfc_fields.specs.Members.{is_whole, members_of, members}
-use Rattle.rfc_fields.specs.declared.scan.State.{State}
 use Rattle.rfc_fields.specs.declared.scan.State.TheVariants.{Outside, Inside, Escaped}
 use Rattle.rfc_fields.proofs.GrammarLemmas.{false_true}
 
@@ -31,10 +26,9 @@ some_step false x y h k = k
 pub some_pieces : (sep : ℕ) (q : Bool) (st : State) (s : List ℕ) → SomePieces (pieces sep q st s)
 unfolding pieces
 some_pieces sep q st [] = record { head = last_member st; tail = []; is = refl }
-some_pieces sep q st (b ∷ s) =
-    some_step (is_cut sep st b) (Whole [] ∷ pieces sep q Outside s) (push b (pieces sep q (state_after q st b) s))
+some_pieces sep q st (b ∷ s) = some_step _ _ _
     (record { head = Whole []; tail = pieces sep q Outside s; is = refl })
-    (some_push b (pieces sep q (state_after q st b) s) (some_pieces sep q (state_after q st b) s))
+    (some_push b _ (some_pieces sep q (state_after q st b) s))
 
 pub whole_push : (b : ℕ) (ps : List Member) → list_all is_whole (push b ps) ≡ list_all is_whole ps
 unfolding push
@@ -82,8 +76,7 @@ pub whole_pieces : (sep : ℕ) (q : Bool) (st : State) (s : List ℕ) → (sep =
     → list_all is_whole (pieces sep q st s) ≡ closes q st s
 unfolding pieces closes
 whole_pieces sep q st [] g = whole_last q st
-whole_pieces sep q st (b ∷ s) g =
-    whole_step sep q st b s (is_cut sep st b) refl g (whole_pieces sep q (state_after q st b) s g)
+whole_pieces sep q st (b ∷ s) g = whole_step _ q st b s _ refl g (whole_pieces sep q (state_after q st b) s g)
 
 pub whole_members : (q : Bool) (s : List ℕ) → list_all is_whole (members q s) ≡ closes q Outside s
 whole_members q s = whole_members_of (pieces comma q Outside s) ∙ whole_pieces comma q Outside s refl
@@ -106,5 +99,4 @@ pub malformed_by : (s : List ℕ) (initial left : List Member) → initial ≡ m
     → list_all is_whole initial ≡ list_all is_whole left → (m : Member) (rest : List Member) → left ≡ m ∷ rest
     → is_whole m ≡ false → false ≡ closes true Outside s
 malformed_by s initial left e same m rest is bad =
-    sym (ap (list_all is_whole) is ∙ and_false (is_whole m) (list_all is_whole rest) bad)
-    ∙ well_formed_by s initial left e same
+    sym (ap (list_all is_whole) is ∙ and_false _ _ bad) ∙ well_formed_by s initial left e same

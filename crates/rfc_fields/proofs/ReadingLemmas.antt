@@ -1,17 +1,12 @@
 -- A well formed text is a list by the grammar.
 use Rattle.std.proofs.Common.{◌≡◌, ℕ, Bool, true, false, not, cond, List, [], ◌∷◌, ◌++◌, refl, sym, ◌∙◌, ap}
-use Rattle.std.specs.Prelude.{◌&&◌, ◌==◌}
-use Rattle.std.specs.List.{flat_map, list_all}
-use Rattle.std.proofs.lemmas.Bool.{and_parts, eqb-true}
-use Rattle.std.proofs.lemmas.List.{append_assoc}
+use Rattle.std.proofs.{lemmas.Bool.and_parts, lemmas.Bool.eqb-true, lemmas.List.append_assoc}
+use Rattle.std.specs.{Prelude.◌&&◌, Prelude.◌==◌, List.flat_map, List.list_all}
 use Rattle.http_header.specs.Token.{is_value_byte}
 use Rattle.rfc_fields.specs.Grammar.{Octet, Part, Element, is_octet, octet_text, is_part, part_text, is_element}
 use Rattle.rfc_fields.specs.Grammar.{element_text, list_text, IsList}
-use Rattle.rfc_fields.specs.Grammar.Octet.{Plain, Pair}
-use Rattle.rfc_fields.specs.Grammar.Part.{Byte, Quoted}
-use Rattle.rfc_fields.specs.Scan.{state_after, closes}
-use Rattle.rfc_fields.specs.Laws.{HasAReading}
-use Rattle.rfc_fields.specs.declared.scan.State.{State}
+use Rattle.rfc_fields.specs.{Grammar.Octet.Plain, Grammar.Octet.Pair, Grammar.Part.Byte, Grammar.Part.Quoted}
+use Rattle.rfc_fields.specs.{Scan.state_after, Scan.closes, Laws.HasAReading, declared.scan.State.State}
 use Rattle.rfc_fields.specs.declared.scan.State.TheVariants.{Outside, Inside, Escaped}
 use Rattle.rfc_fields.proofs.GrammarLemmas.{false_true}
 
@@ -49,10 +44,9 @@ outside_quote sep p b s e r =
       others = r.others;
       valid = ap (λ v. (v && is_element sep p r.first) && list_all (is_element sep p) r.others) r.valid_octets
           ∙ r.valid;
-      text = ap (λ x. x ∷ s) e ∙ ap (λ x. 34 ∷ x) r.text
-          ∙ ap (λ x. 34 ∷ x) (sym (append_assoc (flat_map octet_text r.octets) (34 ∷ [])
-          (list_text sep r.first r.others)))
-          ∙ sym (list_text-part sep (Quoted r.octets) r.first r.others);
+      text = ap (λ x. x ∷ s) e ∙ ap (λ x. 34 ∷ x) r.text ∙ ap (λ x. 34 ∷ x)
+          (sym (append_assoc (flat_map octet_text r.octets) (34 ∷ []) (list_text sep r.first r.others))) ∙ sym
+          (list_text-part _ _ _ _);
     }
 
 outside_separator : (sep : ℕ) (p : Bool) (b : ℕ) (s : List ℕ) → b ≡ sep → IsList sep p s → IsList sep p (b ∷ s)

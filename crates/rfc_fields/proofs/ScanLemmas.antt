@@ -1,17 +1,12 @@
 -- The steps of the loop over a text, and what the end of its first element makes of its pieces.
-use Rattle.std.proofs.Common.{◌≡◌, ℕ, zero, suc, ◌+◌, ◌<◌, ◌≤◌, Bool, true, false, cond, List, [], ◌∷◌, length}
-use Rattle.std.proofs.Common.{get_or, take, drop, Some, None, refl, sym, ◌∙◌, ap, subst, add-one, arith}
-use Rattle.std.proofs.lemmas.Bool.{false_from_ne_true, or_parts}
-use Rattle.std.proofs.lemmas.List.{drop_all}
-use Rattle.std.proofs.Math.Seq.{drop-cons}
+use Rattle.std.proofs.Common.{◌≡◌, ℕ, zero, suc, ◌+◌, ◌<◌, ◌≤◌, Bool, true, false, cond, List, [], ◌∷◌, length, get_or}
+use Rattle.std.proofs.Common.{take, drop, Some, None, refl, sym, ◌∙◌, ap, subst, add-one, arith}
+use Rattle.std.proofs.{lemmas.Bool.false_from_ne_true, lemmas.Bool.or_parts, lemmas.List.drop_all, Math.Seq.drop-cons}
 use Rattle.std.specs.Prelude.{◌&&◌, ◌==◌}
 use Rattle.memchr.specs.Find.{IsFirstByte, is_byte2}
-use Rattle.rfc_fields.specs.Scan.{state_after, is_cut, end_of, end_from, push}
-use Rattle.rfc_fields.specs.Scan.{pieces, FindsEnd}
-use Rattle.rfc_fields.specs.Scan.Member.{Whole, Malformed}
-use Rattle.rfc_fields.specs.declared.scan.State.{State}
+use Rattle.rfc_fields.specs.Scan.{state_after, is_cut, end_of, end_from, push, pieces, FindsEnd}
+use Rattle.rfc_fields.specs.{Scan.Member.Whole, Scan.Member.Malformed, declared.scan.State.State, declared.scan.End.End}
 use Rattle.rfc_fields.specs.declared.scan.State.TheVariants.{Outside, Inside, Escaped}
-use Rattle.rfc_fields.specs.declared.scan.End.{End}
 use Rattle.rfc_fields.specs.declared.scan.End.TheVariants.{Cut, Closed, Open}
 
 pub end_from-step : (sep : ℕ) (q : Bool) (st : State) (i : ℕ) (s : List ℕ) → i < length s

@@ -1,15 +1,11 @@
 -- Digits of a weight, and the parts of a text.
-use Rattle.std.proofs.Common.{◌≡◌, ℕ, suc, ◌+◌, ◌-◌, ◌*◌, ◌^◌, ◌<◌, ◌≤◌, Bool, true, false, cond, List, [], ◌∷◌}
-use Rattle.std.proofs.Common.{length, Some, None, refl, sym, ◌∙◌, ap, subst, arith}
-use Rattle.std.proofs.Common.{option_map}
+use Rattle.std.proofs.Common.{◌≡◌, ℕ, suc, ◌+◌, ◌-◌, ◌*◌, ◌^◌, ◌<◌, ◌≤◌, Bool, true, false, cond, List, [], ◌∷◌, length}
+use Rattle.std.proofs.Common.{Some, None, refl, sym, ◌∙◌, ap, arith, option_map}
 use Rattle.std.proofs.Math.Nat.{pow-suc, mul-le-mul_left}
-use Rattle.std.specs.Prelude.{◌&&◌, min, nat_le}
-use Rattle.std.specs.Char.{is_ascii_digit}
-use Rattle.std.specs.Str.{all_ascii_digits}
 use Rattle.std.proofs.lemmas.Bool.{and_parts, leb-true, le-leb}
+use Rattle.std.specs.{Prelude.◌&&◌, Prelude.min, Prelude.nat_le, Char.is_ascii_digit, Str.all_ascii_digits}
 use Rattle.headers_syntax.specs.Number.{decimal_value}
-use Rattle.rfc_fields.specs.Numbers.{number_within}
-use Rattle.rfc_fields.specs.Weights.{thousandths}
+use Rattle.rfc_fields.specs.{Numbers.number_within, Weights.thousandths}
 
 -- what k digits write is below 10 ^ k
 below : (s : List ℕ) → all_ascii_digits s ≡ true → decimal_value s < 10 ^ length s
@@ -36,8 +32,7 @@ scaled g k scale (b ∷ s) l h e f = by (all_ascii_digits (b ∷ s)) refl
         → option_map (λ n. n * scale) (cond c (Some (min (decimal_value (b ∷ s)) g)) None)
         ≡ cond (nat_le (length (b ∷ s)) 3 && c) (Some (decimal_value (b ∷ s) * 10 ^ (3 - length (b ∷ s)))) None
     by true d =
-        let low : decimal_value (b ∷ s) < 10 ^ suc k =
-        subst (λ (n : ℕ). decimal_value (b ∷ s) < 10 ^ n) l (below (b ∷ s) d) in
+        let low : decimal_value (b ∷ s) < 10 ^ suc k = rw l at (below (b ∷ s) d) in
         let least : min (decimal_value (b ∷ s)) g ≡ decimal_value (b ∷ s) = omega arith in
         let place : scale ≡ 10 ^ (3 - length (b ∷ s)) = f ∙ ap (λ n. 10 ^ (3 - n)) (sym l) in
         ap (λ n. Some (n * scale)) least ∙ ap (λ p. Some (decimal_value (b ∷ s) * p)) place

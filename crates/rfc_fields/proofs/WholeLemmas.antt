@@ -1,22 +1,17 @@
 -- A whole member is well formed by itself.
-use Rattle.std.proofs.Common.{◌≡◌, ℕ, zero, suc, ◌+◌, ◌-◌, ◌≤◌, Bool, true, false, not, cond, List, [], ◌∷◌}
-use Rattle.std.proofs.Common.{◌++◌, length, get_or, take, drop, refl, sym, ◌∙◌, ap, subst, arith, inl, inr}
-use Rattle.std.proofs.Math.Seq.{take-suc}
+use Rattle.std.proofs.Common.{◌≡◌, ℕ, zero, suc, ◌+◌, ◌-◌, ◌≤◌, Bool, true, false, not, cond, List, [], ◌∷◌, ◌++◌}
+use Rattle.std.proofs.Common.{length, get_or, take, drop, refl, sym, ◌∙◌, ap, subst, arith, inl, inr}
+use Rattle.std.proofs.{Math.Seq.take-suc, lemmas.List.take_all}
 use Rattle.std.proofs.lemmas.Bool.{and_parts, cases_Bool, eqb-true, or_cases}
-use Rattle.std.proofs.lemmas.List.{take_all}
 use Rattle.std.proofs.lemmas.List.Sums.{suffix_len-take_yes, suffix_len-take_no}
-use Rattle.std.specs.Prelude.{◌&&◌, ◌==◌}
-use Rattle.std.specs.List.{list_all, prefix_len, suffix_len}
+use Rattle.std.specs.{Prelude.◌&&◌, Prelude.◌==◌, List.list_all, List.prefix_len, List.suffix_len}
 use Rattle.headers_syntax.specs.Text.{trim, trim_start, is_blank}
-use Rattle.rfc_fields.specs.Grammar.{comma}
+use Rattle.rfc_fields.specs.{Grammar.comma, Scan.Member.Whole, Scan.Member.Malformed, Members.members_of}
+use Rattle.rfc_fields.specs.{Members.closes_member, Laws.PartsAreWhole, Laws.WholeMembersAreWellFormed}
+use Rattle.rfc_fields.specs.{declared.scan.State.State}
 use Rattle.rfc_fields.specs.Scan.{Member, is_outside, state_after, is_cut, closes, last_member, push, pieces}
-use Rattle.rfc_fields.specs.Scan.Member.{Whole, Malformed}
-use Rattle.rfc_fields.specs.Members.{members_of, closes_member}
-use Rattle.rfc_fields.specs.Laws.{PartsAreWhole, WholeMembersAreWellFormed}
-use Rattle.rfc_fields.specs.declared.scan.State.{State}
 use Rattle.rfc_fields.specs.declared.scan.State.TheVariants.{Outside, Inside, Escaped}
-use Rattle.rfc_fields.proofs.PieceLemmas.{whole_pieces}
-use Rattle.rfc_fields.proofs.GrammarLemmas.{false_true}
+use Rattle.rfc_fields.proofs.{PieceLemmas.whole_pieces, GrammarLemmas.false_true}
 
 -- a blank leaves the state as it is, but behind a backslash
 blank_outside : (q : Bool) (b : ℕ) → is_blank b ≡ true → state_after q Outside b ≡ Outside
@@ -93,8 +88,7 @@ pub trim_closes : (q : Bool) (s : List ℕ) → closes q Outside s ≡ true → 
 trim_closes q s h =
     let t = trim_start s in
     let all : take (length t) t ≡ t = take_all (length t) t (omega arith) in
-    subst (λ (u : List ℕ). closes q Outside (take (length t - suffix_len is_blank u) t) ≡ true) all
-    (trailing q Outside t (length t) (omega arith) (ap (closes q Outside) all ∙ leading q s ∙ h))
+    rw all at (trailing q _ t _ (omega arith) (ap (closes q Outside) all ∙ leading q s ∙ h))
 
 -- each whole piece is well formed, the first one from a state on
 abbrev pub PieceCloses : Bool → State → Member → Type 0
@@ -133,8 +127,7 @@ pub pieces_close : (sep : ℕ) (q : Bool) (st : State) (s : List ℕ) → Pieces
 unfolding pieces
 pieces_close sep q st [] = (last_closes q st, tt)
 pieces_close sep q st (b ∷ s) =
-    step_closes sep q st b s (is_cut sep st b) refl (pieces_close sep q Outside s)
-    (pieces_close sep q (state_after q st b) s)
+    step_closes _ q st b s _ refl (pieces_close sep q Outside s) (pieces_close sep q (state_after q st b) s)
 
 members_of_close : (q : Bool) (ps : List Member) → PiecesClose q Outside ps
     → list_all (closes_member q) (members_of ps) ≡ true

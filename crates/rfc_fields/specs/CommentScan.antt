@@ -1,10 +1,8 @@
 -- Where a comment ends, byte by byte.
 use Rattle.std.specs.Prelude.{ℕ, zero, suc, Bool, true, false, ◌==◌, List, [], ◌∷◌, Option, Some, None, if◌then◌else◌}
 use Rattle.http_header.specs.Token.{is_value_byte}
-use Rattle.rfc_fields.specs.Grammar.{backslash}
+use Rattle.rfc_fields.specs.{Grammar.backslash, declared.comments.Nesting.Nesting, declared.comments.Progress.Progress}
 use Rattle.rfc_fields.specs.Comments.{open_paren, close_paren}
-use Rattle.rfc_fields.specs.declared.comments.Nesting.{Nesting}
-use Rattle.rfc_fields.specs.declared.comments.Progress.{Progress}
 use Rattle.rfc_fields.specs.declared.comments.Progress.TheVariants.{Within, Closed, Never}
 
 -- what follows the parenthesis that closes the innermost comment

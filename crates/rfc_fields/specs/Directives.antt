@@ -3,17 +3,12 @@ use Rattle.std.specs.Prelude.{◌≡◌, ℕ, ◌-◌, Bool, true, false, ◌&&�
 use Rattle.std.specs.Prelude.{Option, None, Some, option_map, bytes_eq, if◌then◌else◌}
 use Rattle.std.specs.List.{list_all, prefix_len}
 use Rattle.http_header.specs.Token.{is_token_byte}
-use Rattle.headers_syntax.specs.AsciiCase.{same_name}
-use Rattle.headers_syntax.specs.Lines.{Line}
-use Rattle.headers_syntax.specs.Text.{trim}
-use Rattle.rfc_fields.specs.Grammar.{semicolon}
-use Rattle.rfc_fields.specs.Scan.{Member, pieces}
-use Rattle.rfc_fields.specs.Scan.Member.{Whole, Malformed}
-use Rattle.rfc_fields.specs.Members.{field_members, members_of}
+use Rattle.headers_syntax.specs.{AsciiCase.same_name, Lines.Line, Text.trim}
+use Rattle.rfc_fields.specs.{Grammar.semicolon, Scan.Member, Scan.pieces, Scan.Member.Whole, Scan.Member.Malformed}
+use Rattle.rfc_fields.specs.{Members.field_members, Members.members_of, Values.ValueParts.TokenText}
+use Rattle.rfc_fields.specs.{Values.ValueParts.QuotedText, declared.directives.Directive.Directive}
+use Rattle.rfc_fields.specs.{declared.scan.State.TheVariants.Outside}
 use Rattle.rfc_fields.specs.Values.{ValueParts, is_token, is_value, value_text, value_parts}
-use Rattle.rfc_fields.specs.Values.ValueParts.{TokenText, QuotedText}
-use Rattle.rfc_fields.specs.declared.directives.Directive.{Directive}
-use Rattle.rfc_fields.specs.declared.scan.State.TheVariants.{Outside}
 
 -- b'='
 abbrev pub equals : ℕ

@@ -4,12 +4,9 @@ use Rattle.std.specs.Prelude.{Result, Ok, Err, if◌then◌else◌}
 use Rattle.std.specs.List.{flat_map}
 use denote.Ref.{Bor}
 use Rattle.http_header.specs.FieldValue.{FieldValue}
-use Rattle.headers_syntax.specs.Lines.{Line, lines_of}
-use Rattle.headers_syntax.specs.Text.{trim}
-use Rattle.rfc_fields.specs.Grammar.{comma, space}
-use Rattle.rfc_fields.specs.Scan.{Member, closes, pieces}
-use Rattle.rfc_fields.specs.Scan.Member.{Whole, Malformed}
-use Rattle.rfc_fields.specs.declared.scan.State.TheVariants.{Outside}
+use Rattle.headers_syntax.specs.{Lines.Line, Lines.lines_of, Text.trim}
+use Rattle.rfc_fields.specs.{Grammar.comma, Grammar.space, Scan.Member, Scan.closes, Scan.pieces, Scan.Member.Whole}
+use Rattle.rfc_fields.specs.{Scan.Member.Malformed, declared.scan.State.TheVariants.Outside}
 
 -- the member without the blanks around it
 abbrev pub trimmed : Member → Member

@@ -1,8 +1,7 @@
 -- Numbers (RFC 9110, section 8.6; RFC 9111, section 1.2.2).
-use Rattle.std.specs.Prelude.{ℕ, ◌+◌, ◌-◌, ◌*◌, Bool, false, List, [], ◌∷◌}
-use Rattle.std.specs.Prelude.{Option, None, Some, unwrap_or, min, if◌then◌else◌}
-use Rattle.std.specs.Char.{is_ascii_digit}
-use Rattle.std.specs.Str.{all_ascii_digits}
+use Rattle.std.specs.Prelude.{ℕ, ◌+◌, ◌-◌, ◌*◌, Bool, false, List, [], ◌∷◌, Option, None, Some, unwrap_or, min}
+use Rattle.std.specs.Prelude.{if◌then◌else◌}
+use Rattle.std.specs.{Char.is_ascii_digit, Str.all_ascii_digits}
 use Rattle.headers_syntax.specs.Number.{decimal_value}
 
 -- 1*DIGIT

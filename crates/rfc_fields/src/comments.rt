@@ -1,9 +1,7 @@
 //! Comments (RFC 9110, section 5.6.5).
 ghost use Rattle.std.specs.Prelude.{◌≡◌, ◌<◌, ◌≤◌, ◌+◌, ℕ, List, MatchResult};
-ghost use Rattle.rfc_fields.specs.Comments.{HasComment};
-ghost use Rattle.rfc_fields.specs.CommentScan.{after, closing};
-ghost use Rattle.rfc_fields.specs.declared.comments.Nesting.{Nesting};
-ghost use Rattle.rfc_fields.specs.declared.comments.Progress.TheVariants.{Within};
+ghost use Rattle.rfc_fields.specs.{Comments.HasComment, CommentScan.after, CommentScan.closing};
+ghost use Rattle.rfc_fields.specs.{declared.comments.Nesting.Nesting, declared.comments.Progress.TheVariants.Within};
 
 use crate::error::Malformed;
 use crate::values::is_value_byte;

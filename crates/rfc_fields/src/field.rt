@@ -1,8 +1,6 @@
 //! What all lines of a field mean together.
 ghost use Rattle.std.specs.Prelude.{◌≡◌, ◌<◌, [], length, true, MatchResult};
-ghost use Rattle.std.specs.Bool.{MatchBool};
-ghost use Rattle.std.specs.Option.{option_map};
-ghost use Rattle.std.specs.List.{list_all, list_any};
+ghost use Rattle.std.specs.{Bool.MatchBool, Option.option_map, List.list_all, List.list_any};
 ghost use Rattle.headers_syntax.specs.Lines.{lines_of, only_line};
 ghost use Rattle.rfc_fields.specs.Members.{field_members, member_of};
 ghost use Rattle.rfc_fields.specs.Directives.{DirectiveParts, FindsDirective, HasOtherThanDirectives, IsClearOf};

@@ -4,9 +4,8 @@ ghost use Rattle.rfc_fields.specs.Comments.{CommentsParseOneWay};
 ghost use Rattle.rfc_fields.specs.Directives.{DirectiveParts, IsDirective, directive_in};
 ghost use Rattle.rfc_fields.specs.Laws.{HasAReading, JoinKeepsMembers, KeepsMembersBefore, MalformedComesLast};
 ghost use Rattle.rfc_fields.specs.Laws.{DirectivesParseOneWay, JoinKeepsDirectives, MalformedIsClearOfNone};
-ghost use Rattle.rfc_fields.specs.Laws.{ParsesOneWay, PartsAreWhole, QuotedTextsAreOctets, QuotedTextsParse};
-ghost use Rattle.rfc_fields.specs.Laws.{Separate, WellFormedFieldIsWhole, WellFormedIsWhole};
-ghost use Rattle.rfc_fields.specs.Laws.{WholeMembersAreWellFormed};
+ghost use Rattle.rfc_fields.specs.Laws.{ParsesOneWay, PartsAreWhole, QuotedTextsAreOctets, QuotedTextsParse, Separate};
+ghost use Rattle.rfc_fields.specs.Laws.{WellFormedFieldIsWhole, WellFormedIsWhole, WholeMembersAreWellFormed};
 
 /// Theorem: a list by the grammar is parsed to its elements, and has no others (RFC 9110, section
 /// 5.6.1).

@@ -1,13 +1,10 @@
 //! The members of a field line, and of all lines of a field.
 ghost use Rattle.std.specs.Prelude.{◌≡◌, true, false};
-ghost use Rattle.std.specs.List.{list_all};
-ghost use Rattle.std.specs.Iterator.{YieldsFirstBy, item_count};
+ghost use Rattle.std.specs.{List.list_all, Iterator.YieldsFirstBy, Iterator.item_count};
 ghost use Rattle.headers_syntax.specs.Lines.{lines_of};
 ghost use Rattle.rfc_fields.specs.Members.{field_left, field_members, is_whole, is_well_formed, member_of, members};
 ghost use Rattle.rfc_fields.specs.Members.{members_left, pieces_left};
-ghost use Rattle.rfc_fields.specs.Grammar.{semicolon};
-ghost use Rattle.rfc_fields.specs.Scan.{pieces};
-ghost use Rattle.rfc_fields.specs.declared.scan.State.TheVariants.{Outside};
+ghost use Rattle.rfc_fields.specs.{Grammar.semicolon, Scan.pieces, declared.scan.State.TheVariants.Outside};
 
 use crate::error::Malformed;
 use crate::scan::{End, first_end};

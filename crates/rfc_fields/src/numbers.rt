@@ -2,8 +2,7 @@
 ghost use Rattle.std.specs.Prelude.{◌≡◌, ◌≤◌, ◌<◌, ◌^◌, ◌-◌, ◌+◌, ◌*◌, Some, None, IfSome, min, unwrap_or};
 ghost use Rattle.std.specs.Prelude.{if◌then◌else◌};
 ghost use Rattle.std.specs.Char.{is_ascii_digit};
-ghost use Rattle.rfc_fields.specs.Numbers.{number_within, with_digit};
-ghost use Rattle.rfc_fields.specs.Values.{octets_of, value_parts};
+ghost use Rattle.rfc_fields.specs.{Numbers.number_within, Numbers.with_digit, Values.octets_of, Values.value_parts};
 
 use crate::values::Value;
 

@@ -1,11 +1,7 @@
 //! A value and its parameters (RFC 9110, section 5.6.6).
 ghost use Rattle.std.specs.Prelude.{◌≡◌, ◌≢◌, ◌∷◌, ℕ, List, true, MatchResult};
-ghost use Rattle.rfc_fields.specs.Directives.{HasParameters};
-ghost use Rattle.rfc_fields.specs.Grammar.{semicolon};
-ghost use Rattle.rfc_fields.specs.Members.{members_left};
-ghost use Rattle.rfc_fields.specs.Scan.{Member, pieces};
-ghost use Rattle.rfc_fields.specs.Scan.Member.{Whole};
-ghost use Rattle.rfc_fields.specs.declared.scan.State.TheVariants.{Outside};
+ghost use Rattle.rfc_fields.specs.{Directives.HasParameters, Grammar.semicolon, Members.members_left, Scan.Member};
+ghost use Rattle.rfc_fields.specs.{Scan.pieces, Scan.Member.Whole, declared.scan.State.TheVariants.Outside};
 
 use crate::error::Malformed;
 use crate::members::Members;

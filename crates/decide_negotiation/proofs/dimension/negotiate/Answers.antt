@@ -1,12 +1,9 @@
-use Rattle.std.proofs.Common.{◌≡◌, ◌∙◌, ℕ, ◌+◌, List, length, sym, subst, ap, arith, Some}
-use Rattle.http_header.specs.FieldValue.{FieldValue}
-use Rattle.http_header.specs.HeaderMap.{get_all}
+use Rattle.std.proofs.Common.{◌≡◌, ◌∙◌, ℕ, List, length, ap, arith, Some}
+use Rattle.http_header.specs.{FieldValue.FieldValue, HeaderMap.get_all}
 use Rattle.headers_syntax.specs.Lines.{lines_of}
-use Rattle.decide_negotiation.specs.Choice.{led, offer_rank}
-use Rattle.decide_negotiation.specs.Qualities.{quality_in, rank}
-use Rattle.decide_negotiation.specs.declared.acceptability.Quality.{Quality}
-use Rattle.decide_negotiation.specs.declared.choice.Leader.{Leader}
-use Rattle.decide_negotiation.proofs.ChoiceLemmas.{IsLeading, leader_is_picked, leading_on}
+use Rattle.decide_negotiation.specs.{Choice.led, Choice.offer_rank, Qualities.quality_in, Qualities.rank}
+use Rattle.decide_negotiation.specs.{declared.acceptability.Quality.Quality}
+use Rattle.decide_negotiation.proofs.ChoiceLemmas.{leader_is_picked, leading_on}
 use Rattle.decide_negotiation.proofs.dimension.negotiate.Goals as goal
 
 pub loop-place-preserved : goal.loop-place-preserved
@@ -24,14 +21,11 @@ loop-place-preserved g c =
     c.from.ensures ∙ c.rank.ensures ∙ ap (λ (q : Quality). rank q) same in
     let is : c.led-leader.result ≡ led c.loop-place.leader (Some c.loop-place.place) (score offer) =
     c.led-leader.ensures ∙ ap (led c.loop-place.leader (Some c.loop-place.place)) scored in
-    subst (λ (leader : Leader). IsLeading score c.args.offers.now (c.loop-place.place + 1) leader) (sym is)
-    (leading_on score c.args.offers.now c.loop-place.place offer c.loop-place-test.true c.index-offers-place.is
-    c.loop-place.leader c.loop-place.invariant)
+    rw (← is) at (leading_on score _ _ offer c.loop-place-test.true c.index-offers-place.is _ c.loop-place.invariant)
 
 pub returns : goal.returns
 returns g c =
     let score =
     offer_rank (quality_in g.D.Dimension.gives (lines_of (get_all c.args.request.now g.D.Dimension.NAME))) in
     let ends : c.loop-place.place ≡ length c.args.offers.now = omega arith in
-    leader_is_picked score c.args.offers.now c.loop-place.leader
-    (subst (λ (n : ℕ). IsLeading score c.args.offers.now n c.loop-place.leader) ends c.loop-place.invariant)
+    leader_is_picked score _ _ (rw ends at c.loop-place.invariant)

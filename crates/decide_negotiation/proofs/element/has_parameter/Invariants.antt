@@ -1,8 +1,7 @@
 use Rattle.std.proofs.Common.{◌≡◌}
 use Rattle.rfc_fields.specs.Members.{members_left}
 use Rattle.std.specs.List.{list_any}
-use Rattle.decide_negotiation.specs.Elements.{parameters_of}
-use Rattle.decide_negotiation.specs.Parameters.{is_same_parameter, parameter_parts}
+use Rattle.decide_negotiation.specs.{Elements.parameters_of, Parameters.is_same_parameter, Parameters.parameter_parts}
 use Rattle.decide_negotiation.proofs.ParameterLemmas.{read}
 use Rattle.decide_negotiation.proofs.element.has_parameter.Given as goal
 

@@ -1,17 +1,11 @@
-use Rattle.std.proofs.Common.{rules, tests, true, false}
+use Rattle.std.proofs.Common.{rules, tests, false}
+use Rattle.std.proofs.{lemmas.Iterator.Consumers.YieldsList-from_first, lemmas.Iterator.Search.any_from_yields_List}
 use Rattle.std.specs.Option.{option_map_or}
-use Rattle.std.proofs.lemmas.Iterator.Consumers.{YieldsList-from_first}
-use Rattle.std.proofs.lemmas.Iterator.Search.{any_from_yields_List}
-use Rattle.headers_syntax.specs.Lines.{lines_of}
-use Rattle.rfc_fields.specs.Members.{field_left, field_members, member_of}
-use Rattle.rfc_fields.specs.Scan.{Member}
-use Rattle.decide_negotiation.specs.Elements.{bare_element_of}
-use Rattle.decide_negotiation.specs.Lookup.{is_any}
+use Rattle.rfc_fields.specs.{Members.field_left, Members.member_of, Scan.Member}
+use Rattle.decide_negotiation.specs.{Elements.bare_element_of, Lookup.is_any}
 use Rattle.decide_negotiation.proofs.lookup.accepts_any.Goals as goal
 
 pub returns : goal.returns
 returns c =
     any_from_yields_List (λ (member : Member). option_map_or is_any (bare_element_of member) false) _ _ _
-    c.any.ensures.ran
-    (YieldsList-from_first member_of field_left (field_members true (lines_of c.args.field.now)) c.new.ensures)
-    (λ x b q k. search (rules, tests))
+    c.any.ensures.ran (YieldsList-from_first member_of field_left _ c.new.ensures) (λ x b q k. search (rules, tests))

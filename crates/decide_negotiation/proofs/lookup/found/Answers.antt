@@ -1,8 +1,6 @@
 use Rattle.std.proofs.Common.{◌∙◌, List, None, true, ap, sym, subst}
 use Rattle.headers_syntax.specs.Lines.{lines_of}
-use Rattle.rfc_fields.specs.Members.{field_left, field_members, member_of}
-use Rattle.rfc_fields.specs.Scan.{Member}
-use Rattle.decide_negotiation.specs.declared.choice.Leader.{Leader}
+use Rattle.rfc_fields.specs.{Members.field_left, Members.field_members, Scan.Member}
 use Rattle.decide_negotiation.proofs.LookupLemmas.{SoFar, so_far_end, so_far_more, so_far_none}
 use Rattle.decide_negotiation.proofs.lookup.found.Goals as goal
 
@@ -15,16 +13,8 @@ loop-member-init c =
 
 pub loop-member-preserved : goal.loop-member-preserved
 loop-member-preserved c =
-    subst
-    (λ (leader : Leader). SoFar (field_members true (lines_of c.args.field.now)) c.args.offers.now
-    (field_left c.next.new.self) leader)
-    (sym c.led-leader.ensures)
-    (so_far_more (field_members true (lines_of c.args.field.now)) c.args.offers.now
-    (field_left c.loop-member.member-iterator) (field_left c.next.new.self) (member_of c.in-Some.member)
-    c.loop-member.leader c.found_by-found.result c.loop-member.invariant c.in-Some.ensures.steps
-    c.found_by-found.ensures)
+    rw (← c.led-leader.ensures) at
+    (so_far_more _ _ _ _ _ _ _ c.loop-member.invariant c.in-Some.ensures.steps c.found_by-found.ensures)
 
 pub returns : goal.returns
-returns c =
-    so_far_end (field_members true (lines_of c.args.field.now)) c.args.offers.now
-    (field_left c.loop-member.member-iterator) c.loop-member.leader c.loop-member.invariant c.in-None.ensures.steps.0
+returns c = so_far_end _ _ _ _ c.loop-member.invariant c.in-None.ensures.steps.0

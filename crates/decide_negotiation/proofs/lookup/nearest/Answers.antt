@@ -1,10 +1,8 @@
-use Rattle.std.proofs.Common.{◌≡◌, ◌∙◌, ℕ, ◌+◌, true, length, sym, subst, ap, arith, Some, option_copied}
+use Rattle.std.proofs.Common.{◌≡◌, ◌∙◌, true, length, ap, arith, Some, option_copied}
 use Rattle.headers_syntax.specs.Lines.{lines_of}
 use Rattle.rfc_fields.specs.Members.{field_members}
-use Rattle.decide_negotiation.specs.Choice.{led}
-use Rattle.decide_negotiation.specs.Lookup.{nearness, offer_nearness}
-use Rattle.decide_negotiation.specs.declared.choice.Leader.{Leader}
-use Rattle.decide_negotiation.proofs.ChoiceLemmas.{IsLeading, leader_is_picked, leading_on}
+use Rattle.decide_negotiation.specs.{Choice.led, Lookup.nearness, Lookup.offer_nearness}
+use Rattle.decide_negotiation.proofs.ChoiceLemmas.{leader_is_picked, leading_on}
 use Rattle.decide_negotiation.proofs.lookup.nearest.Goals as goal
 
 pub loop-place-preserved : goal.loop-place-preserved
@@ -17,13 +15,10 @@ loop-place-preserved c =
     c.as_bytes.ensures.value in
     let is : c.led-leader.result ≡ led c.loop-place.leader (Some c.loop-place.place) (score offer) =
     c.led-leader.ensures ∙ ap (led c.loop-place.leader (Some c.loop-place.place)) scored in
-    subst (λ (leader : Leader). IsLeading score c.args.offers.now (c.loop-place.place + 1) leader) (sym is)
-    (leading_on score c.args.offers.now c.loop-place.place offer c.loop-place-test.true c.index-offers-place.is
-    c.loop-place.leader c.loop-place.invariant)
+    rw (← is) at (leading_on score _ _ offer c.loop-place-test.true c.index-offers-place.is _ c.loop-place.invariant)
 
 pub returns : goal.returns
 returns c =
     let score = offer_nearness (field_members true (lines_of c.args.field.now)) (option_copied c.args.wanted) in
     let ends : c.loop-place.place ≡ length c.args.offers.now = omega arith in
-    leader_is_picked score c.args.offers.now c.loop-place.leader
-    (subst (λ (n : ℕ). IsLeading score c.args.offers.now n c.loop-place.leader) ends c.loop-place.invariant)
+    leader_is_picked score _ _ (rw ends at c.loop-place.invariant)

@@ -1,17 +1,13 @@
-use Rattle.std.proofs.Common.{rules, tests, true}
+use Rattle.std.proofs.Common.{rules, tests}
 use Rattle.std.proofs.lemmas.Iterator.Consumers.{YieldsList-at, YieldsList-from_filter_map, YieldsList-from_first}
 use Rattle.std.proofs.lemmas.Iterator.Consumers.{fold_from_yields_List}
-use Rattle.headers_syntax.specs.Lines.{lines_of}
-use Rattle.rfc_fields.specs.Members.{field_left, field_members, member_of}
+use Rattle.rfc_fields.specs.Members.{field_left, member_of}
 use Rattle.decide_negotiation.specs.Preferences.{stronger, strongest}
 use Rattle.decide_negotiation.proofs.preference.strongest.Goals as goal
 
 pub returns : goal.returns
 unfolding strongest
 returns g c =
-    fold_from_yields_List _ stronger _ _ c.fold.ensures.ran
-    (YieldsList-from_filter_map _ (g.R.Ranges.says c.args.offer.now)
-    (YieldsList-at c.filter_map.ensures.source
-    (YieldsList-from_first member_of field_left (field_members true (lines_of c.args.field.now)) c.new.ensures))
-    c.filter_map.ensures.closure (λ x r q k. search (rules, tests)))
-    (λ a x b q k. search (rules, tests))
+    fold_from_yields_List _ stronger _ _ c.fold.ensures.ran (YieldsList-from_filter_map _ _
+    (YieldsList-at c.filter_map.ensures.source (YieldsList-from_first member_of field_left _ c.new.ensures))
+    c.filter_map.ensures.closure (λ x r q k. search (rules, tests))) (λ a x b q k. search (rules, tests))

@@ -12,14 +12,12 @@ returns-in-Closed c =
 
 pub returns-in-Never : goal.returns-in-Never
 returns-in-Never c =
-    no_comment c.args.text.now
-    (never-next c.loop-place.nesting c.loop-place.place c.args.text.now _ c.loop-place-test.true
-    (sym c.after.ensures.value ∙ c.in-Never.is) c.loop-place.invariant.0)
+    no_comment _
+    (never-next _ _ _ _ c.loop-place-test.true (sym c.after.ensures.value ∙ c.in-Never.is) c.loop-place.invariant.0)
 
 pub loop-place-preserved : goal.loop-place-preserved
 loop-place-preserved c = (
-  within-next c.loop-place.nesting c.in-Within.next c.loop-place.place c.args.text.now _ c.loop-place-test.true
-      (sym c.after.ensures.value ∙ c.in-Within.is) c.loop-place.invariant.0,
+  within-next _ _ _ _ _ c.loop-place-test.true (sym c.after.ensures.value ∙ c.in-Within.is) c.loop-place.invariant.0,
   omega (arith, c.loop-place.invariant.1, c.after.ensures.one_more c.in-Within.next c.in-Within.is),
 )
 

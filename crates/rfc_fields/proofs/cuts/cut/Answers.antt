@@ -10,8 +10,7 @@ returns-in-Some c =
     let fits = length-drop (place + 1) text in
     let rest = take_all (length text - (place + 1)) (drop (place + 1) text) (omega (arith, fits))
     in
-    rw (place_found c.args.at text (Some place) c.in-Some.ensures)
-    (ap (λ (r : List ℕ). Some (take place text, r)) rest)
+    rw (place_found _ text (Some place) c.in-Some.ensures) (ap (λ (r : List ℕ). Some (take place text, r)) rest)
 
 pub returns-in-None : goal.returns-in-None
 returns-in-None c = rw (place_found c.args.at c.args.text.now None c.in-None.ensures) refl

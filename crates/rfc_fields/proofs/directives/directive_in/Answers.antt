@@ -1,12 +1,9 @@
 use Rattle.std.proofs.Common.{sym}
-use Rattle.rfc_fields.specs.Directives.{directive_parts}
 use Rattle.rfc_fields.proofs.DirectiveInLemmas.{directive_in-from, directive_in-none}
 use Rattle.rfc_fields.proofs.directives.directive_in.Goals as goal
 
 pub returns-in-Ok : goal.returns-in-Ok
-returns-in-Ok c =
-    sym (directive_in-from c.args.text.now (directive_parts c.in-Ok.directive)
-    (rw c.in-Ok.is at c.read_directive.ensures))
+returns-in-Ok c = sym (directive_in-from _ _ (rw c.in-Ok.is at c.read_directive.ensures))
 
 pub returns-in-Err : goal.returns-in-Err
 returns-in-Err c = sym (directive_in-none c.args.text.now (rw c.in-Err.is at c.read_directive.ensures))

@@ -6,11 +6,7 @@ pub returns-then-end-eq0 : goal.returns-then-end-eq0
 returns-then-end-eq0 c = no_name c.args.text.now (sym c.token_len-end.ensures.value ∙ c.if-end-eq0.true)
 
 pub returns-in-Ok : goal.returns-in-Ok
-returns-in-Ok c =
-    directive_at c.args.text.now c.token_len-end.result _ c.token_len-end.ensures.value
-    (omega (arith, c.if-end-eq0.false)) c.in-Ok.ensures
+returns-in-Ok c = directive_at _ _ _ c.token_len-end.ensures.value (omega (arith, c.if-end-eq0.false)) c.in-Ok.ensures
 
 pub returns-in-Err : goal.returns-in-Err
-returns-in-Err c =
-    λ d h. c.in-Err.ensures d.argument
-    (argument_at c.args.text.now c.token_len-end.result d c.token_len-end.ensures.value h)
+returns-in-Err c = λ d h. c.in-Err.ensures d.argument (argument_at _ _ d c.token_len-end.ensures.value h)

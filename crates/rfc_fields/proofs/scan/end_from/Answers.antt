@@ -9,12 +9,8 @@ returns-then-is_cut c =
 
 pub loop-place-preserved : goal.loop-place-preserved
 loop-place-preserved c =
-    end_from-next c.args.separator c.args.pairs c.loop-place.state c.after-state.result c.loop-place.place
-    c.args.text.now _ c.loop-place-test.true (sym c.is_cut.ensures ∙ c.if-is_cut.false) c.after-state.ensures
+    end_from-next _ _ _ _ _ _ _ c.loop-place-test.true (sym c.is_cut.ensures ∙ c.if-is_cut.false) c.after-state.ensures
     c.loop-place.invariant
 
 pub returns : goal.returns
-returns c =
-    c.last_end.ensures
-    ∙ sym (end_from-end c.args.separator c.args.pairs c.loop-place.state c.loop-place.place c.args.text.now _
-    c.loop-place-test.false c.loop-place.invariant)
+returns c = c.last_end.ensures ∙ sym (end_from-end _ _ _ _ _ _ c.loop-place-test.false c.loop-place.invariant)

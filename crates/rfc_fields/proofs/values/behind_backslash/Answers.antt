@@ -1,5 +1,4 @@
-use Rattle.std.proofs.Common.{length, sym, arith}
-use Rattle.std.proofs.lemmas.Bool.{eqb-true, eqb-false}
+use Rattle.std.proofs.{Common.length, Common.sym, Common.arith, lemmas.Bool.eqb-true, lemmas.Bool.eqb-false}
 use Rattle.rfc_fields.proofs.ValueLemmas.{octets_plain, octets_pair}
 use Rattle.rfc_fields.proofs.values.behind_backslash.Goals as goal
 
