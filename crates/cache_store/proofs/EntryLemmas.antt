@@ -1,25 +1,19 @@
 -- What a store's entries are and count, before and after the calls of the map that has them.
-use Rattle.std.proofs.Common.{◌≡◌, ℕ, zero, suc, ◌+◌, ◌-◌, ◌<◌, ◌≤◌, Bool, true, false, not, cond, List, [], ◌∷◌}
-use Rattle.std.proofs.Common.{◌++◌, length, take, get_or}
-use Rattle.std.proofs.Common.{Option, Some, None, refl, sym, ap, subst, arith, filter, sum_by, bytes_eq, string_bytes}
-use Rattle.std.proofs.Common.{string_eq, String, Vec, slice_get, option_map, ◌∙◌}
-use Rattle.std.specs.List.{AllByRecursion, IsDistinct}
-use Rattle.std.specs.Prelude.{⊤}
-use Rattle.std.specs.Map.{keys_of, lookup, lookup_entry, remove_entry}
-use Rattle.std.specs.Option.{option_map_or}
-use Rattle.lru.specs.LruCache.{lru_cache, promoted, put_entries}
+use Rattle.std.proofs.Common.{◌≡◌, ℕ, zero, suc, ◌+◌, ◌-◌, ◌<◌, ◌≤◌, Bool, true, false, not, cond, List, [], ◌∷◌, ◌++◌}
+use Rattle.std.proofs.Common.{length, take, get_or, Option, Some, None, refl, sym, ap, subst, arith, filter, sum_by}
+use Rattle.std.proofs.Common.{bytes_eq, string_bytes, string_eq, String, Vec, slice_get, option_map, ◌∙◌}
 use Rattle.std.proofs.lemmas.List.{take-map, length-map, length-take, length-take-le, take_all}
-use Rattle.std.proofs.lemmas.List.Sums.{sum_by-cons, sum_by_more}
-use Rattle.std.proofs.lemmas.Map.Keys.{IsDistinct-head, IsDistinct-tail}
+use Rattle.std.proofs.{lemmas.List.Sums.sum_by-cons, lemmas.List.Sums.sum_by_more, lemmas.Map.Keys.IsDistinct-head}
+use Rattle.std.proofs.{lemmas.Map.Keys.IsDistinct-tail, lemmas.Slice.Eq.bytes_eq-Decides, Math.Seq.take-length}
 use Rattle.std.proofs.lemmas.Option.{get_or_from_slice_get, slice_get-get_or, slice_get-map, slice_get_within}
-use Rattle.std.proofs.lemmas.Slice.Eq.{bytes_eq-Decides}
-use Rattle.std.proofs.Math.Seq.{take-length}
+use Rattle.std.specs.{List.AllByRecursion, List.IsDistinct, Prelude.⊤, Option.option_map_or}
+use Rattle.std.specs.Map.{keys_of, lookup, lookup_entry, remove_entry}
+use Rattle.lru.specs.LruCache.{lru_cache, promoted, put_entries}
 use Rattle.cache_rules.specs.declared.stored.StoredResponse.{StoredResponse}
 use Rattle.cache_store.specs.Contents.{Contents, Target, IsAbsent, byte_count, bytes_of, is_for, response_count}
 use Rattle.cache_store.specs.Contents.{responses_at, shown, used, with_target, without}
-use Rattle.cache_store.specs.Numbers.{times_in, times_used}
-use Rattle.cache_store.specs.Room.{HasRoom, IsLongestWithRoom}
-use Rattle.cache_store.specs.declared.limits.Limits.{Limits}
+use Rattle.cache_store.specs.{Numbers.times_in, Numbers.times_used, Room.HasRoom, Room.IsLongestWithRoom}
+use Rattle.cache_store.specs.{declared.limits.Limits.Limits}
 
 -- a list whose target is absent is the same without it
 pub without-absent : (target : List ℕ) (contents : Contents) → IsAbsent target contents → without target contents ≡
@@ -57,8 +51,7 @@ module _ {Y Z : Type 0} where
       → AllByRecursion (λ other. string_eq key other ≡ false) (keys_of es) → IsAbsent target (shown es)
   absent_by_key target key [] same h = tt
   absent_by_key target key (e ∷ es) same h = (
-    subst (λ text. bytes_eq text (string_bytes e.0) ≡ false) (sym ((bytes_eq-Decides target (string_bytes key)).0
-        same)) h.0,
+    rw (← ((bytes_eq-Decides target (string_bytes key)).0 same)) at h.0,
     absent_by_key target key es same h.1,
   )
 
@@ -159,11 +152,7 @@ module _ {Y Z : Type 0} where
       → sum_by (λ (entry : Target). f entry.1) (shown (take (length es - 1) es)) + f e.1.items ≡ sum_by (λ (entry :
       Target). f entry.1) (shown es)
   sum_by-last_shown f es e h =
-      let same : length (shown es) ≡ length es = length-map es (λ (e : String Y × Vec StoredResponse Z). (
-        string_bytes
-            e.0,
-        e.1.items,
-      )) in
+      let same = length-map es (λ (e : String Y × Vec StoredResponse Z). (string_bytes e.0, e.1.items)) in
       let at : slice_get (shown es) (length (shown es) - 1) ≡ Some (string_bytes e.0, e.1.items) =
       ap (λ n. slice_get (shown es) (n - 1)) same ∙ slice_get-map (λ (e : String Y × Vec StoredResponse Z).
       (string_bytes e.0, e.1.items)) es (length es - 1) ∙ ap (option_map (λ (e : String Y × Vec StoredResponse Z).
@@ -331,11 +320,6 @@ pub some-put : (target : List ℕ) (responses : List StoredResponse) (contents :
     → new ≡ (target, responses) ∷ contents → new ≡ with_target target responses contents
 some-put target [] contents some put = absurd (omega (arith, some))
 some-put target (response ∷ responses) contents some put = put
-
-pub none-put : (target : List ℕ) (responses : List StoredResponse) (contents : Contents) → length responses ≡ 0
-    → contents ≡ with_target target responses contents
-none-put target [] contents none = refl
-none-put target (response ∷ responses) contents none = absurd (omega (arith, none))
 
 -- ---- a target that is used
 

@@ -1,14 +1,11 @@
 -- What calls leave of numbers.
-use Rattle.std.proofs.Common.{◌≡◌, ◌⊎◌, ℕ, ◌≤◌, List, [], ◌∷◌, ◌++◌, Option, Some, None}
-use Rattle.std.proofs.Common.{option_to_list, sym, ap, subst, arith, inl, inr, ◌∙◌}
-use Rattle.cache_rules.specs.Stored.{request_of_stored}
-use Rattle.cache_rules.specs.declared.stored.StoredResponse.{StoredResponse}
-use Rattle.cache_store.specs.Changes.{IsFront, IsInserted}
+use Rattle.std.proofs.Common.{◌≡◌, ◌⊎◌, ℕ, ◌≤◌, List, [], ◌∷◌, ◌++◌, Option, Some, None, option_to_list, sym, ap, subst}
+use Rattle.std.proofs.Common.{arith, inl, inr, ◌∙◌}
+use Rattle.cache_rules.specs.{Stored.request_of_stored, declared.stored.StoredResponse.StoredResponse}
+use Rattle.cache_store.specs.{Changes.IsFront, Changes.IsInserted, History.GoOn, History.Has, History.HasUnder}
+use Rattle.cache_store.specs.{Numbers.IsSameOrNumbered, declared.limits.Limits.Limits}
 use Rattle.cache_store.specs.Contents.{Contents, Target, responses_at, used, with_target, without}
-use Rattle.cache_store.specs.History.{GoOn, Has, HasUnder}
-use Rattle.cache_store.specs.Numbers.{IsSameOrNumbered}
-use Rattle.cache_store.specs.declared.limits.Limits.{Limits}
-use Rattle.cache_store.proofs.HistoryLemmas.{Has-append, Has-drop, Has-remove, Has-rest, Has-take, Has-used, Has-without}
+use Rattle.cache_store.proofs.HistoryLemmas.{Has-append, Has-drop, Has-rest, Has-take, Has-used, Has-without}
 use Rattle.cache_store.proofs.HistoryLemmas.{HasUnder-responses_at, HasUnder-weaker, under-put, under-with_target}
 
 -- those that are left so far, and one more
@@ -45,13 +42,10 @@ module _ (next : ℕ) (old : Contents) (later : ℕ) (new : Contents) (rises : n
   goes-used target moved = goes-fewer (λ entry h. Has-used target old entry (subst (λ l. Has l entry) moved h))
 
   pub goes-without : (target : List ℕ) → new ≡ without target old → GoOn next old later new
-  goes-without target left =
-      goes-fewer (λ entry h. (Has-without target old entry (subst (λ l. Has l entry) left h)).0)
+  goes-without target left = goes-fewer (λ entry h. (Has-without _ _ _ (rw left at h)).0)
 
   pub goes-front : (target : List ℕ) → IsFront (without target old) new → GoOn next old later new
-  goes-front target front =
-      goes-fewer (λ entry h. (Has-without target old entry (Has-take front.count (without target old) entry
-      (subst (λ l. Has l entry) front.front h))).0)
+  goes-front target front = goes-fewer (λ entry h. (Has-without _ _ _ (Has-take _ _ _ (rw front.front at h))).0)
 
   -- other targets keep what they have, and under this one there is this
   module _ (target : List ℕ) (rest : Contents) (fewer : (entry : Target) → Has rest entry → Has old entry)
@@ -99,7 +93,8 @@ module _ (next : ℕ) (old : Contents) (later : ℕ) (new : Contents) (rises : n
       inserted.put
 
   -- what a validating response leaves
-  module _ (target : List ℕ) (other : Contents) (is_other : other ≡ without target old) (taken left : List StoredResponse)
+  module _ (target : List ℕ) (other : Contents) (is_other : other ≡ without target old)
+      (taken left : List StoredResponse)
       (is_taken : taken ≡ responses_at target old) (first : ℕ) (is_first : first ≡ next) where
     fewer-other : (entry : Target) → Has other entry → Has old entry
     fewer-other entry h = (Has-without target old entry (subst (λ l. Has l entry) is_other h)).0
@@ -123,11 +118,10 @@ module _ (next : ℕ) (old : Contents) (later : ℕ) (new : Contents) (rises : n
         → GoOn next old later new
     goes-again these within kept fresh above put =
         goes-put target other fewer-other (left ++ fresh ∷ [])
-        (λ one h. elim (Has-append left (fresh ∷ []) one h) [
+        (λ one h. elim (Has-append _ _ _ h) [
           | inl a ↦ each-left these within kept one a
           | inr b ↦ elim b [
-            | inl same ↦ inr (subst (λ n. n ≤ one.number) is_first
-                (subst (λ (s : StoredResponse). first ≤ s.number) same above))
+            | inl same ↦ inr (rw is_first at (rw same at above))
             | inr none ↦ absurd none
           ]
         ])

@@ -1,35 +1,25 @@
 -- What the calls of a store leave is justified by them.
-use Rattle.std.proofs.Common.{◌≡◌, ◌≢◌, ◌⊎◌, ℕ, zero, suc, Bool, true, false, not, cond, List, [], ◌∷◌, ◌++◌}
-use Rattle.std.proofs.Common.{take, drop}
-use Rattle.std.proofs.Common.{Option, Some, None, refl, sym, ap, subst, arith, filter, remove, slice_get}
-use Rattle.std.proofs.Common.{inl, inr, ◌∙◌}
-use Rattle.std.proofs.lemmas.Option.{same_Some}
-use Rattle.std.proofs.lemmas.Slice.Eq.{bytes_eq-Decides}
-use Rattle.headers.specs.LineMap.{Field, LineMap, field_of}
-use Rattle.cache_policy.specs.Decisions.{IsGoodEnough}
-use Rattle.cache_policy.specs.declared.decision.Decision.{Decision}
-use Rattle.cache_policy.specs.declared.decision.Decision.TheVariants as decisions
-use Rattle.cache_rules.specs.Stored.{fields_of_stored, request_of_stored}
-use Rattle.cache_policy.specs.Requests.{Request}
+use Rattle.std.proofs.Common.{◌≡◌, ◌≢◌, ◌⊎◌, ℕ, zero, suc, Bool, true, false, not, cond, List, [], ◌∷◌, ◌++◌, take}
+use Rattle.std.proofs.Common.{drop, Option, Some, None, refl, sym, ap, subst, arith, filter, remove, slice_get, inl}
+use Rattle.std.proofs.Common.{inr, ◌∙◌}
+use Rattle.std.proofs.{lemmas.Option.same_Some, lemmas.Slice.Eq.bytes_eq-Decides}
+use Rattle.headers.specs.LineMap.{Field, LineMap}
+use Rattle.cache_policy.specs.{Decisions.IsGoodEnough, declared.decision.Decision.Decision, Requests.Request}
 use Rattle.cache_policy.specs.Policies.{Policy, asks, tells}
-use Rattle.cache_rules.specs.Freshening.{IsReusable}
-use Rattle.cache_rules.specs.declared.freshening.Exchange.{Exchange}
-use Rattle.cache_rules.specs.declared.storing.Reception.{Reception}
-use Rattle.cache_rules.specs.declared.stored.StoredResponse.{StoredResponse}
-use Rattle.cache_store.specs.Changes.{IsFront, IsRefreshedTo, IsRest}
-use Rattle.cache_store.specs.Changes.{IsStoredAs}
+use Rattle.cache_rules.specs.Stored.{fields_of_stored, request_of_stored}
+use Rattle.cache_rules.specs.{Freshening.IsReusable, declared.freshening.Exchange.Exchange}
+use Rattle.cache_rules.specs.{declared.storing.Reception.Reception, declared.stored.StoredResponse.StoredResponse}
+use Rattle.cache_store.specs.{Changes.IsFront, Changes.IsRefreshedTo, Changes.IsRest, Updates.AreLeft}
+use Rattle.cache_store.specs.{Updates.BecomesBeside, Updates.BecomesByHead, declared.limits.Limits.Limits}
+use Rattle.cache_store.specs.{Numbers.numbered, Served.IsRightlyServed, Served.Serves, declared.lookup.Lookup.Lookup}
 use Rattle.cache_store.specs.Contents.{Contents, Target, is_for, responses_at, used, with_target, without}
 use Rattle.cache_store.specs.History.{Call, Has, HasUnder, History, IsJustified, Run, Step}
 use Rattle.cache_store.specs.History.Call.{Looked, Arrived, Validated, Described, Answered, Removed}
-use Rattle.cache_store.specs.Updates.{AreLeft, BecomesBeside, BecomesByHead}
 use Rattle.cache_store.specs.declared.freshening.Refreshed.TheVariants.{Absent, Unchanged, Stored, Once}
-use Rattle.cache_store.specs.declared.limits.Limits.{Limits}
 use Rattle.cache_store.specs.Lookups.{IsAnswer, IsFound, age_of_stored, freshness_of}
-use Rattle.cache_store.specs.Numbers.{numbered}
-use Rattle.cache_store.specs.Served.{IsRightlyServed, Serves}
-use Rattle.cache_store.specs.declared.lookup.Lookup.{Lookup}
 use Rattle.cache_store.specs.declared.lookup.Lookup.TheVariants.{Serve, ServeAndRevalidate, Validate, ValidateOrServe}
 use Rattle.cache_store.specs.declared.lookup.Lookup.TheVariants.{Unavailable, Forward}
+use Rattle.cache_policy.specs.declared.decision.Decision.TheVariants as decisions
 
 -- ---- elements of lists
 
@@ -103,11 +93,6 @@ Has-used target contents entry h = elim (Has-append (filter (is_for target) cont
       | inr b ↦ (Has-without target contents entry b).0
     ]
 
-pub Has-with_target : (target : List ℕ) (responses : List StoredResponse) (contents : Contents) (entry : Target)
-    → Has (with_target target responses contents) entry → ((target, responses) ≡ entry) ⊎ Has contents entry
-Has-with_target target [] contents entry h = inr h
-Has-with_target target (response ∷ responses) contents entry h = h
-
 pub HasUnder-weaker : (old new : Contents) → ((entry : Target) → Has new entry → Has old entry) → (target : List ℕ)
     (stored : StoredResponse) → HasUnder new target stored → HasUnder old target stored
 HasUnder-weaker old new weaker target stored h =
@@ -154,9 +139,8 @@ under-with_target target (response ∷ responses) rest new put other stored h =
 pub Has-rest : (new : Request) (all rest : List StoredResponse) → IsRest new all rest → (stored : StoredResponse)
     → Has rest stored → Has all stored
 Has-rest new all rest (inl none) stored h = subst (λ l. Has l stored) none.1 h
-Has-rest new all rest (inr (place, found, inl removed)) stored h =
-    Has-remove all place stored (subst (λ l. Has l stored) removed.1 h)
-Has-rest new all rest (inr (place, found, inr other)) stored h = subst (λ l. Has l stored) other.1 h
+Has-rest new all rest (inr (place, found, inl removed)) stored h = Has-remove all place stored (rw removed.1 at h)
+Has-rest new all rest (inr (place, found, inr other)) stored h = rw other.1 at h
 
 module _ (policy : Policy) (limits : Limits) where
   -- what is stored under a target is justified
@@ -172,8 +156,7 @@ module _ (policy : Policy) (limits : Limits) where
     fewer-front : (target : List ℕ) → IsFront (without target old) new → (entry : Target) → Has new entry → Has old
         entry
     fewer-front target front entry h =
-        (Has-without target old entry (Has-take front.count (without target old) entry (subst (λ l. Has l entry)
-        front.front h))).0
+        (Has-without target old entry (Has-take front.count (without target old) entry (rw front.front at h))).0
 
     fewer-without : (target : List ℕ) → new ≡ without target old → (entry : Target) → Has new entry → Has old entry
     fewer-without target left entry h = (Has-without target old entry (subst (λ l. Has l entry) left h)).0
@@ -184,8 +167,7 @@ module _ (policy : Policy) (limits : Limits) where
     stays target stored h = before target stored (HasUnder-responses_at target old stored h)
 
     looked : (target : List ℕ) → new ≡ used target old → AreJustified (Looked target ∷ calls) new
-    looked target left other stored h =
-        weaker (λ entry k. Has-used target old entry (subst (λ l. Has l entry) left k)) other stored h
+    looked target left other stored h = weaker (λ entry k. Has-used target old entry (rw left at k)) other stored h
 
     removed : (target : List ℕ) → new ≡ without target old → AreJustified (Removed target ∷ calls) new
     removed target left other stored h =
@@ -206,16 +188,15 @@ module _ (policy : Policy) (limits : Limits) where
         inl (weaker (λ entry k. subst (λ l. Has l entry) same k) other stored h)
     arrived target came reception (inr (inl (one, allowed, kept_as, inserted))) other stored h =
         elim (under-put target (inserted.kept ++ one ∷ []) inserted.rest new inserted.put other stored h) [
-          | inl under ↦ inl (before other stored (HasUnder-weaker old inserted.rest
-              (λ entry k. (Has-without target old entry (Has-take inserted.room.count (without target old) entry
-              (subst (λ l. Has l entry) inserted.room.front k))).0) other stored under))
+          | inl under ↦ inl (before other stored (HasUnder-weaker old inserted.rest (λ entry k. (Has-without target old
+              entry (Has-take inserted.room.count (without target old) entry (rw inserted.room.front at k))).0) other
+              stored under))
           | inr is ↦ elim (Has-append inserted.kept (one ∷ []) stored is.1) [
-            | inl a ↦ inl (subst (λ t. IsJustified policy t calls stored) is.0 (stays target stored
-                (Has-rest (request_of_stored one) (responses_at target old) inserted.others inserted.beside stored
-                (Has-drop inserted.trimmed.count inserted.others stored
-                (subst (λ l. Has l stored) inserted.trimmed.left a)))))
+            | inl a ↦ inl (rw is.0 at (stays target stored (Has-rest (request_of_stored one) (responses_at target old)
+                inserted.others inserted.beside stored
+                (Has-drop inserted.trimmed.count inserted.others stored (rw inserted.trimmed.left at a)))))
             | inr b ↦ elim b [
-              | inl same ↦ inr (is.0, allowed, subst (IsStoredAs came) same kept_as)
+              | inl same ↦ inr (is.0, allowed, rw same at kept_as)
               | inr none ↦ absurd none
             ]
           ]
@@ -385,19 +366,19 @@ module _ (policy : Policy) (limits : Limits) (calls : History) (contents : Conte
       → numbered number (responses_at target contents) ≡ Some stored
   shown {stored = stored} same at = subst (λ n. numbered n (responses_at target contents) ≡ Some stored) same at
 
-  pub lookup-served : (lookup : Lookup) → IsAnswer policy most request now (responses_at target contents) lookup
+  pub lookup_served : (lookup : Lookup) → IsAnswer policy most request now (responses_at target contents) lookup
       → (number : ℕ) (age : Field) → Serves lookup number age
       → IsRightlyServed policy most target calls request now (responses_at target contents) number age
-  lookup-served (Serve named line) (inl is) number age same =
+  lookup_served (Serve named line) (inl is) number age same =
       served decisions.Serve is.place number is.found (shown same.0 is.shown) age (sym same.1 ∙ is.age)
       (is.found.decided.0, inl is.found.decided.1)
-  lookup-served (Serve named line) (inr is) number age same =
+  lookup_served (Serve named line) (inr is) number age same =
       served decisions.ServeStale is.place number is.found (shown same.0 is.shown) age (sym same.1 ∙ is.age)
       (is.found.decided.0, inr (inr is.found.decided.3))
-  lookup-served (ServeAndRevalidate named line) is number age same =
+  lookup_served (ServeAndRevalidate named line) is number age same =
       served decisions.ServeAndRevalidate is.place number is.found (shown same.0 is.shown) age (sym same.1 ∙ is.age)
       (is.found.decided.0, inr (inl is.found.decided.2))
-  lookup-served (Validate named fields) is number age none = absurd none
-  lookup-served (ValidateOrServe named fields) is number age none = absurd none
-  lookup-served Unavailable is number age none = absurd none
-  lookup-served Forward is number age none = absurd none
+  lookup_served (Validate named fields) is number age none = absurd none
+  lookup_served (ValidateOrServe named fields) is number age none = absurd none
+  lookup_served Unavailable is number age none = absurd none
+  lookup_served Forward is number age none = absurd none

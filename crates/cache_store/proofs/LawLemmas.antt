@@ -1,23 +1,15 @@
 -- What follows of each stored response that calls justify.
 use Rattle.std.proofs.Common.{◌≡◌, ℕ, Bool, true, false, List, [], ◌∷◌, ◌++◌, sym, ap, subst, codes, inl, inr, ◌∙◌}
-use Rattle.headers.specs.LineMap.{LineMap}
-use Rattle.headers.specs.Typed.{HasLine}
-use Rattle.cache_policy.specs.Directives.{directed}
-use Rattle.cache_policy.specs.Requests.{Request}
-use Rattle.cache_policy.specs.Freshness.{HasExpires}
-use Rattle.cache_policy.specs.Policies.{MayStoreUnder, Policy}
-use Rattle.cache_policy.specs.Storing.{IsSuited, StoresBy}
-use Rattle.cache_policy.specs.Targets.{governing}
-use Rattle.cache_policy.specs.declared.Governing.{Governing}
+use Rattle.headers.specs.{LineMap.LineMap, Typed.HasLine}
+use Rattle.cache_policy.specs.{Directives.directed, Requests.Request, Freshness.HasExpires, Policies.MayStoreUnder}
+use Rattle.cache_policy.specs.{Policies.Policy, Storing.IsSuited, Storing.StoresBy, Targets.governing}
+use Rattle.cache_policy.specs.{declared.Governing.Governing}
 use Rattle.cache_rules.proofs.StoringLemmas.{expires_stays, governing_stays}
 use Rattle.cache_rules.specs.Stored.{fields_of_stored, request_of_stored}
-use Rattle.cache_rules.specs.declared.storing.Reception.{Reception}
-use Rattle.cache_rules.specs.declared.stored.StoredResponse.{StoredResponse}
-use Rattle.cache_store.specs.Changes.{IsStoredAs, IsToStore}
-use Rattle.cache_store.specs.Contents.{Contents}
+use Rattle.cache_rules.specs.{declared.storing.Reception.Reception, declared.stored.StoredResponse.StoredResponse}
+use Rattle.cache_store.specs.{Changes.IsStoredAs, Changes.IsToStore, Contents.Contents, declared.limits.Limits.Limits}
 use Rattle.cache_store.specs.History.{Call, HasCome, HasUnder, History, IsJustified, Removes, Run}
 use Rattle.cache_store.specs.History.Call.{Looked, Arrived, Validated, Described, Answered, Removed}
-use Rattle.cache_store.specs.declared.limits.Limits.{Limits}
 use Rattle.cache_store.proofs.HistoryLemmas.{run-justified}
 
 -- ---- what may be stored
@@ -49,10 +41,7 @@ module _ (policy : Policy) (request : Request) (status : ℕ) (given stored : Li
       }
 
   same-stores : MayStoreUnder policy request status given → MayStoreUnder policy request status stored
-  same-stores may =
-      stores (governing policy.targets stored)
-      (subst (λ (by : Governing). StoresBy policy.kind request status given (directed request.fields) by)
-      (sym governed) may)
+  same-stores may = stores (governing policy.targets stored) (rw (← governed) at may)
 
 -- a response that may be stored may be stored as it is stored
 module _ (policy : Policy) (came stored : StoredResponse) (became : IsStoredAs came stored) where
@@ -191,16 +180,16 @@ pub stored-may-be : (policy : Policy) (limits : Limits) (calls : History) (conte
 stored-may-be policy limits calls contents ran target stored h =
     may-be policy target calls stored (run-justified policy limits calls contents ran target stored h)
 
-pub stored-came : (policy : Policy) (limits : Limits) (calls : History) (contents : Contents) → Run policy limits calls
+pub stored_came : (policy : Policy) (limits : Limits) (calls : History) (contents : Contents) → Run policy limits calls
     contents → (target : List ℕ) (stored : StoredResponse) → HasUnder contents target stored
     → HasCome target calls stored
-stored-came policy limits calls contents ran target stored h =
+stored_came policy limits calls contents ran target stored h =
     came-from policy target calls stored (run-justified policy limits calls contents ran target stored h)
 
-pub stored-since : (policy : Policy) (limits : Limits) (later : History) (call : Call) (earlier : History)
+pub stored_since : (policy : Policy) (limits : Limits) (later : History) (call : Call) (earlier : History)
     (contents : Contents) → Run policy limits (later ++ call ∷ earlier) contents → (target : List ℕ)
     → Removes target call → (stored : StoredResponse) → HasUnder contents target stored
     → IsJustified policy target later stored
-stored-since policy limits later call earlier contents ran target removes stored h =
+stored_since policy limits later call earlier contents ran target removes stored h =
     since policy target call earlier removes later stored
     (run-justified policy limits (later ++ call ∷ earlier) contents ran target stored h)

@@ -1,27 +1,19 @@
 -- What a lookup answers.
-use Rattle.std.proofs.Common.{◌≡◌, ◌≢◌, ◌≤◌, ℕ, List, Some, get_or, refl, sym, ap, subst, inl, inr, ◌∙◌}
+use Rattle.std.proofs.Common.{◌≡◌, ◌≢◌, ◌≤◌, ℕ, List, Some, get_or, refl, ap, subst, inl, inr, ◌∙◌}
 use Rattle.std.proofs.lemmas.Option.{get_or_from_slice_get}
 use Rattle.headers.specs.LineMap.{LineMap}
-use Rattle.cache_policy.specs.Decisions.{Answers, AnswersUnstored, counted}
-use Rattle.cache_policy.specs.Age.{age_at}
-use Rattle.cache_policy.specs.Directives.{directed}
-use Rattle.cache_policy.specs.Fields.{capped}
-use Rattle.cache_policy.specs.Requests.{Request}
-use Rattle.cache_policy.specs.Targets.{governing}
-use Rattle.cache_policy.specs.declared.Governing.{Governing}
-use Rattle.cache_policy.specs.declared.decision.Decision.{Decision}
-use Rattle.cache_policy.specs.declared.decision.Decision.TheVariants as decisions
-use Rattle.cache_policy.specs.Policies.{AnswersUnder, Policy}
-use Rattle.cache_rules.specs.Selection.{IsCandidate, IsMostRecent}
-use Rattle.cache_rules.specs.Stored.{fields_of_stored, times_of}
-use Rattle.cache_rules.specs.declared.stored.StoredResponse.{StoredResponse}
-use Rattle.cache_store.specs.Lookups.{HasFields, IsAnswer, IsDecisionOf, IsFound, IsFreshBy, IsFreshFor}
-use Rattle.cache_store.specs.Lookups.{IsLookupOf, freshness_of}
-use Rattle.cache_store.specs.Numbers.{numbered, times_in}
-use Rattle.cache_store.specs.declared.lookup.Lookup.{Lookup}
+use Rattle.cache_policy.specs.{Decisions.Answers, Decisions.counted, Age.age_at, Directives.directed, Fields.capped}
+use Rattle.cache_policy.specs.{Requests.Request, Targets.governing, declared.Governing.Governing}
+use Rattle.cache_policy.specs.{declared.decision.Decision.Decision, Policies.AnswersUnder, Policies.Policy}
+use Rattle.cache_rules.specs.{Selection.IsCandidate, Selection.IsMostRecent, Stored.fields_of_stored, Stored.times_of}
+use Rattle.cache_rules.specs.{declared.stored.StoredResponse.StoredResponse}
+use Rattle.cache_store.specs.Lookups.{HasFields, IsAnswer, IsDecisionOf, IsFound, IsFreshBy, IsFreshFor, IsLookupOf}
+use Rattle.cache_store.specs.Lookups.{freshness_of}
+use Rattle.cache_store.specs.{Numbers.numbered, Numbers.times_in, declared.lookup.Lookup.Lookup}
 use Rattle.cache_store.specs.declared.lookup.Lookup.TheVariants.{Serve, ServeAndRevalidate, Validate, ValidateOrServe}
 use Rattle.cache_store.specs.declared.lookup.Lookup.TheVariants.{Unavailable, Forward}
 use Rattle.cache_store.proofs.NumberLemmas.{numbered-at}
+use Rattle.cache_policy.specs.declared.decision.Decision.TheVariants as decisions
 
 -- how old a stored response is at a present
 abbrev pub age_now : ℕ → StoredResponse → ℕ
@@ -45,8 +37,7 @@ module _ (policy : Policy) (most : ℕ) (request : Request) (now : ℕ) (respons
 
   -- no other of the responses has its number
   shown : (number : ℕ) → number ≡ selected.response.number → numbered number responses ≡ Some selected.response
-  shown number same = ap (λ n. numbered n responses) same
-      ∙ numbered-at responses place selected.response distinct selected.at
+  shown number same = ap (λ n. numbered n responses) same ∙ numbered-at _ _ _ distinct selected.at
 
   answer_by : IsDecided decision → (lookup : Lookup)
       → IsLookupOf selected.response (age_now now selected.response) decision lookup
@@ -94,16 +85,11 @@ module _ (policy : Policy) (most : ℕ) (request : Request) (now : ℕ) (respons
     same_stored = at ∙ get_or_from_slice_get responses place selected.response stored selected.at
 
     is_decided : IsDecided decision
-    is_decided =
-        subst (λ s. IsDecisionOf policy most request.fields (age_now now s) s decision) same_stored
-        (subst (λ a. IsDecisionOf policy most request.fields a stored decision) aged decides)
+    is_decided = rw same_stored at (rw aged at decides)
 
     pub answer_decided : (lookup : Lookup) → IsLookupOf stored age decision lookup
         → IsAnswer policy most request now responses lookup
-    answer_decided lookup is =
-        answer_by is_decided lookup
-        (subst (λ s. IsLookupOf s (age_now now s) decision lookup) same_stored
-        (subst (λ a. IsLookupOf stored a decision lookup) aged is))
+    answer_decided lookup is = answer_by is_decided lookup (rw same_stored at (rw aged at is))
 
     pub has_fields : decision ≢ decisions.Unavailable → HasFields policy most request now responses
     has_fields other = (decision, place, found_as is_decided decision refl, other)
@@ -118,21 +104,6 @@ pub decision-by : (policy : Policy) (most : ℕ) (request : LineMap) (age : ℕ)
     → IsDecisionOf policy most request age stored decision
 decision-by policy most request age stored decision by is lifetime fresh_by answers = (
   lifetime,
-  subst (λ b. IsFreshBy policy.kind b most stored lifetime) is fresh_by,
-  subst
-      (λ b. Answers policy.kind
-      (counted policy.immutable (directed request) b.directives (record { lifetime = lifetime; age = age }))
-      b.directives (record { lifetime = lifetime; age = age }) decision)
-      is answers,
+  rw is at fresh_by,
+  rw is at answers,
 )
-
--- a request that no stored response suits is forwarded, if it isn't 504
-pub unstored_forwards : (request : Request) (decision : Decision) → AnswersUnstored request decision
-    → decision ≢ decisions.Unavailable → AnswersUnstored request decisions.Fetch
-unstored_forwards request decisions.Serve is other = absurd is
-unstored_forwards request decisions.ServeAndRevalidate is other = absurd is
-unstored_forwards request decisions.ServeStale is other = absurd is
-unstored_forwards request decisions.Revalidate is other = absurd is
-unstored_forwards request decisions.RevalidateOrServe is other = absurd is
-unstored_forwards request decisions.Unavailable is other = absurd (other refl)
-unstored_forwards request decisions.Fetch is other = is

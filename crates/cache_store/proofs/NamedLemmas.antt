@@ -1,6 +1,5 @@
 -- The targets that field lines name, line by line.
-use Rattle.std.proofs.Common.{◌≡◌, List, [], ◌∷◌, ◌++◌, Option, refl, sym, ap}
-use Rattle.std.proofs.Common.{subst, append_assoc, option_to_list, ◌∙◌}
+use Rattle.std.proofs.Common.{◌≡◌, List, [], ◌∷◌, ◌++◌, Option, refl, sym, ap, subst, append_assoc, option_to_list, ◌∙◌}
 use Rattle.std.proofs.lemmas.List.{append-nil}
 use Rattle.url.specs.Parts.{Parts}
 use Rattle.headers.specs.Lines.{Line}

@@ -4,26 +4,25 @@ use Rattle.std.proofs.Common.{inl, inr, ◌∙◌}
 use Rattle.std.proofs.lemmas.Bool.{cases_lt}
 use Rattle.cache_policy.specs.Policies.{Policy}
 use Rattle.cache_rules.specs.declared.stored.StoredResponse.{StoredResponse}
-use Rattle.cache_store.specs.Contents.{Contents, Target, responses_at}
+use Rattle.cache_store.specs.{Contents.Contents, Contents.Target, Contents.responses_at, declared.limits.Limits.Limits}
 use Rattle.cache_store.specs.History.{Has, HasUnder, History, RunFrom, State}
 use Rattle.cache_store.specs.Numbers.{AreNumbered, numbered, times_in, times_used}
-use Rattle.cache_store.specs.declared.limits.Limits.{Limits}
 use Rattle.cache_store.proofs.HistoryLemmas.{HasUnder-responses_at}
 use Rattle.cache_store.proofs.NumberLemmas.{Has-numbered, times-cons, times-has, used-cons}
 
 -- ---- a run
 
-pub run-kept : (policy : Policy) (limits : Limits) (first : State) (calls : History) (last : State)
+pub run_kept : (policy : Policy) (limits : Limits) (first : State) (calls : History) (last : State)
     → RunFrom policy limits first calls last
     → (first.next ≤ last.next) × ((target : List ℕ) (stored : StoredResponse) → HasUnder last.contents target stored
     → stored.number < first.next → HasUnder first.contents target stored)
-run-kept policy limits first [] last same = (
+run_kept policy limits first [] last same = (
   omega (arith, ap (λ (s : State). s.next) same),
   λ target stored h old.
       subst (λ (s : State). HasUnder s.contents target stored) same h,
 )
-run-kept policy limits first (call ∷ calls) last (before, ran, step, goes, are) =
-    let earlier = run-kept policy limits first calls before ran in (
+run_kept policy limits first (call ∷ calls) last (before, ran, step, goes, are) =
+    let earlier = run_kept policy limits first calls before ran in (
       omega (arith, earlier.0, goes.rises),
       λ target stored h old. elim (goes.kept target stored h) [
         | inl under ↦ earlier.1 target stored under old
@@ -77,16 +76,15 @@ module _ (number : ℕ) where
   one-in [] e f a b once none among_a at_f among_b is_a is_b = absurd none
   one-in (first ∷ contents) e f a b once (inl here) among_a (inl too) among_b is_a is_b = (
     ap (λ (t : Target). t.0) (sym here ∙ too),
-    unique-in number first.1 a b (omega (arith, once, used-cons number first contents))
-        (subst (λ (t : Target). Has t.1 a) (sym here) among_a) (subst (λ (t : Target). Has t.1 b) (sym too) among_b)
-        is_a is_b,
+    unique-in number first.1 a b (omega (arith, once, used-cons number first contents)) (rw (← here) at among_a)
+        (rw (← too) at among_b) is_a is_b,
   )
   one-in (first ∷ contents) e f a b once (inl here) among_a (inr there) among_b is_a is_b =
       absurd (omega (
         arith,
         once,
         used-cons number first contents,
-        times-has number first.1 a (subst (λ (t : Target). Has t.1 a) (sym here) among_a) is_a,
+        times-has number first.1 a (rw (← here) at among_a) is_a,
         used-has contents f b there among_b is_b,
       ))
   one-in (first ∷ contents) e f a b once (inr there) among_a (inl here) among_b is_a is_b =
@@ -94,7 +92,7 @@ module _ (number : ℕ) where
         arith,
         once,
         used-cons number first contents,
-        times-has number first.1 b (subst (λ (t : Target). Has t.1 b) (sym here) among_b) is_b,
+        times-has number first.1 b (rw (← here) at among_b) is_b,
         used-has contents e a there among_a is_a,
       ))
   one-in (first ∷ contents) e f a b once (inr one) among_a (inr other) among_b is_a is_b =
@@ -111,12 +109,12 @@ below-next next contents are target stored h = elim (cases_lt stored.number next
   ))
 ]
 
-pub run-shows : (policy : Policy) (limits : Limits) (first : State) (calls : History) (last : State)
+pub run_shows : (policy : Policy) (limits : Limits) (first : State) (calls : History) (last : State)
     → AreNumbered first.next first.contents → RunFrom policy limits first calls last
     → (target : List ℕ) (stored : StoredResponse) → HasUnder first.contents target stored → (other : List ℕ)
     → (numbered stored.number (responses_at other last.contents) ≡ None)
     ⊎ ((other ≡ target) × (numbered stored.number (responses_at other last.contents) ≡ Some stored))
-run-shows policy limits first calls last are ran target stored h other =
+run_shows policy limits first calls last are ran target stored h other =
     by_found (numbered stored.number (responses_at other last.contents)) refl
   where
     by_found : (found : Option StoredResponse) → numbered stored.number (responses_at other last.contents) ≡ found
@@ -127,7 +125,7 @@ run-shows policy limits first calls last are ran target stored h other =
         let has = Has-numbered (responses_at other last.contents) stored.number shown at in
         let under = HasUnder-responses_at other last.contents shown has.0 in
         let below = below-next first.next first.contents are target stored h in
-        let was = (run-kept policy limits first calls last ran).1 other shown under (omega (arith, below, has.1)) in
+        let was = (run_kept policy limits first calls last ran).1 other shown under (omega (arith, below, has.1)) in
         let one = one-in stored.number first.contents (other, was.responses) (target, h.responses) shown stored
         (are.once stored.number) was.at was.among h.at h.among has.1 refl in
         inr (one.0, at ∙ ap Some one.1)

@@ -1,13 +1,11 @@
 -- Which response a number names.
-use Rattle.std.proofs.Common.{◌≡◌, ◌≢◌, ◌⊎◌, ◌==◌, ℕ, zero, suc, ◌+◌, ◌-◌, ◌<◌, ◌≤◌, Bool, true, false, cond, List, []}
-use Rattle.std.proofs.Common.{◌∷◌, ◌++◌, Option, Some, None, refl, sym, ap, subst, arith, inl, inr, slice_get, remove}
-use Rattle.std.proofs.Common.{length, get_or, option_to_list, take, drop, ◌∙◌}
-use Rattle.std.proofs.lemmas.Bool.{cases_lt}
+use Rattle.std.proofs.Common.{◌≡◌, ◌≢◌, ℕ, zero, suc, ◌+◌, ◌-◌, ◌<◌, ◌≤◌, Bool, true, false, cond, List, [], ◌∷◌, ◌++◌}
+use Rattle.std.proofs.Common.{Option, Some, None, refl, sym, ap, arith, inl, inr, slice_get, remove, length, get_or}
+use Rattle.std.proofs.Common.{option_to_list, take, drop, ◌∙◌}
+use Rattle.std.proofs.{lemmas.Bool.cases_lt, lemmas.Option.same_Some}
 use Rattle.std.proofs.lemmas.List.Sums.{sum_by-append, sum_by-cons, sum_by-remove, sum_by-take-drop}
-use Rattle.std.proofs.lemmas.Option.{same_Some}
 use Rattle.cache_rules.specs.declared.stored.StoredResponse.{StoredResponse}
-use Rattle.cache_store.specs.Contents.{Contents, Target, is_for, responses_at}
-use Rattle.cache_store.specs.History.{Has, HasUnder}
+use Rattle.cache_store.specs.{Contents.Contents, Contents.Target, Contents.is_for, Contents.responses_at, History.Has}
 use Rattle.cache_store.specs.Numbers.{AreNumbered, AreNumberedWith, AreRenumbered, IsSameOrNumbered, has_number}
 use Rattle.cache_store.specs.Numbers.{numbered, times_in, times_used}
 

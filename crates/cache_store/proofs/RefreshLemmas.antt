@@ -7,24 +7,17 @@ use Rattle.std.proofs.lemmas.List.Elements.{Contains-get_or}
 use Rattle.std.proofs.lemmas.Option.{get_or_from_slice_get, slice_get_within}
 use Rattle.std.specs.List.{Contains}
 use Rattle.headers.specs.LineMap.{Field, LineMap}
-use Rattle.cache_policy.specs.Requests.{Request}
-use Rattle.cache_policy.specs.Updating.{IsUpdated}
-use Rattle.cache_policy.specs.Policies.{Policy}
-use Rattle.cache_rules.specs.Fields.{IsTooSmallFor}
+use Rattle.cache_policy.specs.{Requests.Request, Policies.Policy}
+use Rattle.cache_rules.specs.{Fields.IsTooSmallFor, Identifying.IsUpdatedAnswer, declared.freshening.Exchange.Exchange}
+use Rattle.cache_rules.specs.{declared.stored.StoredResponse.StoredResponse}
 use Rattle.cache_rules.specs.Freshening.{IsFreshened, IsFreshenedAs, IsReusable}
-use Rattle.cache_rules.specs.Identifying.{IsUpdatedAnswer}
-use Rattle.cache_rules.specs.Stored.{fields_of_stored}
-use Rattle.cache_rules.specs.declared.freshening.Exchange.{Exchange}
-use Rattle.cache_rules.specs.declared.freshening.Freshened.TheVariants as outcomes
-use Rattle.cache_rules.specs.declared.stored.StoredResponse.{StoredResponse}
-use Rattle.cache_store.specs.Changes.{IsLetGo, IsRefreshed, IsRefreshedByHead, IsRefreshedTo, IsRestored}
-use Rattle.cache_store.specs.Changes.{IsUnrefreshed}
+use Rattle.cache_store.specs.Changes.{IsLetGo, IsRefreshed, IsRefreshedByHead, IsRefreshedTo, IsRestored, IsUnrefreshed}
 use Rattle.cache_store.specs.Contents.{Contents, responses_at, with_target, without}
-use Rattle.cache_store.specs.Numbers.{renumbered}
+use Rattle.cache_store.specs.{Numbers.renumbered, declared.freshening.Refreshed.Refreshed}
 use Rattle.cache_store.specs.Updates.{AreLeft, Becomes, IsOneTooSmallFor}
 use Rattle.cache_store.specs.declared.updating.By.TheVariants.{NotModified, Head}
-use Rattle.cache_store.specs.declared.freshening.Refreshed.{Refreshed}
 use Rattle.cache_store.specs.declared.freshening.Refreshed.TheVariants.{Absent, Unchanged, Stored, Once}
+use Rattle.cache_rules.specs.declared.freshening.Freshened.TheVariants as outcomes
 
 -- the place of the response that answers
 pub within : (request : Request) (update : LineMap) (all : List StoredResponse) (place : ℕ)
@@ -35,8 +28,7 @@ within request update all place answers = slice_get_within all place answers.1.r
 pub within_taken : (request : Request) (update : LineMap) (all given taken : List StoredResponse) (place : ℕ)
     → given ≡ all → taken ≡ all → IsUpdatedAnswer request update given (Some place) → place < length taken
 within_taken request update all given taken place is_given is_taken answers =
-    subst (λ l. place < length l) (sym is_taken)
-    (within request update all place (subst (λ l. IsUpdatedAnswer request update l (Some place)) is_given answers))
+    rw (← is_taken) at (within request update all place (rw is_given at answers))
 
 -- one less is left
 pub one_less : (taken these : List StoredResponse) (place : ℕ) → place < length taken → these ≡ remove taken place
@@ -50,8 +42,7 @@ module _ (all taken : List StoredResponse) (place : ℕ) (fields : List Field) (
   one_too_small one inside at small =
       record {
         stored = one;
-        among = subst (Contains all) (sym (at ∙ ap (λ l. get_or l place one) is_taken))
-            (Contains-get_or all place one inside);
+        among = rw (← (at ∙ ap (λ l. get_or l place one) is_taken)) at (Contains-get_or all place one inside);
         small = small;
       }
 
@@ -113,11 +104,8 @@ module _ (policy own : Policy) (target : List ℕ) (request : Request) (update :
           place = place;
           identified = answers.0;
           selected = answers.1;
-          freshened = subst (λ s. IsFreshened s update exchange kept) is_d freshened;
-          beside = subst (λ l. AreLeft (λ one. Becomes policy request update exchange one NotModified) l left)
-              (is_rest ∙ ap (λ l. remove l place) is_taken)
-              (subst (λ k. AreLeft (λ one. Becomes k request update exchange one NotModified) rest left) is_own
-              are_left);
+          freshened = rw is_d at freshened;
+          beside = rw (is_rest ∙ ap (λ l. remove l place) is_taken) at (rw is_own at are_left);
         }
 
     module _ (n : ℕ) (kept : StoredResponse) (is_kept : kept ≡ renumbered n fresh) where
@@ -128,8 +116,7 @@ module _ (policy own : Policy) (target : List ℕ) (request : Request) (update :
             fresh = renumbered n fresh;
             left = left;
             refreshed = refreshed (renumbered n fresh) (freshened_numbered d update exchange n fresh freshened.1);
-            reusable = reusable_numbered policy request update n fresh
-                (subst (λ k. IsReusable k request update fresh) is_own freshened.2);
+            reusable = reusable_numbered policy request update n fresh (rw is_own at freshened.2);
             at = refl;
             put = put ∙ ap (λ c. (target, left ++ kept ∷ []) ∷ c) is_other
                 ∙ ap (λ s. (target, left ++ s ∷ []) ∷ without target old) is_kept;
@@ -141,16 +128,14 @@ module _ (policy own : Policy) (target : List ℕ) (request : Request) (update :
           subst (IsLetGo policy target request update exchange old new) (sym is_kept) (record {
             left = left;
             refreshed = refreshed (renumbered n fresh) (freshened_numbered d update exchange n fresh freshened.1);
-            unusable = λ is. freshened.2 (subst (λ k. IsReusable k request update fresh) (sym is_own)
-                (reusable_unnumbered policy request update n fresh is));
+            unusable = λ is. freshened.2 (rw (← is_own) at (reusable_unnumbered policy request update n fresh is));
             put = put ∙ ap (λ c. with_target target left c) is_other;
           })
 
     -- the response that answers is updated, so it doesn't stay as it was
     pub not_unchanged : {other_fresh : StoredResponse} → IsFreshenedAs own d request update exchange (outcomes.Unchanged
         other_fresh) → ⊥
-    not_unchanged freshened =
-        freshened.0 (subst (λ s. IsUpdated (fields_of_stored s) update) (sym is_d) answers.1.is.1)
+    not_unchanged freshened = freshened.0 (rw (← is_d) at answers.1.is.1)
 
 -- what a 304 that updates none leaves
 pub none_refreshed : (policy : Policy) (target : List ℕ) (request : Request) (update : LineMap) (exchange : Exchange)
@@ -172,7 +157,6 @@ head_refreshed policy own target request update exchange old new other taken lef
     put =
     record {
       left = left;
-      each = subst (λ l. AreLeft (λ one. Becomes policy request update exchange one Head) l left) is_taken
-          (subst (λ k. AreLeft (λ one. Becomes k request update exchange one Head) taken left) is_own are_left);
+      each = rw is_taken at (rw is_own at are_left);
       put = put ∙ ap (λ c. with_target target left c) is_other;
     }

@@ -1,25 +1,16 @@
 -- What a new response takes away.
-use Rattle.std.proofs.Common.{◌≡◌, ◌≢◌, ℕ, ◌+◌, ◌-◌, ◌<◌, ◌≤◌, List, [], ◌∷◌, ◌++◌, drop}
-use Rattle.std.proofs.Common.{length, get_or, Result, Option, Ok, Some}
-use Rattle.std.proofs.Common.{refl, sym, ap, subst, arith, remove, inl, inr}
-use Rattle.std.proofs.Common.{◌∙◌}
-use Rattle.std.proofs.lemmas.List.{drop-drop}
-use Rattle.std.proofs.lemmas.List.Sums.{sum_by-take-drop, sum_by-remove}
-use Rattle.std.proofs.lemmas.Option.{get_or_from_slice_get}
+use Rattle.std.proofs.Common.{◌≡◌, ◌≢◌, ℕ, ◌+◌, ◌-◌, ◌<◌, List, [], ◌∷◌, ◌++◌, drop, length, get_or, Result, Option, Ok}
+use Rattle.std.proofs.Common.{Some, refl, sym, ap, subst, arith, remove, inl, inr, ◌∙◌}
+use Rattle.std.proofs.{lemmas.List.drop-drop, lemmas.List.Sums.sum_by-remove, lemmas.Option.get_or_from_slice_get}
 use Rattle.cache_policy.specs.Requests.{Request}
 use Rattle.cache_rules.specs.Selection.{IsCandidate, IsMostRecent}
-use Rattle.cache_rules.specs.Stored.{request_of_stored}
-use Rattle.cache_rules.specs.declared.stored.StoredResponse.{StoredResponse}
+use Rattle.cache_rules.specs.{Stored.request_of_stored, declared.stored.StoredResponse.StoredResponse}
 use Rattle.cache_store.specs.Changes.{FitsAlone, IsInserted, IsRest, IsTrimmed}
 use Rattle.cache_store.specs.Contents.{Contents, IsAbsent, bytes_of, responses_at, size_of, without}
-use Rattle.cache_store.specs.Room.{IsLongestWithRoom}
+use Rattle.cache_store.specs.{Room.IsLongestWithRoom, declared.limits.Limits.Limits}
 use Rattle.cache_store.proofs.EntryLemmas.{IsAbsent-take, IsAbsent-without}
-use Rattle.cache_store.specs.declared.limits.Limits.{Limits}
 
 -- ---- bytes
-
-pub bytes_of-drop : (n : ℕ) (xs : List StoredResponse) → bytes_of (drop n xs) ≤ bytes_of xs
-bytes_of-drop n xs = omega (arith, sum_by-take-drop size_of xs n)
 
 pub bytes_of-remove : (xs : List StoredResponse) (i : ℕ) (d : StoredResponse) → i < length xs → bytes_of (remove xs i)
     + size_of (get_or xs i d) ≡ bytes_of xs
@@ -91,8 +82,7 @@ pub absent_rest : {limits : Limits} {count bytes : ℕ} (target : List ℕ) (old
     target old
     → IsLongestWithRoom limits count bytes other rest → IsAbsent target rest
 absent_rest target old other rest is_other room =
-    subst (IsAbsent target) (sym room.front)
-    (IsAbsent-take target room.count other (subst (IsAbsent target) (sym is_other) (IsAbsent-without target old)))
+    rw (← room.front) at (IsAbsent-take target room.count other (rw (← is_other) at (IsAbsent-without target old)))
 
 -- the numbers are those of the code
 pub inserted : (limits own : Limits) (target : List ℕ) (new : StoredResponse) (old other rest contents : Contents)
@@ -104,19 +94,16 @@ pub inserted : (limits own : Limits) (target : List ℕ) (new : StoredResponse) 
     → contents ≡ (target, kept ++ new ∷ []) ∷ rest → IsInserted limits target new old contents
 inserted limits own target new old other rest contents taken others kept request size count bytes
     is_own is_other is_taken is_request beside is_size trimmed is_count is_bytes room put =
-    let room_by_limits = subst (λ l. IsLongestWithRoom l count bytes other rest) is_own room in
-    let room_by_count = subst (λ n. IsLongestWithRoom limits n bytes other rest) is_count room_by_limits in
-    let room_by_bytes = subst (λ n. IsLongestWithRoom limits (length kept + 1) n other rest) is_bytes room_by_count in
+    let room_by_limits = rw is_own at room in
+    let room_by_count = rw is_count at room_by_limits in
+    let room_by_bytes = rw is_bytes at room_by_count in
     record {
       others = others;
       kept = kept;
       rest = rest;
-      beside = subst (λ l. IsRest (request_of_stored new) l others) is_taken (subst (λ r. IsRest r taken others)
-          is_request beside);
-      trimmed = subst (λ n. IsTrimmed limits n others kept) is_size (subst (λ l. IsTrimmed l size others kept) is_own
-          trimmed);
-      room = subst (λ l. IsLongestWithRoom limits (length kept + 1) (bytes_of kept + size_of new) l rest) is_other
-          room_by_bytes;
+      beside = rw is_taken at (rw is_request at beside);
+      trimmed = rw is_size at (rw is_own at trimmed);
+      room = rw is_other at room_by_bytes;
       put = put;
     }
 

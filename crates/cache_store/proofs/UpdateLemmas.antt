@@ -1,26 +1,19 @@
 -- What is left of stored responses that another one validates.
 use Rattle.std.proofs.Common.{◌≡◌, ℕ, ◌+◌, ◌<◌, ◌≤◌, List, [], ◌∷◌, ◌++◌, length, Option, Some, None, refl, sym, ap}
 use Rattle.std.proofs.Common.{subst, arith, append_assoc, inl, inr, remove, get_or, option_to_list, length-append, ◌∙◌}
-use Rattle.std.proofs.lemmas.List.{append-nil}
-use Rattle.std.proofs.lemmas.List.Edits.{length-remove}
-use Rattle.std.proofs.lemmas.List.Elements.{All-head}
+use Rattle.std.proofs.{lemmas.List.append-nil, lemmas.List.Edits.length-remove, lemmas.List.Elements.All-head}
 use Rattle.std.proofs.lemmas.List.Sums.{sum_by-append, sum_by-cons}
 use Rattle.std.specs.List.{All, Contains}
 use Rattle.headers.specs.LineMap.{Field, LineMap}
-use Rattle.cache_policy.specs.Requests.{Request}
-use Rattle.cache_policy.specs.Policies.{Policy}
-use Rattle.cache_rules.specs.Fields.{IsTooSmallFor}
-use Rattle.cache_rules.specs.Freshening.{IsFreshened, IsFreshenedAs}
-use Rattle.cache_rules.specs.declared.freshening.Exchange.{Exchange}
-use Rattle.cache_rules.specs.declared.freshening.Freshened.TheVariants as outcomes
-use Rattle.cache_rules.specs.declared.stored.StoredResponse.{StoredResponse}
+use Rattle.cache_policy.specs.{Requests.Request, Policies.Policy}
+use Rattle.cache_rules.specs.{Fields.IsTooSmallFor, Freshening.IsFreshened, Freshening.IsFreshenedAs}
+use Rattle.cache_rules.specs.{declared.freshening.Exchange.Exchange, declared.stored.StoredResponse.StoredResponse}
 use Rattle.cache_store.specs.Contents.{Contents, bytes_of, size_of}
-use Rattle.cache_store.specs.Room.{HasRoom}
+use Rattle.cache_store.specs.{Room.HasRoom, declared.limits.Limits.Limits, declared.updating.By.By}
 use Rattle.cache_store.specs.Updates.{AreLeft, Becomes, BecomesUpdated, IsOneTooSmallFor}
-use Rattle.cache_store.specs.declared.limits.Limits.{Limits}
-use Rattle.cache_store.specs.declared.updating.By.{By}
 use Rattle.cache_store.specs.declared.updating.By.TheVariants.{NotModified, Head}
 use Rattle.cache_store.proofs.StoringLemmas.{bytes_of-remove}
+use Rattle.cache_rules.specs.declared.freshening.Freshened.TheVariants as outcomes
 
 module _ (B : StoredResponse → Option StoredResponse → Type 0) (all : List StoredResponse) where
   -- whatever is left of the others, this is left before it

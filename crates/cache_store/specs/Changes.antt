@@ -2,22 +2,16 @@
 use Rattle.std.specs.Prelude.{◌≡◌, ◌≢◌, ◌⊎◌, ℕ, ◌+◌, ◌-◌, ◌<◌, ◌≤◌, List, [], ◌∷◌, ◌++◌, Some, None, length, take, drop}
 use Rattle.std.specs.Prelude.{remove}
 use Rattle.headers.specs.LineMap.{LineMap}
-use Rattle.cache_policy.specs.Requests.{Request}
-use Rattle.cache_policy.specs.Policies.{Policy}
-use Rattle.cache_rules.specs.Fields.{IsTooSmallFor}
+use Rattle.cache_policy.specs.{Requests.Request, Policies.Policy}
+use Rattle.cache_rules.specs.{Fields.IsTooSmallFor, Identifying.IsIdentified, declared.freshening.Exchange.Exchange}
+use Rattle.cache_rules.specs.{declared.storing.Reception.Reception, declared.stored.StoredResponse.StoredResponse}
 use Rattle.cache_rules.specs.Freshening.{IsFreshened, IsReusable}
-use Rattle.cache_rules.specs.Identifying.{IsIdentified}
 use Rattle.cache_rules.specs.Selection.{IsCandidate, IsMostRecent, IsSelected, IsSought}
 use Rattle.cache_rules.specs.Stored.{fields_of_stored, request_of_stored}
 use Rattle.cache_rules.specs.Storing.{IsAsStored, IsStored, storing_fields}
-use Rattle.cache_rules.specs.declared.freshening.Exchange.{Exchange}
-use Rattle.cache_rules.specs.declared.storing.Reception.{Reception}
-use Rattle.cache_rules.specs.declared.stored.StoredResponse.{StoredResponse}
 use Rattle.cache_store.specs.Contents.{Contents, bytes_of, responses_at, size_of, with_target, without}
-use Rattle.cache_store.specs.Room.{IsLongestWithRoom}
-use Rattle.cache_store.specs.Updates.{AreLeft, BecomesBeside, BecomesByHead}
-use Rattle.cache_store.specs.declared.limits.Limits.{Limits}
-use Rattle.cache_store.specs.declared.freshening.Refreshed.{Refreshed}
+use Rattle.cache_store.specs.{Room.IsLongestWithRoom, Updates.AreLeft, Updates.BecomesBeside, Updates.BecomesByHead}
+use Rattle.cache_store.specs.{declared.limits.Limits.Limits, declared.freshening.Refreshed.Refreshed}
 use Rattle.cache_store.specs.declared.freshening.Refreshed.TheVariants.{Absent, Unchanged, Stored, Once}
 
 -- the first targets of these, in their order: what an error leaves

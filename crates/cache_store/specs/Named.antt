@@ -1,13 +1,8 @@
 -- The targets in the fields of a response (RFC 9111, section 4.4).
 use Rattle.std.specs.Prelude.{◌≡◌, ℕ, List, [], ◌∷◌, ◌++◌, Option, Some, None, IsSome, Ok, MatchResult, codes}
 use Rattle.std.specs.Prelude.{option_to_list}
-use Rattle.url.specs.Origin.{origin_of}
-use Rattle.url.specs.Parser.{parse_url}
-use Rattle.url.specs.Parts.{Parts}
-use Rattle.url.specs.Setters.{set_fragment}
-use Rattle.headers.specs.LineMap.{LineMap}
-use Rattle.headers.specs.Lines.{Line}
-use Rattle.headers.specs.Shapes.{text_line}
+use Rattle.url.specs.{Origin.origin_of, Parser.parse_url, Parts.Parts, Setters.set_fragment}
+use Rattle.headers.specs.{LineMap.LineMap, Lines.Line, Shapes.text_line}
 
 -- both URLs have the same origin, and it is one of scheme, host and port (RFC 9110, section 4.3.1)
 abbrev pub IsSameOrigin : Parts → Parts → Type 0

@@ -1,16 +1,11 @@
 -- What is served of a store (RFC 9111, section 4).
 use Rattle.std.specs.Prelude.{◌≡◌, ℕ, List, Some}
 use Rattle.headers.specs.LineMap.{Field, field_of}
-use Rattle.cache_policy.specs.Decisions.{IsGoodEnough}
-use Rattle.cache_policy.specs.Policies.{Policy, asks, tells}
-use Rattle.cache_policy.specs.Requests.{Request}
-use Rattle.cache_rules.specs.Selection.{IsCandidate}
-use Rattle.cache_rules.specs.Stored.{fields_of_stored}
-use Rattle.cache_rules.specs.declared.stored.StoredResponse.{StoredResponse}
-use Rattle.cache_store.specs.History.{History, IsJustified}
+use Rattle.cache_policy.specs.{Decisions.IsGoodEnough, Policies.Policy, Policies.asks, Policies.tells, Requests.Request}
+use Rattle.cache_rules.specs.{Selection.IsCandidate, Stored.fields_of_stored}
+use Rattle.cache_rules.specs.{declared.stored.StoredResponse.StoredResponse}
+use Rattle.cache_store.specs.{History.History, History.IsJustified, Numbers.numbered, declared.lookup.Lookup.Lookup}
 use Rattle.cache_store.specs.Lookups.{IsFreshFor, age_of_stored, freshness_of}
-use Rattle.cache_store.specs.Numbers.{numbered}
-use Rattle.cache_store.specs.declared.lookup.Lookup.{Lookup}
 use Rattle.cache_store.specs.declared.lookup.Lookup.TheVariants.{Serve, ServeAndRevalidate, Validate, ValidateOrServe}
 use Rattle.cache_store.specs.declared.lookup.Lookup.TheVariants.{Unavailable, Forward}
 

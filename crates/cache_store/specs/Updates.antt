@@ -2,15 +2,10 @@
 use Rattle.std.specs.Prelude.{◌≡◌, ◌⊎◌, List, [], ◌++◌, ◌∷◌, Option, Some, None, codes, option_to_list}
 use Rattle.std.specs.List.{Contains}
 use Rattle.headers.specs.LineMap.{Field, LineMap}
-use Rattle.cache_policy.specs.Requests.{Request}
-use Rattle.cache_policy.specs.Updating.{HasStrongTag}
-use Rattle.cache_policy.specs.Policies.{Policy}
-use Rattle.cache_rules.specs.Fields.{IsTooSmallFor}
+use Rattle.cache_policy.specs.{Requests.Request, Updating.HasStrongTag, Policies.Policy}
+use Rattle.cache_rules.specs.{Fields.IsTooSmallFor, Selection.IsCandidate, Selection.IsSought, Stored.fields_of_stored}
+use Rattle.cache_rules.specs.{declared.freshening.Exchange.Exchange, declared.stored.StoredResponse.StoredResponse}
 use Rattle.cache_rules.specs.Freshening.{IsFreshened, IsHeadOf, IsReusable}
-use Rattle.cache_rules.specs.Selection.{IsCandidate, IsSought}
-use Rattle.cache_rules.specs.Stored.{fields_of_stored}
-use Rattle.cache_rules.specs.declared.freshening.Exchange.{Exchange}
-use Rattle.cache_rules.specs.declared.stored.StoredResponse.{StoredResponse}
 use Rattle.cache_store.specs.declared.updating.By.{By}
 use Rattle.cache_store.specs.declared.updating.By.TheVariants.{NotModified, Head}
 

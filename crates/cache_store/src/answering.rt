@@ -2,9 +2,7 @@
 ghost use Rattle.std.specs.Prelude.{◌≡◌, None, IfOk, IsSomeAnd, OnErr, MatchOption};
 ghost use Rattle.cache_policy.specs.Requests.{request_of};
 ghost use Rattle.cache_rules.specs.Conditions.{IsStoredAnswer};
-ghost use Rattle.cache_store.specs.Contents.{responses_at};
-ghost use Rattle.cache_store.specs.Kept.{contents_of};
-ghost use Rattle.cache_store.specs.Numbers.{numbered};
+ghost use Rattle.cache_store.specs.{Contents.responses_at, Kept.contents_of, Numbers.numbered};
 
 use crate::store::Store;
 use cache_policy::RequestHead;

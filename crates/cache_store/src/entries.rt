@@ -1,9 +1,8 @@
 //! What the calls of a store do to its entries.
 ghost use Rattle.std.specs.Prelude.{◌≡◌, ℕ, ◌+◌, ◌-◌, ◌<◌, ◌≤◌, ◌^◌, ◌∷◌, ◌++◌, [], IfOk, OnOk, OnErr, length, take};
 ghost use Rattle.cache_store.specs.Contents.{IsAbsent, bytes_of, responses_at, size_of, with_target, without};
-ghost use Rattle.cache_store.specs.Kept.{contents_of, policy_of_store};
+ghost use Rattle.cache_store.specs.{Kept.contents_of, Kept.policy_of_store, Room.HasRoom, Room.IsLongestWithRoom};
 ghost use Rattle.cache_store.specs.Numbers.{AreNumberedWith, times_in, times_used};
-ghost use Rattle.cache_store.specs.Room.{HasRoom, IsLongestWithRoom};
 
 use crate::store::Store;
 use cache_rules::StoredResponse;

@@ -2,15 +2,11 @@
 ghost use Rattle.std.specs.Prelude.{◌≡◌, ◌<◌, IfOk, IsErrOf, OnErr, OnOk, length};
 ghost use Rattle.headers.specs.LineMap.{lines_at};
 ghost use Rattle.cache_policy.specs.Requests.{request_of};
-ghost use Rattle.cache_rules.specs.Freshening.{renewing_fields};
-ghost use Rattle.cache_rules.specs.Identifying.{IsIdentified};
-ghost use Rattle.cache_rules.specs.Selection.{IsSomewhere};
+ghost use Rattle.cache_rules.specs.{Freshening.renewing_fields, Identifying.IsIdentified, Selection.IsSomewhere};
 ghost use Rattle.cache_store.specs.Changes.{IsRefreshed, IsRefreshedByHead, IsUnrefreshed};
-ghost use Rattle.cache_store.specs.Contents.{responses_at, without};
-ghost use Rattle.cache_store.specs.History.Call.{Described, Validated};
-ghost use Rattle.cache_store.specs.History.{GoOn, Step};
-ghost use Rattle.cache_store.specs.Kept.{contents_of, policy_of_store};
-ghost use Rattle.cache_store.specs.Updates.{IsOneTooSmallFor};
+ghost use Rattle.cache_store.specs.{Contents.responses_at, Contents.without, History.Call.Described};
+ghost use Rattle.cache_store.specs.{History.Call.Validated, History.GoOn, History.Step, Kept.contents_of};
+ghost use Rattle.cache_store.specs.{Kept.policy_of_store, Updates.IsOneTooSmallFor};
 
 use crate::store::Store;
 use crate::updating::{By, left_of, renumber};
@@ -53,8 +49,8 @@ impl Store {
     /// removed.
     ///
     /// Fails only if an allocation fails, if no numbers are left, or with `InsertError::Full` if
-    /// the map of a response that is stored under the target has no room for the fields. Each needs a stored response that the 304
-    /// updates. Then nothing is stored under the target.
+    /// the map of a response that is stored under the target has no room for the fields. Each needs
+    /// a stored response that the 304 updates. Then nothing is stored under the target.
     pub fn freshen(
         &mut self,
         alloc: Global,
@@ -109,8 +105,8 @@ impl Store {
     /// forbid the reuse, the stored response is removed.
     ///
     /// Fails only if an allocation fails, if no numbers are left, or with `InsertError::Full` if
-    /// the map of a response that is stored under the target has no room for the fields. Each needs a stored response of the target.
-    /// Then nothing is stored under the target.
+    /// the map of a response that is stored under the target has no room for the fields. Each needs
+    /// a stored response of the target. Then nothing is stored under the target.
     pub fn freshen_by_head(
         &mut self,
         alloc: Global,

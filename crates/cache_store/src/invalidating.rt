@@ -1,10 +1,8 @@
 //! Removal of what is stored, by a request that isn't safe.
 ghost use Rattle.std.specs.Prelude.{◌≡◌};
 ghost use Rattle.cache_rules.specs.Invalidation.{Invalidates};
-ghost use Rattle.cache_store.specs.Contents.{without};
-ghost use Rattle.cache_store.specs.History.Call.{Answered, Removed};
-ghost use Rattle.cache_store.specs.History.{GoOn, Step};
-ghost use Rattle.cache_store.specs.Kept.{contents_of, policy_of_store};
+ghost use Rattle.cache_store.specs.{Contents.without, History.Call.Answered, History.Call.Removed, History.GoOn};
+ghost use Rattle.cache_store.specs.{History.Step, Kept.contents_of, Kept.policy_of_store};
 
 use crate::store::Store;
 use cache_rules::invalidates;

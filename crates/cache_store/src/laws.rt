@@ -1,18 +1,14 @@
 //! Theorems about every list of calls. To cite one in a proof, call it.
 ghost use Rattle.std.specs.Prelude.{◌≡◌, ◌⊎◌, ◌<◌, ◌≤◌, ℕ, List, ◌∷◌, ◌++◌, Some, None};
 ghost use Rattle.headers.specs.LineMap.{Field};
-ghost use Rattle.cache_policy.specs.Requests.{Request};
-ghost use Rattle.cache_policy.specs.Policies.{MayStoreUnder, Policy};
+ghost use Rattle.cache_policy.specs.{Requests.Request, Policies.MayStoreUnder, Policies.Policy};
 ghost use Rattle.cache_rules.specs.Stored.{fields_of_stored, request_of_stored};
 ghost use Rattle.cache_rules.specs.declared.stored.StoredResponse.{StoredResponse};
-ghost use Rattle.cache_store.specs.Contents.{Contents, responses_at};
-ghost use Rattle.cache_store.specs.History.{Call, HasCome, HasUnder, History, IsJustified, Removes, Run};
-ghost use Rattle.cache_store.specs.History.{RunFrom, State};
-ghost use Rattle.cache_store.specs.Lookups.{IsAnswer};
-ghost use Rattle.cache_store.specs.Numbers.{AreNumbered, numbered};
-ghost use Rattle.cache_store.specs.Served.{IsRightlyServed, Serves};
-ghost use Rattle.cache_store.specs.declared.limits.Limits.{Limits};
-ghost use Rattle.cache_store.specs.declared.lookup.Lookup.{Lookup};
+ghost use Rattle.cache_store.specs.{Contents.Contents, Contents.responses_at, Lookups.IsAnswer, Numbers.AreNumbered};
+ghost use Rattle.cache_store.specs.{Numbers.numbered, Served.IsRightlyServed, Served.Serves};
+ghost use Rattle.cache_store.specs.{declared.limits.Limits.Limits, declared.lookup.Lookup.Lookup};
+ghost use Rattle.cache_store.specs.History.{Call, HasCome, HasUnder, History, IsJustified, Removes, Run, RunFrom};
+ghost use Rattle.cache_store.specs.History.{State};
 
 /// Theorem: after any calls of a new store, each stored response is one that the calls justify. It
 /// came from the origin for a request to its target, may be stored, and has its fields as they
@@ -40,6 +36,7 @@ pub fn lookups_serve_what_calls_justify()
 /// Theorem: after any calls of a new store, each stored response came from the origin. A call of
 /// `store` passed it in for a request to this target, with this method and these fields, and with
 /// this status and content.
+#[tactic(auto, using(crate::proofs::LawLemmas::stored_came))]
 pub fn what_is_stored_came_from_the_origin()
     ensures { (policy : Policy) (limits : Limits) (calls : History) (contents : Contents)
         → Run policy limits calls contents
@@ -61,6 +58,7 @@ pub fn what_is_stored_may_be_stored()
 /// Theorem: after a call that removes a target, each response stored under it is justified by later
 /// calls alone. So nothing older is served for this target. `invalidate` is such a call, after a
 /// request that isn't safe and a response that is no error (RFC 9111, section 4.4).
+#[tactic(auto, using(crate::proofs::LawLemmas::stored_since))]
 pub fn nothing_older_than_a_removal_is_stored()
     ensures { (policy : Policy) (limits : Limits) (later : History) (call : Call) (earlier : History)
         (contents : Contents)
@@ -70,6 +68,7 @@ pub fn nothing_older_than_a_removal_is_stored()
 
 /// Theorem: no number is used again. Whatever calls follow, the next number never falls, and a stored
 /// response whose number was given before was stored then, as it is and under its target.
+#[tactic(auto, using(crate::proofs::NumberLawLemmas::run_kept))]
 pub fn numbers_are_never_used_again()
     ensures { (policy : Policy) (limits : Limits) (first : State) (calls : History) (last : State)
         → RunFrom policy limits first calls last

@@ -1,7 +1,6 @@
 //! The store.
 ghost use Rattle.std.specs.Prelude.{◌≡◌, ◌<◌, ◌≤◌, ◌-◌, ◌^◌};
-ghost use Rattle.cache_store.specs.Contents.{byte_count, response_count, shown};
-ghost use Rattle.cache_store.specs.Numbers.{AreNumbered};
+ghost use Rattle.cache_store.specs.{Contents.byte_count, Contents.response_count, Contents.shown, Numbers.AreNumbered};
 
 use crate::limits::Limits;
 use cache_policy::Kind;

@@ -6,10 +6,8 @@ ghost use Rattle.cache_policy.specs.Requests.{request_of};
 ghost use Rattle.cache_store.specs.Changes.{FitsAlone, IsFront, IsInserted, IsRest, IsStoredAs, IsToStore, IsTrimmed};
 ghost use Rattle.cache_store.specs.Changes.{IsTooSmallToStore};
 ghost use Rattle.cache_store.specs.Contents.{bytes_of, size_of, without};
-ghost use Rattle.cache_store.specs.History.Call.{Arrived};
-ghost use Rattle.cache_store.specs.History.{GoOn, Step};
-ghost use Rattle.cache_store.specs.Kept.{contents_of, policy_of_store};
-ghost use Rattle.cache_store.specs.Numbers.{times_in, times_used};
+ghost use Rattle.cache_store.specs.{History.Call.Arrived, History.GoOn, History.Step, Kept.contents_of};
+ghost use Rattle.cache_store.specs.{Kept.policy_of_store, Numbers.times_in, Numbers.times_used};
 
 use crate::entries::bytes_of;
 use crate::limits::Limits;

@@ -3,17 +3,11 @@ ghost use Rattle.std.specs.Prelude.{◌≡◌, ◌⊎◌, ◌+◌, ◌<◌, ◌�
 ghost use Rattle.std.specs.Prelude.{option_to_list};
 ghost use Rattle.std.specs.Bool.{MatchBool};
 ghost use Rattle.headers.specs.LineMap.{lines_at};
-ghost use Rattle.cache_policy.specs.Policies.{policy_of};
-ghost use Rattle.cache_policy.specs.Requests.{request_of};
-ghost use Rattle.cache_policy.specs.Updating.{IsUpdated};
-ghost use Rattle.cache_rules.specs.Fields.{IsTooSmallFor};
-ghost use Rattle.cache_rules.specs.Freshening.{renewing_fields};
-ghost use Rattle.cache_rules.specs.Stored.{fields_of_stored};
-ghost use Rattle.cache_store.specs.Contents.{bytes_of};
-ghost use Rattle.cache_store.specs.History.{Has};
+ghost use Rattle.cache_policy.specs.{Policies.policy_of, Requests.request_of, Updating.IsUpdated};
+ghost use Rattle.cache_rules.specs.{Fields.IsTooSmallFor, Freshening.renewing_fields, Stored.fields_of_stored};
+ghost use Rattle.cache_store.specs.{Contents.bytes_of, History.Has};
 ghost use Rattle.cache_store.specs.Numbers.{AreRenumbered, IsNumbered, IsSameOrNumbered, renumbered};
-ghost use Rattle.cache_store.specs.Updates.{AreLeft, Becomes, BecomesUpdated, IsGetFor, IsOneTooSmallFor};
-ghost use Rattle.cache_store.specs.Updates.{IsUpdatedToo};
+ghost use Rattle.cache_store.specs.Updates.{AreLeft, Becomes, BecomesUpdated, IsGetFor, IsOneTooSmallFor, IsUpdatedToo};
 
 use cache_policy::{Policy, RequestHead, has_strong_tag, is_updated, matches};
 use cache_rules::{Exchange, Freshened, StoredResponse, freshen, is_head_of};

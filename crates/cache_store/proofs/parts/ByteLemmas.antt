@@ -1,11 +1,10 @@
 -- What holds of each byte of two parts, at its position, holds of each byte of their combination.
-use Rattle.std.proofs.Common.{◌≡◌, ◌∙◌, ◌⊎◌, ℕ, zero, suc, ◌+◌, ◌-◌, ◌≤◌, List, [], ◌∷◌, ◌++◌, length, take, drop}
-use Rattle.std.proofs.Common.{min, Some, ap, subst, arith, inl, inr, slice_get, length-append}
+use Rattle.std.proofs.Common.{◌≡◌, ◌∙◌, ◌⊎◌, ℕ, zero, suc, ◌+◌, ◌-◌, ◌≤◌, List, [], ◌∷◌, ◌++◌, length, take, drop, min}
+use Rattle.std.proofs.Common.{Some, ap, subst, arith, inl, inr, slice_get, length-append}
 use Rattle.std.proofs.lemmas.List.{length-drop, length-take, length-take-le}
 use Rattle.std.proofs.lemmas.Option.{slice_get_within}
-use Rattle.cache_store.specs.Parts.Answers.{IsWithin, bytes_within}
+use Rattle.cache_store.specs.{Parts.Answers.IsWithin, Parts.Answers.bytes_within, declared.parts.extent.Extent.Extent}
 use Rattle.cache_store.specs.Parts.Extents.{Touch, joined, joint, size}
-use Rattle.cache_store.specs.declared.parts.extent.Extent.{Extent}
 
 -- each byte has the property at its position, if the first one is at this position
 abbrev pub AllAt : (ℕ → ℕ → Type 0) → ℕ → List ℕ → Type 0
@@ -94,7 +93,6 @@ pub length-within : (outer inner : Extent) (content : List ℕ) → IsWithin out
     → length (bytes_within outer content inner) ≡ size inner
 length-within outer inner content within count =
     let part = drop (inner.first - outer.first) content in
-    let rest : length part ≡ length content - (inner.first - outer.first) =
-    length-drop (inner.first - outer.first) content in
+    let rest = length-drop (inner.first - outer.first) content in
     length-take (inner.last - outer.first + 1 - (inner.first - outer.first)) part
     ∙ omega (arith, rest, count, within.ordered, within.first, within.last)

@@ -1,35 +1,25 @@
 -- What the calls of a store of parts return and leave.
-use Rattle.std.proofs.Common.{◌≡◌, ◌∙◌, ◌⊎◌, ℕ, Bool, true, false, List, Some, Result, Ok, Err, IfOk, OnErr}
-use Rattle.std.proofs.Common.{refl, sym, subst, inl, inr, get_or}
-use Rattle.std.specs.Bool.{MatchBool}
+use Rattle.std.proofs.Common.{◌≡◌, ◌∙◌, ◌⊎◌, ℕ, Bool, true, false, List, Some, Result, Ok, Err, IfOk, OnErr, refl, sym}
+use Rattle.std.proofs.Common.{subst, inl, inr, get_or}
 use Rattle.std.proofs.lemmas.Option.{get_or_from_slice_get, same_Some}
+use Rattle.std.specs.Bool.{MatchBool}
 use Rattle.headers.specs.LineMap.{Field}
-use Rattle.cache_store.specs.Changes.{IsFront}
+use Rattle.cache_store.specs.{Changes.IsFront, Numbers.numbered, declared.limits.Limits.Limits}
+use Rattle.cache_store.specs.{Parts.History.PartCall.Received, Parts.History.Step, Parts.Received.IsPart}
+use Rattle.cache_store.specs.{declared.parts.extent.Extent.Extent, declared.parts.store_answering.PartLookup.PartLookup}
+use Rattle.cache_store.specs.{declared.parts.store_recording.Recorded.Recorded}
 use Rattle.cache_store.specs.Contents.{Contents, responses_at, without}
-use Rattle.cache_store.specs.Lookups.{IsFound, age_of_stored}
-use Rattle.cache_store.specs.Lookups.{IsServed as IsFoundServed}
-use Rattle.cache_store.specs.Numbers.{numbered}
-use Rattle.cache_store.specs.declared.limits.Limits.{Limits}
-use Rattle.cache_policy.specs.Policies.{Policy}
-use Rattle.cache_policy.specs.Requests.{Request}
-use Rattle.cache_policy.specs.declared.decision.Decision.{Decision}
-use Rattle.cache_policy.specs.declared.decision.Decision.TheVariants as decisions
-use Rattle.cache_rules.specs.Selection.{IsCandidate, IsMostRecent}
-use Rattle.cache_rules.specs.declared.storing.Reception.{Reception}
-use Rattle.cache_rules.specs.declared.stored.StoredResponse.{StoredResponse}
+use Rattle.cache_store.specs.Lookups.{IsFound, IsServed as IsFoundServed}
 use Rattle.cache_store.specs.Parts.Answering.{IsAsked, IsDecided, IsLookedUp, IsReuse, IsReused, IsValidation}
-use Rattle.cache_store.specs.Parts.History.PartCall.{Received}
-use Rattle.cache_store.specs.Parts.History.{Step}
-use Rattle.cache_store.specs.Parts.Received.{IsPart}
-use Rattle.cache_store.specs.Parts.Recording.{IsKeptAs, IsMerged, IsRecordedAs, IsSelectedPart, IsTaken}
-use Rattle.cache_store.specs.Parts.Recording.{IsTakenAlone}
-use Rattle.cache_store.specs.declared.parts.combining.Combined.TheVariants as combined
-use Rattle.cache_store.specs.declared.parts.extent.Extent.{Extent}
+use Rattle.cache_store.specs.Parts.Recording.{IsKeptAs, IsMerged, IsRecordedAs, IsSelectedPart, IsTaken, IsTakenAlone}
 use Rattle.cache_store.specs.declared.parts.store_answering.PartLookup.TheVariants.{Serve, Complete, Unavailable}
 use Rattle.cache_store.specs.declared.parts.store_answering.PartLookup.TheVariants.{Forward}
-use Rattle.cache_store.specs.declared.parts.store_answering.PartLookup.{PartLookup}
 use Rattle.cache_store.specs.declared.parts.store_recording.Recorded.TheVariants.{Unstored, Stored, Whole, Once}
-use Rattle.cache_store.specs.declared.parts.store_recording.Recorded.{Recorded}
+use Rattle.cache_policy.specs.{Policies.Policy, Requests.Request, declared.decision.Decision.Decision}
+use Rattle.cache_rules.specs.Selection.{IsCandidate, IsMostRecent}
+use Rattle.cache_rules.specs.{declared.storing.Reception.Reception, declared.stored.StoredResponse.StoredResponse}
+use Rattle.cache_policy.specs.declared.decision.Decision.TheVariants as decisions
+use Rattle.cache_store.specs.declared.parts.combining.Combined.TheVariants as combined
 
 pub bool_map : {P Q P' Q' : Type 0} (b : Bool) → (P → P') → (Q → Q') → MatchBool b P Q → MatchBool b P' Q'
 bool_map true p q h = p h
@@ -100,8 +90,7 @@ module _ (policy : Policy) (most : ℕ) (request : Request) (now : ℕ) (parts :
         → (lookup : PartLookup) → IsReused request stored now number age lookup
         → IsLookedUp policy most request now parts lookup
     reused_as decision reuse served lookup is =
-        let same : stored ≡ served.found.selected.response =
-        same_Some stored served.found.selected.response (at ∙ served.shown) in
+        let same = same_Some stored served.found.selected.response (at ∙ served.shown) in
         decided_lookup lookup (record {
           place = served.place;
           decision = decision;
@@ -110,9 +99,7 @@ module _ (policy : Policy) (most : ℕ) (request : Request) (now : ℕ) (parts :
           shown = served.shown;
           does = inl (
             reuse,
-            subst (λ (s : StoredResponse). IsReused request s now number
-                (age_of_stored served.found.selected.response now) lookup) same
-                (subst (λ (line : Field). IsReused request stored now number line lookup) served.age is),
+            rw same at (rw served.age at is),
           );
         })
 

@@ -1,17 +1,11 @@
 -- What updated fields and joined bytes make of a stored part.
 use Rattle.std.proofs.Common.{◌≡◌, ◌∙◌, ℕ, List, inr, refl, ap, subst}
-use Rattle.http_header.specs.FieldValue.{FieldValue}
-use Rattle.http_header.specs.HeaderMap.{Entries}
+use Rattle.http_header.specs.{FieldValue.FieldValue, HeaderMap.Entries}
 use Rattle.headers.specs.LineMap.{Field, LineMap, lines_at}
-use Rattle.cache_policy.specs.Freshening.{freshened}
-use Rattle.cache_policy.specs.Policies.{Policy}
-use Rattle.cache_policy.specs.Requests.{Request}
-use Rattle.cache_rules.specs.Fields.{IsTooSmallFor}
-use Rattle.cache_rules.specs.Freshening.{IsFreshened, IsReusable, aged_anew}
-use Rattle.cache_rules.specs.Stored.{fields_of_stored, request_of_stored}
-use Rattle.cache_rules.specs.declared.freshening.Exchange.{Exchange}
-use Rattle.cache_rules.specs.declared.storing.Reception.{Reception}
-use Rattle.cache_rules.specs.declared.stored.StoredResponse.{StoredResponse}
+use Rattle.cache_policy.specs.{Freshening.freshened, Policies.Policy, Requests.Request}
+use Rattle.cache_rules.specs.{Fields.IsTooSmallFor, Freshening.IsFreshened, Freshening.IsReusable, Freshening.aged_anew}
+use Rattle.cache_rules.specs.{Stored.fields_of_stored, Stored.request_of_stored, declared.freshening.Exchange.Exchange}
+use Rattle.cache_rules.specs.{declared.storing.Reception.Reception, declared.stored.StoredResponse.StoredResponse}
 use Rattle.cache_store.specs.Parts.Combining.{AreCombinable, IsCombination, IsCombinedAs, IsExtended, IsHeadOfStored}
 use Rattle.cache_store.specs.Parts.Combining.{IsTooSmallToCombine, exchange_of}
 use Rattle.cache_store.specs.Parts.Extents.{extent_fields, joined, joint}
@@ -60,9 +54,8 @@ fresh_too_small stored came head fresh reception own other exchange changes may 
       other,
       with_content_of stored fresh,
       may,
-      freshened-whole stored head fresh (fields_of_stored came) (exchange_of came) is_head
-          (subst (λ (x : Exchange). IsFreshened head (fields_of_stored came) x fresh) is_exchange by),
-      subst (λ (cs : List Field). IsTooSmallFor fresh.response cs) is_changes small,
+      freshened-whole _ _ _ _ _ is_head (rw is_exchange at by),
+      rw is_changes at small,
     )
 
 module _ (policy : Policy) (stored came head fresh combined : StoredResponse) (reception : Reception)
@@ -78,12 +71,9 @@ module _ (policy : Policy) (stored came head fresh combined : StoredResponse) (r
   is-combination : IsCombination stored came own other whole combined
   is-combination =
       let is_extended : IsExtended fresh (joined own stored.content.items other came.content.items) (extent_fields
-      (joint own other)) combined =
-      subst (λ (cs : List Field). IsExtended fresh (joined own stored.content.items other came.content.items) cs
-      combined) is_changes (subst (λ (bs : List ℕ). IsExtended fresh bs changes combined) is_bytes extended) in
+      (joint own other)) combined = rw is_changes at (rw is_bytes at extended) in
       record {
-        freshened = freshened-whole stored head fresh (fields_of_stored came) (exchange_of came) is_head
-            (subst (λ (x : Exchange). IsFreshened head (fields_of_stored came) x fresh) is_exchange by);
+        freshened = freshened-whole _ _ _ _ _ is_head (rw is_exchange at by);
         extended = record {
           method = is_extended.method;
           request = is_extended.request;

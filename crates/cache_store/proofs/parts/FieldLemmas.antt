@@ -2,38 +2,24 @@
 use Rattle.std.proofs.Common.{◌≡◌, ◌≢◌, ◌∙◌, ◌⊎◌, ℕ, ◌+◌, ◌-◌, ◌<◌, ◌≤◌, ◌^◌, ◌==◌, Bool, true, false, ◌&&◌, not, cond}
 use Rattle.std.proofs.Common.{if◌then◌else◌, List, [], ◌∷◌, length, get_or, Option, Some, None, refl, sym, ap, subst}
 use Rattle.std.proofs.Common.{nat_le, nat_lt, IsSome, IsSomeAnd, codes, arith, inl, inr}
+use Rattle.std.proofs.{lemmas.Bool.and_parts, lemmas.Bool.cases_Bool, lemmas.Bool.Decides.nat_tests}
+use Rattle.std.proofs.{lemmas.Option.cond_some, lemmas.Option.none-some}
 use Rattle.std.specs.Option.{option_and_then}
-use Rattle.std.proofs.lemmas.Bool.{and_parts, cases_Bool}
-use Rattle.std.proofs.lemmas.Bool.Decides.{nat_tests}
-use Rattle.std.proofs.lemmas.Option.{cond_some, none-some}
 use Rattle.headers.specs.ContentBytes.{ContentBytes, FitsContent, content_bytes}
-use Rattle.headers.specs.EntityTag.{is_tag}
-use Rattle.headers.specs.LineMap.{LineMap}
-use Rattle.headers.specs.Lines.{Line, only_line}
-use Rattle.headers.specs.Typed.{HasLine}
-use Rattle.cache_store.specs.Changes.{IsStoredAs}
-use Rattle.cache_policy.specs.Freshening.{freshened, is_kept}
-use Rattle.cache_policy.specs.Requests.{Request}
-use Rattle.cache_policy.specs.Updating.{is_weak}
-use Rattle.cache_rules.specs.Freshening.{aged_anew}
-use Rattle.cache_rules.specs.Stored.{fields_of_stored}
-use Rattle.cache_rules.specs.Storing.{IsAsStored}
-use Rattle.cache_rules.specs.declared.storing.Reception.{Reception}
-use Rattle.cache_rules.specs.declared.storing.Reception.TheVariants.{Complete, Incomplete}
-use Rattle.cache_rules.specs.declared.stored.StoredResponse.{StoredResponse}
-use Rattle.gateway_messages.specs.HopByHop.{connection_options, is_hop_by_hop}
-use Rattle.decide_preconditions.specs.declared.plan.Plan.{Plan}
-use Rattle.decide_preconditions.specs.declared.plan.Plan.TheVariants.{NotModified, Failed, Full, Single}
-use Rattle.decide_preconditions.specs.declared.plan.Plan.TheVariants.{Multiple, Unsatisfiable}
-use Rattle.headers_ranges.specs.ContentRangeLaws.{content_read}
-use Rattle.headers_syntax.proofs.OptionLemmas.{then_parts}
-use Rattle.cache_store.specs.Parts.Answers.{IsPartAnswer, part_planned}
+use Rattle.headers.specs.{EntityTag.is_tag, LineMap.LineMap, Lines.Line, Lines.only_line, Typed.HasLine}
+use Rattle.cache_store.specs.{Changes.IsStoredAs, declared.parts.extent.Extent.Extent}
 use Rattle.cache_store.specs.Parts.Combining.{HaveSameTag, IsCombination}
-use Rattle.cache_store.specs.Parts.Extents.{extent_by, extent_in, greatest, is_extent, is_whole}
-use Rattle.cache_store.specs.Parts.Extents.{joint, range_line, size, strong_tag}
+use Rattle.cache_store.specs.Parts.Extents.{extent_by, extent_in, greatest, is_extent, is_whole, joint, range_line}
+use Rattle.cache_store.specs.Parts.Extents.{size, strong_tag}
 use Rattle.cache_store.specs.Parts.Received.{IsRecorded, came_of_part, came_of_whole, is_signed, length_in}
 use Rattle.cache_store.specs.Parts.Received.{received_extent}
-use Rattle.cache_store.specs.declared.parts.extent.Extent.{Extent}
+use Rattle.cache_policy.specs.{Freshening.freshened, Freshening.is_kept, Updating.is_weak}
+use Rattle.cache_rules.specs.{Stored.fields_of_stored, Storing.IsAsStored, declared.storing.Reception.Reception}
+use Rattle.cache_rules.specs.{declared.stored.StoredResponse.StoredResponse}
+use Rattle.cache_rules.specs.declared.storing.Reception.TheVariants.{Complete, Incomplete}
+use Rattle.gateway_messages.specs.HopByHop.{connection_options, is_hop_by_hop}
+use Rattle.headers_ranges.specs.ContentRangeLaws.{content_read}
+use Rattle.headers_syntax.proofs.OptionLemmas.{then_parts}
 
 -- ---- what is stored of a field
 
@@ -79,9 +65,8 @@ tag-stored part stored kept tag h =
 pub extent-stored : (part stored : StoredResponse) → IsStoredAs part stored → (own : Extent)
     → extent_in (fields_of_stored stored) ≡ Some own → extent_in (fields_of_stored part) ≡ Some own
 extent-stored part stored kept own h =
-    said extent_by_lines refl (codes "content-range")
-    (not_date (codes "content-range") (λ e. absurd (omega (arith, e)))) part.received (fields_of_stored part)
-    (fields_of_stored stored) kept.fields own h
+    said extent_by_lines refl (codes "content-range") (not_date _ (λ e. absurd (omega (arith, e)))) part.received
+    (fields_of_stored part) (fields_of_stored stored) kept.fields own h
 
 -- ---- what Content-Range says of a part
 
@@ -148,14 +133,10 @@ fits extent count is =
 line_says : (extent own : Extent) (count : ℕ) → IsPartOf extent count
     → extent_by_lines (range_line extent ∷ []) ≡ Some own → own ≡ extent
 line_says extent own count is h =
-    let content = then_parts (λ (content : ContentBytes). extent_by content.range content.length)
-    (content_bytes (range_line extent)) own h in
-    let read : content_bytes (range_line extent)
-    ≡ cond (nat_le extent.first extent.last) (Some (content_of extent)) None =
-    content_read (content_of extent) (fits extent count is) in
+    let content = then_parts (λ (content : ContentBytes). extent_by content.range content.length) _ _ h in
+    let read = content_read (content_of extent) (fits extent count is) in
     let same = cond_some (nat_le extent.first extent.last) (content_of extent) content.0 (sym read ∙ content.1) in
-    let by : extent_by (Some (extent.first, extent.last)) (Some extent.len) ≡ Some own =
-    subst (λ (c : ContentBytes). extent_by c.range c.length ≡ Some own) (sym same.1) content.2 in
+    let by : extent_by (Some (extent.first, extent.last)) (Some extent.len) ≡ Some own = rw (← same.1) at content.2 in
     let is_it = cond_some (is_extent extent.first extent.last extent.len)
     (record { first = extent.first; last = extent.last; len = extent.len }) own by in
     sym is_it.1
@@ -232,16 +213,14 @@ received-is reception status count fields extent h = elim (cases_Bool (status ==
   | inl partial ↦
       let found : (if is_signed fields then None else option_and_then (came_of_part reception count)
       (extent_in fields)) ≡ Some extent = rw partial at h in
-      let sent = then_parts (came_of_part reception count) (extent_in fields) extent
-      (unless (is_signed fields) (option_and_then (came_of_part reception count) (extent_in fields)) extent found) in
-      part_of_count reception count sent.0 extent (extent-is fields sent.0 sent.1) sent.2
+      let sent = then_parts (came_of_part reception count) _ _ (unless _ _ _ found) in
+      part_of_count _ _ _ _ (extent-is fields sent.0 sent.1) sent.2
   | inr other ↦
       let found : (if status == 200 then option_and_then (came_of_whole reception count) (length_in fields) else None)
       ≡ Some extent = rw other at h in
-      let ok = of_if (status == 200) (option_and_then (came_of_whole reception count) (length_in fields)) extent
-      found in
-      let len = then_parts (came_of_whole reception count) (length_in fields) extent ok.1 in
-      part_of_whole reception count len.0 extent len.2
+      let ok = of_if _ _ _ found in
+      let len = then_parts (came_of_whole reception count) _ _ ok.1 in
+      part_of_whole _ _ _ _ len.2
 ]
 
 -- ---- a part that is recorded, and a combination
@@ -264,9 +243,7 @@ module _ (stored came fresh part : StoredResponse) (own other : Extent)
       ⊎ (fields_of_stored part (codes "etag") ≡ fields_of_stored stored (codes "etag"))
   etag =
       let update = fields_of_stored came in
-      let as_fresh : fields_of_stored part (codes "etag")
-      ≡ freshened (aged_anew came.received (fields_of_stored stored)) update (codes "etag") =
-      is.extended.fields (codes "etag") ∙ is.freshened.fields (codes "etag") in
+      let as_fresh = is.extended.fields (codes "etag") ∙ is.freshened.fields (codes "etag") in
       elim (cases_Bool (nat_lt 0 (length (update (codes "etag"))) && not (is_kept update (codes "etag")))) [
         | inl taken ↦ inl (as_fresh ∙ rw taken refl)
         | inr kept ↦ inr (as_fresh ∙ rw kept refl)
@@ -305,31 +282,3 @@ some-tag None none = absurd (cc none)
 some-tag (Some tag) some = (tag, refl)
 
 -- ---- the part that is sent
-
-planned-within : (extent part : Extent) (plan : Option Plan) → part_planned extent plan ≡ Some part
-    → (part.first ≤ part.last) × (part.last ≤ extent.last) × (part.len ≡ extent.len)
-planned-within extent part (Some (Single sent)) h =
-    let is = cond_some (nat_le extent.first sent.first && (nat_le sent.first sent.last
-    && nat_le sent.last extent.last)) (record { first = sent.first; last = sent.last; len = extent.len }) part h in
-    let one = and_parts (nat_le extent.first sent.first) (nat_le sent.first sent.last && nat_le sent.last extent.last)
-    is.0 in
-    let two = and_parts (nat_le sent.first sent.last) (nat_le sent.last extent.last) one.1 in
-    let ordered : sent.first ≤ sent.last = grind (arith, two.0, nat_tests) in
-    let within : sent.last ≤ extent.last = grind (arith, two.1, nat_tests) in
-    subst (λ (e : Extent). (e.first ≤ e.last) × (e.last ≤ extent.last) × (e.len ≡ extent.len)) is.1
-    (ordered, within, refl)
-planned-within extent part (Some Full) h = absurd (none-some part h)
-planned-within extent part (Some (Multiple parts)) h = absurd (none-some part h)
-planned-within extent part (Some NotModified) h = absurd (none-some part h)
-planned-within extent part (Some Failed) h = absurd (none-some part h)
-planned-within extent part (Some Unsatisfiable) h = absurd (none-some part h)
-planned-within extent part None h = absurd (none-some part h)
-
--- a part that answers lies within its whole
-pub answer-within : (request : Request) (stored : StoredResponse) (now : ℕ) (part : Extent)
-    → IsPartAnswer request stored now (Some part) → (part.first ≤ part.last) × (part.last < part.len)
-answer-within request stored now part (inl none) = absurd (none-some part (sym none.1))
-answer-within request stored now part (inr (extent, plan, may, planned, is)) =
-    let inside = planned-within extent part plan (sym is) in
-    let own = extent-is (fields_of_stored stored) extent may.part.extent in
-    (inside.0, omega (arith, inside.1, inside.2, own.within))

@@ -1,44 +1,31 @@
 -- What a store of parts has after any calls was received.
-use Rattle.std.proofs.Common.{◌≡◌, ◌∙◌, ℕ, ◌+◌, ◌-◌, ◌≤◌, List, [], ◌∷◌, length, slice_get, codes}
-use Rattle.std.proofs.Common.{Option, Some, refl, sym, ap, subst, arith, inl, inr, IsSome, IsSomeAnd}
-use Rattle.std.proofs.Common.{nat_le}
-use Rattle.std.proofs.lemmas.Bool.{and_parts}
-use Rattle.std.proofs.lemmas.Bool.Decides.{nat_tests}
-use Rattle.std.proofs.lemmas.Option.{same_Some}
+use Rattle.std.proofs.Common.{◌≡◌, ◌∙◌, ℕ, ◌+◌, ◌-◌, ◌≤◌, List, [], ◌∷◌, length, slice_get, codes, Option, Some, refl}
+use Rattle.std.proofs.Common.{sym, ap, subst, arith, inl, inr, IsSome, IsSomeAnd, nat_le}
+use Rattle.std.proofs.{lemmas.Bool.and_parts, lemmas.Bool.Decides.nat_tests, lemmas.Option.same_Some}
 use Rattle.headers.specs.Lines.{Line}
 use Rattle.cache_store.proofs.HistoryLemmas.{Has-slice_get, HasUnder-responses_at, run-justified}
 use Rattle.cache_store.proofs.NumberLemmas.{Has-numbered}
-use Rattle.cache_store.specs.Changes.{IsStoredAs}
-use Rattle.cache_store.specs.Contents.{Contents, responses_at, used, without}
-use Rattle.cache_store.specs.History.Call.{Arrived}
-use Rattle.cache_store.specs.History.Call.{Looked as StoreLooked, Removed as StoreRemoved}
-use Rattle.cache_store.specs.History.{Has, History, IsJustified}
-use Rattle.cache_store.specs.Numbers.{numbered}
-use Rattle.cache_store.specs.History.{Run as StoreRun}
-use Rattle.cache_store.specs.declared.limits.Limits.{Limits}
-use Rattle.cache_policy.specs.Policies.{Policy}
-use Rattle.cache_policy.specs.Requests.{Request}
-use Rattle.cache_rules.specs.Stored.{fields_of_stored}
-use Rattle.cache_rules.specs.declared.storing.Reception.{Reception}
-use Rattle.cache_rules.specs.declared.storing.Reception.TheVariants.{Complete, Incomplete}
-use Rattle.cache_rules.specs.declared.stored.StoredResponse.{StoredResponse}
-use Rattle.cache_store.specs.Parts.Answering.{HasBytesAt, IsLookedUp}
-use Rattle.cache_store.specs.Parts.Answers.{HasBytes, IsPartAnswer}
-use Rattle.cache_store.specs.Parts.Combining.{AreCombinable, Holds, IsCombination}
-use Rattle.cache_store.specs.Parts.Extents.{joined, joint, strong_tag}
-use Rattle.cache_store.specs.Parts.History.PartCall.{Looked, Received, Answered, Removed}
-use Rattle.cache_store.specs.Parts.History.{AreBytesOf, AreReceived, PartCall, PartHistory, Run, Step}
-use Rattle.cache_store.specs.Parts.History.{WasReceived}
-use Rattle.cache_store.specs.Parts.Received.{IsRecorded, received_extent}
-use Rattle.cache_store.specs.Parts.Recording.{IsTaken, IsWhole}
-use Rattle.cache_store.specs.declared.parts.extent.Extent.{Extent}
-use Rattle.cache_store.specs.declared.parts.store_answering.PartAnswer.{PartAnswer}
-use Rattle.cache_store.specs.declared.parts.store_answering.PartLookup.TheVariants.{Serve}
 use Rattle.cache_store.proofs.parts.ByteLemmas.{AllAt, all-joined, all-within, length-joined, length-within}
-use Rattle.cache_store.proofs.parts.FieldLemmas.{IsPartOf, combined-range, combined-tag, extent-is}
-use Rattle.cache_store.proofs.parts.FieldLemmas.{extent-stored, joint-is, received-is, recorded-range}
-use Rattle.cache_store.proofs.parts.FieldLemmas.{recorded-says, recorded-tag, recorded_lines, some-tag}
-use Rattle.cache_store.proofs.parts.FieldLemmas.{tag-stored, tags-same, whole-lines}
+use Rattle.cache_store.proofs.parts.FieldLemmas.{IsPartOf, combined-range, combined-tag, extent-is, extent-stored}
+use Rattle.cache_store.proofs.parts.FieldLemmas.{joint-is, received-is, recorded-range, recorded-says, recorded-tag}
+use Rattle.cache_store.proofs.parts.FieldLemmas.{recorded_lines, some-tag, tag-stored, tags-same, whole-lines}
+use Rattle.cache_store.specs.{Changes.IsStoredAs, Numbers.numbered, declared.limits.Limits.Limits}
+use Rattle.cache_store.specs.{Parts.Answering.HasBytesAt, Parts.Answering.IsLookedUp, Parts.Answers.HasBytes}
+use Rattle.cache_store.specs.{Parts.Answers.IsPartAnswer, Parts.Extents.joint, Parts.Extents.strong_tag}
+use Rattle.cache_store.specs.{Parts.Received.IsRecorded, Parts.Received.received_extent, Parts.Recording.IsTaken}
+use Rattle.cache_store.specs.{Parts.Recording.IsWhole, declared.parts.extent.Extent.Extent}
+use Rattle.cache_store.specs.{declared.parts.store_answering.PartAnswer.PartAnswer}
+use Rattle.cache_store.specs.{declared.parts.store_answering.PartLookup.TheVariants.Serve}
+use Rattle.cache_store.specs.Contents.{Contents, responses_at, used, without}
+use Rattle.cache_store.specs.History.Call.{Arrived, Looked as StoreLooked, Removed as StoreRemoved}
+use Rattle.cache_store.specs.History.{Has, History, IsJustified, Run as StoreRun}
+use Rattle.cache_store.specs.Parts.Combining.{AreCombinable, Holds, IsCombination}
+use Rattle.cache_store.specs.Parts.History.PartCall.{Looked, Received, Answered, Removed}
+use Rattle.cache_store.specs.Parts.History.{AreBytesOf, AreReceived, PartCall, PartHistory, Run, Step, WasReceived}
+use Rattle.cache_policy.specs.{Policies.Policy, Requests.Request}
+use Rattle.cache_rules.specs.{Stored.fields_of_stored, declared.storing.Reception.Reception}
+use Rattle.cache_rules.specs.{declared.stored.StoredResponse.StoredResponse}
+use Rattle.cache_rules.specs.declared.storing.Reception.TheVariants.{Complete, Incomplete}
 
 -- what was received before a call was received before it
 earlier : (call : PartCall) (calls : PartHistory) (key : List ℕ) (tag : Line) (len at byte : ℕ)
@@ -75,23 +62,20 @@ module _ (calls : PartHistory) (key : List ℕ) where
 
   faithful : (part : StoredResponse) → IsTraced part → IsFaithful part
   faithful part traced tag own strong holds =
-      let same : own ≡ traced.extent =
-      recorded-says (fields_of_stored part) traced.extent own (length part.content.items) traced.is traced.lines
-      holds.extent in
+      let same = recorded-says (fields_of_stored part) traced.extent own (length part.content.items) traced.is
+      traced.lines holds.extent in
       let tags : traced.tag ≡ tag = same_Some traced.tag tag (sym traced.strong ∙ strong) in
       subst (λ (t : Line). AreReceived calls key t own.len own.first part.content.items) tags
-      (subst (λ (e : Extent). AreReceived calls key traced.tag e.len e.first part.content.items) (sym same)
-      traced.each)
+      (rw (← same) at traced.each)
 
   -- the ordinary store changes neither the content nor what these fields say
   faithful-stored : (part stored : StoredResponse) → IsStoredAs part stored → IsFaithful part → IsFaithful stored
   faithful-stored part stored kept is tag own strong holds =
       let held : Holds part own = record {
-        extent = extent-stored part stored kept own holds.extent;
+        extent = extent-stored _ _ kept own holds.extent;
         bytes = ap (λ c. length c.items) (sym kept.content) ∙ holds.bytes;
       } in
-      subst (λ (bytes : List ℕ). AreReceived calls key tag own.len own.first bytes)
-      (ap (λ c. c.items) (sym kept.content)) (is tag own (tag-stored part stored kept tag strong) held)
+      rw (ap (λ c. c.items) (sym kept.content)) at (is tag own (tag-stored _ _ kept tag strong) held)
 
 module _ (calls : PartHistory) (key : List ℕ) (came : StoredResponse) (reception : Reception) (extent : Extent)
     (received : received_extent reception came.status (length came.content.items) (fields_of_stored came)
@@ -140,29 +124,23 @@ module _ (calls : PartHistory) (key : List ℕ) (came : StoredResponse) (recepti
       → IsSome (strong_tag (fields_of_stored came)) → IsTraced now_calls key part
   traced-combined stored fresh part own is may by strong =
       let tag = some-tag (strong_tag (fields_of_stored came)) strong in
-      let stored_tag : strong_tag (fields_of_stored stored) ≡ Some tag.0 =
-      sym (tags-same stored came may.suit.tag) ∙ tag.1 in
+      let stored_tag = sym (tags-same stored came may.suit.tag) ∙ tag.1 in
       let old = stored.content.items in
       let own_is = extent-is (fields_of_stored stored) own may.stored_part.extent in
       let before : AllAt (WasReceived now_calls key tag.0 own.len) own.first old = λ i byte h.
       earlier (Received key came reception) calls key tag.0 own.len (own.first + i) byte
       (is tag.0 own stored_tag may.stored_part i byte h) in
-      let count : length (joined own old extent came.content.items)
-      ≡ (joint own extent).last + 1 - (joint own extent).first =
-      length-joined own extent old came.content.items own_is.ordered came-is.ordered may.stored_part.bytes
+      let count = length-joined own extent old came.content.items own_is.ordered came-is.ordered may.stored_part.bytes
       came-is.size may.suit.touch in
       record {
         extent = joint own extent;
         tag = tag.0;
         strong = combined-tag stored came fresh part own extent by may.suit.tag ∙ tag.1;
-        is = subst (IsPartOf (joint own extent)) (sym (ap length by.extended.content ∙ count))
-            (joint-is own extent (own.last + 1 - own.first) (length came.content.items) own_is came-is
-            may.suit.whole);
+        is = rw (← (ap length by.extended.content ∙ count)) at
+            (joint-is own extent (own.last + 1 - own.first) (length came.content.items) own_is came-is may.suit.whole);
         lines = combined-range stored came fresh part own extent by;
-        each = subst (λ bytes. AreReceived now_calls key tag.0 own.len (joint own extent).first bytes)
-            (sym by.extended.content)
-            (all-joined (WasReceived now_calls key tag.0 own.len) own extent old came.content.items own_is.ordered
-            came-is.ordered may.stored_part.bytes came-is.size may.suit.touch before
+        each = rw (← by.extended.content) at (all-joined (WasReceived now_calls key tag.0 own.len) own extent old
+            came.content.items own_is.ordered came-is.ordered may.stored_part.bytes came-is.size may.suit.touch before
             (came-received tag.0 own.len tag.1 (sym may.suit.whole)));
       }
 
@@ -180,8 +158,7 @@ module _ (policy : Policy) (limits : Limits) where
       (stored : StoredResponse) → Has (responses_at key contents) stored → IsFaithful calls key stored
   faithful-has calls contents known key stored has =
       known.traced key stored
-      (run-justified policy limits known.history contents known.ran key stored
-      (HasUnder-responses_at key contents stored has))
+      (run-justified policy limits known.history contents known.ran key stored (HasUnder-responses_at _ _ _ has))
 
   -- a part that is taken
   pub traced-taken : (calls : PartHistory) (contents : Contents) → IsKnown calls contents → (key : List ℕ)
@@ -196,14 +173,13 @@ module _ (policy : Policy) (limits : Limits) where
       (extent, is, inr (inr (stored, (place, found, same), (own, other, fresh, may, by, fits)))) =
       let at : slice_get (responses_at key contents) place ≡ Some stored = found.at ∙ ap Some same in
       traced-combined calls key came reception other may.new_part stored fresh part own
-      (faithful-has calls contents known key stored (Has-slice_get (responses_at key contents) place stored at)) may by is.strong
+      (faithful-has calls contents known key stored (Has-slice_get _ _ _ at)) may by is.strong
 
   module _ (calls : PartHistory) (old new : Contents) (known : IsKnown calls old) where
     -- what stays was received before the call
     later : (call : PartCall) (key : List ℕ) (stored : StoredResponse) → IsFaithful calls key stored
         → IsFaithful (call ∷ calls) key stored
-    later call key stored is tag own strong holds i byte h =
-        earlier call calls key tag own.len (own.first + i) byte (is tag own strong holds i byte h)
+    later call key stored is tag own strong holds i byte h = earlier _ _ _ _ _ _ _ (is tag own strong holds i byte h)
 
     same-known : (call : PartCall) → new ≡ old → IsKnown (call ∷ calls) new
     same-known call same =
@@ -288,11 +264,10 @@ module _ (policy : Policy) (limits : Limits) where
         → HasBytes stored part bytes → AreBytesOf calls key tag part bytes
     bytes-of number part stored tag bytes at strong (own, holds, within, same) =
         let known = run-known calls contents ran in
-        let all = faithful-has calls contents known key stored (Has-numbered (responses_at key contents) number stored at).0 tag own strong holds in
+        let all = faithful-has calls contents known key stored (Has-numbered _ _ _ at).0 tag own strong holds in
         record {
-          count = ap length same ∙ length-within own part stored.content.items within holds.bytes;
-          each = subst (λ len. AreReceived calls key tag len part.first bytes) (sym within.len)
-              (subst (λ bs. AreReceived calls key tag own.len part.first bs) (sym same)
+          count = ap length same ∙ length-within _ _ _ within holds.bytes;
+          each = rw (← within.len) at (rw (← same) at
               (all-within (WasReceived calls key tag own.len) own part stored.content.items within all));
         }
 
@@ -300,16 +275,15 @@ module _ (policy : Policy) (limits : Limits) where
         → IsPartAnswer request stored now (Some part)
         → (tag : Line) × (strong_tag (fields_of_stored stored) ≡ Some tag)
     answered-tag request stored now part (inl none) = absurd (cc none.1)
-    answered-tag request stored now part (inr (extent, plan, may, planned, is)) =
-        some-tag (strong_tag (fields_of_stored stored)) may.strong
+    answered-tag request stored now part (inr (extent, plan, may, planned, is)) = some-tag _ may.strong
 
-    pub served-received : (most : ℕ) (request : Request) (now : ℕ) (answer : PartAnswer) (bytes : List ℕ)
+    pub served_received : (most : ℕ) (request : Request) (now : ℕ) (answer : PartAnswer) (bytes : List ℕ)
         → IsLookedUp policy most request now (responses_at key contents) (Serve answer)
         → HasBytesAt (responses_at key contents) answer.number answer.part bytes
         → (stored : StoredResponse) × (tag : Line)
         × (numbered answer.number (responses_at key contents) ≡ Some stored)
         × (strong_tag (fields_of_stored stored) ≡ Some tag) × AreBytesOf calls key tag answer.part bytes
-    served-received most request now answer bytes is has = elim is.does [
+    served_received most request now answer bytes is has = elim is.does [
       | inl answers ↦
           let served = answers.1 in
           let stored = is.found.selected.response in
@@ -328,11 +302,11 @@ module _ (policy : Policy) (limits : Limits) where
     ]
 
     -- a whole that is taken
-    pub whole-received : (came : StoredResponse) (reception : Reception) (part : StoredResponse)
+    pub whole_received : (came : StoredResponse) (reception : Reception) (part : StoredResponse)
         → IsTaken policy (responses_at key contents) came reception part → IsWhole part
         → (tag : Line) × (strong_tag (fields_of_stored part) ≡ Some tag)
         × AreReceived (Received key came reception ∷ calls) key tag (length part.content.items) 0 part.content.items
-    whole-received came reception part taken whole =
+    whole_received came reception part taken whole =
         let t = traced-taken calls contents (run-known calls contents ran) key came reception part taken in
         let all = whole-lines t.extent (fields_of_stored part (codes "content-range")) t.lines whole in
         let one = and_parts (nat_le t.extent.first 0) (nat_le t.extent.len (t.extent.last + 1)) all in
@@ -341,8 +315,5 @@ module _ (policy : Policy) (limits : Limits) where
         let count : t.extent.len ≡ length part.content.items = omega (arith, start, end, t.is.within, t.is.size) in (
           t.tag,
           t.strong,
-          subst (λ first. AreReceived (Received key came reception ∷ calls) key t.tag (length part.content.items) first
-              part.content.items) start
-              (subst (λ len. AreReceived (Received key came reception ∷ calls) key t.tag len t.extent.first
-              part.content.items) count t.each),
+          rw start at (rw count at t.each),
         )

@@ -1,25 +1,18 @@
 -- Which responses memory is allocated for.
-use Rattle.std.proofs.Common.{◌≡◌, ◌∙◌, ◌⊎◌, ℕ, List, Some, Result, OnErr, sym, ap, subst, inl, inr, slice_get}
-use Rattle.std.proofs.lemmas.Option.{same_Some}
-use Rattle.std.proofs.lemmas.Result.{on_err_weaker}
-use Rattle.cache_store.specs.Contents.{Contents, responses_at}
-use Rattle.cache_store.specs.declared.limits.Limits.{Limits}
-use Rattle.cache_policy.specs.Policies.{Policy}
-use Rattle.cache_policy.specs.Requests.{Request}
-use Rattle.cache_rules.proofs.SelectionLemmas.{selects_one}
-use Rattle.cache_rules.specs.Selection.{IsCandidate}
-use Rattle.cache_rules.specs.Stored.{request_of_stored}
-use Rattle.cache_rules.specs.declared.storing.Reception.{Reception}
-use Rattle.cache_rules.specs.declared.stored.StoredResponse.{StoredResponse}
-use Rattle.headers_map.proofs.InsertLemmas.{OnErr-from}
-use Rattle.cache_store.specs.Parts.Combining.{AreCombinable}
-use Rattle.cache_store.specs.Parts.Received.{IsPart, IsSelfContained}
-use Rattle.cache_store.specs.Parts.Recording.{IsCombinable, IsMerged, IsNotTaken, IsRecordedAs, IsSelectedPart}
-use Rattle.cache_store.specs.Parts.Recording.{IsTaken, NeedsMemory}
-use Rattle.cache_store.specs.declared.parts.combining.Combined.TheVariants as combined
-use Rattle.cache_store.specs.declared.parts.extent.Extent.{Extent}
+use Rattle.std.proofs.Common.{◌≡◌, ◌∙◌, ◌⊎◌, ℕ, List, Some, Result, OnErr, sym, ap, inl, inr, slice_get}
+use Rattle.std.proofs.{lemmas.Option.same_Some, lemmas.Result.on_err_weaker}
+use Rattle.cache_store.specs.{Contents.Contents, Contents.responses_at, declared.limits.Limits.Limits}
+use Rattle.cache_store.specs.{Parts.Received.IsPart, Parts.Received.IsSelfContained}
+use Rattle.cache_store.specs.{declared.parts.extent.Extent.Extent, declared.parts.store_recording.Recorded.Recorded}
+use Rattle.cache_store.specs.Parts.Recording.{IsCombinable, IsMerged, IsNotTaken, IsRecordedAs, IsSelectedPart, IsTaken}
+use Rattle.cache_store.specs.Parts.Recording.{NeedsMemory}
 use Rattle.cache_store.specs.declared.parts.store_recording.Recorded.TheVariants.{Unstored, Stored, Whole, Once}
-use Rattle.cache_store.specs.declared.parts.store_recording.Recorded.{Recorded}
+use Rattle.cache_policy.specs.{Policies.Policy, Requests.Request}
+use Rattle.cache_rules.proofs.SelectionLemmas.{selects_one}
+use Rattle.cache_rules.specs.{Selection.IsCandidate, declared.storing.Reception.Reception}
+use Rattle.cache_rules.specs.{declared.stored.StoredResponse.StoredResponse}
+use Rattle.headers_map.proofs.InsertLemmas.{OnErr-from}
+use Rattle.cache_store.specs.declared.parts.combining.Combined.TheVariants as combined
 
 -- a request selects one part
 selected_same : (request : Request) (parts : List StoredResponse) (one other : StoredResponse)
@@ -53,9 +46,8 @@ module _ (policy : Policy) (parts : List StoredResponse) (came : StoredResponse)
   apart_uncombinable (inl (none, same)) (stored, (place, found, is), may) =
       none place found.response found.at found.is
   apart_uncombinable (inr (one, selected, never)) (stored, selected_too, (own, other, may)) =
-      let same : stored ≡ one =
-      selected_same (request_of_stored came) parts stored one selected_too selected in
-      never own other (subst (λ (s : StoredResponse). AreCombinable s came reception own other) same may)
+      let same = selected_same _ _ _ _ selected_too selected in
+      never own other (rw same at may)
 
   -- ---- a call that fails
 

@@ -1,15 +1,11 @@
 -- The bytes of parts.
-use Rattle.std.proofs.Common.{◌≡◌, ◌∙◌, ℕ, ◌+◌, ◌-◌, ◌≤◌, List, [], ◌++◌, length, take, drop, min, max, sym, ap}
-use Rattle.std.proofs.Common.{arith, inl, inr, true, nat_le}
-use Rattle.std.proofs.lemmas.Bool.{and_parts}
-use Rattle.std.proofs.lemmas.Bool.Decides.{nat_tests}
-use Rattle.std.proofs.Math.Seq.{take-add}
-use Rattle.std.proofs.Math.ListN.{drop_of_length-le}
-use Rattle.std.proofs.lemmas.Bool.{cases_lt}
+use Rattle.std.proofs.Common.{◌≡◌, ◌∙◌, ℕ, ◌+◌, ◌-◌, ◌≤◌, List, [], ◌++◌, length, take, drop, min, max, sym, ap, arith}
+use Rattle.std.proofs.Common.{inl, inr, true, nat_le}
+use Rattle.std.proofs.lemmas.Bool.{and_parts, cases_lt}
+use Rattle.std.proofs.{lemmas.Bool.Decides.nat_tests, Math.Seq.take-add, Math.ListN.drop_of_length-le}
 use Rattle.std.proofs.lemmas.List.{drop-drop, drop-take, length-take, take-take, take_all}
-use Rattle.cache_store.specs.Parts.Answers.{IsWithin, bytes_within}
+use Rattle.cache_store.specs.{Parts.Answers.IsWithin, Parts.Answers.bytes_within, declared.parts.extent.Extent.Extent}
 use Rattle.cache_store.specs.Parts.Extents.{IsOf, Touch, bytes_between, is_whole, joined, joint}
-use Rattle.cache_store.specs.declared.parts.extent.Extent.{Extent}
 
 -- the bytes from one position up to another
 abbrev pub seg : ℕ → ℕ → List ℕ → List ℕ
@@ -20,8 +16,7 @@ module _ (bytes : List ℕ) where
   seg-append a b c low high =
       let there : a + (b - a) ≡ b = omega (arith, low) in
       let whole : (b - a) + (c - b) ≡ c - a = omega (arith, low, high) in
-      let back : drop (b - a) (drop a bytes) ≡ drop b bytes =
-      drop-drop (b - a) a bytes ∙ ap (λ n. drop n bytes) there in
+      let back = drop-drop (b - a) a bytes ∙ ap (λ n. drop n bytes) there in
       ap (λ l. seg a b bytes ++ take (c - b) l) (sym back)
       ∙ sym (take-add (b - a) (c - b) (drop a bytes))
       ∙ ap (λ n. take n (drop a bytes)) whole
@@ -37,8 +32,7 @@ module _ (bytes : List ℕ) where
         ap (λ k. take k (seg a b bytes)) empty ∙ sym (none (c - min a c) (min a c) (omega (arith, low)))
     | inr high ↦
         let fewer : c - a ≤ b - a = omega (arith, within) in
-        let front : take (c - a) (take (b - a) (drop a bytes)) ≡ take (c - a) (drop a bytes) =
-        take-take (c - a) (b - a) (drop a bytes) fewer in
+        let front = take-take (c - a) (b - a) (drop a bytes) fewer in
         let same : min a c ≡ a = omega (arith, high) in
         front ∙ ap (λ k. take (c - k) (drop k bytes)) (sym same)
   ]
@@ -111,10 +105,10 @@ part-once bytes one other own new is also first last =
     ∙ sym also.same
 
 -- parts that touch, of which the last two do
-pub joined-group : (bytes : List ℕ) (a b c : Extent) (x y z : List ℕ) → IsOf bytes a x → IsOf bytes b y
+pub joined_group : (bytes : List ℕ) (a b c : Extent) (x y z : List ℕ) → IsOf bytes a x → IsOf bytes b y
     → IsOf bytes c z → Touch a b → Touch b c
     → joined (joint a b) (joined a x b y) c z ≡ joined a x (joint b c) (joined b y c z)
-joined-group bytes a b c x y z one two three early late =
+joined_group bytes a b c x y z one two three early late =
     let left = joined-is-of bytes a b x y one two early in
     let right = joined-is-of bytes b c y z two three late in
     let left_touch : Touch (joint a b) c =
@@ -128,9 +122,9 @@ joined-group bytes a b c x y z one two three early late =
     (omega arith) (omega arith)
 
 -- the whole
-pub whole-is : (bytes : List ℕ) (extent : Extent) (own : List ℕ) → IsOf bytes extent own → is_whole extent ≡ true
+pub whole_is : (bytes : List ℕ) (extent : Extent) (own : List ℕ) → IsOf bytes extent own → is_whole extent ≡ true
     → own ≡ bytes
-whole-is bytes extent own is whole =
+whole_is bytes extent own is whole =
     let all = and_parts (nat_le extent.first 0) (nat_le extent.len (extent.last + 1)) whole in
     let start : extent.first ≡ 0 = grind (arith, all.0, nat_tests) in
     let all_of : extent.last + 1 - 0 ≡ extent.last + 1 = omega arith in
@@ -141,9 +135,9 @@ whole-is bytes extent own is whole =
     ∙ take_all (extent.last + 1) bytes end
 
 -- a part within a part
-pub within-is : (bytes : List ℕ) (outer inner : Extent) (content : List ℕ) → IsOf bytes outer content
+pub within_is : (bytes : List ℕ) (outer inner : Extent) (content : List ℕ) → IsOf bytes outer content
     → IsWithin outer inner → IsOf bytes inner (bytes_within outer content inner)
-within-is bytes outer inner content is within =
+within_is bytes outer inner content is within =
     record {
       ordered = within.ordered;
       within = omega (arith, within.last, is.within, within.len);

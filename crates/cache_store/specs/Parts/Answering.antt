@@ -1,25 +1,19 @@
 -- What a store of parts answers to a request (RFC 9111, section 3.3).
 use Rattle.std.specs.Prelude.{◌≡◌, ◌⊎◌, ℕ, List, [], ◌∷◌, ◌++◌, Some, None, IsSomeAnd, codes}
-use Rattle.headers.specs.LineMap.{Field, fields_of}
-use Rattle.headers.specs.Typed.{HasLine}
+use Rattle.headers.specs.{LineMap.Field, LineMap.fields_of, Typed.HasLine}
 use Rattle.cache_store.specs.Lookups.{IsAnswer, IsFound, age_of_stored}
-use Rattle.cache_store.specs.declared.lookup.Lookup.TheVariants as lookups
-use Rattle.cache_policy.specs.Decisions.{AnswersUnstored}
-use Rattle.cache_policy.specs.Policies.{Policy}
-use Rattle.cache_policy.specs.Requests.{Request}
-use Rattle.cache_policy.specs.declared.decision.Decision.{Decision}
-use Rattle.cache_policy.specs.declared.decision.Decision.TheVariants as decisions
-use Rattle.cache_rules.specs.Stored.{fields_of_stored}
-use Rattle.cache_rules.specs.declared.stored.StoredResponse.{StoredResponse}
-use Rattle.cache_store.specs.Numbers.{numbered}
+use Rattle.cache_store.specs.{Numbers.numbered, Parts.Completing.completing_fields, Parts.Completing.lacking}
+use Rattle.cache_store.specs.{Parts.Extents.extent_in, Parts.Extents.strong_tag, declared.parts.extent.Extent.Extent}
+use Rattle.cache_store.specs.{declared.parts.store_answering.PartAnswer.PartAnswer}
+use Rattle.cache_store.specs.{declared.parts.store_answering.PartLookup.PartLookup}
 use Rattle.cache_store.specs.Parts.Answers.{HasBytes, IsPartAnswer, part_fields}
-use Rattle.cache_store.specs.Parts.Completing.{completing_fields, lacking}
-use Rattle.cache_store.specs.Parts.Extents.{extent_in, strong_tag}
-use Rattle.cache_store.specs.declared.parts.extent.Extent.{Extent}
-use Rattle.cache_store.specs.declared.parts.store_answering.PartAnswer.{PartAnswer}
 use Rattle.cache_store.specs.declared.parts.store_answering.PartLookup.TheVariants.{Serve, Complete, Unavailable}
 use Rattle.cache_store.specs.declared.parts.store_answering.PartLookup.TheVariants.{Forward}
-use Rattle.cache_store.specs.declared.parts.store_answering.PartLookup.{PartLookup}
+use Rattle.cache_policy.specs.{Decisions.AnswersUnstored, Policies.Policy, Requests.Request}
+use Rattle.cache_policy.specs.{declared.decision.Decision.Decision}
+use Rattle.cache_rules.specs.{Stored.fields_of_stored, declared.stored.StoredResponse.StoredResponse}
+use Rattle.cache_store.specs.declared.lookup.Lookup.TheVariants as lookups
+use Rattle.cache_policy.specs.declared.decision.Decision.TheVariants as decisions
 
 -- ---- what the origin is asked for
 
@@ -76,8 +70,8 @@ IsValidation decision =
     ⊎ (decision ≡ decisions.RevalidateOrServe)
 
 module _ (policy : Policy) (most : ℕ) (request : Request) (now : ℕ) (parts : List StoredResponse) where
-  -- The stored part with the number is selected for the request (section 4.1), and this is done with it: it may be reused
-  -- (section 4.2), or the origin is to be asked.
+  -- The stored part with the number is selected for the request (section 4.1), and this is done with it: it may be
+  -- reused (section 4.2), or the origin is to be asked.
   pub record IsDecided (lookup : PartLookup) : Type 0 where
     pub place : ℕ
     pub decision : Decision

@@ -1,20 +1,17 @@
 -- Which request a stored part answers (RFC 9111, section 3.3).
-use Rattle.std.specs.Prelude.{◌≡◌, ◌⊎◌, ℕ, ◌-◌, ◌≤◌, ◌&&◌, nat_le, List, [], ◌∷◌, Option, Some, None, IsSome}
-use Rattle.std.specs.Prelude.{codes, decimal, if◌then◌else◌}
+use Rattle.std.specs.Prelude.{◌≡◌, ◌⊎◌, ℕ, ◌-◌, ◌≤◌, ◌&&◌, nat_le, List, [], ◌∷◌, Option, Some, None, IsSome, codes}
+use Rattle.std.specs.Prelude.{decimal, if◌then◌else◌}
 use Rattle.headers.specs.LineMap.{Field}
 use Rattle.cache_policy.specs.Requests.{Request}
 use Rattle.cache_rules.specs.Conditions.{AreValidators, IsForCache, one_part}
-use Rattle.cache_rules.specs.Stored.{fields_of_stored}
-use Rattle.cache_rules.specs.declared.stored.StoredResponse.{StoredResponse}
-use Rattle.decide_preconditions.specs.Plans.{IsPlanned}
-use Rattle.decide_preconditions.specs.declared.plan.Plan.{Plan}
-use Rattle.decide_preconditions.specs.declared.plan.Plan.TheVariants.{NotModified, Failed, Full, Single}
-use Rattle.decide_preconditions.specs.declared.plan.Plan.TheVariants.{Multiple, Unsatisfiable}
-use Rattle.decide_preconditions.specs.declared.resource.Resource.TheVariants.{Current}
-use Rattle.decide_preconditions.specs.declared.resource.Validators.{Validators}
-use Rattle.cache_store.specs.Parts.Combining.{Holds}
+use Rattle.cache_rules.specs.{Stored.fields_of_stored, declared.stored.StoredResponse.StoredResponse}
+use Rattle.decide_preconditions.specs.{Plans.IsPlanned, declared.plan.Plan.Plan}
+use Rattle.decide_preconditions.specs.{declared.resource.Resource.TheVariants.Current}
+use Rattle.decide_preconditions.specs.{declared.resource.Validators.Validators}
+use Rattle.decide_preconditions.specs.declared.plan.Plan.TheVariants.{NotModified, Failed, Full, Single, Multiple}
+use Rattle.decide_preconditions.specs.declared.plan.Plan.TheVariants.{Unsatisfiable}
+use Rattle.cache_store.specs.{Parts.Combining.Holds, declared.parts.extent.Extent.Extent}
 use Rattle.cache_store.specs.Parts.Extents.{bytes_between, range_line, size, strong_tag}
-use Rattle.cache_store.specs.declared.parts.extent.Extent.{Extent}
 
 -- one part lies wholly within another of the same whole
 pub record IsWithin (outer inner : Extent) : Type 0 where

@@ -3,9 +3,7 @@ use Rattle.std.specs.Prelude.{◌≡◌, ℕ, ◌+◌, ◌-◌, ◌^◌, ◌<◌
 use Rattle.std.specs.Prelude.{length, take, drop, min, max, Option, Some, None, option_and_then, codes, decimal}
 use Rattle.std.specs.Prelude.{if◌then◌else◌}
 use Rattle.headers.specs.ContentBytes.{ContentBytes, content_bytes, content_text}
-use Rattle.headers.specs.EntityTag.{is_tag}
-use Rattle.headers.specs.LineMap.{Field, LineMap}
-use Rattle.headers.specs.Lines.{Line, only_line}
+use Rattle.headers.specs.{EntityTag.is_tag, LineMap.Field, LineMap.LineMap, Lines.Line, Lines.only_line}
 use Rattle.cache_policy.specs.Updating.{is_weak, tag_in}
 use Rattle.cache_store.specs.declared.parts.extent.Extent.{Extent}
 

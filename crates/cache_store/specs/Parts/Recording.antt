@@ -3,23 +3,18 @@ use Rattle.std.specs.Prelude.{◌≡◌, ◌⊎◌, ℕ, List, Option, Some, Non
 use Rattle.headers.specs.Typed.{HasLine}
 use Rattle.cache_store.specs.Changes.{FitsAlone, IsInserted, IsStoredAs, IsToStore, IsTooSmallToStore}
 use Rattle.cache_store.specs.Contents.{Contents, responses_at, size_of, without}
-use Rattle.cache_store.specs.declared.limits.Limits.{Limits}
-use Rattle.cache_policy.specs.Policies.{Policy}
-use Rattle.cache_policy.specs.Requests.{Request}
-use Rattle.cache_rules.specs.Fields.{IsTooSmallFor}
-use Rattle.cache_rules.specs.Selection.{IsCandidate, IsMostRecent, IsSelected}
-use Rattle.cache_rules.specs.Stored.{fields_of_stored, request_of_stored}
-use Rattle.cache_rules.specs.declared.storing.Reception.{Reception}
-use Rattle.cache_rules.specs.declared.storing.Reception.TheVariants.{Complete}
-use Rattle.cache_rules.specs.declared.stored.StoredResponse.{StoredResponse}
+use Rattle.cache_store.specs.{declared.limits.Limits.Limits, Parts.Extents.extent_fields}
+use Rattle.cache_store.specs.{declared.parts.combining.Combined.Combined, declared.parts.extent.Extent.Extent}
+use Rattle.cache_store.specs.{declared.parts.store_recording.Recorded.Recorded}
 use Rattle.cache_store.specs.Parts.Combining.{AreCombinable, HaveSameTag, IsCombinedAs, IsTooSmallToCombine}
-use Rattle.cache_store.specs.Parts.Extents.{extent_fields}
 use Rattle.cache_store.specs.Parts.Received.{IsPart, IsRecorded, IsSelfContained}
-use Rattle.cache_store.specs.declared.parts.combining.Combined.TheVariants as combined
-use Rattle.cache_store.specs.declared.parts.combining.Combined.{Combined}
-use Rattle.cache_store.specs.declared.parts.extent.Extent.{Extent}
 use Rattle.cache_store.specs.declared.parts.store_recording.Recorded.TheVariants.{Unstored, Stored, Whole, Once}
-use Rattle.cache_store.specs.declared.parts.store_recording.Recorded.{Recorded}
+use Rattle.cache_policy.specs.{Policies.Policy, Requests.Request}
+use Rattle.cache_rules.specs.{Fields.IsTooSmallFor, Stored.fields_of_stored, Stored.request_of_stored}
+use Rattle.cache_rules.specs.{declared.storing.Reception.Reception, declared.storing.Reception.TheVariants.Complete}
+use Rattle.cache_rules.specs.{declared.stored.StoredResponse.StoredResponse}
+use Rattle.cache_rules.specs.Selection.{IsCandidate, IsMostRecent, IsSelected}
+use Rattle.cache_store.specs.declared.parts.combining.Combined.TheVariants as combined
 
 -- the stored part that a request selects (RFC 9111, section 4.1), or none
 abbrev pub IsSelectedPart : Request → List StoredResponse → Option StoredResponse → Type 0

@@ -1,10 +1,9 @@
 //! Removal of what is stored.
 ghost use Rattle.std.specs.Prelude.{◌≡◌};
-ghost use Rattle.cache_store.specs.Contents.{without};
-ghost use Rattle.cache_rules.specs.Invalidation.{Invalidates};
+ghost use Rattle.cache_store.specs.{Contents.without, Parts.History.Step};
 ghost use Rattle.cache_store.specs.Parts.History.PartCall.{Answered, Removed};
-ghost use Rattle.cache_store.specs.Parts.History.{Step};
 ghost use Rattle.cache_store.specs.Parts.Kept.{limits_of_parts, parts_of, policy_of_parts};
+ghost use Rattle.cache_rules.specs.Invalidation.{Invalidates};
 
 use crate::parts::store::PartStore;
 use http::{Method, StatusCode};

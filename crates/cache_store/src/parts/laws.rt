@@ -1,30 +1,20 @@
 //! Theorems about the definitions, and about every list of calls of a store. To cite one in a proof, call it.
 ghost use Rattle.std.specs.Prelude.{◌≡◌, ℕ, List, true, false, Some, IsTrue, ◌⊎◌, ◌∷◌, length};
-ghost use Rattle.headers.specs.EntityTag.{is_tag};
-ghost use Rattle.headers.specs.LineMap.{LineMap};
-ghost use Rattle.headers.specs.Lines.{Line};
-ghost use Rattle.cache_store.specs.Contents.{Contents, responses_at};
-ghost use Rattle.cache_store.specs.Room.{HasRoom};
-ghost use Rattle.cache_store.specs.declared.limits.Limits.{Limits};
-ghost use Rattle.cache_policy.specs.Policies.{Policy};
-ghost use Rattle.cache_policy.specs.Requests.{Request};
-ghost use Rattle.cache_policy.specs.Updating.{is_weak};
-ghost use Rattle.cache_rules.specs.Stored.{fields_of_stored};
-ghost use Rattle.cache_rules.specs.declared.stored.StoredResponse.{StoredResponse};
-ghost use Rattle.cache_rules.specs.declared.storing.Reception.{Reception};
-ghost use Rattle.cache_store.specs.Numbers.{numbered};
-ghost use Rattle.cache_store.specs.Parts.Answering.{HasBytesAt, IsLookedUp};
-ghost use Rattle.cache_store.specs.Parts.Answers.{IsWithin, bytes_within};
+ghost use Rattle.headers.specs.{EntityTag.is_tag, LineMap.LineMap, Lines.Line};
+ghost use Rattle.cache_store.specs.{Contents.Contents, Contents.responses_at, Room.HasRoom};
+ghost use Rattle.cache_store.specs.{declared.limits.Limits.Limits, Numbers.numbered, Parts.Answering.HasBytesAt};
+ghost use Rattle.cache_store.specs.{Parts.Answering.IsLookedUp, Parts.Answers.IsWithin, Parts.Answers.bytes_within};
+ghost use Rattle.cache_store.specs.{Parts.History.PartCall.Received, Parts.Kept.limits_of_parts, Parts.Kept.parts_of};
+ghost use Rattle.cache_store.specs.{declared.parts.extent.Extent.Extent, declared.parts.store.PartStore.PartStore};
+ghost use Rattle.cache_store.specs.{declared.parts.store_answering.PartAnswer.PartAnswer};
+ghost use Rattle.cache_store.specs.{declared.parts.store_answering.PartLookup.TheVariants.Serve};
+ghost use Rattle.cache_store.specs.{declared.parts.store_recording.Recorded.Recorded};
 ghost use Rattle.cache_store.specs.Parts.Extents.{IsOf, Touch, is_whole, joined, joint, strong_tag};
-ghost use Rattle.cache_store.specs.Parts.History.PartCall.{Received};
 ghost use Rattle.cache_store.specs.Parts.History.{AreBytesOf, AreReceived, PartHistory, Run};
-ghost use Rattle.cache_store.specs.Parts.Kept.{limits_of_parts, parts_of};
 ghost use Rattle.cache_store.specs.Parts.Recording.{IsNotTaken, IsRecordedAs, IsTaken, IsWhole, NeedsMemory};
-ghost use Rattle.cache_store.specs.declared.parts.extent.Extent.{Extent};
-ghost use Rattle.cache_store.specs.declared.parts.store.PartStore.{PartStore};
-ghost use Rattle.cache_store.specs.declared.parts.store_answering.PartAnswer.{PartAnswer};
-ghost use Rattle.cache_store.specs.declared.parts.store_answering.PartLookup.TheVariants.{Serve};
-ghost use Rattle.cache_store.specs.declared.parts.store_recording.Recorded.{Recorded};
+ghost use Rattle.cache_policy.specs.{Policies.Policy, Requests.Request, Updating.is_weak};
+ghost use Rattle.cache_rules.specs.{Stored.fields_of_stored, declared.stored.StoredResponse.StoredResponse};
+ghost use Rattle.cache_rules.specs.{declared.storing.Reception.Reception};
 
 /// If two parts are of one representation, so is their combination. So it has exactly the bytes that
 /// the representation has there, and which part came first makes no difference.
@@ -38,6 +28,7 @@ pub fn combinations_are_of_the_representation()
 {}
 
 /// How three parts are grouped makes no difference either.
+#[tactic(auto, using(crate::proofs::parts::PartLemmas::joined_group))]
 pub fn combinations_are_associative()
     ensures { (representation : List ℕ) (a b c : Extent) (x y z : List ℕ)
         → IsOf representation a x → IsOf representation b y → IsOf representation c z
@@ -46,12 +37,14 @@ pub fn combinations_are_associative()
 {}
 
 /// A combination that is the whole has all bytes of the representation.
+#[tactic(auto, using(crate::proofs::parts::PartLemmas::whole_is))]
 pub fn whole_parts_are_the_representation()
     ensures { (representation : List ℕ) (extent : Extent) (bytes : List ℕ) → IsOf representation extent bytes
         → is_whole extent ≡ true → bytes ≡ representation }
 {}
 
 /// The bytes that answer a request are those that the representation has there.
+#[tactic(auto, using(crate::proofs::parts::PartLemmas::within_is))]
 pub fn answers_are_of_the_representation()
     ensures { (representation : List ℕ) (outer inner : Extent) (content : List ℕ)
         → IsOf representation outer content → IsWithin outer inner

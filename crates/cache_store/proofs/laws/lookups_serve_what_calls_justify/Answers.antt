@@ -1,5 +1,5 @@
-use Rattle.cache_store.proofs.HistoryLemmas.{lookup-served}
+use Rattle.cache_store.proofs.HistoryLemmas.{lookup_served}
 use Rattle.cache_store.proofs.laws.lookups_serve_what_calls_justify.Goals as goal
 
 pub returns : goal.returns
-returns c = lookup-served
+returns c = lookup_served

@@ -1,6 +1,5 @@
 use Rattle.std.proofs.Common.{◌≡◌, ◌++◌, List}
-use Rattle.headers.specs.LineMap.{lines_at}
-use Rattle.headers.specs.Lines.{lines_of}
+use Rattle.headers.specs.{LineMap.lines_at, Lines.lines_of}
 use Rattle.url.specs.Parts.{Parts}
 use Rattle.cache_store.proofs.NamedLemmas.{Continues}
 use Rattle.cache_store.proofs.named.append_named.Given as goal

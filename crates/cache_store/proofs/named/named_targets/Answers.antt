@@ -1,7 +1,6 @@
-use Rattle.std.proofs.Common.{◌++◌, List, codes, sym, subst, ap, ◌∙◌}
+use Rattle.std.proofs.Common.{◌++◌, List, ap, ◌∙◌}
 use Rattle.headers.specs.LineMap.{lines_at}
 use Rattle.url.specs.Parts.{Parts}
-use Rattle.cache_store.specs.Named.{AreNamedBy}
 use Rattle.cache_store.proofs.NamedLemmas.{named-append}
 use Rattle.cache_store.proofs.named.named_targets.Goals as goal
 
@@ -12,9 +11,6 @@ returns-in_ok-append_named-in-Ok-2-clause-targets c =
     let response = lines_at c.args.response.now in
     let first = c.in_ok-append_named-in-Ok.ensures.named in
     let second = c.in_ok-append_named-in-Ok-2.ensures.named in
-    rw c.in-Ok.ensures
-    (subst (AreNamedBy base (response (codes "location") ++ response (codes "content-location")))
-    (sym (second.2 ∙ ap (λ (l : List Parts). l ++ second.0)
-    (first.2 ∙ ap (λ (l : List Parts). l ++ first.0) c.new-urls.ensures.items)))
-    (named-append base (response (codes "location")) (response (codes "content-location")) first.0 second.0 first.1
-    second.1))
+    rw c.in-Ok.ensures (rw (← (second.2 ∙ ap (λ (l : List Parts). l ++ second.0)
+    (first.2 ∙ ap (λ (l : List Parts). l ++ first.0) c.new-urls.ensures.items))) at
+    (named-append _ _ _ _ _ first.1 second.1))

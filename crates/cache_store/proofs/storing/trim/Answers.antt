@@ -1,14 +1,11 @@
-use Rattle.std.proofs.Common.{◌+◌, length, subst, arith}
-use Rattle.cache_store.specs.Changes.{FitsAlone}
-use Rattle.cache_store.specs.Contents.{bytes_of}
+use Rattle.std.proofs.Common.{arith}
 use Rattle.cache_store.proofs.StoringLemmas.{bytes_of-remove, trim-next, trim-some}
 use Rattle.cache_store.proofs.storing.trim.Goals as goal
 
 pub loop-limits-preserved : goal.loop-limits-preserved
 loop-limits-preserved c =
     let mid = c.loop-limits.responses.items in
-    let cramped = subst (λ l. ¬ (FitsAlone c.args.limits (length l + 1) (bytes_of l + c.args.size)))
-    c.deref.ensures.value c.loop-limits-test.ensures in
+    let cramped = rw c.deref.ensures.value at c.loop-limits-test.ensures in
     record {
       trimming = trim-next c.args.limits c.args.size c.args.responses.now.items mid c.remove.new.self.items
           c.loop-limits.invariant.trimming cramped c.remove.ensures.items;

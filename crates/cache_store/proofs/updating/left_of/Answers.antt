@@ -3,18 +3,13 @@ use Rattle.std.proofs.lemmas.List.{nil_from_length}
 use Rattle.std.proofs.lemmas.List.Elements.{All-contains_itself, All-rest}
 use Rattle.std.specs.List.{All, Contains}
 use Rattle.headers.specs.LineMap.{lines_at}
-use Rattle.cache_policy.specs.Policies.{policy_of}
-use Rattle.cache_policy.specs.Requests.{request_of}
-use Rattle.cache_store.specs.Contents.{bytes_of}
-use Rattle.cache_store.specs.History.{Has}
-use Rattle.cache_store.specs.Numbers.{AreRenumbered}
-use Rattle.cache_store.specs.Updates.{Becomes}
+use Rattle.cache_policy.specs.{Policies.policy_of, Requests.request_of}
+use Rattle.cache_store.specs.{Contents.bytes_of, History.Has, Numbers.AreRenumbered, Updates.Becomes}
 use Rattle.cache_store.proofs.GoOnLemmas.{kept-next}
 use Rattle.cache_store.proofs.NumberLemmas.{AreRenumbering, renumbering-end, renumbering-next, renumbering-none}
-use Rattle.cache_rules.proofs.FullLemmas.{passed_full}
-use Rattle.cache_rules.specs.Freshening.{renewing_fields}
 use Rattle.cache_store.proofs.UpdateLemmas.{becomes-light, continues-end, continues-next, fewer-next, lighter-next}
 use Rattle.cache_store.proofs.UpdateLemmas.{next_too_small}
+use Rattle.cache_rules.proofs.FullLemmas.{passed_full}
 use Rattle.cache_store.proofs.updating.left_of.Goals as goal
 
 pub loop-stored-init : goal.loop-stored-init
@@ -74,18 +69,13 @@ pub returns-clause-left : goal.returns-clause-left
 returns-clause-left c =
     let these = c.loop-stored.all.rest.items in
     let zero : length these ≡ 0 = omega (arith, c.in_default.ensures.cases, c.loop-stored.all.rest.ok.0) in
-    continues-end
-    (λ one. Becomes (policy_of c.args.policy.now) (request_of c.args.request.now)
-    (lines_at c.args.update.now) c.args.exchange one
-    c.args.by)
-    c.args.responses.items c.loop-stored.left.items these (nil_from_length these zero) c.loop-stored.invariant.left
+    continues-end (λ one. Becomes (policy_of c.args.policy.now) (request_of c.args.request.now)
+    (lines_at c.args.update.now) c.args.exchange one c.args.by) _ _ these (nil_from_length these zero)
+    c.loop-stored.invariant.left
 
 pub returns-in_err-fate-clause-full : goal.returns-in_err-fate-clause-full
-returns-in_err-fate-clause-full c = λ full.
-    next_too_small c.args.responses.items c.loop-stored.all.rest.items c.next.new.self.rest.items c.in-Some.stored
-    (renewing_fields c.args.exchange.received c.args.update.now) c.in-Some.ensures.items c.loop-stored.invariant.among
-    (c.in_err-fate.ensures.full
-    (ap Err (passed_full c.from_residual.result c.in_err-fate.field-0.0 c.from_residual.ensures.1 full)))
+returns-in_err-fate-clause-full c = λ full. next_too_small _ _ _ _ _ c.in-Some.ensures.items
+    c.loop-stored.invariant.among (c.in_err-fate.ensures.full (ap Err (passed_full _ _ c.from_residual.ensures.1 full)))
 
 pub returns-clause-numbers : goal.returns-clause-numbers
 returns-clause-numbers c =
@@ -93,5 +83,4 @@ returns-clause-numbers c =
     let zero : length these ≡ 0 = omega (arith, c.in_default.ensures.cases, c.loop-stored.all.rest.ok.0) in
     subst (λ last. AreRenumbered c.args.first last c.args.responses.items c.loop-stored.left.items)
     (omega (arith, c.loop-stored.invariant.counted, zero))
-    (renumbering-end c.args.first c.loop-stored.number c.args.responses.items c.loop-stored.left.items these
-    c.loop-stored.invariant.numbers)
+    (renumbering-end _ _ _ _ these c.loop-stored.invariant.numbers)

@@ -1,5 +1,5 @@
-use Rattle.cache_store.proofs.parts.HistoryLemmas.{served-received}
+use Rattle.cache_store.proofs.parts.HistoryLemmas.{served_received}
 use Rattle.cache_store.proofs.parts.laws.served_bytes_were_received.Goals as goal
 
 pub returns : goal.returns
-returns c = served-received
+returns c = served_received

@@ -1,38 +1,24 @@
-use Rattle.std.proofs.Common.{length, sym, ap, subst, arith, Err, Some, None, inl, [], ◌∷◌, ◌++◌, ◌≤◌, ◌+◌, ◌∙◌}
+use Rattle.std.proofs.Common.{length, ap, arith, Err, inl, ◌+◌, ◌∙◌}
 use Rattle.headers.specs.LineMap.{lines_at}
-use Rattle.cache_policy.specs.Policies.{policy_of}
-use Rattle.cache_policy.specs.Requests.{request_of}
+use Rattle.cache_policy.specs.{Policies.policy_of, Requests.request_of}
 use Rattle.cache_rules.proofs.FullLemmas.{passed_full}
-use Rattle.cache_rules.specs.Freshening.{IsFreshenedAs, renewing_fields}
-use Rattle.cache_rules.specs.Identifying.{IsUpdatedAnswer}
-use Rattle.cache_store.specs.Changes.{IsUnrefreshed}
 use Rattle.cache_rules.specs.declared.stored.StoredResponse.{StoredResponse}
-use Rattle.cache_store.specs.Contents.{IsAbsent, bytes_of, responses_at, size_of}
-use Rattle.cache_store.specs.History.{Has}
-use Rattle.cache_store.specs.Numbers.{AreNumberedWith}
-use Rattle.cache_store.specs.Room.{HasRoom}
-use Rattle.cache_store.specs.Kept.{contents_of, policy_of_store}
-use Rattle.cache_store.specs.declared.freshening.Refreshed.TheVariants as answer
-use Rattle.cache_store.proofs.EntryLemmas.{IsAbsent-without}
+use Rattle.cache_store.specs.{Contents.size_of, Kept.contents_of, Kept.policy_of_store}
+use Rattle.cache_store.proofs.{EntryLemmas.IsAbsent-without, HistoryLemmas.Has-remove}
 use Rattle.cache_store.proofs.GoOnLemmas.{goes-again, goes-left, goes-without}
-use Rattle.cache_store.proofs.HistoryLemmas.{Has-remove}
 use Rattle.cache_store.proofs.NumberLemmas.{fewer-removed, numbered-again, numbered-left}
 use Rattle.cache_store.proofs.UpdateLemmas.{room_again, room_without, size-freshened}
 use Rattle.cache_store.proofs.RefreshLemmas.{let_go, none_refreshed, not_unchanged, one_too_small, other_too_small}
 use Rattle.cache_store.proofs.RefreshLemmas.{one_less, restored, within, within_taken}
+use Rattle.cache_store.specs.declared.freshening.Refreshed.TheVariants as answer
 use Rattle.cache_store.proofs.store.Store.freshen.Goals as goal
 
 pub returns-in_default-clause-ok : goal.returns-in_default-clause-ok
 returns-in_default-clause-ok c =
     none_refreshed (policy_of_store c.args.self.now) c.args.target.now (request_of c.args.request.now)
-    (lines_at c.args.update.now)
-    c.args.exchange (contents_of c.args.self.now)
-    (subst (λ l. IsUpdatedAnswer (request_of c.args.request.now) (lines_at c.args.update.now) l None)
-    c.responses.ensures
-    c.in_default.ensures)
-    c.unrefreshed.result
-    (subst (λ l. IsUnrefreshed (request_of c.args.request.now) l c.unrefreshed.result) c.responses-in_default.ensures
-    c.unrefreshed.ensures)
+    (lines_at c.args.update.now) c.args.exchange (contents_of c.args.self.now)
+    (rw c.responses.ensures at c.in_default.ensures) c.unrefreshed.result
+    (rw c.responses-in_default.ensures at c.unrefreshed.ensures)
 
 pub returns-in_default-clause-step : goal.returns-in_default-clause-step
 returns-in_default-clause-step c = inl (c.unrefreshed.result, returns-in_default-clause-ok c)
@@ -41,41 +27,28 @@ pub remove-stored-requires : goal.remove-stored-requires
 remove-stored-requires c =
     omega (
       arith,
-      within (request_of c.args.request.now) (lines_at c.args.update.now)
-          (responses_at c.args.target.now (contents_of c.args.self.now)) c.in-Some.place
-          (subst (λ l. IsUpdatedAnswer (request_of c.args.request.now) (lines_at c.args.update.now) l (Some
-          c.in-Some.place)) c.responses.ensures c.in-Some.ensures),
+      within _ _ _ _ (rw c.responses.ensures at c.in-Some.ensures),
       ap length c.take_out-responses.ensures.taken,
       c.take_out-responses.result.ok.0,
     )
 
 pub put_with-requires-clause-absent : goal.put_with-requires-clause-absent
 put_with-requires-clause-absent c =
-    subst (IsAbsent c.args.target.now) (sym (c.take_numbers.ensures.contents ∙ c.take_out-responses.ensures.contents)) (IsAbsent-without c.args.target.now
-    (contents_of c.args.self.now))
+    rw (← (c.take_numbers.ensures.contents ∙ c.take_out-responses.ensures.contents)) at
+    (IsAbsent-without c.args.target.now (contents_of c.args.self.now))
 
 pub put_in-requires-clause-absent : goal.put_in-requires-clause-absent
 put_in-requires-clause-absent c =
-    subst (IsAbsent c.args.target.now) (sym (c.take_numbers.ensures.contents ∙ c.take_out-responses.ensures.contents)) (IsAbsent-without c.args.target.now
-    (contents_of c.args.self.now))
+    rw (← (c.take_numbers.ensures.contents ∙ c.take_out-responses.ensures.contents)) at
+    (IsAbsent-without c.args.target.now (contents_of c.args.self.now))
 
 pub returns-in_ok-put_with-in-Stored-clause-ok : goal.returns-in_ok-put_with-in-Stored-clause-ok
 returns-in_ok-put_with-in-Stored-clause-ok c =
-    restored (policy_of_store c.args.self.now) (policy_of c.policy-policy.result) c.args.target.now
-    (request_of c.args.request.now)
-    (lines_at c.args.update.now) c.args.exchange
-    (contents_of c.args.self.now) (contents_of c.put_with.new.self) (contents_of c.take_numbers.new.self)
-    c.take_out-responses.result.items c.remove-stored.new.self.items c.in_ok-left.left.items c.in-Some.place
-    (subst (λ l. IsUpdatedAnswer (request_of c.args.request.now) (lines_at c.args.update.now) l (Some c.in-Some.place))
-    c.responses.ensures c.in-Some.ensures)
-    c.remove-stored.result c.in-Stored.fresh
-    (c.policy-policy.ensures ∙ c.take_numbers.ensures.policy ∙ c.take_out-responses.ensures.policy) (c.take_numbers.ensures.contents ∙ c.take_out-responses.ensures.contents)
-    c.take_out-responses.ensures.taken c.remove-stored.ensures.value
-    c.remove-stored.ensures.items c.in_ok-left.ensures.left
-    (c.in_ok-first.first + c.len-2.result) c.renumber.result c.renumber.ensures
-    (subst (IsFreshenedAs (policy_of c.policy-policy.result) c.remove-stored.result (request_of c.args.request.now)
-    (lines_at c.args.update.now) c.args.exchange) c.in-Stored.is c.in_ok-fresh.ensures.freshened)
-    c.in_ok-put_with-in-Stored.ensures.ok
+    restored _ _ _ _ _ _ _ _ _ _ _ _ _ (rw c.responses.ensures at c.in-Some.ensures) _ _
+    (c.policy-policy.ensures ∙ c.take_numbers.ensures.policy ∙ c.take_out-responses.ensures.policy)
+    (c.take_numbers.ensures.contents ∙ c.take_out-responses.ensures.contents) c.take_out-responses.ensures.taken
+    c.remove-stored.ensures.value c.remove-stored.ensures.items c.in_ok-left.ensures.left _ _ c.renumber.ensures
+    (rw c.in-Stored.is at c.in_ok-fresh.ensures.freshened) c.in_ok-put_with-in-Stored.ensures.ok
 
 pub returns-in_ok-put_with-in-Stored-clause-step : goal.returns-in_ok-put_with-in-Stored-clause-step
 returns-in_ok-put_with-in-Stored-clause-step c =
@@ -83,21 +56,11 @@ returns-in_ok-put_with-in-Stored-clause-step c =
 
 pub returns-in_ok-put_in-in-Once-clause-ok : goal.returns-in_ok-put_in-in-Once-clause-ok
 returns-in_ok-put_in-in-Once-clause-ok c =
-    let_go (policy_of_store c.args.self.now) (policy_of c.policy-policy.result) c.args.target.now
-    (request_of c.args.request.now)
-    (lines_at c.args.update.now) c.args.exchange
-    (contents_of c.args.self.now) (contents_of c.put_in.new.self) (contents_of c.take_numbers.new.self)
-    c.take_out-responses.result.items c.remove-stored.new.self.items c.in_ok-left.left.items c.in-Some.place
-    (subst (λ l. IsUpdatedAnswer (request_of c.args.request.now) (lines_at c.args.update.now) l (Some c.in-Some.place))
-    c.responses.ensures c.in-Some.ensures)
-    c.remove-stored.result c.in-Once.fresh
-    (c.policy-policy.ensures ∙ c.take_numbers.ensures.policy ∙ c.take_out-responses.ensures.policy) (c.take_numbers.ensures.contents ∙ c.take_out-responses.ensures.contents)
-    c.take_out-responses.ensures.taken c.remove-stored.ensures.value
-    c.remove-stored.ensures.items c.in_ok-left.ensures.left
-    (c.in_ok-first.first + c.len-2.result) c.renumber-in-Once.result c.renumber-in-Once.ensures
-    (subst (IsFreshenedAs (policy_of c.policy-policy.result) c.remove-stored.result (request_of c.args.request.now)
-    (lines_at c.args.update.now) c.args.exchange) c.in-Once.is c.in_ok-fresh.ensures.freshened)
-    c.in_ok-put_in-in-Once.ensures.ok
+    let_go _ _ _ _ _ _ _ _ _ _ _ _ _ (rw c.responses.ensures at c.in-Some.ensures) _ _
+    (c.policy-policy.ensures ∙ c.take_numbers.ensures.policy ∙ c.take_out-responses.ensures.policy)
+    (c.take_numbers.ensures.contents ∙ c.take_out-responses.ensures.contents) c.take_out-responses.ensures.taken
+    c.remove-stored.ensures.value c.remove-stored.ensures.items c.in_ok-left.ensures.left _ _ c.renumber-in-Once.ensures
+    (rw c.in-Once.is at c.in_ok-fresh.ensures.freshened) c.in_ok-put_in-in-Once.ensures.ok
 
 pub returns-in_ok-put_in-in-Once-clause-step : goal.returns-in_ok-put_in-in-Once-clause-step
 returns-in_ok-put_in-in-Once-clause-step c =
@@ -105,179 +68,141 @@ returns-in_ok-put_in-in-Once-clause-step c =
 
 pub returns-in-Unchanged-clause-ok : goal.returns-in-Unchanged-clause-ok
 returns-in-Unchanged-clause-ok c = absurd (not_unchanged (policy_of_store c.args.self.now)
-    (policy_of c.policy-policy.result)
-    c.args.target.now (request_of c.args.request.now)
-    (lines_at c.args.update.now) c.args.exchange
-    (contents_of c.args.self.now) (contents_of c.take_out-responses.new.self)
-    (contents_of c.take_out-responses.new.self)
-    c.take_out-responses.result.items c.remove-stored.new.self.items c.in_ok-left.left.items c.in-Some.place
-    (subst (λ l. IsUpdatedAnswer (request_of c.args.request.now) (lines_at c.args.update.now) l (Some c.in-Some.place))
-    c.responses.ensures c.in-Some.ensures)
-    c.remove-stored.result c.in-Unchanged.field-0 (c.policy-policy.ensures ∙ c.take_numbers.ensures.policy ∙ c.take_out-responses.ensures.policy)
-    c.take_out-responses.ensures.contents
-    c.take_out-responses.ensures.taken c.remove-stored.ensures.value
-    c.remove-stored.ensures.items c.in_ok-left.ensures.left
-    (subst (IsFreshenedAs (policy_of c.policy-policy.result) c.remove-stored.result (request_of c.args.request.now)
-    (lines_at c.args.update.now) c.args.exchange) c.in-Unchanged.is c.in_ok-fresh.ensures.freshened))
+    (policy_of c.policy-policy.result) c.args.target.now (request_of c.args.request.now) (lines_at c.args.update.now)
+    c.args.exchange (contents_of c.args.self.now) (contents_of c.take_out-responses.new.self)
+    (contents_of c.take_out-responses.new.self) c.take_out-responses.result.items c.remove-stored.new.self.items
+    c.in_ok-left.left.items c.in-Some.place (rw c.responses.ensures at c.in-Some.ensures) c.remove-stored.result
+    c.in-Unchanged.field-0
+    (c.policy-policy.ensures ∙ c.take_numbers.ensures.policy ∙ c.take_out-responses.ensures.policy)
+    c.take_out-responses.ensures.contents c.take_out-responses.ensures.taken c.remove-stored.ensures.value
+    c.remove-stored.ensures.items c.in_ok-left.ensures.left (rw c.in-Unchanged.is at c.in_ok-fresh.ensures.freshened))
 
 pub returns-in_err-left-clause-full : goal.returns-in_err-left-clause-full
-returns-in_err-left-clause-full c = λ full.
-    other_too_small (responses_at c.args.target.now (contents_of c.args.self.now)) c.take_out-responses.result.items
-    c.in-Some.place (renewing_fields c.args.exchange.received c.args.update.now) c.take_out-responses.ensures.taken
-    c.remove-stored.new.self.items c.remove-stored.ensures.items
-    (c.in_err-left.ensures.full
-    (ap Err (passed_full c.from_residual-in_err-left.result c.in_err-left.field-0.0 c.from_residual-in_err-left.ensures.1 full)))
+returns-in_err-left-clause-full c = λ full. other_too_small _ _ _ _ c.take_out-responses.ensures.taken _
+    c.remove-stored.ensures.items
+    (c.in_err-left.ensures.full (ap Err (passed_full _ _ c.from_residual-in_err-left.ensures.1 full)))
 
 pub returns-in_err-fresh-clause-full : goal.returns-in_err-fresh-clause-full
-returns-in_err-fresh-clause-full c = λ full.
-    one_too_small (responses_at c.args.target.now (contents_of c.args.self.now)) c.take_out-responses.result.items
-    c.in-Some.place (renewing_fields c.args.exchange.received c.args.update.now) c.take_out-responses.ensures.taken
-    c.remove-stored.result
-    (within (request_of c.args.request.now) (lines_at c.args.update.now)
-    (responses_at c.args.target.now (contents_of c.args.self.now)) c.in-Some.place
-    (subst (λ l. IsUpdatedAnswer (request_of c.args.request.now) (lines_at c.args.update.now) l (Some c.in-Some.place))
-    c.responses.ensures c.in-Some.ensures))
-    c.remove-stored.ensures.value
-    (c.in_err-fresh.ensures.full
-    (ap Err (passed_full c.from_residual-in_err-fresh.result c.in_err-fresh.field-0.0
-    c.from_residual-in_err-fresh.ensures.1 full)))
+returns-in_err-fresh-clause-full c = λ full. one_too_small _ _ _ _ c.take_out-responses.ensures.taken _
+    (within _ _ _ _ (rw c.responses.ensures at c.in-Some.ensures)) c.remove-stored.ensures.value
+    (c.in_err-fresh.ensures.full (ap Err (passed_full _ _ c.from_residual-in_err-fresh.ensures.1 full)))
 
 pub returns-in_err-first-clause-numbers : goal.returns-in_err-first-clause-numbers
-returns-in_err-first-clause-numbers c = goes-without c.args.self.now.next (contents_of c.args.self.now) c.take_numbers.new.self.next
-    (contents_of c.take_numbers.new.self) (omega (arith, c.in_err-first.ensures.err, c.take_out-responses.ensures.next)) c.args.target.now
+returns-in_err-first-clause-numbers c = goes-without _ _ _ _
+    (omega (arith, c.in_err-first.ensures.err, c.take_out-responses.ensures.next)) _
     (c.take_numbers.ensures.contents ∙ c.take_out-responses.ensures.contents)
 
 pub returns-in_err-left-clause-numbers : goal.returns-in_err-left-clause-numbers
-returns-in_err-left-clause-numbers c = goes-without c.args.self.now.next (contents_of c.args.self.now) c.take_numbers.new.self.next
-    (contents_of c.take_numbers.new.self) (omega (arith, c.in_ok-first.ensures.ok, c.take_out-responses.ensures.next)) c.args.target.now
+returns-in_err-left-clause-numbers c = goes-without _ _ _ _
+    (omega (arith, c.in_ok-first.ensures.ok, c.take_out-responses.ensures.next)) _
     (c.take_numbers.ensures.contents ∙ c.take_out-responses.ensures.contents)
 
 pub returns-in_err-fresh-clause-numbers : goal.returns-in_err-fresh-clause-numbers
-returns-in_err-fresh-clause-numbers c = goes-without c.args.self.now.next (contents_of c.args.self.now) c.take_numbers.new.self.next
-    (contents_of c.take_numbers.new.self) (omega (arith, c.in_ok-first.ensures.ok, c.take_out-responses.ensures.next)) c.args.target.now
+returns-in_err-fresh-clause-numbers c = goes-without _ _ _ _
+    (omega (arith, c.in_ok-first.ensures.ok, c.take_out-responses.ensures.next)) _
     (c.take_numbers.ensures.contents ∙ c.take_out-responses.ensures.contents)
 
 pub returns-in_err-put_with-in-Stored-clause-numbers : goal.returns-in_err-put_with-in-Stored-clause-numbers
-returns-in_err-put_with-in-Stored-clause-numbers c = goes-without c.args.self.now.next (contents_of c.args.self.now) c.put_with.new.self.next
-    (contents_of c.put_with.new.self) (omega (arith, c.put_with.ensures.next, c.in_ok-first.ensures.ok, c.take_out-responses.ensures.next)) c.args.target.now
+returns-in_err-put_with-in-Stored-clause-numbers c = goes-without _ _ _ _
+    (omega (arith, c.put_with.ensures.next, c.in_ok-first.ensures.ok, c.take_out-responses.ensures.next)) _
     (c.in_err-put_with-in-Stored.ensures.err ∙ c.take_numbers.ensures.contents ∙ c.take_out-responses.ensures.contents)
 
 pub returns-in_err-put_in-in-Once-clause-numbers : goal.returns-in_err-put_in-in-Once-clause-numbers
-returns-in_err-put_in-in-Once-clause-numbers c = goes-without c.args.self.now.next (contents_of c.args.self.now) c.put_in.new.self.next
-    (contents_of c.put_in.new.self) (omega (arith, c.put_in.ensures.next, c.in_ok-first.ensures.ok, c.take_out-responses.ensures.next)) c.args.target.now
+returns-in_err-put_in-in-Once-clause-numbers c = goes-without _ _ _ _
+    (omega (arith, c.put_in.ensures.next, c.in_ok-first.ensures.ok, c.take_out-responses.ensures.next)) _
     (c.in_err-put_in-in-Once.ensures.err ∙ c.take_numbers.ensures.contents ∙ c.take_out-responses.ensures.contents)
 
 pub returns-in-Unchanged-clause-numbers : goal.returns-in-Unchanged-clause-numbers
-returns-in-Unchanged-clause-numbers c = goes-without c.args.self.now.next (contents_of c.args.self.now) c.take_numbers.new.self.next
-    (contents_of c.take_numbers.new.self) (omega (arith, c.in_ok-first.ensures.ok, c.take_out-responses.ensures.next)) c.args.target.now
+returns-in-Unchanged-clause-numbers c = goes-without _ _ _ _
+    (omega (arith, c.in_ok-first.ensures.ok, c.take_out-responses.ensures.next)) _
     (c.take_numbers.ensures.contents ∙ c.take_out-responses.ensures.contents)
 
 pub overflow_add-number : goal.overflow_add-number
 overflow_add-number c =
-    let inside = within_taken _ _ _ _ _ c.in-Some.place c.responses.ensures c.take_out-responses.ensures.taken c.in-Some.ensures in
-    let less = one_less c.take_out-responses.result.items c.remove-stored.new.self.items c.in-Some.place inside c.remove-stored.ensures.items in
+    let inside = within_taken _ _ _ _ _ _ c.responses.ensures c.take_out-responses.ensures.taken c.in-Some.ensures in
+    let less = one_less _ _ _ inside c.remove-stored.ensures.items in
     omega (arith, less, c.in_ok-first.ensures.ok, c.len.ensures ∙ c.take_out-responses.result.ok.0, c.len-2.ensures ∙ c.remove-stored.new.self.ok.0)
 
 pub left_of-requires : goal.left_of-requires
 left_of-requires c =
-    let inside = within_taken _ _ _ _ _ c.in-Some.place c.responses.ensures c.take_out-responses.ensures.taken c.in-Some.ensures in
-    let less = one_less c.take_out-responses.result.items c.remove-stored.new.self.items c.in-Some.place inside c.remove-stored.ensures.items in
+    let inside = within_taken _ _ _ _ _ _ c.responses.ensures c.take_out-responses.ensures.taken c.in-Some.ensures in
+    let less = one_less _ _ _ inside c.remove-stored.ensures.items in
     omega (arith, less, c.in_ok-first.ensures.ok, c.len.ensures ∙ c.take_out-responses.result.ok.0)
 
 pub put_with-requires-clause-room : goal.put_with-requires-clause-room
 put_with-requires-clause-room c =
     let inside = within_taken _ _ _ _ _ c.in-Some.place c.responses.ensures c.take_out-responses.ensures.taken c.in-Some.ensures in
-    room_again
-    c.take_numbers.new.self.limits (contents_of c.take_numbers.new.self) c.take_out-responses.result.items
-    c.in_ok-left.left.items c.in-Some.place c.remove-stored.result inside
-    (subst (λ l. HasRoom l (length c.take_out-responses.result.items) (bytes_of c.take_out-responses.result.items)
-    (contents_of c.take_numbers.new.self))
-    (sym (c.take_numbers.ensures.limits ∙ c.take_out-responses.ensures.limits))
-    (subst (λ other. HasRoom c.args.self.now.limits (length c.take_out-responses.result.items)
-    (bytes_of c.take_out-responses.result.items) other) (sym c.take_numbers.ensures.contents)
-    c.take_out-responses.ensures.room))
-    (subst (λ l. length c.in_ok-left.left.items ≤ length l) c.remove-stored.ensures.items c.in_ok-left.ensures.fewer)
-    (subst (λ l. bytes_of c.in_ok-left.left.items ≤ bytes_of l) c.remove-stored.ensures.items
-    c.in_ok-left.ensures.lighter)
-    (size_of c.renumber.result)
-    (ap size_of c.renumber.ensures
-    ∙ size-freshened (policy_of c.policy-policy.result) (request_of c.args.request.now) (lines_at c.args.update.now)
-    c.args.exchange c.remove-stored.result c.in-Stored.fresh (subst (IsFreshenedAs (policy_of c.policy-policy.result) c.remove-stored.result (request_of c.args.request.now)
-    (lines_at c.args.update.now) c.args.exchange) c.in-Stored.is c.in_ok-fresh.ensures.freshened).1
-    ∙ ap size_of c.remove-stored.ensures.value)
+    room_again c.take_numbers.new.self.limits (contents_of c.take_numbers.new.self) c.take_out-responses.result.items
+    c.in_ok-left.left.items c.in-Some.place c.remove-stored.result inside (rw
+    (← (c.take_numbers.ensures.limits ∙ c.take_out-responses.ensures.limits)) at
+    (rw (← c.take_numbers.ensures.contents) at c.take_out-responses.ensures.room))
+    (rw c.remove-stored.ensures.items at c.in_ok-left.ensures.fewer)
+    (rw c.remove-stored.ensures.items at c.in_ok-left.ensures.lighter) (size_of c.renumber.result) (ap size_of
+    c.renumber.ensures ∙ size-freshened (policy_of c.policy-policy.result) (request_of c.args.request.now)
+    (lines_at c.args.update.now) c.args.exchange c.remove-stored.result c.in-Stored.fresh
+    (rw c.in-Stored.is at c.in_ok-fresh.ensures.freshened).1 ∙ ap size_of c.remove-stored.ensures.value)
 
 pub put_with-requires-clause-numbers : goal.put_with-requires-clause-numbers
 put_with-requires-clause-numbers c =
     let inside = within_taken _ _ _ _ _ c.in-Some.place c.responses.ensures c.take_out-responses.ensures.taken c.in-Some.ensures in
     let less = one_less c.take_out-responses.result.items c.remove-stored.new.self.items c.in-Some.place inside c.remove-stored.ensures.items in
-    subst (λ other. AreNumberedWith c.take_numbers.new.self.next (c.in_ok-left.left.items ++ c.renumber.result ∷ [])
-    other) (sym c.take_numbers.ensures.contents) (numbered-again
-    c.args.self.now.next c.take_numbers.new.self.next c.in_ok-first.first (contents_of c.args.self.now)
-    (contents_of c.take_out-responses.new.self) c.take_out-responses.result.items c.remove-stored.new.self.items
-    c.in_ok-left.left.items c.args.self.now.numbered c.take_out-responses.ensures.numbers
-    (c.in_ok-first.ensures.ok.0 ∙ c.take_out-responses.ensures.next)
-    (omega (arith, c.in_ok-first.ensures.ok, c.take_out-responses.ensures.next, c.len.ensures ∙ c.take_out-responses.result.ok.0))
-    (λ number. rw c.remove-stored.ensures.items (fewer-removed number c.take_out-responses.result.items c.in-Some.place
-    c.remove-stored.result inside))
-    c.in_ok-left.ensures.numbers (omega (arith, less))
-    c.renumber.result (ap (λ (stored : StoredResponse). stored.number) c.renumber.ensures
-    ∙ ap (λ n. c.in_ok-first.first + n) (c.len-2.ensures ∙ c.remove-stored.new.self.ok.0)) less)
+    rw (← c.take_numbers.ensures.contents) at (numbered-again c.args.self.now.next c.take_numbers.new.self.next
+    c.in_ok-first.first (contents_of c.args.self.now) (contents_of c.take_out-responses.new.self)
+    c.take_out-responses.result.items c.remove-stored.new.self.items c.in_ok-left.left.items c.args.self.now.numbered
+    c.take_out-responses.ensures.numbers (c.in_ok-first.ensures.ok.0 ∙ c.take_out-responses.ensures.next) (omega (
+      arith,
+      c.in_ok-first.ensures.ok,
+      c.take_out-responses.ensures.next,
+      c.len.ensures ∙ c.take_out-responses.result.ok.0,
+    )) (λ
+    number. rw c.remove-stored.ensures.items
+    (fewer-removed number c.take_out-responses.result.items c.in-Some.place c.remove-stored.result inside))
+    c.in_ok-left.ensures.numbers (omega (arith, less)) c.renumber.result (ap
+    (λ (stored : StoredResponse). stored.number) c.renumber.ensures ∙ ap (λ n. c.in_ok-first.first + n)
+    (c.len-2.ensures ∙ c.remove-stored.new.self.ok.0)) less)
 
 pub put_in-requires-clause-room : goal.put_in-requires-clause-room
 put_in-requires-clause-room c =
     let inside = within_taken _ _ _ _ _ c.in-Some.place c.responses.ensures c.take_out-responses.ensures.taken c.in-Some.ensures in
-    room_without
-    c.take_numbers.new.self.limits (contents_of c.take_numbers.new.self) c.take_out-responses.result.items
-    c.in_ok-left.left.items c.in-Some.place c.remove-stored.result inside
-    (subst (λ l. HasRoom l (length c.take_out-responses.result.items) (bytes_of c.take_out-responses.result.items)
-    (contents_of c.take_numbers.new.self))
-    (sym (c.take_numbers.ensures.limits ∙ c.take_out-responses.ensures.limits))
-    (subst (λ other. HasRoom c.args.self.now.limits (length c.take_out-responses.result.items)
-    (bytes_of c.take_out-responses.result.items) other) (sym c.take_numbers.ensures.contents)
-    c.take_out-responses.ensures.room))
-    (subst (λ l. length c.in_ok-left.left.items ≤ length l) c.remove-stored.ensures.items c.in_ok-left.ensures.fewer)
-    (subst (λ l. bytes_of c.in_ok-left.left.items ≤ bytes_of l) c.remove-stored.ensures.items
-    c.in_ok-left.ensures.lighter)
+    room_without c.take_numbers.new.self.limits (contents_of c.take_numbers.new.self) c.take_out-responses.result.items
+    c.in_ok-left.left.items c.in-Some.place c.remove-stored.result inside (rw
+    (← (c.take_numbers.ensures.limits ∙ c.take_out-responses.ensures.limits)) at
+    (rw (← c.take_numbers.ensures.contents) at c.take_out-responses.ensures.room))
+    (rw c.remove-stored.ensures.items at c.in_ok-left.ensures.fewer)
+    (rw c.remove-stored.ensures.items at c.in_ok-left.ensures.lighter)
 
 pub put_in-requires-clause-numbers : goal.put_in-requires-clause-numbers
 put_in-requires-clause-numbers c =
     let inside = within_taken _ _ _ _ _ c.in-Some.place c.responses.ensures c.take_out-responses.ensures.taken c.in-Some.ensures in
     let less = one_less c.take_out-responses.result.items c.remove-stored.new.self.items c.in-Some.place inside c.remove-stored.ensures.items in
-    subst (λ other. AreNumberedWith c.take_numbers.new.self.next c.in_ok-left.left.items other)
-    (sym c.take_numbers.ensures.contents) (numbered-left
-    c.args.self.now.next c.take_numbers.new.self.next c.in_ok-first.first (contents_of c.args.self.now)
-    (contents_of c.take_out-responses.new.self) c.take_out-responses.result.items c.remove-stored.new.self.items
-    c.in_ok-left.left.items c.args.self.now.numbered c.take_out-responses.ensures.numbers
-    (c.in_ok-first.ensures.ok.0 ∙ c.take_out-responses.ensures.next)
-    (omega (arith, c.in_ok-first.ensures.ok, c.take_out-responses.ensures.next, c.len.ensures ∙ c.take_out-responses.result.ok.0))
-    (λ number. rw c.remove-stored.ensures.items (fewer-removed number c.take_out-responses.result.items c.in-Some.place
-    c.remove-stored.result inside))
+    rw (← c.take_numbers.ensures.contents) at (numbered-left c.args.self.now.next c.take_numbers.new.self.next
+    c.in_ok-first.first (contents_of c.args.self.now) (contents_of c.take_out-responses.new.self)
+    c.take_out-responses.result.items c.remove-stored.new.self.items c.in_ok-left.left.items c.args.self.now.numbered
+    c.take_out-responses.ensures.numbers (c.in_ok-first.ensures.ok.0 ∙ c.take_out-responses.ensures.next) (omega (
+      arith,
+      c.in_ok-first.ensures.ok,
+      c.take_out-responses.ensures.next,
+      c.len.ensures ∙ c.take_out-responses.result.ok.0,
+    )) (λ
+    number. rw c.remove-stored.ensures.items
+    (fewer-removed number c.take_out-responses.result.items c.in-Some.place c.remove-stored.result inside))
     c.in_ok-left.ensures.numbers (omega (arith, less)))
 
 pub returns-in_ok-put_with-in-Stored-clause-numbers : goal.returns-in_ok-put_with-in-Stored-clause-numbers
 returns-in_ok-put_with-in-Stored-clause-numbers c =
-    goes-again
-    c.args.self.now.next (contents_of c.args.self.now) c.put_with.new.self.next (contents_of c.put_with.new.self)
-    (omega (arith, c.put_with.ensures.next, c.in_ok-first.ensures.ok, c.take_out-responses.ensures.next)) c.args.target.now
-    (contents_of c.take_numbers.new.self) (c.take_numbers.ensures.contents ∙ c.take_out-responses.ensures.contents)
-    c.take_out-responses.result.items c.in_ok-left.left.items c.take_out-responses.ensures.taken c.in_ok-first.first
-    (c.in_ok-first.ensures.ok.0 ∙ c.take_out-responses.ensures.next) c.remove-stored.new.self.items
-    (λ one h. Has-remove c.take_out-responses.result.items c.in-Some.place one
-    (subst (λ l. Has l one) c.remove-stored.ensures.items h))
-    c.in_ok-left.ensures.kept
-    c.renumber.result
+    goes-again _ _ _ _
+    (omega (arith, c.put_with.ensures.next, c.in_ok-first.ensures.ok, c.take_out-responses.ensures.next)) _ _
+    (c.take_numbers.ensures.contents ∙ c.take_out-responses.ensures.contents) _ _ c.take_out-responses.ensures.taken _
+    (c.in_ok-first.ensures.ok.0 ∙ c.take_out-responses.ensures.next) _
+    (λ one h. Has-remove _ _ one (rw c.remove-stored.ensures.items at h)) c.in_ok-left.ensures.kept _
     (omega (arith, ap (λ (stored : StoredResponse). stored.number) c.renumber.ensures))
     c.in_ok-put_with-in-Stored.ensures.ok
 
 pub returns-in_ok-put_in-in-Once-clause-numbers : goal.returns-in_ok-put_in-in-Once-clause-numbers
 returns-in_ok-put_in-in-Once-clause-numbers c =
-    goes-left
-    c.args.self.now.next (contents_of c.args.self.now) c.put_in.new.self.next (contents_of c.put_in.new.self)
-    (omega (arith, c.put_in.ensures.next, c.in_ok-first.ensures.ok, c.take_out-responses.ensures.next)) c.args.target.now
-    (contents_of c.take_numbers.new.self) (c.take_numbers.ensures.contents ∙ c.take_out-responses.ensures.contents)
-    c.take_out-responses.result.items c.in_ok-left.left.items c.take_out-responses.ensures.taken c.in_ok-first.first
-    (c.in_ok-first.ensures.ok.0 ∙ c.take_out-responses.ensures.next) c.remove-stored.new.self.items
-    (λ one h. Has-remove c.take_out-responses.result.items c.in-Some.place one
-    (subst (λ l. Has l one) c.remove-stored.ensures.items h))
-    c.in_ok-left.ensures.kept
+    goes-left _ _ _ _
+    (omega (arith, c.put_in.ensures.next, c.in_ok-first.ensures.ok, c.take_out-responses.ensures.next)) _ _
+    (c.take_numbers.ensures.contents ∙ c.take_out-responses.ensures.contents) _ _ c.take_out-responses.ensures.taken _
+    (c.in_ok-first.ensures.ok.0 ∙ c.take_out-responses.ensures.next) _
+    (λ one h. Has-remove _ _ one (rw c.remove-stored.ensures.items at h)) c.in_ok-left.ensures.kept
     c.in_ok-put_in-in-Once.ensures.ok

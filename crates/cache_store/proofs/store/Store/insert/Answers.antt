@@ -1,17 +1,11 @@
 use Rattle.std.proofs.Common.{◌≡◌, ◌+◌, length, ap, arith, ◌∙◌}
 use Rattle.std.proofs.lemmas.Result.{on_ok_weaker}
-use Rattle.cache_policy.specs.Requests.{request_of}
-use Rattle.cache_store.specs.Contents.{bytes_of, size_of}
-use Rattle.cache_store.specs.Kept.{contents_of}
-use Rattle.cache_store.proofs.NumberLemmas.{numbered-inserted}
-use Rattle.cache_store.proofs.StoringLemmas.{absent_rest, inserted}
+use Rattle.cache_store.specs.{Contents.bytes_of, Contents.size_of, Kept.contents_of}
+use Rattle.cache_store.proofs.{NumberLemmas.numbered-inserted, StoringLemmas.absent_rest, StoringLemmas.inserted}
 use Rattle.cache_store.proofs.store.Store.insert.Goals as goal
 
 pub put_with-requires-clause-absent : goal.put_with-requires-clause-absent
-put_with-requires-clause-absent c =
-    absent_rest c.args.target.now (contents_of c.args.self.now) (contents_of c.take_out-responses.new.self)
-    (contents_of c.make_room.new.self)
-    c.take_out-responses.ensures.contents c.make_room.ensures.kept
+put_with-requires-clause-absent c = absent_rest _ _ _ _ c.take_out-responses.ensures.contents c.make_room.ensures.kept
 
 pub returns-clause-ok : goal.returns-clause-ok
 returns-clause-ok c =
@@ -19,16 +13,9 @@ returns-clause-ok c =
     let bytes : c.bytes_of.result + c.len-2.result ≡ bytes_of kept + size_of c.args.new =
     omega (arith, c.bytes_of.ensures ∙ ap bytes_of c.deref.ensures.value, c.len-2.ensures ∙ c.args.new.content.ok.0) in
     let count : c.len-3.result + 1 ≡ length kept + 1 = ap (λ n. n + 1) (c.len-3.ensures ∙ c.trim.new.responses.ok.0) in
-    on_ok_weaker c.put_with.result
-    (inserted c.args.self.now.limits c.take_out-responses.new.self.limits c.args.target.now c.args.new (contents_of
-    c.args.self.now) (contents_of c.take_out-responses.new.self)
-    (contents_of c.make_room.new.self) (contents_of c.put_with.new.self) c.take_out-responses.result.items
-    c.supersede.new.responses.items kept
-    (request_of c.head.result) c.len.result (c.len-3.result + 1) (c.bytes_of.result + c.len-2.result)
-    c.take_out-responses.ensures.limits c.take_out-responses.ensures.contents c.take_out-responses.ensures.taken
-    c.head.ensures c.supersede.ensures.rest
-    (c.len.ensures ∙ c.args.new.content.ok.0) c.trim.ensures count bytes c.make_room.ensures.kept)
-    c.put_with.ensures.ok
+    on_ok_weaker _ (inserted _ _ _ _ _ _ _ _ _ _ kept _ _ _ _ c.take_out-responses.ensures.limits
+    c.take_out-responses.ensures.contents c.take_out-responses.ensures.taken c.head.ensures c.supersede.ensures.rest
+    (c.len.ensures ∙ c.args.new.content.ok.0) c.trim.ensures count bytes c.make_room.ensures.kept) c.put_with.ensures.ok
 
 pub put_with-requires-clause-numbers : goal.put_with-requires-clause-numbers
 put_with-requires-clause-numbers c =

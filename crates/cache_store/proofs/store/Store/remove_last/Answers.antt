@@ -1,6 +1,5 @@
-use Rattle.std.proofs.Common.{sym, ap}
-use Rattle.std.proofs.Common.{arith, ◌∙◌}
-use Rattle.cache_store.specs.Contents.{bytes_of, shown}
+use Rattle.std.proofs.Common.{sym, ap, arith, ◌∙◌}
+use Rattle.cache_store.specs.Contents.{bytes_of}
 use Rattle.cache_store.proofs.EntryLemmas.{bytes-last, count-last, none-last, shown-last, times-last}
 use Rattle.cache_store.proofs.NumberLemmas.{numbered-fewer}
 use Rattle.cache_store.proofs.store.Store.remove_last.Goals as goal
@@ -8,9 +7,8 @@ use Rattle.cache_store.proofs.store.Store.remove_last.Goals as goal
 pub overflow_sub-self : goal.overflow_sub-self
 overflow_sub-self c = omega (
   arith,
-  count-last c.args.self.now.targets.entries c.pop_lru.new.self.entries
-      (c.in-Some.field-0-0, c.in-Some.responses) (sym c.in-Some.ensures.value) (ap (λ m. m.entries)
-      c.pop_lru.ensures.entries),
+  count-last _ _ (c.in-Some.field-0-0, c.in-Some.responses) (sym c.in-Some.ensures.value)
+      (ap (λ m. m.entries) c.pop_lru.ensures.entries),
   c.len.ensures,
   c.in-Some.responses.ok.0,
   c.args.self.now.counted,
@@ -19,9 +17,8 @@ overflow_sub-self c = omega (
 pub bytes_of-requires : goal.bytes_of-requires
 bytes_of-requires c = rw c.deref.ensures.value (omega (
   arith,
-  bytes-last c.args.self.now.targets.entries
-      c.pop_lru.new.self.entries (c.in-Some.field-0-0, c.in-Some.responses) (sym c.in-Some.ensures.value) (ap (λ m.
-      m.entries) c.pop_lru.ensures.entries),
+  bytes-last _ _ (c.in-Some.field-0-0, c.in-Some.responses) (sym c.in-Some.ensures.value)
+      (ap (λ m. m.entries) c.pop_lru.ensures.entries),
   c.args.self.now.weighed,
   c.args.self.now.light,
   c.args.self.now.sized,
@@ -30,9 +27,8 @@ bytes_of-requires c = rw c.deref.ensures.value (omega (
 pub overflow_sub-self-in-Some : goal.overflow_sub-self-in-Some
 overflow_sub-self-in-Some c = omega (
   arith,
-  bytes-last c.args.self.now.targets.entries c.pop_lru.new.self.entries
-      (c.in-Some.field-0-0, c.in-Some.responses) (sym c.in-Some.ensures.value) (ap (λ m. m.entries)
-      c.pop_lru.ensures.entries),
+  bytes-last _ _ (c.in-Some.field-0-0, c.in-Some.responses) (sym c.in-Some.ensures.value)
+      (ap (λ m. m.entries) c.pop_lru.ensures.entries),
   c.bytes_of.ensures ∙ ap bytes_of c.deref.ensures.value,
   c.args.self.now.weighed,
 )
@@ -43,31 +39,33 @@ invariant_of-self c =
       unbounded = ap (λ m. m.cap) c.pop_lru.ensures.entries ∙ c.args.self.now.unbounded;
       counted = omega (
         arith,
-        count-last c.args.self.now.targets.entries c.pop_lru.new.self.entries
-            (c.in-Some.field-0-0, c.in-Some.responses) (sym c.in-Some.ensures.value) (ap (λ m. m.entries)
-            c.pop_lru.ensures.entries),
+        count-last _ _ (c.in-Some.field-0-0, c.in-Some.responses) (sym c.in-Some.ensures.value)
+            (ap (λ m. m.entries) c.pop_lru.ensures.entries),
         c.len.ensures,
         c.in-Some.responses.ok.0,
         c.args.self.now.counted,
       );
       weighed = omega (
         arith,
-        bytes-last c.args.self.now.targets.entries c.pop_lru.new.self.entries
-            (c.in-Some.field-0-0, c.in-Some.responses) (sym c.in-Some.ensures.value) (ap (λ m. m.entries)
-            c.pop_lru.ensures.entries),
+        bytes-last _ _ (c.in-Some.field-0-0, c.in-Some.responses) (sym c.in-Some.ensures.value)
+            (ap (λ m. m.entries) c.pop_lru.ensures.entries),
         c.bytes_of.ensures ∙ ap bytes_of c.deref.ensures.value,
         c.args.self.now.weighed,
       );
       few = omega (arith, c.args.self.now.few);
       light = omega (arith, c.args.self.now.light);
       sized = c.args.self.now.sized;
-      numbered = numbered-fewer c.args.self.now.next (shown c.args.self.now.targets.entries) (shown c.pop_lru.new.self.entries) (λ number. omega (arith, times-last c.args.self.now.targets.entries c.pop_lru.new.self.entries (c.in-Some.field-0-0, c.in-Some.responses) (sym c.in-Some.ensures.value) (ap (λ m. m.entries) c.pop_lru.ensures.entries) number)) c.args.self.now.numbered;
+      numbered = numbered-fewer _ _ _ (λ number. omega (
+        arith,
+        times-last _ _ (c.in-Some.field-0-0, c.in-Some.responses)
+            (sym c.in-Some.ensures.value) (ap (λ m. m.entries) c.pop_lru.ensures.entries) number,
+      ))
+          c.args.self.now.numbered;
     }
 
 pub invariant_of-self-in_default : goal.invariant_of-self-in_default
 invariant_of-self-in_default c =
-    let same = none-last c.args.self.now.targets.entries c.pop_lru.new.self.entries (sym c.in_default.ensures.value)
-    (ap (λ m. m.entries) c.pop_lru.ensures.entries) in
+    let same = none-last _ _ (sym c.in_default.ensures.value) (ap (λ m. m.entries) c.pop_lru.ensures.entries) in
     record {
       unbounded = ap (λ m. m.cap) c.pop_lru.ensures.entries ∙ c.args.self.now.unbounded;
       counted = rw same c.args.self.now.counted;
@@ -79,9 +77,7 @@ invariant_of-self-in_default c =
     }
 
 pub returns-in-Some-clause-contents : goal.returns-in-Some-clause-contents
-returns-in-Some-clause-contents c = shown-last c.args.self.now.targets.entries c.pop_lru.new.self.entries (ap (λ m.
-    m.entries) c.pop_lru.ensures.entries)
+returns-in-Some-clause-contents c = shown-last _ _ (ap (λ m. m.entries) c.pop_lru.ensures.entries)
 
 pub returns-in_default-clause-contents : goal.returns-in_default-clause-contents
-returns-in_default-clause-contents c = shown-last c.args.self.now.targets.entries c.pop_lru.new.self.entries (ap (λ m.
-    m.entries) c.pop_lru.ensures.entries)
+returns-in_default-clause-contents c = shown-last _ _ (ap (λ m. m.entries) c.pop_lru.ensures.entries)

@@ -1,9 +1,5 @@
-use Rattle.std.proofs.Common.{inl, inr, refl, arith, subst, ◌∙◌}
-use Rattle.cache_store.specs.Changes.{IsFront, IsInserted}
-use Rattle.cache_store.specs.Contents.{without}
-use Rattle.cache_store.specs.Kept.{contents_of}
-use Rattle.cache_store.proofs.GoOnLemmas.{goes-front, goes-inserted}
-use Rattle.cache_store.proofs.StoringLemmas.{same_number}
+use Rattle.std.proofs.Common.{inl, inr, refl, arith, ◌∙◌}
+use Rattle.cache_store.proofs.{GoOnLemmas.goes-front, GoOnLemmas.goes-inserted, StoringLemmas.same_number}
 use Rattle.cache_store.proofs.store.Store.store.Goals as goal
 
 pub returns-in-Ok-clause-stored : goal.returns-in-Ok-clause-stored
@@ -11,11 +7,8 @@ returns-in-Ok-clause-stored c = λ number same. (
   c.in_ok-stored.stored,
   c.if-not-is_stored.ensures,
   c.in_ok-stored.ensures.stored,
-  c.in_ok-stored.ensures.number ∙ same_number c.in_ok-number.number number _ refl same,
-  subst (λ old. IsInserted c.args.self.now.limits c.args.target.now c.in_ok-stored.stored old (contents_of
-      c.insert.new.self)) c.take_numbers.ensures.contents
-      (subst (λ limits. IsInserted limits c.args.target.now c.in_ok-stored.stored (contents_of c.take_numbers.new.self)
-      (contents_of c.insert.new.self)) c.take_numbers.ensures.limits c.in-Ok.ensures.ok),
+  c.in_ok-stored.ensures.number ∙ same_number _ number _ refl same,
+  rw c.take_numbers.ensures.contents at (rw c.take_numbers.ensures.limits at c.in-Ok.ensures.ok),
 )
 
 pub returns-in-Ok-clause-step : goal.returns-in-Ok-clause-step
@@ -25,15 +18,10 @@ returns-in-Ok-clause-step c =
 pub returns-in-Ok-clause-numbers : goal.returns-in-Ok-clause-numbers
 returns-in-Ok-clause-numbers c =
     let put = returns-in-Ok-clause-stored c c.in_ok-number.number refl in
-    goes-inserted c.args.self.now.next (contents_of c.args.self.now) c.insert.new.self.next
-    (contents_of c.insert.new.self)
-    (omega (arith, c.insert.ensures.next, c.in_ok-number.ensures.ok)) c.args.self.now.limits c.args.target.now put.0
-    put.4 (omega (arith, put.3, c.in_ok-number.ensures.ok))
+    goes-inserted _ _ _ _ (omega (arith, c.insert.ensures.next, c.in_ok-number.ensures.ok)) _ _ put.0 put.4
+    (omega (arith, put.3, c.in_ok-number.ensures.ok))
 
 pub returns-in-Err-clause-numbers : goal.returns-in-Err-clause-numbers
 returns-in-Err-clause-numbers c =
-    goes-front c.args.self.now.next (contents_of c.args.self.now) c.insert.new.self.next
-    (contents_of c.insert.new.self)
-    (omega (arith, c.insert.ensures.next, c.in_ok-number.ensures.ok)) c.args.target.now
-    (subst (λ old. IsFront (without c.args.target.now old) (contents_of c.insert.new.self))
-    c.take_numbers.ensures.contents c.in-Err.ensures.err)
+    goes-front _ _ _ _ (omega (arith, c.insert.ensures.next, c.in_ok-number.ensures.ok)) _
+    (rw c.take_numbers.ensures.contents at c.in-Err.ensures.err)

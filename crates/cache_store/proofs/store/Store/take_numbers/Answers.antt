@@ -1,5 +1,4 @@
 use Rattle.std.proofs.Common.{arith}
-use Rattle.cache_store.specs.Contents.{shown}
 use Rattle.cache_store.proofs.NumberLemmas.{numbered-later}
 use Rattle.cache_store.proofs.store.Store.take_numbers.Goals as goal
 
@@ -12,6 +11,5 @@ invariant_of-self c =
       few = c.args.self.now.few;
       light = c.args.self.now.light;
       sized = c.args.self.now.sized;
-      numbered = numbered-later c.args.self.now.next c.in-Some.next (shown c.args.self.now.targets.entries)
-          (omega (arith, c.in-Some.ensures)) c.args.self.now.numbered;
+      numbered = numbered-later _ _ _ (omega (arith, c.in-Some.ensures)) c.args.self.now.numbered;
     }

@@ -1,8 +1,6 @@
-use Rattle.std.proofs.Common.{Some, None, ap}
-use Rattle.std.proofs.Common.{arith, ◌∙◌}
+use Rattle.std.proofs.Common.{Some, None, ap, arith, ◌∙◌}
 use Rattle.cache_store.specs.Contents.{bytes_of, shown}
-use Rattle.cache_store.proofs.EntryLemmas.{bytes-taken, count-taken, items-taken, shown-taken}
-use Rattle.cache_store.proofs.EntryLemmas.{times-taken}
+use Rattle.cache_store.proofs.EntryLemmas.{bytes-taken, count-taken, items-taken, shown-taken, times-taken}
 use Rattle.cache_store.proofs.NumberLemmas.{numbered-fewer}
 use Rattle.cache_store.proofs.store.Store.take_out.Goals as goal
 

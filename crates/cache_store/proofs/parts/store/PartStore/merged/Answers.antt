@@ -1,7 +1,4 @@
-use Rattle.std.proofs.Common.{inr, subst}
-use Rattle.std.proofs.lemmas.Result.{IfOk-weaker, on_err_weaker}
-use Rattle.cache_policy.specs.Policies.{Policy}
-use Rattle.cache_store.specs.Parts.Combining.{IsCombinedAs}
+use Rattle.std.proofs.{Common.inr, lemmas.Result.IfOk-weaker, lemmas.Result.on_err_weaker}
 use Rattle.cache_store.proofs.parts.store.PartStore.merged.Goals as goal
 
 pub returns-in-Some-clause-merged : goal.returns-in-Some-clause-merged
@@ -10,8 +7,7 @@ returns-in-Some-clause-merged c =
     (λ result is. inr (
       c.in-Some.stored.now,
       c.in-Some.ensures,
-      subst (λ (p : Policy). IsCombinedAs p c.in-Some.stored.now c.args.came.now c.args.reception result)
-          c.policy.ensures is,
+      rw c.policy.ensures at is,
     ))
     c.combine.ensures.combined
 

@@ -1,58 +1,34 @@
-use Rattle.std.proofs.Common.{inl, inr, subst}
-use Rattle.std.proofs.lemmas.Result.{IfOk-weaker}
-use Rattle.cache_store.specs.Contents.{responses_at}
-use Rattle.cache_policy.specs.Policies.{Policy}
+use Rattle.std.proofs.{Common.inl, Common.inr, lemmas.Result.IfOk-weaker}
 use Rattle.cache_store.specs.Parts.Kept.{limits_of_parts, parts_of, policy_of_parts}
-use Rattle.cache_store.specs.Parts.Received.{IsPart}
-use Rattle.cache_store.specs.Parts.Recording.{IsMerged}
-use Rattle.cache_store.specs.declared.parts.combining.Combined.{Combined}
-use Rattle.cache_store.specs.declared.parts.extent.Extent.{Extent}
 use Rattle.cache_store.proofs.parts.CallLemmas.{alone_recorded, kept_recorded, recorded_step}
 use Rattle.cache_store.proofs.parts.MemoryLemmas.{alone_needs, combined_needs, stored_combinable}
 use Rattle.cache_store.proofs.parts.store.PartStore.record.Goals as goal
 
 pub returns-in_err-merged-clause-memory : goal.returns-in_err-merged-clause-memory
 returns-in_err-merged-clause-memory c =
-    combined_needs (policy_of_parts c.args.self.now) (responses_at c.args.key.now (parts_of c.args.self.now))
-    c.args.came c.args.reception c.in-Some.extent
-    (subst (λ (p : Policy). IsPart p c.args.came c.args.reception c.in-Some.extent) c.policy.ensures
-    c.in-Some.ensures.value)
-    c.from_residual.result c.in_err-merged.ensures.memory
+    combined_needs _ _ _ _ _ (rw c.policy.ensures at c.in-Some.ensures.value) _ c.in_err-merged.ensures.memory
 
 pub returns-in_default-clause-recorded : goal.returns-in_default-clause-recorded
 returns-in_default-clause-recorded c =
     inl (
-      inl (subst (λ (p : Policy). (extent : Extent) → ¬ (IsPart p c.args.came c.args.reception extent))
-          c.policy.ensures c.in_default.ensures.value),
+      inl (rw c.policy.ensures at c.in_default.ensures.value),
       c.forget_changed.ensures.left,
     )
 
 pub returns-in-Apart-clause-recorded : goal.returns-in-Apart-clause-recorded
 returns-in-Apart-clause-recorded c =
-    IfOk-weaker c.take.result _ _
-    (alone_recorded (policy_of_parts c.args.self.now) (limits_of_parts c.args.self.now) c.args.key.now
-    (parts_of c.args.self.now) c.args.came c.args.reception (parts_of c.take.new.self) c.in-Some.extent
-    (subst (λ (p : Policy). IsPart p c.args.came c.args.reception c.in-Some.extent) c.policy.ensures
-    c.in-Some.ensures.value)
-    (subst
-    (λ (r : Combined). IsMerged (policy_of_parts c.args.self.now)
-    (responses_at c.args.key.now (parts_of c.args.self.now)) c.args.came c.args.reception r)
-    c.in-Apart.is c.in_ok-merged.ensures.merged))
+    IfOk-weaker c.take.result _ _ (alone_recorded (policy_of_parts c.args.self.now) (limits_of_parts c.args.self.now)
+    c.args.key.now (parts_of c.args.self.now) c.args.came c.args.reception (parts_of c.take.new.self) c.in-Some.extent
+    (rw c.policy.ensures at c.in-Some.ensures.value) (rw c.in-Apart.is at c.in_ok-merged.ensures.merged))
     c.take.ensures.taken
 
 pub returns-in-Apart-clause-memory : goal.returns-in-Apart-clause-memory
 returns-in-Apart-clause-memory c =
-    alone_needs (policy_of_parts c.args.self.now) (responses_at c.args.key.now (parts_of c.args.self.now))
-    c.args.came c.args.reception c.in-Some.extent
-    (subst (λ (p : Policy). IsPart p c.args.came c.args.reception c.in-Some.extent) c.policy.ensures
-    c.in-Some.ensures.value)
-    c.take.result c.take.ensures.memory
+    alone_needs _ _ _ _ _ (rw c.policy.ensures at c.in-Some.ensures.value) _ c.take.ensures.memory
 
 pub returns-in-Apart-clause-step : goal.returns-in-Apart-clause-step
 returns-in-Apart-clause-step c =
-    recorded_step (policy_of_parts c.args.self.now) (limits_of_parts c.args.self.now) c.args.key.now
-    (parts_of c.args.self.now) c.args.came c.args.reception (parts_of c.take.new.self) c.take.result
-    (returns-in-Apart-clause-recorded c) c.take.ensures.err
+    recorded_step _ _ _ _ _ _ _ _ (returns-in-Apart-clause-recorded c) c.take.ensures.err
 
 pub returns-in-Stored-clause-recorded : goal.returns-in-Stored-clause-recorded
 returns-in-Stored-clause-recorded c =
@@ -60,44 +36,25 @@ returns-in-Stored-clause-recorded c =
     (kept_recorded (policy_of_parts c.args.self.now) (limits_of_parts c.args.self.now) c.args.key.now
     (parts_of c.args.self.now) c.args.came c.args.reception (parts_of c.keep.new.self) c.in-Stored.part (
       c.in-Some.extent,
-      subst (λ (p : Policy). IsPart p c.args.came c.args.reception c.in-Some.extent) c.policy.ensures
-          c.in-Some.ensures.value,
-      inr (subst
-          (λ (r : Combined). IsMerged (policy_of_parts c.args.self.now)
-          (responses_at c.args.key.now (parts_of c.args.self.now)) c.args.came c.args.reception r)
-          c.in-Stored.is c.in_ok-merged.ensures.merged),
+      rw c.policy.ensures at c.in-Some.ensures.value,
+      inr (rw c.in-Stored.is at c.in_ok-merged.ensures.merged),
     ))
     c.keep.ensures.kept
 
 pub returns-in-Stored-clause-memory : goal.returns-in-Stored-clause-memory
 returns-in-Stored-clause-memory c =
-    combined_needs (policy_of_parts c.args.self.now) (responses_at c.args.key.now (parts_of c.args.self.now))
-    c.args.came c.args.reception c.in-Some.extent
-    (subst (λ (p : Policy). IsPart p c.args.came c.args.reception c.in-Some.extent) c.policy.ensures
-    c.in-Some.ensures.value)
-    c.keep.result
-    (stored_combinable (policy_of_parts c.args.self.now) (responses_at c.args.key.now (parts_of c.args.self.now))
-    c.args.came c.args.reception c.in-Stored.part
-    (subst
-    (λ (r : Combined). IsMerged (policy_of_parts c.args.self.now)
-    (responses_at c.args.key.now (parts_of c.args.self.now)) c.args.came c.args.reception r)
-    c.in-Stored.is c.in_ok-merged.ensures.merged))
+    combined_needs _ _ _ _ _ (rw c.policy.ensures at c.in-Some.ensures.value) _
+    (stored_combinable _ _ _ _ _ (rw c.in-Stored.is at c.in_ok-merged.ensures.merged))
 
 pub returns-in-Stored-clause-step : goal.returns-in-Stored-clause-step
 returns-in-Stored-clause-step c =
-    recorded_step (policy_of_parts c.args.self.now) (limits_of_parts c.args.self.now) c.args.key.now
-    (parts_of c.args.self.now) c.args.came c.args.reception (parts_of c.keep.new.self) c.keep.result
-    (returns-in-Stored-clause-recorded c) c.keep.ensures.err
+    recorded_step _ _ _ _ _ _ _ _ (returns-in-Stored-clause-recorded c) c.keep.ensures.err
 
 pub returns-in-Once-clause-recorded : goal.returns-in-Once-clause-recorded
 returns-in-Once-clause-recorded c = (
   c.in-Some.extent,
-  subst (λ (p : Policy). IsPart p c.args.came c.args.reception c.in-Some.extent) c.policy.ensures
-      c.in-Some.ensures.value,
-  subst
-      (λ (r : Combined). IsMerged (policy_of_parts c.args.self.now)
-      (responses_at c.args.key.now (parts_of c.args.self.now)) c.args.came c.args.reception r)
-      c.in-Once.is c.in_ok-merged.ensures.merged,
+  rw c.policy.ensures at c.in-Some.ensures.value,
+  rw c.in-Once.is at c.in_ok-merged.ensures.merged,
   c.remove.ensures.contents,
 )
 
@@ -105,12 +62,8 @@ pub returns-in-Apart-clause-full : goal.returns-in-Apart-clause-full
 returns-in-Apart-clause-full c = λ full.
     inr (inr (
       c.in-Some.extent,
-      subst (λ (p : Policy). IsPart p c.args.came c.args.reception c.in-Some.extent) c.policy.ensures
-          c.in-Some.ensures.value,
-      subst
-          (λ (r : Combined). IsMerged (policy_of_parts c.args.self.now)
-          (responses_at c.args.key.now (parts_of c.args.self.now)) c.args.came c.args.reception r)
-          c.in-Apart.is c.in_ok-merged.ensures.merged,
+      rw c.policy.ensures at c.in-Some.ensures.value,
+      rw c.in-Apart.is at c.in_ok-merged.ensures.merged,
       c.take.ensures.full full,
     ))
 
@@ -118,9 +71,6 @@ pub returns-in-Stored-clause-full : goal.returns-in-Stored-clause-full
 returns-in-Stored-clause-full c = λ full.
     inr (inl (
       c.in-Stored.part,
-      subst
-          (λ (r : Combined). IsMerged (policy_of_parts c.args.self.now)
-          (responses_at c.args.key.now (parts_of c.args.self.now)) c.args.came c.args.reception r)
-          c.in-Stored.is c.in_ok-merged.ensures.merged,
+      rw c.in-Stored.is at c.in_ok-merged.ensures.merged,
       c.keep.ensures.full full,
     ))

@@ -1,11 +1,9 @@
-use Rattle.std.proofs.Common.{inr}
-use Rattle.std.proofs.lemmas.Result.{IfOk-weaker}
+use Rattle.std.proofs.{Common.inr, lemmas.Result.IfOk-weaker}
 use Rattle.headers_map.proofs.InsertLemmas.{OnErr-from}
 use Rattle.cache_store.proofs.parts.store.PartStore.take.Goals as goal
 
 pub returns-in_err-part-clause-memory : goal.returns-in_err-part-clause-memory
-returns-in_err-part-clause-memory c =
-    OnErr-from c.from_residual.result (rw c.get_all.ensures.value at c.if-has_line.ensures.present)
+returns-in_err-part-clause-memory c = OnErr-from _ (rw c.get_all.ensures.value at c.if-has_line.ensures.present)
 
 pub returns-clause-taken : goal.returns-clause-taken
 returns-clause-taken c =
@@ -15,8 +13,7 @@ returns-clause-taken c =
     c.keep.ensures.kept
 
 pub returns-clause-memory : goal.returns-clause-memory
-returns-clause-memory c =
-    OnErr-from c.keep.result (rw c.get_all.ensures.value at c.if-has_line.ensures.present)
+returns-clause-memory c = OnErr-from _ (rw c.get_all.ensures.value at c.if-has_line.ensures.present)
 
 pub returns-clause-full : goal.returns-clause-full
 returns-clause-full c = λ full.
