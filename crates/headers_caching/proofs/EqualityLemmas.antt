@@ -1,4 +1,4 @@
--- Values of `cache-control` are equal exactly if their encodings are.
+-- Values of `cache-control` are equal exactly if what is written of them is.
 use Rattle.std.proofs.Common.{◌≡◌, ℕ, nat_eq, Bool, true, ◌&&◌, List, [], ◌∷◌, ◌↔◌, IsTrue, Option, Some, None, refl}
 use Rattle.std.proofs.Common.{sym, ◌∙◌, ap}
 use mathlib.Core.Bool.{beq}
@@ -44,7 +44,7 @@ rows_equal v w r h =
       λ e. h ∙ each.1 (rows_same v w e flag_rows, (rows_same v w e number_rows, tt)),
     )
 
--- values whose numbers fit are equal exactly if their encodings are
+-- values whose numbers fit are equal exactly if what is written of them is
 pub written_equal : (v w : Directives) (r : Bool) → FitRows v number_rows → FitRows w number_rows → (IsTrue r ↔ v ≡ w)
     → (IsTrue r ↔ lines_of_directives v ≡ lines_of_directives w)
 written_equal v w r f g h = (λ e. ap lines_of_directives (h.0 e), λ e. h.1 (same_by_lines v w f g e))

@@ -99,7 +99,7 @@ pub none_is_none : (r : Option (Bor (List ℕ))) → option_copied r ≡ None �
 none_is_none None e t = absurd (cc t)
 none_is_none (Some x) e t = absurd (cc e)
 
--- a text that is a header value parses as a line
+-- a text that is a header value is read as a line
 pub text_decodes : {E : Type 0} (text bytes : List ℕ) (r : Result Origin (Refused E)) → bytes ≡ text
     → ¬ (¬ (IsFieldValue text)) → LineDecodesTo IsOriginLine bytes r → LineDecodesTo IsOriginText text r
 text_decodes text bytes (Ok origin) e kept h =

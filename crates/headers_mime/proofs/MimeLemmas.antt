@@ -1,4 +1,4 @@
--- Canonical texts are text, and what a text parses as.
+-- Canonical texts are text, and what is read of a text.
 use Rattle.std.proofs.Common.{◌≡◌, ◌⊎◌, ℕ, Bool, true, false, List, [], ◌∷◌, ◌++◌, refl, sym, ◌∙◌, ap, subst, arith}
 use Rattle.std.proofs.Common.{Option, Some, None, IsTrue, inl, inr}
 use Rattle.std.specs.Prelude.{option_map, Err, MatchOption, IsSome, bytes_eq}

@@ -99,7 +99,7 @@ read_parameter-parameter p ys valid stop =
     let value = read_value-value p.value ys valid.value stop in
     rw (whole, name, value) refl
 
--- one segment at the head, by what the rest parses as
+-- one segment at the head, by what is read of the rest
 read_segments-more : (n : ℕ) (after : List ℕ) (o : Option Parameter) (rest : List ℕ) (ps : List Parameter)
     → IsBlanks after → IfSome o IsParameter
     → begins_with is_token_byte rest ≡ false → begins_with is_token_byte (trim_start (after ++ rest)) ≡ false
@@ -183,7 +183,7 @@ after_byte-from c (b ∷ s) t h =
       | inr e ↦ let none : None ≡ Some t = rw e at h in absurd (cc none)
     ]
 
--- what parses as a parameter is one
+-- what is read as a parameter is one
 parameter-from_read : (s : List ℕ) (t : Parameter × List ℕ) → read_parameter s ≡ Some t
     → IsParameter t.0 × (s ≡ parameter_text t.0 ++ t.1)
 unfolding read_parameter
@@ -361,7 +361,7 @@ essence-from_read s e h =
           (u.1 ∙ ap (λ (x : List ℕ). sub.0.0 ++ x) (sym gap.2))));
     })
 
--- what parses as a media type is one
+-- what is read as a media type is one
 pub media-from_read : (s : List ℕ) (m : MediaType) → read_media s ≡ Some m → IsMediaType s m
 unfolding read_media read_parameters
 media-from_read s m h =

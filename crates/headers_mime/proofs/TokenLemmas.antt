@@ -97,7 +97,7 @@ pub read_token-token : (xs ys : List ℕ) → IsToken xs → begins_with is_toke
 unfolding read_token
 read_token-token xs ys token stop = split_here xs ys (token_len (xs ++ ys)) (token_len-token xs ys token stop)
 
--- and what parses is one
+-- and what is read is one
 pub token-from_read : (s : List ℕ) (t : List ℕ × List ℕ) → read_token s ≡ Some t → IsToken t.0 × (s ≡ t.0 ++ t.1)
 unfolding read_token
 token-from_read s t h =
@@ -274,7 +274,7 @@ quoted_string-take b s m n q e inner =
           ∙ ap (λ (t : List ℕ). quote ∷ t) (take-append_seam (flat ++ quote ∷ []) inner.rest);
     }
 
--- and what parses is one
+-- and what is read is one
 pub value-from_read : (s : List ℕ) (t : List ℕ × List ℕ) → read_value s ≡ Some t
     → (IsToken t.0 ⊎ IsQuotedString t.0) × (s ≡ t.0 ++ t.1)
 unfolding read_value value_len read_token

@@ -15,11 +15,11 @@ use Rattle.headers_syntax.specs.Shapes.{only_word, first_word, all_kept, only_da
 use Rattle.headers_syntax.proofs.DateLemmas.{date_back}
 use Rattle.headers_syntax.proofs.NumberLemmas.{number-decimal, number-lt}
 
--- the encoding of a value that a line decodes to, decodes to that value
+-- what is written of a value that a line reads, reads as that value
 abbrev pub ReadsBackLine : {A : Type 0} → (Line → Option A) → (A → Line) → Type 0
 ReadsBackLine {A} read write = (line : Line) (a : A) → read line ≡ Some a → read (write a) ≡ Some a
 
--- what a line that may be absent decodes to, a line decodes to
+-- what is read of a line that may be absent, is read of a line
 read_of_some : {A : Type 0} (read : Line → Option A) (line : Option Line) (a : A) → option_and_then read line ≡ Some a
     → (l : Line) × (read l ≡ Some a)
 read_of_some read None a e = absurd (cc e)

@@ -29,7 +29,7 @@ IsUtf8-key key e =
 key_byte_value : (b : ℕ) → is_key_byte b ≡ true → is_value_byte b ≡ true
 key_byte_value b e = search rules
 
--- the encoding of a key is a header value
+-- what is written of a key is a header value
 pub IsFieldValue-line : (key : List ℕ) → is_key key ≡ true → IsFieldValue (api_key_writes key)
 IsFieldValue-line key e =
     let all : list_all is_key_byte key ≡ true = search rules in
