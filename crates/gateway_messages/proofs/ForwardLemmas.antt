@@ -1,29 +1,19 @@
 -- What is forwarded, name by name.
-use Rattle.std.proofs.Common.{◌≡◌, ◌≢◌, ℕ, Bool, true, false, ◌&&◌, not, List, [], ◌∷◌, ◌++◌, refl, sym}
-use Rattle.std.proofs.Common.{◌∙◌, ap, lit<, map, filter, subst, Option, Some, None}
-use Rattle.std.proofs.Math.Bool.{or-true}
+use Rattle.std.proofs.Common.{◌≡◌, ◌≢◌, ℕ, Bool, true, false, ◌&&◌, List, [], ◌∷◌, ◌++◌, refl, sym, ◌∙◌, ap, lit<, map}
+use Rattle.std.proofs.Common.{filter, subst, Option, Some, None}
+use Rattle.std.proofs.{Math.Bool.or-true, lemmas.Bool.or_parts, lemmas.List.append-nil}
 use Rattle.std.specs.Prelude.{All, bytes_eq, codes, decimal, if◌then◌else◌, is_some, option_map, option_to_list}
 use Rattle.std.specs.List.{list_any}
-use Rattle.std.proofs.lemmas.Bool.{or_parts}
-use Rattle.std.proofs.lemmas.List.{append-nil}
-use Rattle.http_header.specs.FieldValue.{FieldValue}
-use Rattle.http_header.specs.HeaderMap.{Entries, IsUnique, pairs}
-use Rattle.headers.specs.Date.{fixdate}
-use Rattle.headers.specs.LineMap.{lines_at}
-use Rattle.headers.specs.Lines.{Line}
+use Rattle.http_header.specs.{FieldValue.FieldValue, HeaderMap.Entries, HeaderMap.IsUnique, HeaderMap.pairs}
+use Rattle.headers.specs.{Date.fixdate, LineMap.lines_at, Lines.Line}
 use Rattle.rfc_fields.specs.Scan.{Member}
 use Rattle.gateway_messages.specs.FieldLines.{Field, field_of, lines_under}
-use Rattle.gateway_messages.specs.Forwarding.{Forwards, IsEndToEnd, IsHopByHop, Message}
-use Rattle.gateway_messages.specs.Forwarding.{field_if, framing_names, goes_on, is_replaced, is_rewritten, own_fields}
-use Rattle.gateway_messages.specs.Forwarding.{own_names, replaced}
-use Rattle.gateway_messages.specs.Framing.{coding_line, length_line}
+use Rattle.gateway_messages.specs.Forwarding.{Forwards, IsEndToEnd, IsHopByHop, Message, field_if, framing_names}
+use Rattle.gateway_messages.specs.Forwarding.{goes_on, is_replaced, is_rewritten, own_fields, own_names, replaced}
+use Rattle.gateway_messages.specs.{Framing.coding_line, Framing.length_line, Spellings.has_mark, Spellings.is_misspelt}
+use Rattle.gateway_messages.specs.{Via.via_line, declared.gateway.Gateway.Gateway}
 use Rattle.gateway_messages.specs.HopByHop.{connection_options, is_hop_by_hop, is_known, is_named, names_protected}
 use Rattle.gateway_messages.specs.HopByHop.{protected_fields}
-use Rattle.gateway_messages.specs.Spellings.{has_mark, is_misspelt}
-use Rattle.gateway_messages.specs.Via.{via_line}
-use Rattle.gateway_messages.specs.declared.framing.Framing.{Framing}
-use Rattle.gateway_messages.specs.declared.framing.Framing.TheVariants.{Unstated, Length, Chunked}
-use Rattle.gateway_messages.specs.declared.gateway.Gateway.{Gateway}
 use Rattle.gateway_messages.proofs.ReceivedLemmas.{differ, lines_under-append, lines_under-filter, received_lines}
 use Rattle.gateway_messages.proofs.SpellingLemmas.{well_spelt}
 
@@ -304,21 +294,19 @@ module _ (gateway : Gateway) (message : Message) (m : Entries FieldValue) (uniqu
   sent_end_to_end : (name : List ℕ) → IsEndToEnd gateway (lines_at m) name → is_misspelt gateway name ≡ false
       → All (λ own. own ≢ name) own_names → lines_under sent name ≡ lines_at m name
   sent_end_to_end name e s others =
-      let v = differ (codes "via") name (others 0 [] (lit< tt)) in
-      let h = differ (codes "host") name (others 1 [] (lit< tt)) in
-      let d = differ (codes "date") name (others 2 [] (lit< tt)) in
-      let n = differ (codes "max-forwards") name (others 3 [] (lit< tt)) in
-      let l = differ (codes "content-length") name (others 4 [] (lit< tt)) in
-      let c = differ (codes "transfer-encoding") name (others 5 [] (lit< tt)) in
-      let h' = differ name (codes "host") (λ same. others 1 [] (lit< tt) (sym same)) in
-      let d' = differ name (codes "date") (λ same. others 2 [] (lit< tt) (sym same)) in
-      let n' = differ name (codes "max-forwards") (λ same. others 3 [] (lit< tt) (sym same)) in
-      let f : list_any (bytes_eq name) framing_names ≡ false
-      = no_framing name (λ same. others 4 [] (lit< tt) (sym same)) (λ same. others 5 [] (lit< tt) (sym same)) in
-      let g : going name ≡ true
-      = goes gateway message options name e s f (rw h' (never (is_some message.host)))
+      let v = differ _ _ (others 0 [] (lit< tt)) in
+      let h = differ _ _ (others 1 [] (lit< tt)) in
+      let d = differ _ _ (others 2 [] (lit< tt)) in
+      let n = differ _ _ (others 3 [] (lit< tt)) in
+      let l = differ _ _ (others 4 [] (lit< tt)) in
+      let c = differ _ _ (others 5 [] (lit< tt)) in
+      let h' = differ _ _ (λ same. others 1 [] (lit< tt) (sym same)) in
+      let d' = differ _ _ (λ same. others 2 [] (lit< tt) (sym same)) in
+      let n' = differ _ _ (λ same. others 3 [] (lit< tt) (sym same)) in
+      let f = no_framing _ (λ same. others 4 [] (lit< tt) (sym same)) (λ same. others 5 [] (lit< tt) (sym same)) in
+      let g = goes gateway message options name e s f (rw h' (never (is_some message.host)))
       (rw d' (never (is_some message.date))) (rw n' (never (is_some message.hops))) in
-      kept name g ∙ rw (own_none gateway.pseudonym message name v h d n l c) (append-nil (lines_at m name))
+      kept name g ∙ rw (own_none _ _ _ v h d n l c) (append-nil (lines_at m name))
 
   apart : (fixed name : List ℕ)
       → is_hop_by_hop gateway.consumes_credentials (connection_options (lines_at m)) fixed ≡ false

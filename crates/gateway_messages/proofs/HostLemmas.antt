@@ -1,34 +1,25 @@
 -- The tests of Host hold of exactly what its grammar has.
-use Rattle.std.proofs.Common.{◌≡◌, ◌⊎◌, ℕ, ◌+◌, ◌<◌, ◌≤◌, Bool, true, false, not, List, [], ◌∷◌, ◌++◌, length, get_or}
-use Rattle.std.proofs.Common.{◌-◌, take, take_all, drop, Option, Some, None, Result}
-use Rattle.std.proofs.Common.{Ok, Err, refl, sym, ◌∙◌, ap, ap₂, subst, arith}
-use Rattle.std.proofs.Common.{inl, inr, codes, cond, decimal, suc, append_assoc, append-nil}
-use Rattle.std.specs.Prelude.{◌==◌, ◌||◌, ◌&&◌, ◌↔◌, is_ok, is_some, nat_lt}
-use Rattle.std.specs.Char.{is_ascii_digit, is_ascii_hexdigit}
-use Rattle.std.specs.List.{concat, list_all, prefix_len}
-use Rattle.std.specs.Net.Grammar.{IsColonHex, IsDotted, IsGroupsAfter, IsIpv6Text, Parses}
-use Rattle.std.specs.Net.Reader.{read_ipv6, whole_value}
-use Rattle.std.specs.Str.Parse.{AllDigits}
-use Rattle.std.specs.declared.net.ipv6_addr.Ipv6Addr.{Ipv6Addr}
+use Rattle.std.proofs.Common.{◌≡◌, ℕ, ◌+◌, ◌<◌, ◌≤◌, Bool, true, false, not, List, [], ◌∷◌, ◌++◌, length, get_or, ◌-◌}
+use Rattle.std.proofs.Common.{take, take_all, drop, Option, Some, None, Result, Ok, Err, refl, sym, ◌∙◌, ap, ap₂, subst}
+use Rattle.std.proofs.Common.{arith, inl, inr, codes, cond, decimal, suc, append_assoc, append-nil}
 use Rattle.std.proofs.Math.Seq.{drop-append-add, drop-append_seam, drop-cons, take-append_seam}
 use Rattle.std.proofs.NetLemmas.Ipv6.{EndsGroups-nil, read_ipv6_complete, read_ipv6_sound}
-use Rattle.std.proofs.lemmas.Bool.{and_from, and_left, and_parts, cases_Bool, cases_eq, eqb-true, false≢true}
-use Rattle.std.proofs.lemmas.Bool.{or_cases, or_left}
+use Rattle.std.proofs.lemmas.Bool.{and_from, and_left, and_parts, cases_Bool, eqb-true, false≢true, or_cases, or_left}
 use Rattle.std.proofs.lemmas.Bool.{or_right}
-use Rattle.std.proofs.lemmas.Bool.Decides.{nat_tests}
-use Rattle.std.proofs.lemmas.Fmt.{decimal_is_IsNumeral}
-use Rattle.std.proofs.lemmas.List.{take-append-drop}
-use Rattle.std.proofs.lemmas.List.Folds.{length-prefix_len}
-use Rattle.std.proofs.lemmas.List.Sums.{prefix_len_stops}
+use Rattle.std.proofs.{lemmas.Bool.Decides.nat_tests, lemmas.Fmt.decimal_is_IsNumeral, lemmas.List.take-append-drop}
+use Rattle.std.proofs.{lemmas.List.Folds.length-prefix_len, lemmas.List.Sums.prefix_len_stops}
+use Rattle.std.specs.Prelude.{◌==◌, ◌||◌, ◌&&◌, ◌↔◌, is_ok, is_some, nat_lt}
+use Rattle.std.specs.{Char.is_ascii_digit, Char.is_ascii_hexdigit, Net.Reader.read_ipv6, Net.Reader.whole_value}
+use Rattle.std.specs.{Str.Parse.AllDigits, declared.net.ipv6_addr.Ipv6Addr.Ipv6Addr}
+use Rattle.std.specs.List.{concat, list_all, prefix_len}
+use Rattle.std.specs.Net.Grammar.{IsColonHex, IsDotted, IsGroupsAfter, IsIpv6Text, Parses}
 use Rattle.headers.specs.Lines.{Line}
 use Rattle.gateway_messages.specs.HostTests.{begins_encoded, begins_part, is_address, is_dotted_address}
-use Rattle.gateway_messages.specs.HostTests.{is_future_address, is_host}
-use Rattle.gateway_messages.specs.HostTests.{is_ipv6, is_literal_host, is_named_host, is_port, is_reg_name, is_versioned}
-use Rattle.gateway_messages.specs.HostTests.{literal_len, name_len, version_len}
-use Rattle.gateway_messages.specs.Hosts.{HasHost, IsAddress, IsFutureAddress, IsHost, IsIpLiteral, IsRegName, IsUriHost}
-use Rattle.gateway_messages.specs.Hosts.{has_digits, is_address_byte, is_encoded, is_name_byte, is_name_part, port_text}
-use Rattle.gateway_messages.specs.Requests.{has_host}
-use Rattle.gateway_messages.specs.declared.protocol.Protocol.{Protocol}
+use Rattle.gateway_messages.specs.HostTests.{is_future_address, is_host, is_ipv6, is_literal_host, is_named_host}
+use Rattle.gateway_messages.specs.HostTests.{is_port, is_reg_name, is_versioned, literal_len, name_len, version_len}
+use Rattle.gateway_messages.specs.Hosts.{HasHost, IsAddress, IsFutureAddress, IsHost, IsRegName, IsUriHost, has_digits}
+use Rattle.gateway_messages.specs.Hosts.{is_address_byte, is_encoded, is_name_byte, is_name_part, port_text}
+use Rattle.gateway_messages.specs.{Requests.has_host, declared.protocol.Protocol.Protocol}
 use Rattle.gateway_messages.specs.declared.protocol.Protocol.TheVariants.{Http10, Http11}
 
 -- ---- the bytes before the first that fails a test
@@ -56,9 +47,7 @@ prefix_all p (x ∷ s) = by (prefix_all p s) (p x) refl
   where
     by : list_all p (take (prefix_len p s) s) ≡ true → (b : Bool) → p x ≡ b
         → list_all p (take (cond b (1 + prefix_len p s) 0) (x ∷ s)) ≡ true
-    by below true t =
-        ap (list_all p) (take_more (prefix_len p s) x s)
-        ∙ and_from (p x) (list_all p (take (prefix_len p s) s)) t below
+    by below true t = ap (list_all p) (take_more _ x s) ∙ and_from (p x) (list_all p (take (prefix_len p s) s)) t below
     by below false f = refl
 
 weaker : (p q : ℕ → Bool) → ((b : ℕ) → p b ≡ true → q b ≡ true) → (s : List ℕ) → list_all p s ≡ true
@@ -147,20 +136,18 @@ test_of_parts [] h = refl
 test_of_parts ([] ∷ parts) h = absurd (false≢true h)
 test_of_parts ((b ∷ []) ∷ parts) h =
     let here = and_parts (is_name_byte b) (list_all is_name_part parts) h in
-    and_from (is_name_byte b || begins_encoded (b ∷ concat parts)) (is_reg_name (concat parts))
-    (or_left (is_name_byte b) (begins_encoded (b ∷ concat parts)) here.0) (test_of_parts parts here.1)
+    and_from (is_name_byte b || begins_encoded (b ∷ concat parts)) (is_reg_name (concat parts)) (or_left _ _ here.0)
+    (test_of_parts parts here.1)
 test_of_parts ((b ∷ c ∷ []) ∷ parts) h = absurd (false≢true h)
 test_of_parts ((b ∷ c ∷ d ∷ []) ∷ parts) h =
     let here = and_parts (is_encoded b c d) (list_all is_name_part parts) h in
     let digits = and_parts (is_ascii_hexdigit c) (is_ascii_hexdigit d)
     (and_parts (b == 37) (is_ascii_hexdigit c && is_ascii_hexdigit d) here.0).1 in
     and_from (is_name_byte b || is_encoded b c d) (is_reg_name (c ∷ d ∷ concat parts))
-    (or_right (is_name_byte b) (is_encoded b c d) here.0)
-    (and_from (is_name_byte c || begins_encoded (c ∷ d ∷ concat parts)) (is_reg_name (d ∷ concat parts))
-    (or_left (is_name_byte c) (begins_encoded (c ∷ d ∷ concat parts)) (hex_is_name c digits.0))
-    (and_from (is_name_byte d || begins_encoded (d ∷ concat parts)) (is_reg_name (concat parts))
-    (or_left (is_name_byte d) (begins_encoded (d ∷ concat parts)) (hex_is_name d digits.1))
-    (test_of_parts parts here.1)))
+    (or_right _ (is_encoded b c d) here.0) (and_from (is_name_byte c || begins_encoded (c ∷ d ∷ concat parts))
+    (is_reg_name (d ∷ concat parts)) (or_left _ _ (hex_is_name c digits.0)) (and_from
+    (is_name_byte d || begins_encoded (d ∷ concat parts)) (is_reg_name (concat parts))
+    (or_left _ _ (hex_is_name d digits.1)) (test_of_parts parts here.1)))
 test_of_parts ((b ∷ c ∷ d ∷ e ∷ s) ∷ parts) h = absurd (false≢true h)
 
 test_of_name : (s : Line) → IsRegName s → is_reg_name s ≡ true
@@ -171,8 +158,7 @@ unfolding is_reg_name
 plain_name [] h = refl
 plain_name (b ∷ s) h =
     let here = and_parts (is_name_byte b) (list_all is_name_byte s) h in
-    and_from (is_name_byte b || begins_encoded (b ∷ s)) (is_reg_name s)
-    (or_left (is_name_byte b) (begins_encoded (b ∷ s)) here.0) (plain_name s here.1)
+    and_from (is_name_byte b || begins_encoded (b ∷ s)) (is_reg_name s) (or_left _ _ here.0) (plain_name s here.1)
 
 encoded_percent : (b : ℕ) (s : Line) → begins_encoded (b ∷ s) ≡ true → b ≡ 37
 encoded_percent b [] h = absurd (false≢true h)
@@ -245,16 +231,12 @@ dot = unfold is_digit_or_dot in refl
 
 then_octet : (s : Line) (n : ℕ) → n < 256 → list_all is_digit_or_dot s ≡ true
     → list_all is_digit_or_dot (s ++ codes "." ++ decimal n) ≡ true
-then_octet s n fits before =
-    all_both is_digit_or_dot (s ++ codes ".") (decimal n) (all_both is_digit_or_dot s (codes ".") before dot)
-    (octet n fits)
+then_octet s n fits before = all_both is_digit_or_dot _ _ (all_both is_digit_or_dot s _ before dot) (octet n fits)
 
 dotted_bytes : (text octets : Line) → IsDotted text octets → list_all is_digit_or_dot text ≡ true
 dotted_bytes text octets h =
-    ap (list_all is_digit_or_dot) h.spelled
-    ∙ then_octet (decimal h.a ++ codes "." ++ decimal h.b ++ codes "." ++ decimal h.c) h.d h.fit.3
-    (then_octet (decimal h.a ++ codes "." ++ decimal h.b) h.c h.fit.2
-    (then_octet (decimal h.a) h.b h.fit.1 (octet h.a h.fit.0)))
+    ap (list_all is_digit_or_dot) h.spelled ∙ then_octet _ _ h.fit.3
+    (then_octet _ _ h.fit.2 (then_octet _ _ h.fit.1 (octet _ h.fit.0)))
 
 dotted_is_name : (text octets : Line) → IsDotted text octets → is_reg_name text ≡ true
 dotted_is_name text octets h =
@@ -268,8 +250,7 @@ name_outside b h = grind (arith, nat_tests)
 
 dotted_outside : (text octets : Line) → IsDotted text octets → list_all outside_bracket text ≡ true
 dotted_outside text octets h =
-    weaker is_digit_or_dot outside_bracket (λ b d. name_outside b (digit_or_dot_is_name b d)) text
-    (dotted_bytes text octets h)
+    weaker is_digit_or_dot outside_bracket (λ b d. name_outside b (digit_or_dot_is_name b d)) text (dotted_bytes _ _ h)
 
 group_outside : (s : Line) → AllDigits 16 s → list_all outside_bracket s ≡ true
 unfolding outside_bracket
@@ -285,13 +266,11 @@ groups_outside ipv4 lead text [] l h = ap (list_all outside_bracket) h
 groups_outside ipv4 lead text (segment ∷ segments) l (inl h) =
     let (group, rest, split, is_group, later) = h in
     let below = groups_outside ipv4 (codes ":") rest segments (unfold outside_bracket in refl) later in
-    ap (list_all outside_bracket) split
-    ∙ all_both outside_bracket (lead ++ group) rest
-    (all_both outside_bracket lead group l (group_outside group is_group.0.0.1)) below
+    ap (list_all outside_bracket) split ∙ all_both outside_bracket _ _
+    (all_both outside_bracket _ _ l (group_outside _ is_group.0.0.1)) below
 groups_outside ipv4 lead text (segment ∷ segments) l (inr h) =
     let (last, octets, is_ipv4, split, dotted, same) = h in
-    ap (list_all outside_bracket) split
-    ∙ all_both outside_bracket lead last l (dotted_outside last octets dotted)
+    ap (list_all outside_bracket) split ∙ all_both outside_bracket _ _ l (dotted_outside _ _ dotted)
 
 colon_hex_outside : (text segments : List ℕ) → IsColonHex text segments → list_all outside_bracket text ≡ true
 colon_hex_outside text segments (inl h) = groups_outside true [] text segments refl h.0
@@ -306,11 +285,10 @@ future_outside : (text : Line) → IsFutureAddress text → list_all outside_bra
 future_outside text h =
     let address = weaker is_address_byte outside_bracket address_outside h.address h.has_address.1 in
     let version = weaker is_ascii_hexdigit outside_bracket hex_outside h.version h.has_version.1 in
-    let rest = all_both outside_bracket h.version (46 ∷ h.address) version
+    let rest = all_both outside_bracket _ _ version
     (and_from (outside_bracket 46) (list_all outside_bracket h.address) (unfold outside_bracket in refl) address) in
-    ap (list_all outside_bracket) h.spelled
-    ∙ and_from (outside_bracket h.letter) (list_all outside_bracket (h.version ++ (46 ∷ h.address)))
-    (letter_outside h.letter h.is_v) rest
+    ap (list_all outside_bracket) h.spelled ∙ and_from (outside_bracket h.letter)
+    (list_all outside_bracket (h.version ++ (46 ∷ h.address))) (letter_outside _ h.is_v) rest
 
 address_is_outside : (text : Line) → IsAddress text → list_all outside_bracket text ≡ true
 address_is_outside text (inl h) = colon_hex_outside text _ h.1
@@ -355,12 +333,10 @@ some_bytes (b ∷ s) h = omega arith
 
 future_test : (text : Line) → IsFutureAddress text → is_future_address text ≡ true
 future_test text h =
-    let len : version_len (h.version ++ (46 ∷ h.address)) ≡ length h.version
-    = all_prefix is_ascii_hexdigit h.version (46 ∷ h.address) h.has_version.1 refl in
+    let len = all_prefix is_ascii_hexdigit _ _ h.has_version.1 refl in
     let rest : drop (version_len (h.version ++ (46 ∷ h.address))) (h.version ++ (46 ∷ h.address)) ≡ 46 ∷ h.address
     = ap (λ n. drop n (h.version ++ (46 ∷ h.address))) len ∙ drop-append_seam h.version (46 ∷ h.address) in
-    let dotted : is_dotted_address (46 ∷ h.address) ≡ true
-    = and_from (not (length h.address == 0)) (list_all is_address_byte h.address)
+    let dotted = and_from (not (length h.address == 0)) (list_all is_address_byte h.address)
     (not_empty h.address h.has_address.0) h.has_address.1 in
     let some : nat_lt 0 (length h.version) ≡ true = let most = h.has_version.0 in grind (arith, nat_tests) in
     ap is_future_address h.spelled
@@ -385,9 +361,8 @@ future_of_test [] h = absurd (false≢true h)
 future_of_test (b ∷ s) h =
     let here = and_parts (b == 118 || b == 86) (is_versioned s) h in
     let parts = and_parts (nat_lt 0 (version_len s)) (is_dotted_address (drop (version_len s) s)) here.1 in
-    let (address, split, some, bytes) = dotted_of_test (drop (version_len s) s) parts.1 in
-    let whole : s ≡ take (version_len s) s ++ (46 ∷ address)
-    = sym (take-append-drop (version_len s) s) ∙ ap (λ (rest : Line). take (version_len s) s ++ rest) split in
+    let (address, split, some, bytes) = dotted_of_test _ parts.1 in
+    let whole = sym (take-append-drop (version_len s) s) ∙ ap (λ (rest : Line). take (version_len s) s ++ rest) split in
     record {
       letter = b;
       version = take (version_len s) s;
@@ -432,8 +407,7 @@ named_test : (host : Line) (port : Option Line) → is_reg_name host ≡ true �
     → is_named_host (host ++ port_text port) ≡ true
 unfolding before_colon
 named_test host port name digits =
-    let len : name_len (host ++ port_text port) ≡ length host
-    = all_prefix before_colon host (port_text port) (name_has_no_colon host name) (ends_name port) in
+    let len = all_prefix before_colon host (port_text port) (name_has_no_colon host name) (ends_name port) in
     let front : take (name_len (host ++ port_text port)) (host ++ port_text port) ≡ host
     = ap (λ n. take n (host ++ port_text port)) len ∙ take-append_seam host (port_text port) in
     let back : drop (name_len (host ++ port_text port)) (host ++ port_text port) ≡ port_text port
@@ -452,8 +426,7 @@ literal_test : (inside : Line) (port : Option Line) → IsAddress inside → has
 unfolding outside_bracket
 literal_test inside port address digits =
     let s : Line = inside ++ (93 ∷ port_text port) in
-    let len : literal_len s ≡ length inside
-    = all_prefix outside_bracket inside (93 ∷ port_text port) (address_is_outside inside address) refl in
+    let len = all_prefix outside_bracket inside (93 ∷ port_text port) (address_is_outside inside address) refl in
     let front : take (literal_len s) s ≡ inside
     = ap (λ n. take n s) len ∙ take-append_seam inside (93 ∷ port_text port) in
     let back : drop (literal_len s + 1) s ≡ port_text port

@@ -1,24 +1,17 @@
 -- The field line that a gateway adds to Via names it.
-use Rattle.std.proofs.Common.{◌≡◌, ℕ, true, false, ◌||◌, List, [], ◌∷◌, ◌++◌, refl, ◌∙◌, ap, codes, IsTrue}
-use Rattle.std.proofs.Math.Bool.{or-true}
-use Rattle.std.specs.Prelude.{◌==◌}
-use Rattle.std.specs.List.{slice_split}
-use Rattle.std.proofs.lemmas.List.Elements.{All-weaker}
-use Rattle.std.proofs.lemmas.List.Folds.{list_any-append}
-use Rattle.std.proofs.lemmas.List.Splits.{slice_split_none}
-use Rattle.std.proofs.lemmas.Bool.Decides.{nat_tests}
-use Rattle.std.proofs.Common.{arith, subst}
-use Rattle.std.proofs.lemmas.Slice.Eq.{bytes_eq-Decides}
+use Rattle.std.proofs.Common.{◌≡◌, ℕ, true, false, ◌||◌, List, [], ◌∷◌, ◌++◌, refl, ◌∙◌, ap, codes, IsTrue, arith}
+use Rattle.std.proofs.Common.{subst}
+use Rattle.std.proofs.{Math.Bool.or-true, lemmas.List.Elements.All-weaker, lemmas.List.Folds.list_any-append}
+use Rattle.std.proofs.{lemmas.List.Splits.slice_split_none, lemmas.Bool.Decides.nat_tests}
+use Rattle.std.proofs.{lemmas.Slice.Eq.bytes_eq-Decides, lemmas.Bool.ne_eqb}
+use Rattle.std.specs.{Prelude.◌==◌, List.slice_split}
 use Rattle.http_header.specs.Token.{IsToken, is_token_byte, lowercase}
 use Rattle.http_header.proofs.TokenLemmas.{token_byte_range}
-use Rattle.headers.specs.LineMap.{LineMap}
-use Rattle.headers.specs.Lines.{Line}
+use Rattle.headers.specs.{LineMap.LineMap, Lines.Line}
 use Rattle.gateway_messages.specs.Forwarding.{Forwards, Message}
 use Rattle.gateway_messages.specs.Via.{ends_word, is_loop, names_gateway, via_line}
-use Rattle.gateway_messages.specs.declared.gateway.Gateway.{Gateway}
-use Rattle.gateway_messages.specs.declared.protocol.Protocol.{Protocol}
+use Rattle.gateway_messages.specs.{declared.gateway.Gateway.Gateway, declared.protocol.Protocol.Protocol}
 use Rattle.gateway_messages.specs.declared.protocol.Protocol.TheVariants.{Http10, Http11}
-use Rattle.std.proofs.lemmas.Bool.{ne_eqb}
 
 no_comma : (b : ℕ) → IsTrue (is_token_byte b) → (b == 44) ≡ false
 unfolding is_token_byte

@@ -1,11 +1,9 @@
 -- A number that is written in decimal is parsed to itself.
-use Rattle.std.proofs.Common.{◌≡◌, ℕ, ◌<◌, ◌≤◌, ◌-◌, ◌^◌, true, List, [], ◌∷◌, length, Some, refl, ◌∙◌, ap, arith}
-use Rattle.std.proofs.Common.{rules, inl, inr}
+use Rattle.std.proofs.Common.{◌≡◌, ℕ, ◌<◌, ◌≤◌, ◌-◌, ◌^◌, true, List, [], ◌∷◌, length, Some, ap, arith, rules, inl, inr}
 use Rattle.std.proofs.lemmas.Bool.{cases_Bool}
-use Rattle.std.specs.Prelude.{decimal, min}
-use Rattle.std.specs.Str.{all_ascii_digits}
 use Rattle.std.proofs.lemmas.Fmt.{decimal_nonempty, digits_decimal, digits_value-decimal}
 use Rattle.std.proofs.lemmas.Str.Parse.{IsNumeralModel, numerals_by_weight, tells_all_ascii_digits}
+use Rattle.std.specs.{Prelude.decimal, Prelude.min, Str.all_ascii_digits}
 use Rattle.headers_syntax.specs.Number.{decimal_value}
 use Rattle.rfc_fields.specs.Numbers.{is_number, number_within}
 

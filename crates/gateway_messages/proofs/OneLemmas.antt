@@ -1,21 +1,17 @@
 -- A message states one framing at most, and a request has one outcome.
-use Rattle.std.proofs.Common.{◌≡◌, ◌⊎◌, ℕ, ◌<◌, ◌^◌, true, false, List, [], ◌∷◌, length, Option}
-use Rattle.std.proofs.Common.{Some, None, refl, sym, ap}
-use Rattle.std.proofs.Common.{arith, subst, inl, inr, IsTrue, nat_lt, codes}
-use Rattle.std.specs.List.{list_all}
+use Rattle.std.proofs.Common.{◌≡◌, ◌⊎◌, ℕ, ◌<◌, ◌^◌, true, false, List, [], ◌∷◌, length, Option, Some, None, refl, sym}
+use Rattle.std.proofs.Common.{ap, arith, subst, inl, inr, IsTrue, nat_lt, codes}
 use Rattle.std.proofs.lemmas.Bool.{cases_Bool, ltb-true, lt-ltb}
-use Rattle.headers.specs.LineMap.{LineMap}
-use Rattle.headers.specs.Lines.{Line}
-use Rattle.headers.specs.Typed.{HasLine}
+use Rattle.std.specs.List.{list_all}
+use Rattle.headers.specs.{LineMap.LineMap, Lines.Line, Typed.HasLine}
 use Rattle.rfc_fields.specs.Members.{field_members}
-use Rattle.gateway_messages.specs.Framing.{RejectsFraming, States, StatesLength, ends_chunked}
-use Rattle.gateway_messages.specs.Framing.{codings, first_number, is_chunked, lengths, writes_length}
+use Rattle.gateway_messages.specs.Framing.{RejectsFraming, States, StatesLength, ends_chunked, codings, first_number}
+use Rattle.gateway_messages.specs.Framing.{is_chunked, lengths, writes_length}
 use Rattle.gateway_messages.specs.Hops.{HasHops, HasInvalidHops, counts_hops, hops_in}
-use Rattle.gateway_messages.specs.declared.framing.Framing.{Framing}
+use Rattle.gateway_messages.specs.{declared.framing.Framing.Framing, declared.protocol.Protocol.Protocol}
+use Rattle.gateway_messages.specs.{declared.rejection.Rejection.Rejection}
 use Rattle.gateway_messages.specs.declared.framing.Framing.TheVariants.{Unstated, Length, Chunked}
-use Rattle.gateway_messages.specs.declared.protocol.Protocol.{Protocol}
 use Rattle.gateway_messages.specs.declared.protocol.Protocol.TheVariants.{Http10, Http11}
-use Rattle.gateway_messages.specs.declared.rejection.Rejection.{Rejection}
 
 pub no_line : (lines : List Line) → HasLine lines → lines ≡ [] → ⊥
 no_line lines h e = let none : length lines ≡ 0 = ap length e in omega arith
@@ -126,20 +122,19 @@ framed_or_not protocol message = by (codings message) refl (lengths message) ref
         → IsFramedOrNot protocol message
     by [] c [] l = inr (Unstated, (l, c))
     by [] c (line ∷ rest) l =
-        elim (length_or_not (lengths message)) [
+        elim (length_or_not _) [
           | inl none ↦ inl (
             Rejection.InvalidLength,
-            record { present = some_line _ line rest l; invalid = none },
+            record { present = some_line _ _ _ l; invalid = none },
           )
           | inr some ↦ inr (Length some.0, (some.1, c))
         ]
     by (coding ∷ others) c [] l =
         elim (cases_Bool (is_chunked (codings message))) [
-          | inl t ↦ coded protocol refl t (some_line _ coding others c) l
-          | inr f ↦ inl (uncoded (some_line _ coding others c) f)
+          | inl t ↦ coded protocol refl t (some_line _ _ _ c) l
+          | inr f ↦ inl (uncoded (some_line _ _ _ c) f)
         ]
-    by (coding ∷ others) c (line ∷ rest) l =
-        inl (Rejection.LengthAndCoding, (some_line _ line rest l, some_line _ coding others c))
+    by (coding ∷ others) c (line ∷ rest) l = inl (Rejection.LengthAndCoding, (some_line _ _ _ l, some_line _ _ _ c))
 
 -- ---- hops
 

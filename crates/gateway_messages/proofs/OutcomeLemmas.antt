@@ -1,18 +1,13 @@
 -- Each request has one outcome.
-use Rattle.std.proofs.Common.{◌≡◌, ◌⊎◌, ℕ, ◌+◌, zero, suc, true, false, List, Option, Some, None, refl, sym, ap, arith}
-use Rattle.std.proofs.Common.{inl, inr, codes}
-use Rattle.std.specs.Prelude.{option_map}
+use Rattle.std.proofs.Common.{◌≡◌, ℕ, ◌+◌, zero, suc, true, false, Option, Some, None, sym, arith, inl, inr, codes}
 use Rattle.std.proofs.lemmas.Bool.{cases_Bool}
-use Rattle.gateway_messages.specs.Expectations.{has_known_expectation}
-use Rattle.gateway_messages.specs.Framing.{RejectsFraming}
+use Rattle.std.specs.Prelude.{option_map}
+use Rattle.gateway_messages.specs.{Expectations.has_known_expectation, Framing.RejectsFraming, Hops.HasHops}
+use Rattle.gateway_messages.specs.{Via.is_loop, declared.framing.Framing.Framing, declared.gateway.Gateway.Gateway}
+use Rattle.gateway_messages.specs.{declared.rejection.Rejection.Rejection}
 use Rattle.gateway_messages.specs.HopByHop.{HasFairOptions, are_options, connection_options, names_protected}
-use Rattle.gateway_messages.specs.Hops.{HasHops}
-use Rattle.gateway_messages.specs.Outcomes.{HasOneOutcome, HasOutcome, IsFinal, IsRejected}
-use Rattle.gateway_messages.specs.Requests.{HasHopsLeft, IsAccepted, IsForwardable, Rejects, Request, has_host}
-use Rattle.gateway_messages.specs.Via.{is_loop}
-use Rattle.gateway_messages.specs.declared.framing.Framing.{Framing}
-use Rattle.gateway_messages.specs.declared.gateway.Gateway.{Gateway}
-use Rattle.gateway_messages.specs.declared.rejection.Rejection.{Rejection}
+use Rattle.gateway_messages.specs.Outcomes.{HasOneOutcome, HasOutcome, IsRejected}
+use Rattle.gateway_messages.specs.Requests.{HasHopsLeft, IsAccepted, Rejects, Request, has_host}
 use Rattle.gateway_messages.proofs.OneLemmas.{framed_or_not, limit_or_not, limited, one_limit, unframed}
 
 -- ---- no two

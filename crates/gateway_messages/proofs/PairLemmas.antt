@@ -1,19 +1,14 @@
 -- Two gateways in a row are one.
-use Rattle.std.proofs.Common.{◌≡◌, ◌≢◌, ◌⊎◌, ℕ, Bool, true, false, List, [], ◌∷◌, ◌++◌, refl, sym, ◌∙◌, ap, append_assoc}
+use Rattle.std.proofs.Common.{◌≡◌, ◌≢◌, ◌⊎◌, ℕ, true, false, List, [], ◌∷◌, ◌++◌, refl, sym, ◌∙◌, ap, append_assoc}
 use Rattle.std.proofs.Common.{lit<, inl, inr}
+use Rattle.std.proofs.{lemmas.Bool.cases_Bool, lemmas.Slice.Eq.bytes_eq-Decides}
 use Rattle.std.specs.Prelude.{All, codes}
-use Rattle.std.proofs.lemmas.Bool.{cases_Bool}
-use Rattle.std.proofs.lemmas.Slice.Eq.{bytes_eq-Decides}
-use Rattle.headers.specs.LineMap.{LineMap}
-use Rattle.headers.specs.Lines.{Line}
-use Rattle.rfc_fields.specs.Members.{field_members}
-use Rattle.rfc_fields.specs.Scan.{Member}
-use Rattle.gateway_messages.specs.Chain.{IsOneGateway}
+use Rattle.headers.specs.{LineMap.LineMap, Lines.Line}
+use Rattle.rfc_fields.specs.{Members.field_members, Scan.Member}
+use Rattle.gateway_messages.specs.{Chain.IsOneGateway, Spellings.is_misspelt, Via.via_line}
+use Rattle.gateway_messages.specs.{declared.gateway.Gateway.Gateway}
 use Rattle.gateway_messages.specs.Forwarding.{Forwards, IsEndToEnd, IsHopByHop, Message, own_names}
 use Rattle.gateway_messages.specs.HopByHop.{connection_options, is_hop_by_hop, is_known}
-use Rattle.gateway_messages.specs.Spellings.{is_misspelt}
-use Rattle.gateway_messages.specs.Via.{via_line}
-use Rattle.gateway_messages.specs.declared.gateway.Gateway.{Gateway}
 
 apart : codes "connection" ≢ codes "transfer-encoding"
 apart e = absurd (cc ((bytes_eq-Decides (codes "connection") (codes "transfer-encoding")).1 e))
@@ -23,8 +18,7 @@ module _ (first second : Gateway) (earlier later : Message) (received sent next 
     (q : Forwards second later next forwarded) where
   no_options : connection_options next ≡ []
   no_options =
-      let none : next (codes "connection") ≡ []
-      = r (codes "connection") ∙ p.hop_by_hop (codes "connection") refl apart in
+      let none = r (codes "connection") ∙ p.hop_by_hop (codes "connection") refl apart in
       ap (λ (lines : List Line). field_members true lines) none
 
   other : (name : List ℕ) → All (λ own. own ≢ name) own_names → name ≢ codes "transfer-encoding"

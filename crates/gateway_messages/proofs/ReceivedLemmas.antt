@@ -1,14 +1,12 @@
 -- What stands under each name of the received fields, and of those that pass a test.
 use Rattle.std.proofs.Common.{◌≡◌, ◌≢◌, ℕ, suc, ◌<◌, Bool, true, false, List, [], ◌∷◌, ◌++◌, length, refl, sym, ◌∙◌, ap}
 use Rattle.std.proofs.Common.{inl, inr, arith, map, filter}
-use Rattle.std.specs.Prelude.{bytes_eq, if◌then◌else◌}
-use Rattle.std.proofs.lemmas.Bool.{cases_Bool}
+use Rattle.std.proofs.{lemmas.Bool.cases_Bool, lemmas.Slice.Eq.bytes_eq-Decides}
 use Rattle.std.proofs.lemmas.List.{append-nil, map-append}
-use Rattle.std.proofs.lemmas.Slice.Eq.{bytes_eq-Decides}
+use Rattle.std.specs.Prelude.{bytes_eq, if◌then◌else◌}
 use Rattle.http_header.specs.FieldValue.{FieldValue}
 use Rattle.http_header.specs.HeaderMap.{Entry, Entries, IsUnique, entry_at, entry_pairs, pairs}
-use Rattle.headers.specs.LineMap.{lines_at}
-use Rattle.headers.specs.Lines.{Line, lines_of}
+use Rattle.headers.specs.{LineMap.lines_at, Lines.Line, Lines.lines_of}
 use Rattle.gateway_messages.specs.FieldLines.{Field, field_of, lines_under}
 
 pub differ : (a b : List ℕ) → a ≢ b → bytes_eq a b ≡ false
@@ -87,8 +85,7 @@ IsAbsent m name = (i : ℕ) → i < length m → (entry_at m i).0 ≢ name
 absent_none : (m : Entries FieldValue) (name : List ℕ) → IsAbsent m name → map_lines m name ≡ []
 absent_none [] name absent = refl
 absent_none (e ∷ m) name absent =
-    cons_lines e m name
-    ∙ rw (differ e.0 name (absent 0 (omega arith)))
+    cons_lines e m _ ∙ rw (differ e.0 name (absent 0 (omega arith)))
     (absent_none m name (λ i lt. absent (suc i) (omega arith)))
 
 pub received_lines : (m : Entries FieldValue) (name : List ℕ) → IsUnique m → map_lines m name ≡ lines_at m name

@@ -1,33 +1,24 @@
 -- To all recipients that know the plain forms, what is forwarded states the same.
-use Rattle.std.proofs.Common.{◌≡◌, ◌≢◌, ℕ, ◌<◌, ◌^◌, ◌&&◌, not, Bool, true, false, List, [], ◌∷◌, ◌++◌, Option, Some, None, refl}
-use Rattle.std.proofs.Common.{◌∙◌, ap, codes, inl, inr}
-use Rattle.std.proofs.Common.{arith}
+use Rattle.std.proofs.Common.{◌≡◌, ◌≢◌, ℕ, ◌<◌, ◌^◌, ◌&&◌, not, Bool, true, false, List, [], ◌∷◌, ◌++◌, Option, Some}
+use Rattle.std.proofs.Common.{None, refl, ◌∙◌, ap, codes, inl, inr, arith}
+use Rattle.std.proofs.{lemmas.Bool.cases_Bool, lemmas.List.append-nil, lemmas.Slice.Eq.bytes_eq-Decides}
 use Rattle.std.specs.Prelude.{bytes_eq, decimal, if◌then◌else◌, nat_lt, option_map, option_to_list}
 use Rattle.std.specs.List.{list_any}
-use Rattle.std.proofs.lemmas.Bool.{cases_Bool}
-use Rattle.std.proofs.lemmas.List.{append-nil}
-use Rattle.std.proofs.lemmas.Slice.Eq.{bytes_eq-Decides}
-use Rattle.headers.specs.LineMap.{LineMap}
-use Rattle.headers.specs.Lines.{Line}
+use Rattle.headers.specs.{LineMap.LineMap, Lines.Line}
 use Rattle.gateway_messages.specs.FieldLines.{Field, fields_of, lines_under}
-use Rattle.gateway_messages.specs.Forwarding.{Forwards, Message}
+use Rattle.gateway_messages.specs.{Forwarding.Forwards, Forwarding.Message, declared.framing.Framing.Framing}
+use Rattle.gateway_messages.specs.{Spellings.dashed, Trailers.may_trail, Trailers.trailer_names}
+use Rattle.gateway_messages.specs.{declared.gateway.Gateway.Gateway, declared.protocol.Protocol.Protocol}
+use Rattle.gateway_messages.specs.{declared.request.ForwardedRequest.ForwardedRequest}
 use Rattle.gateway_messages.specs.Framing.{States, coding_line, length_line}
 use Rattle.gateway_messages.specs.Recipients.{Fits, KnowsPlain, ParsesBelow, Recipient, accepted_by, delimited_by}
-use Rattle.gateway_messages.specs.Recipients.{framing_by, is_within, lines_where, number_below, parse_below}
-use Rattle.gateway_messages.specs.Recipients.{picked_by, server}
-use Rattle.gateway_messages.specs.Recipients.{Spelling, Dash, DashOrMark, DashOrUnderscore, Pick, First, Last}
+use Rattle.gateway_messages.specs.Recipients.{framing_by, is_within, lines_where, number_below, parse_below, picked_by}
+use Rattle.gateway_messages.specs.Recipients.{server, Spelling, Dash, DashOrMark, DashOrUnderscore, Pick, First, Last}
 use Rattle.gateway_messages.specs.Recipients.{Codings, SomeLine, LastLine, AnyCoding, Precedence, CodingFirst}
 use Rattle.gateway_messages.specs.Recipients.{LengthFirst, chunked_by, spelled_by}
-use Rattle.gateway_messages.specs.declared.framing.Framing.{Framing}
 use Rattle.gateway_messages.specs.declared.framing.Framing.TheVariants.{Unstated, Length, Chunked}
 use Rattle.gateway_messages.specs.Requests.{IsForwarded, Request, message_of}
-use Rattle.gateway_messages.specs.Spellings.{dashed}
-use Rattle.gateway_messages.specs.Trailers.{may_trail, trailer_names}
-use Rattle.gateway_messages.specs.declared.gateway.Gateway.{Gateway}
-use Rattle.gateway_messages.specs.declared.protocol.Protocol.{Protocol}
-use Rattle.gateway_messages.specs.declared.request.ForwardedRequest.{ForwardedRequest}
-use Rattle.gateway_messages.proofs.NumberLemmas.{number_within-decimal}
-use Rattle.gateway_messages.proofs.ReceivedLemmas.{lines_under-append}
+use Rattle.gateway_messages.proofs.{NumberLemmas.number_within-decimal, ReceivedLemmas.lines_under-append}
 use Rattle.gateway_messages.proofs.SpellingLemmas.{lookalike, unlisted}
 
 -- ---- names
@@ -73,12 +64,10 @@ pub read_alike : (gateway : Gateway) (message : Message) (received : LineMap) (f
 read_alike gateway message received fields recipient p fits k =
     let lengths : lines_where recipient.is_length fields ≡ option_to_list (length_line message.framing)
     = taken recipient.is_length (codes "content-length") k.length_name fields
-    (λ name t other. p.misspelt name (lookalike gateway name _ (k.length_names name t) other refl))
-    ∙ p.content_length in
+    (λ name t other. p.misspelt name (lookalike _ _ _ (k.length_names name t) other refl)) ∙ p.content_length in
     let codings : lines_where recipient.is_coding fields ≡ option_to_list (coding_line message.framing)
     = taken recipient.is_coding (codes "transfer-encoding") k.coding_name fields
-    (λ name t other. p.misspelt name (lookalike gateway name _ (k.coding_names name t) other refl))
-    ∙ p.transfer_encoding in
+    (λ name t other. p.misspelt name (lookalike _ _ _ (k.coding_names name t) other refl)) ∙ p.transfer_encoding in
     ap (λ lines. recipient.delimits lines (lines_where recipient.is_coding fields)) lengths
     ∙ ap (λ lines. recipient.delimits (option_to_list (length_line message.framing)) lines) codings
     ∙ k.plain message.framing fits

@@ -1,27 +1,23 @@
 -- Each response has one outcome, what is forwarded of it is certain, and recipients delimit it alike.
 use Rattle.std.proofs.Common.{◌≡◌, ℕ, Bool, true, false, List, refl, sym, ◌∙◌, ap, subst, inl, inr}
-use Rattle.std.specs.Prelude.{◌==◌}
 use Rattle.std.proofs.lemmas.Bool.{cases_Bool}
+use Rattle.std.specs.Prelude.{◌==◌}
 use Rattle.headers.specs.LineMap.{LineMap}
 use Rattle.gateway_messages.specs.FieldLines.{fields_of, lines_under}
-use Rattle.gateway_messages.specs.Forwarding.{Forwards}
-use Rattle.gateway_messages.specs.Framing.{RejectsFraming}
+use Rattle.gateway_messages.specs.{Forwarding.Forwards, Framing.RejectsFraming, declared.framing.Framing.Framing}
+use Rattle.gateway_messages.specs.{declared.gateway.Gateway.Gateway, declared.protocol.Protocol.Protocol}
+use Rattle.gateway_messages.specs.{declared.rejection.Rejection.Rejection}
+use Rattle.gateway_messages.specs.{declared.response.ForwardedResponse.ForwardedResponse}
 use Rattle.gateway_messages.specs.HopByHop.{HasFairOptions, are_options, connection_options, names_protected}
 use Rattle.gateway_messages.specs.Outcomes.{HasOneResponseOutcome, HasResponseOutcome, IsRejectedResponse}
 use Rattle.gateway_messages.specs.Recipients.{Fits, KnowsPlain, Recipient, accepted_by, framing_by}
 use Rattle.gateway_messages.specs.Responses.{IsAcceptedResponse, IsForwardedResponse, RejectsResponse, Response}
 use Rattle.gateway_messages.specs.Responses.{StatesUnless, content_of, is_known_to, response_message, sent_framing}
 use Rattle.gateway_messages.specs.Responses.{states_nothing}
-use Rattle.gateway_messages.specs.declared.framing.Framing.{Framing}
 use Rattle.gateway_messages.specs.declared.framing.Framing.TheVariants.{Unstated, Length, Chunked}
-use Rattle.gateway_messages.specs.declared.gateway.Gateway.{Gateway}
-use Rattle.gateway_messages.specs.declared.protocol.Protocol.{Protocol}
 use Rattle.gateway_messages.specs.declared.protocol.Protocol.TheVariants.{Http10, Http11}
-use Rattle.gateway_messages.specs.declared.rejection.Rejection.{Rejection}
-use Rattle.gateway_messages.specs.declared.response.ForwardedResponse.{ForwardedResponse}
 use Rattle.gateway_messages.proofs.OneLemmas.{framed_or_not, one_framing, unframed}
-use Rattle.gateway_messages.proofs.RecipientLemmas.{fitting, read_alike}
-use Rattle.gateway_messages.proofs.SureLemmas.{sure}
+use Rattle.gateway_messages.proofs.{RecipientLemmas.fitting, RecipientLemmas.read_alike, SureLemmas.sure}
 
 -- ---- what is stated
 
@@ -140,13 +136,11 @@ pub one_response : (gateway : Gateway) (date : ℕ) (response : Response) (a b :
     × ((name : List ℕ) → lines_under (fields_of a.fields.items) name ≡ lines_under (fields_of b.fields.items) name)
 one_response gateway date response a b p q =
     let stated : p.stated ≡ q.stated
-    = one_stated _ response.protocol response.fields p.stated q.stated p.accepted.states q.accepted.states in
-    let framing : a.framing ≡ b.framing
-    = p.framing ∙ ap (λ (f : Framing). sent_framing response.client f) stated ∙ sym q.framing in
+    = one_stated _ _ _ _ _ p.accepted.states q.accepted.states in
+    let framing = p.framing ∙ ap (λ (f : Framing). sent_framing response.client f) stated ∙ sym q.framing in
     let fields : Forwards gateway (response_message date response a.framing) response.fields
     (lines_under (fields_of b.fields.items))
-    = subst (λ (f : Framing). Forwards gateway (response_message date response f) response.fields
-    (lines_under (fields_of b.fields.items))) (sym framing) q.fields in (
+    = rw (← framing) at q.fields in (
       p.content ∙ ap (λ (f : Framing). content_of response.method response.status f) stated ∙ sym q.content,
       framing,
       sure gateway (response_message date response a.framing) response.fields _ _ p.fields fields,
@@ -156,7 +150,6 @@ pub response_alike : (gateway : Gateway) (date : ℕ) (response : Response) (sen
     (recipient : Recipient) → IsForwardedResponse gateway date response sent → KnowsPlain recipient
     → framing_by recipient (fields_of sent.fields.items) ≡ accepted_by recipient sent.framing
 response_alike gateway date response sent recipient p k =
-    let fits : Fits p.stated = fits_stated _ response.protocol response.fields p.stated p.accepted.states in
-    let sent_fits : Fits sent.framing = subst Fits (sym p.framing) (fits_sent response.client p.stated fits) in
-    read_alike gateway (response_message date response sent.framing) response.fields (fields_of sent.fields.items)
-    recipient p.fields sent_fits k
+    let fits : Fits p.stated = fits_stated _ _ _ _ p.accepted.states in
+    let sent_fits : Fits sent.framing = subst Fits (sym p.framing) (fits_sent _ _ fits) in
+    read_alike _ _ _ _ _ p.fields sent_fits k

@@ -1,30 +1,21 @@
 -- The next gateway delimits the content of what is forwarded as this one did.
-use Rattle.std.proofs.Common.{◌≡◌, ℕ, ◌<◌, ◌^◌, true, false, List, [], ◌∷◌, ◌++◌, length, refl, sym}
-use Rattle.std.proofs.Common.{◌∙◌, ap, arith, codes, eq-eqb, map, subst}
-use Rattle.std.specs.Prelude.{◌==◌, decimal, nat_le, option_to_list}
-use Rattle.std.specs.List.{list_all}
+use Rattle.std.proofs.Common.{◌≡◌, ℕ, ◌<◌, ◌^◌, true, false, List, [], ◌∷◌, ◌++◌, length, refl, sym, ◌∙◌, ap, arith}
+use Rattle.std.proofs.Common.{codes, eq-eqb, map, subst}
 use Rattle.std.proofs.lemmas.Bool.{and_from, and_parts, le-leb, ne_eqb}
-use Rattle.std.proofs.lemmas.Fmt.{decimal_nonempty}
-use Rattle.headers.specs.LineMap.{LineMap}
-use Rattle.headers.specs.Lines.{Line}
+use Rattle.std.proofs.{lemmas.Fmt.decimal_nonempty, Math.Bool.or-true}
+use Rattle.std.specs.{Prelude.◌==◌, Prelude.decimal, Prelude.nat_le, Prelude.option_to_list, List.list_all}
+use Rattle.headers.specs.{LineMap.LineMap, Lines.Line}
 use Rattle.http_header.specs.Token.{is_value_byte}
 use Rattle.headers_syntax.proofs.PlainLemmas.{decimal_plain, is_plain, plain_bounds, trim_piece}
 use Rattle.rfc_fields.specs.Grammar.{IsSeparator, comma, element_text, is_bare, is_element}
-use Rattle.rfc_fields.specs.Grammar.Part.{Byte}
+use Rattle.rfc_fields.specs.{Grammar.Part.Byte, Scan.Member, Scan.Member.Whole, Laws.ParsesOneWay}
 use Rattle.rfc_fields.specs.Members.{field_members, members, members_of}
-use Rattle.rfc_fields.specs.Scan.{Member}
-use Rattle.rfc_fields.specs.Scan.Member.{Whole}
-use Rattle.rfc_fields.specs.Laws.{ParsesOneWay}
 use Rattle.gateway_messages.specs.Forwarding.{Forwards, Message}
-use Rattle.gateway_messages.specs.Framing.{States, StatesLength, coding_line, first_number, is_chunked}
-use Rattle.gateway_messages.specs.Framing.{length_line, writes_length}
-use Rattle.gateway_messages.specs.Recipients.{Fits}
-use Rattle.gateway_messages.specs.declared.framing.Framing.{Framing}
+use Rattle.gateway_messages.specs.Framing.{States, StatesLength, coding_line, first_number, is_chunked, length_line}
+use Rattle.gateway_messages.specs.Framing.{writes_length}
+use Rattle.gateway_messages.specs.{Recipients.Fits, declared.framing.Framing.Framing, declared.gateway.Gateway.Gateway}
+use Rattle.gateway_messages.specs.{declared.protocol.Protocol.Protocol, declared.protocol.Protocol.TheVariants.Http11}
 use Rattle.gateway_messages.specs.declared.framing.Framing.TheVariants.{Unstated, Length, Chunked}
-use Rattle.gateway_messages.specs.declared.gateway.Gateway.{Gateway}
-use Rattle.gateway_messages.specs.declared.protocol.Protocol.{Protocol}
-use Rattle.gateway_messages.specs.declared.protocol.Protocol.TheVariants.{Http11}
-use Rattle.std.proofs.Math.Bool.{or-true}
 use Rattle.gateway_messages.proofs.NumberLemmas.{number_within-decimal}
 
 -- a text of plain bytes is an element of a list, and so is a decimal
@@ -88,14 +79,12 @@ states_again parses gateway message received forwarded Unstated e p a = (
   p.transfer_encoding ∙ ap (λ (f : Framing). option_to_list (coding_line f)) e,
 )
 states_again parses gateway message received forwarded (Length len) e p a =
-    let line : forwarded (codes "content-length") ≡ decimal len ∷ []
-    = p.content_length ∙ ap (λ (f : Framing). option_to_list (length_line f)) e in (
-      subst (λ (lines : List Line). StatesLength lines len) (sym line) (decimal_states parses len a),
+    let line = p.content_length ∙ ap (λ (f : Framing). option_to_list (length_line f)) e in (
+      rw (← line) at (decimal_states parses len a),
       p.transfer_encoding ∙ ap (λ (f : Framing). option_to_list (coding_line f)) e,
     )
 states_again parses gateway message received forwarded Chunked e p a =
-    let line : forwarded (codes "transfer-encoding") ≡ codes "chunked" ∷ []
-    = p.transfer_encoding ∙ ap (λ (f : Framing). option_to_list (coding_line f)) e in (
+    let line = p.transfer_encoding ∙ ap (λ (f : Framing). option_to_list (coding_line f)) e in (
       p.content_length ∙ ap (λ (f : Framing). option_to_list (length_line f)) e,
       rw line refl,
       refl,

@@ -1,21 +1,15 @@
 -- What is forwarded is certain at each name, and the next gateway delimits it as this one did.
-use Rattle.std.proofs.Common.{◌≡◌, ◌≢◌, ℕ, ◌+◌, ◌<◌, ◌-◌, ◌^◌, true, false, List, [], ◌∷◌, Option, Some, None, refl}
-use Rattle.std.proofs.Common.{sym, ◌∙◌, ap, subst}
-use Rattle.std.proofs.Common.{inl, inr, codes, arith}
-use Rattle.std.specs.Prelude.{All, bytes_eq, decimal, option_map, option_to_list}
-use Rattle.std.proofs.lemmas.Bool.{cases_Bool}
+use Rattle.std.proofs.Common.{◌≡◌, ◌≢◌, ℕ, ◌+◌, ◌-◌, true, false, List, [], ◌∷◌, Option, Some, None, refl, sym, ◌∙◌, ap}
+use Rattle.std.proofs.Common.{subst, inl, inr, codes, arith}
+use Rattle.std.proofs.{lemmas.Bool.cases_Bool, lemmas.Slice.Eq.bytes_eq-Decides}
 use Rattle.std.proofs.lemmas.List.Elements.{All-cons, All-nil}
-use Rattle.std.proofs.lemmas.Slice.Eq.{bytes_eq-Decides}
+use Rattle.std.specs.Prelude.{All, bytes_eq, option_map}
 use Rattle.headers.specs.LineMap.{LineMap}
-use Rattle.headers.specs.Lines.{Line}
-use Rattle.gateway_messages.specs.FieldLines.{fields_of, lines_under}
+use Rattle.gateway_messages.specs.{FieldLines.fields_of, FieldLines.lines_under, HopByHop.connection_options}
+use Rattle.gateway_messages.specs.{HopByHop.is_hop_by_hop, Spellings.is_misspelt, declared.framing.Framing.Framing}
+use Rattle.gateway_messages.specs.{declared.gateway.Gateway.Gateway, declared.request.ForwardedRequest.ForwardedRequest}
 use Rattle.gateway_messages.specs.Forwarding.{Forwards, Message, framing_names, own_names}
-use Rattle.gateway_messages.specs.HopByHop.{connection_options, is_hop_by_hop}
 use Rattle.gateway_messages.specs.Requests.{IsForwarded, Request, message_of}
-use Rattle.gateway_messages.specs.Spellings.{is_misspelt}
-use Rattle.gateway_messages.specs.declared.framing.Framing.{Framing}
-use Rattle.gateway_messages.specs.declared.gateway.Gateway.{Gateway}
-use Rattle.gateway_messages.specs.declared.request.ForwardedRequest.{ForwardedRequest}
 use Rattle.gateway_messages.proofs.OneLemmas.{one_framing, one_limit}
 
 -- ---- at each name
@@ -86,14 +80,12 @@ pub one_request : (gateway : Gateway) (request : Request) (a b : ForwardedReques
     → (a.framing ≡ b.framing) × (a.hops ≡ b.hops)
     × ((name : List ℕ) → lines_under (fields_of a.fields.items) name ≡ lines_under (fields_of b.fields.items) name)
 one_request gateway request a b p q =
-    let framing : a.framing ≡ b.framing
-    = one_framing request.protocol request.fields a.framing b.framing p.accepted.states q.accepted.states in
+    let framing = one_framing request.protocol request.fields a.framing b.framing p.accepted.states q.accepted.states in
     let hops : a.hops ≡ b.hops = one_left a.hops b.hops (one_limit request.method request.fields _ _ p.hops q.hops) in
     let message : message_of request b.framing b.hops ≡ message_of request a.framing a.hops
     = ap (λ (f : Framing). message_of request f b.hops) (sym framing)
     ∙ ap (λ (h : Option ℕ). message_of request a.framing h) (sym hops) in
     let fields : Forwards gateway (message_of request a.framing a.hops) request.fields
     (lines_under (fields_of b.fields.items))
-    = subst (λ (m : Message). Forwards gateway m request.fields (lines_under (fields_of b.fields.items))) message
-    q.fields in
+    = rw message at q.fields in
     (framing, hops, sure gateway (message_of request a.framing a.hops) request.fields _ _ p.fields fields)

@@ -1,16 +1,13 @@
 -- What is forwarded of the trailer fields, name by name.
-use Rattle.std.proofs.Common.{◌≡◌, ◌≢◌, ℕ, Bool, true, false, not, List, [], refl, ◌∙◌, ap, map, filter}
+use Rattle.std.proofs.Common.{◌≡◌, ℕ, Bool, true, false, not, List, [], refl, ◌∙◌, ap, map, filter}
 use Rattle.std.specs.Prelude.{if◌then◌else◌}
-use Rattle.http_header.specs.FieldValue.{FieldValue}
-use Rattle.http_header.specs.HeaderMap.{Entries, IsUnique, pairs}
+use Rattle.http_header.specs.{FieldValue.FieldValue, HeaderMap.Entries, HeaderMap.IsUnique, HeaderMap.pairs}
 use Rattle.headers.specs.LineMap.{LineMap, lines_at}
 use Rattle.rfc_fields.specs.Scan.{Member}
-use Rattle.gateway_messages.specs.FieldLines.{Field, field_of, lines_under}
-use Rattle.gateway_messages.specs.HopByHop.{connection_options, is_hop_by_hop}
-use Rattle.gateway_messages.specs.Trailers.{ForwardsTrailers, may_trail, trailer_goes_on}
-use Rattle.gateway_messages.specs.declared.framing.Framing.{Framing}
-use Rattle.gateway_messages.specs.declared.framing.Framing.TheVariants.{Chunked}
-use Rattle.gateway_messages.specs.declared.gateway.Gateway.{Gateway}
+use Rattle.gateway_messages.specs.{FieldLines.Field, FieldLines.field_of, FieldLines.lines_under}
+use Rattle.gateway_messages.specs.{HopByHop.connection_options, HopByHop.is_hop_by_hop, Trailers.ForwardsTrailers}
+use Rattle.gateway_messages.specs.{Trailers.may_trail, Trailers.trailer_goes_on, declared.framing.Framing.Framing}
+use Rattle.gateway_messages.specs.{declared.framing.Framing.TheVariants.Chunked, declared.gateway.Gateway.Gateway}
 use Rattle.gateway_messages.proofs.ForwardLemmas.{never}
 use Rattle.gateway_messages.proofs.ReceivedLemmas.{lines_under-filter, received_lines}
 
@@ -37,9 +34,8 @@ module _ (gateway : Gateway) (message : LineMap) (m : Entries FieldValue) (uniqu
   by_name : (fields : List Field) → fields ≡ filter (λ field. going field.0) (map field_of (pairs m))
       → (name : List ℕ) → lines_under fields name ≡ (if going name then lines_at m name else [])
   by_name fields e name =
-      ap (λ (fs : List Field). lines_under fs name) e
-      ∙ lines_under-filter going (map field_of (pairs m)) name
-      ∙ ap (λ lines. if going name then lines else []) (received_lines m name unique)
+      ap (λ (fs : List Field). lines_under fs name) e ∙ lines_under-filter going (map field_of (pairs m)) name ∙ ap
+      (λ lines. if going name then lines else []) (received_lines m _ unique)
 
   left_out : (fields : List Field) → fields ≡ filter (λ field. going field.0) (map field_of (pairs m))
       → (name : List ℕ) → going name ≡ false → lines_under fields name ≡ []
@@ -54,7 +50,6 @@ module _ (gateway : Gateway) (message : LineMap) (m : Entries FieldValue) (uniqu
             ∙ rw (goes gateway (connection_options message) name e2e may) refl;
         hop_by_hop = λ name h. left_out fields e name
             (stops gateway (connection_options message) name h);
-        header_only = λ name h. left_out fields e name
-            (denied gateway (connection_options message) name h);
+        header_only = λ name h. left_out fields e name (denied _ _ _ h);
         unchunked = λ other name. absurd (other chunked);
       }

@@ -1,16 +1,13 @@
 -- How recipients differ in what the framing fields of a message mean to them (RFC 9112, sections 6.1, 6.3 and 11.2).
 use Rattle.std.specs.Prelude.{◌≡◌, ◌||◌, ℕ, ◌<◌, ◌-◌, ◌^◌, Bool, true, false, filter, map, List, [], ◌∷◌, length}
-use Rattle.std.specs.Prelude.{Option, Some, None, bytes_eq, if◌then◌else◌, ⊤}
-use Rattle.std.specs.Prelude.{codes, decimal, nat_lt, option_map, option_to_list}
-use Rattle.std.specs.List.{list_any}
-use Rattle.std.specs.Option.{option_and_then, option_map_or}
+use Rattle.std.specs.Prelude.{Option, Some, None, bytes_eq, if◌then◌else◌, ⊤, codes, decimal, nat_lt, option_map}
+use Rattle.std.specs.Prelude.{option_to_list}
+use Rattle.std.specs.{List.list_any, Option.option_and_then, Option.option_map_or}
 use Rattle.headers.specs.Lines.{Line, first_line}
-use Rattle.gateway_messages.specs.FieldLines.{Field}
-use Rattle.rfc_fields.specs.Numbers.{number_within}
+use Rattle.gateway_messages.specs.{FieldLines.Field, Spellings.dashed, declared.framing.Framing.Framing}
 use Rattle.gateway_messages.specs.Framing.{coding_line, length_line, says_chunked}
-use Rattle.gateway_messages.specs.Spellings.{dashed}
-use Rattle.gateway_messages.specs.declared.framing.Framing.{Framing}
 use Rattle.gateway_messages.specs.declared.framing.Framing.TheVariants.{Unstated, Length, Chunked}
+use Rattle.rfc_fields.specs.Numbers.{number_within}
 
 -- A recipient: the names that it takes for Content-Length and for Transfer-Encoding, what the field lines of both state
 -- to it about the content, unless it rejects the message, and which framings in plain form it accepts.

@@ -4,10 +4,8 @@ use Rattle.std.specs.List.{list_any}
 use Rattle.headers.specs.LineMap.{LineMap}
 use Rattle.rfc_fields.specs.Scan.{Member}
 use Rattle.gateway_messages.specs.Forwarding.{IsEndToEnd, IsHopByHop}
-use Rattle.gateway_messages.specs.HopByHop.{is_hop_by_hop}
-use Rattle.gateway_messages.specs.declared.framing.Framing.{Framing}
-use Rattle.gateway_messages.specs.declared.framing.Framing.TheVariants.{Chunked}
-use Rattle.gateway_messages.specs.declared.gateway.Gateway.{Gateway}
+use Rattle.gateway_messages.specs.{HopByHop.is_hop_by_hop, declared.framing.Framing.Framing}
+use Rattle.gateway_messages.specs.{declared.framing.Framing.TheVariants.Chunked, declared.gateway.Gateway.Gateway}
 
 -- The fields whose definitions permit them in a trailer section (RFC 9110, section 6.5.1): sections 8.8.3, 11.6.3, 11.7.3
 -- and 14.3 of RFC 9110, RFC 9421, RFC 9530, and Server Timing.

@@ -1,33 +1,27 @@
 //! Theorems about the definitions alone. To cite one in a proof, call it.
-ghost use Rattle.std.specs.Prelude.{◌≡◌, ◌≢◌, ◌≤◌, ◌++◌, ◌∷◌, [], ℕ, List, All, Option, Some, false, true, IsTrue, codes};
-ghost use Rattle.std.specs.Prelude.{◌↔◌};
-ghost use Rattle.std.specs.Prelude.{decimal, length};
+ghost use Rattle.std.specs.Prelude.{◌≡◌, ◌≢◌, ◌≤◌, ◌++◌, ◌∷◌, [], ℕ, List, All, Option, Some, false, true, IsTrue};
+ghost use Rattle.std.specs.Prelude.{codes, ◌↔◌, decimal, length};
 ghost use Rattle.http_header.specs.Token.{IsToken};
-ghost use Rattle.headers.specs.LineMap.{LineMap};
-ghost use Rattle.headers.specs.Lines.{Line};
+ghost use Rattle.headers.specs.{LineMap.LineMap, Lines.Line};
 ghost use Rattle.gateway_messages.specs.Chain.{IsChain, IsOneGateway, IsReceivedAs};
 ghost use Rattle.gateway_messages.specs.FieldLines.{Field, fields_of, lines_under};
 ghost use Rattle.gateway_messages.specs.Forwarding.{IsEndToEnd, IsHopByHop, own_names};
-ghost use Rattle.gateway_messages.specs.Framing.{States};
+ghost use Rattle.gateway_messages.specs.{Framing.States, Hosts.HasHost, Spellings.is_misspelt, Via.is_loop};
+ghost use Rattle.gateway_messages.specs.{declared.framing.Framing.Framing, declared.gateway.Gateway.Gateway};
+ghost use Rattle.gateway_messages.specs.{declared.protocol.Protocol.Protocol};
+ghost use Rattle.gateway_messages.specs.{declared.protocol.Protocol.TheVariants.Http11};
+ghost use Rattle.gateway_messages.specs.{declared.rejection.Rejection.Rejection};
+ghost use Rattle.gateway_messages.specs.{declared.request.ForwardedRequest.ForwardedRequest};
+ghost use Rattle.gateway_messages.specs.{declared.response.ForwardedResponse.ForwardedResponse};
 ghost use Rattle.gateway_messages.specs.Hops.{counts_hops, hops_in};
-ghost use Rattle.gateway_messages.specs.Hosts.{HasHost};
 ghost use Rattle.gateway_messages.specs.Outcomes.{HasOneOutcome, HasOneResponseOutcome, HasOutcome, HasResponseOutcome};
 ghost use Rattle.gateway_messages.specs.Recipients.{CodingFirst, LengthFirst, ParsesBelow, limits_in_use, server};
 ghost use Rattle.gateway_messages.specs.Recipients.{Codings, KnowsPlain, Pick, Precedence, Recipient, Spelling};
 ghost use Rattle.gateway_messages.specs.Recipients.{accepted_by, framing_by, parse_below};
 ghost use Rattle.gateway_messages.specs.Requests.{IsForGateway, IsForwarded, Rejects, Request, has_host};
 ghost use Rattle.gateway_messages.specs.Responses.{IsForwardedResponse, RejectsResponse, Response};
-ghost use Rattle.gateway_messages.specs.Spellings.{is_misspelt};
 ghost use Rattle.gateway_messages.specs.Trailers.{ForwardsTrailers, may_trail};
-ghost use Rattle.gateway_messages.specs.Via.{is_loop};
-ghost use Rattle.gateway_messages.specs.declared.framing.Framing.{Framing};
 ghost use Rattle.gateway_messages.specs.declared.framing.Framing.TheVariants.{Chunked, Length};
-ghost use Rattle.gateway_messages.specs.declared.gateway.Gateway.{Gateway};
-ghost use Rattle.gateway_messages.specs.declared.protocol.Protocol.{Protocol};
-ghost use Rattle.gateway_messages.specs.declared.protocol.Protocol.TheVariants.{Http11};
-ghost use Rattle.gateway_messages.specs.declared.rejection.Rejection.{Rejection};
-ghost use Rattle.gateway_messages.specs.declared.request.ForwardedRequest.{ForwardedRequest};
-ghost use Rattle.gateway_messages.specs.declared.response.ForwardedResponse.{ForwardedResponse};
 
 use rfc_fields::laws::lists_parse_one_way;
 
@@ -39,6 +33,7 @@ pub fn request_has_one_outcome()
 
 /// Theorem: what is forwarded of a request is determined: its framing, how often it may still be
 /// forwarded, and the field lines of each name.
+#[tactic(auto, using(crate::proofs::SureLemmas::one_request))]
 pub fn forwarded_request_is_certain()
     ensures { (gateway : Gateway) (request : Request) (a b : ForwardedRequest) → IsForwarded gateway request a
         → IsForwarded gateway request b
@@ -84,6 +79,7 @@ pub fn rejected_messages_are_not_forwarded()
 {}
 
 /// Theorem: the fields of a message state at most one framing.
+#[tactic(auto, using(crate::proofs::OneLemmas::one_framing))]
 pub fn message_states_one_framing()
     ensures { (protocol : Protocol) (message : LineMap) (a b : Framing) → States protocol message a
         → States protocol message b → a ≡ b }
@@ -118,6 +114,7 @@ pub fn end_to_end_fields_alone_cross()
 /// Theorem: each recipient that knows the plain forms delimits a forwarded request as this gateway
 /// did, or rejects it, whatever it makes of other field lines (RFC 9112, section 11.2). Request
 /// smuggling needs two recipients that delimit the content of one request in different ways.
+#[tactic(auto, using(crate::proofs::RecipientLemmas::request_alike))]
 pub fn forwarded_request_is_framed_alike()
     ensures { (gateway : Gateway) (request : Request) (sent : ForwardedRequest) (recipient : Recipient)
         → IsForwarded gateway request sent → KnowsPlain recipient
@@ -165,6 +162,7 @@ pub fn servers_know_plain_forms()
 
 /// Theorem: two such recipients delimit the content of a request with both fields in different
 /// ways.
+#[tactic(auto, using(crate::proofs::RecipientLemmas::disagree))]
 pub fn servers_disagree()
     ensures { (spelling : Spelling) (pick : Pick) (parse : Line → Option ℕ) (limit : ℕ) (codings : Codings) (len : ℕ)
         → parse (decimal len) ≡ Some len
@@ -175,6 +173,7 @@ pub fn servers_disagree()
 {}
 
 /// Theorem: a request whose Max-Forwards is n passes at most n gateways (RFC 9110, section 7.6.2).
+#[tactic(auto, using(crate::proofs::NextLemmas::bounded))]
 pub fn hops_bound_the_chain()
     ensures { (hops : ℕ) (request : Request) (passed : List Request) → IsTrue (counts_hops request.method)
         → hops_in (request.fields (codes "max-forwards")) ≡ Some hops → IsChain request passed

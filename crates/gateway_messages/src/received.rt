@@ -4,9 +4,8 @@ ghost use Rattle.std.specs.List.{list_any};
 ghost use Rattle.http_header.specs.HeaderMap.{pairs};
 ghost use Rattle.headers.specs.Lines.{lines_of};
 ghost use Rattle.rfc_fields.specs.Members.{field_members};
-ghost use Rattle.gateway_messages.specs.FieldLines.{field_of, fields_of};
-ghost use Rattle.gateway_messages.specs.Forwarding.{framing_names, is_rewritten};
-ghost use Rattle.gateway_messages.specs.Messages.{goes_on_in, message_of};
+ghost use Rattle.gateway_messages.specs.{FieldLines.field_of, FieldLines.fields_of, Forwarding.framing_names};
+ghost use Rattle.gateway_messages.specs.{Forwarding.is_rewritten, Messages.goes_on_in, Messages.message_of};
 
 use crate::field_line::FieldLine;
 use crate::gateway::Gateway;

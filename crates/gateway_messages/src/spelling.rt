@@ -1,6 +1,5 @@
 //! Field names that some servers can't tell from others.
-ghost use Rattle.std.specs.Prelude.{◌≡◌, ◌==◌, bytes_eq};
-ghost use Rattle.std.specs.List.{list_any};
+ghost use Rattle.std.specs.{Prelude.◌≡◌, Prelude.◌==◌, Prelude.bytes_eq, List.list_any};
 ghost use Rattle.gateway_messages.specs.Spellings.{dash_for, dashed, guarded_names, has_mark, has_underscore, is_mark};
 ghost use Rattle.gateway_messages.specs.Spellings.{is_misspelt, resembles_guarded};
 

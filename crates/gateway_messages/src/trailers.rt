@@ -1,6 +1,5 @@
 //! The trailer fields of a message.
-ghost use Rattle.std.specs.Prelude.{◌≡◌, IfOk, OnErr, bytes_eq};
-ghost use Rattle.std.specs.List.{list_any};
+ghost use Rattle.std.specs.{Prelude.◌≡◌, Prelude.IfOk, Prelude.OnErr, Prelude.bytes_eq, List.list_any};
 ghost use Rattle.headers.specs.LineMap.{lines_at};
 ghost use Rattle.gateway_messages.specs.FieldLines.{fields_of, lines_under};
 ghost use Rattle.gateway_messages.specs.Trailers.{ForwardsTrailers, may_trail, trailer_names};

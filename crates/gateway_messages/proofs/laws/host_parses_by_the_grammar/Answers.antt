@@ -5,5 +5,4 @@ pub returns-clause-accepted : goal.returns-clause-accepted
 returns-clause-accepted c protocol lines = (has_host_of_test protocol lines, has_host_test protocol lines)
 
 pub returns-clause-rejected : goal.returns-clause-rejected
-returns-clause-rejected c gateway request =
-    rejected_exactly request.protocol (request.fields _)
+returns-clause-rejected c gateway request = rejected_exactly request.protocol _

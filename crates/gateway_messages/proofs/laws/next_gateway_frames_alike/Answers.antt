@@ -1,15 +1,11 @@
 use Rattle.std.proofs.Common.{◌≡◌, refl, sym, subst}
 use Rattle.rfc_fields.specs.Laws.{ParsesOneWay}
-use Rattle.gateway_messages.specs.Chain.{IsReceivedAs}
+use Rattle.gateway_messages.specs.{Chain.IsReceivedAs, Framing.States, declared.gateway.Gateway.Gateway}
+use Rattle.gateway_messages.specs.{declared.protocol.Protocol.Protocol, declared.protocol.Protocol.TheVariants.Http11}
+use Rattle.gateway_messages.specs.{declared.request.ForwardedRequest.ForwardedRequest}
 use Rattle.gateway_messages.specs.FieldLines.{fields_of, lines_under}
-use Rattle.gateway_messages.specs.Framing.{States}
 use Rattle.gateway_messages.specs.Requests.{IsForwarded, Request, message_of}
-use Rattle.gateway_messages.specs.declared.gateway.Gateway.{Gateway}
-use Rattle.gateway_messages.specs.declared.protocol.Protocol.{Protocol}
-use Rattle.gateway_messages.specs.declared.protocol.Protocol.TheVariants.{Http11}
-use Rattle.gateway_messages.specs.declared.request.ForwardedRequest.{ForwardedRequest}
-use Rattle.gateway_messages.proofs.OneLemmas.{one_framing}
-use Rattle.gateway_messages.proofs.RecipientLemmas.{fitting}
+use Rattle.gateway_messages.proofs.{OneLemmas.one_framing, RecipientLemmas.fitting}
 use Rattle.gateway_messages.proofs.StatedLemmas.{received_alike, states_again}
 use Rattle.gateway_messages.proofs.laws.next_gateway_frames_alike.Goals as goal
 

@@ -1,6 +1,5 @@
 use Rattle.std.proofs.Common.{◌≡◌, codes}
-use Rattle.headers.specs.LineMap.{lines_at}
-use Rattle.headers.specs.Lines.{lines_of}
+use Rattle.headers.specs.{LineMap.lines_at, Lines.lines_of}
 use Rattle.gateway_messages.specs.Via.{is_loop}
 use Rattle.gateway_messages.proofs.via.Pseudonym.is_in_via.Given as goal
 
