@@ -1,43 +1,30 @@
 -- What browsers make of the fields of a policy.
 use Rattle.std.proofs.Common.{◌≡◌, ◌≢◌, ◌↔◌, ◌⊎◌, ℕ, zero, suc, Bool, true, false, List, [], ◌∷◌, ◌++◌, Option, Some}
 use Rattle.std.proofs.Common.{None, refl, ap, sym, ◌∙◌, subst, inl, inr, arith}
-use Rattle.std.specs.Prelude.{◌&&◌, if◌then◌else◌, bytes_eq, codes, is_some, Contains, IfSome, IsTrue, IsSomeAnd}
-use Rattle.std.specs.List.{list_any}
-use Rattle.std.specs.Cmp.{IsEquivalence}
-use Rattle.std.proofs.lemmas.Bool.{cases_Bool}
-use Rattle.std.proofs.lemmas.Bool.Decides.{nat_tests}
-use Rattle.std.proofs.lemmas.Cmp.{nat_list_eq_equiv}
+use Rattle.std.proofs.{lemmas.Bool.cases_Bool, lemmas.Bool.Decides.nat_tests, lemmas.Cmp.nat_list_eq_equiv}
+use Rattle.std.proofs.{lemmas.Slice.Eq.bytes_eq-Decides}
 use Rattle.std.proofs.lemmas.Map.Views.{Contains-from_any, list_any-from_Contains}
-use Rattle.std.proofs.lemmas.Slice.Eq.{bytes_eq-Decides}
+use Rattle.std.specs.Prelude.{◌&&◌, if◌then◌else◌, bytes_eq, codes, is_some, Contains, IfSome, IsTrue, IsSomeAnd}
+use Rattle.std.specs.{List.list_any, Cmp.IsEquivalence}
 use Rattle.http_header.specs.Token.{lowercase}
 use Rattle.headers.specs.LineMap.{Field, LineMap, fields_of, set_all}
-use Rattle.headers.specs.Lines.{Line}
-use Rattle.headers.specs.ListItem.{method_of, name_of}
-use Rattle.headers.specs.Typed.{HasLine}
-use Rattle.headers.specs.declared.Origin.{Origin}
+use Rattle.headers.specs.{Lines.Line, ListItem.method_of, ListItem.name_of, Typed.HasLine, declared.Origin.Origin}
 use Rattle.decide_cors.specs.Allowed.{Admits, IsAny, IsAnyName, Lists, ListsName}
-use Rattle.decide_cors.specs.Answer.{IsAnswer, allows}
-use Rattle.decide_cors.specs.Browser.{Request, IsPreflightFor, IsSentFor, Checks, CorsCheck, Excludes}
-use Rattle.decide_cors.specs.Browser.{GrantsMethod, GrantsName, IsExposed, IsForbidden, IsOkStatus}
-use Rattle.decide_cors.specs.Browser.{IsSafeMethod, PreflightPasses, ShowsName, combined}
-use Rattle.decide_cors.specs.Browser.{extracted, methods_in, star}
-use Rattle.decide_cors.specs.Elements.{elements, is_filled}
-use Rattle.decide_cors.specs.Kinds.{IsKindOf, is_preflight}
-use Rattle.decide_cors.specs.Policy.{Policy}
+use Rattle.decide_cors.specs.{Answer.IsAnswer, Answer.allows, Elements.elements, Elements.is_filled, Kinds.IsKindOf}
+use Rattle.decide_cors.specs.{Kinds.is_preflight, Policy.Policy, declared.kind.CorsKind.CorsKind}
+use Rattle.decide_cors.specs.{declared.policy.CorsAnswer.CorsAnswer, declared.rules.Allowed.Allowed}
+use Rattle.decide_cors.specs.{declared.rules.Allowed.TheVariants.Any, declared.rules.Allowed.TheVariants.Listed}
+use Rattle.decide_cors.specs.{declared.rules.AllowedNames.AllowedNames, declared.rules.CorsRules.CorsRules}
+use Rattle.decide_cors.specs.Browser.{Request, IsPreflightFor, IsSentFor, Checks, CorsCheck, Excludes, GrantsMethod}
+use Rattle.decide_cors.specs.Browser.{GrantsName, IsExposed, IsForbidden, IsOkStatus, IsSafeMethod, PreflightPasses}
+use Rattle.decide_cors.specs.Browser.{ShowsName, combined, extracted, methods_in, star}
 use Rattle.decide_cors.specs.Rules.{AdmitsName, AllowsCredentials, AllowsMethod, AllowsName, AllowsOrigin}
-use Rattle.decide_cors.specs.Rules.{AllowsRequest, Exposes, IsLawful, IsListLine, IsNamesLine}
-use Rattle.decide_cors.specs.Rules.{IsPolicyOf, ShowsListed}
+use Rattle.decide_cors.specs.Rules.{AllowsRequest, Exposes, IsLawful, IsListLine, IsNamesLine, IsPolicyOf, ShowsListed}
 use Rattle.decide_cors.specs.Rules.{texts}
 use Rattle.decide_cors.specs.Fields.{fields_sent, filled_line, grant, grant_fields, granted, lines_if}
-use Rattle.decide_cors.specs.declared.kind.CorsKind.{CorsKind}
 use Rattle.decide_cors.specs.declared.kind.CorsKind.TheVariants.{Preflight, Plain, NoOrigin}
-use Rattle.decide_cors.specs.declared.policy.CorsAnswer.{CorsAnswer}
-use Rattle.decide_cors.specs.declared.rules.Allowed.{Allowed}
-use Rattle.decide_cors.specs.declared.rules.Allowed.TheVariants.{Any, Listed}
-use Rattle.decide_cors.specs.declared.rules.AllowedNames.{AllowedNames}
-use Rattle.decide_cors.specs.declared.rules.AllowedNames.TheVariants as Names
-use Rattle.decide_cors.specs.declared.rules.CorsRules.{CorsRules}
 use Rattle.decide_cors.proofs.ElementLemmas.{all_extracted, methods_extracted, names_extracted, star_extracted}
+use Rattle.decide_cors.specs.declared.rules.AllowedNames.TheVariants as Names
 
 bytes_equiv : IsEquivalence bytes_eq
 bytes_equiv = nat_list_eq_equiv
@@ -344,11 +331,10 @@ module _ (rules : CorsRules) (policy : Policy) (method : List ℕ) (sent respons
         (GrantsMethod request)
         ↔ AllowsMethod rules request.method
     passes_method =
-        let pre = preflight_is request method sent answer.kind p a.kind in
+        let pre = preflight_is _ _ _ _ p a.kind in
         method_at request _ policy.methods rules.methods (λ s. lawful.no_star (inl s))
         (methods_exclude rules request lawful allows)
-        (rw (answered policy method sent response before answer request.origin a p.origin
-        (codes "access-control-allow-methods") refl) (rw (granted_is, pre) refl))
+        (rw (answered _ _ _ _ _ _ _ a p.origin (codes "access-control-allow-methods") refl) (rw (granted_is, pre) refl))
         made.methods
 
     passes_names : IsSomeAnd
@@ -369,13 +355,11 @@ module _ (rules : CorsRules) (policy : Policy) (method : List ℕ) (sent respons
       (λ listed. ShowsName request listed name)
       ↔ (¬ (IsForbidden name) × ShowsListed rules.exposed name)
   passes_exposed p name =
-      let pre = plain_is request method sent answer.kind p a.kind in
+      let pre = plain_is _ _ _ _ p a.kind in
       shown_at request _ policy.exposed rules.exposed (λ s. lawful.no_star (inr (inr s)))
-      (exposed_exclude rules request lawful allows)
-      (rw (answered policy method sent response before answer request.origin a p.origin
-      (codes "access-control-expose-headers") refl)
-      (rw (granted_is, pre) (combined_if (filled_line policy.exposed))))
-      made.exposed name
+      (exposed_exclude rules request lawful allows) (rw
+      (answered _ _ _ _ _ _ _ a p.origin (codes "access-control-expose-headers") refl)
+      (rw (granted_is, pre) (combined_if _))) made.exposed name
 
 -- the preflight passes exactly if the rules allow the request
 pub preflight_is_policy : (rules : CorsRules) (policy : Policy) (method : List ℕ) (sent response before : LineMap)
@@ -427,18 +411,17 @@ pub allowed_is_policy : (rules : CorsRules) (policy : Policy) (method : List ℕ
     (answer : CorsAnswer) (origin : Line) → IsPolicyOf rules policy → IsAnswer policy method sent response answer
     → sent (codes "origin") ≡ origin ∷ [] → IsTrue answer.is_allowed ↔ AllowsOrigin rules origin
 allowed_is_policy rules policy method sent response answer origin made a e =
-    let same : answer.is_allowed ≡ allows answer.kind (grant policy.origins (Some origin)) =
-    a.allowed ∙ ap (λ (lines : List Line). allows answer.kind (granted policy lines)) e in
+    let same = a.allowed ∙ ap (λ (lines : List Line). allows answer.kind (granted policy lines)) e in
     rw same (by answer.kind a.kind)
   where
     by : (kind : CorsKind) → IsKindOf method sent kind
         → IsTrue (allows kind (grant policy.origins (Some origin))) ↔ AllowsOrigin rules origin
     by Preflight k = (
-      λ h. rw (← made.origins) (allows_if policy.origins origin h),
-      λ h. grants_by rules policy origin made h,
+      λ h. rw (← made.origins) (allows_if _ _ h),
+      λ h. grants_by _ _ _ made h,
     )
     by Plain k = (
-      λ h. rw (← made.origins) (allows_if policy.origins origin h),
-      λ h. grants_by rules policy origin made h,
+      λ h. rw (← made.origins) (allows_if _ _ h),
+      λ h. grants_by _ _ _ made h,
     )
     by NoOrigin k = absurd (k (rw e (omega arith)))

@@ -1,24 +1,18 @@
 -- A list of methods or names encodes to a value whose elements are exactly these.
-use Rattle.std.proofs.Common.{◌≡◌, ℕ, ◌-◌, true, false, List, [], ◌∷◌, length, map, Some}
-use Rattle.std.proofs.Common.{IsTrue, refl, ap, subst, ◌∙◌, inl, inr, arith, leb}
-use Rattle.std.specs.Prelude.{codes, filter, nat_lt, ◌==◌}
-use Rattle.std.specs.List.{list_all, prefix_len, slice_split, suffix_len}
-use Rattle.std.proofs.Math.Seq.{take-length}
+use Rattle.std.proofs.Common.{◌≡◌, ℕ, ◌-◌, true, false, List, [], ◌∷◌, length, map, Some, IsTrue, refl, ap, subst, ◌∙◌}
+use Rattle.std.proofs.Common.{inl, inr, arith, leb}
+use Rattle.std.proofs.{Math.Seq.take-length, lemmas.Bool.Decides.nat_tests, lemmas.List.Elements.All-weaker}
 use Rattle.std.proofs.lemmas.Bool.{and_from, and_parts, cases_Bool, leb-true, ltb-true, ne_eqb}
-use Rattle.std.proofs.lemmas.Bool.Decides.{nat_tests}
-use Rattle.std.proofs.lemmas.List.Elements.{All-weaker}
 use Rattle.std.proofs.lemmas.List.Splits.{slice_split_at, slice_split_none}
 use Rattle.std.proofs.lemmas.List.Sums.{AllPass-from_list_all, list_all-from_AllPass, suffix_len_is}
+use Rattle.std.specs.Prelude.{codes, filter, nat_lt, ◌==◌}
+use Rattle.std.specs.List.{list_all, prefix_len, slice_split, suffix_len}
 use Rattle.http_header.specs.Token.{IsToken, is_token_byte, lowercase}
 use Rattle.http_header.proofs.TokenLemmas.{IsHeaderName-lowercase}
-use Rattle.headers.specs.Lines.{Line}
+use Rattle.headers.specs.{Lines.Line, Merge.merge, Places.comma, Text.is_blank, Text.trim}
 use Rattle.headers.specs.ListItem.{IsListOf, is_token, method_of, name_of, values}
-use Rattle.headers.specs.Merge.{merge}
-use Rattle.headers.specs.Places.{comma}
-use Rattle.headers.specs.Text.{is_blank, trim}
 use Rattle.headers.proofs.TextLemmas.{token_no_blank}
-use Rattle.decide_cors.specs.Browser.{extracted, star}
-use Rattle.decide_cors.specs.Elements.{elements, is_filled}
+use Rattle.decide_cors.specs.{Browser.extracted, Browser.star, Elements.elements, Elements.is_filled}
 
 is_token-from : (item : List ℕ) → is_token item ≡ true → IsToken item
 is_token-from item e =
@@ -104,8 +98,7 @@ methods_tokens (x ∷ xs) =
     ]
 
 name_token : (x : List ℕ) → is_token x ≡ true → leb (length x) 65535 ≡ true → is_token (lowercase x) ≡ true
-name_token x t l =
-    is_token-of (lowercase x) (IsHeaderName-lowercase x (is_token-from x t, leb-true _ _ l)).0.0
+name_token x t l = is_token-of _ (IsHeaderName-lowercase x (is_token-from x t, leb-true _ _ l)).0.0
 
 names_tokens : (items : List (List ℕ)) → list_all is_token (values name_of items) ≡ true
 unfolding name_of

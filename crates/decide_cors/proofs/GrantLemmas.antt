@@ -1,11 +1,9 @@
 -- What is granted of listed origins.
 use Rattle.std.proofs.Common.{◌≡◌, Bool, Option, Some, None, List, [], ◌∷◌, refl, ap, arith}
-use Rattle.std.specs.Prelude.{if◌then◌else◌, bytes_eq}
-use Rattle.std.specs.List.{list_all, list_any}
+use Rattle.std.specs.{Prelude.if◌then◌else◌, Prelude.bytes_eq, List.list_all, List.list_any}
 use Rattle.http_header.specs.FieldValue.{FieldValue}
 use Rattle.headers.specs.Lines.{Line, lines_of}
-use Rattle.decide_cors.specs.Fields.{grant}
-use Rattle.decide_cors.specs.SentOrigins.{are_sent, is_sent}
+use Rattle.decide_cors.specs.{Fields.grant, SentOrigins.are_sent, SentOrigins.is_sent}
 
 -- a test of the bytes of some values
 any_lines : (p : Line → Bool) (values : List FieldValue)

@@ -1,18 +1,14 @@
 -- Which requests get the same fields.
 use Rattle.std.proofs.Common.{◌≡◌, ◌≢◌, ◌⊎◌, ℕ, Bool, true, false, List, [], ◌∷◌, ◌++◌, Option, None, refl, ap, sym}
 use Rattle.std.proofs.Common.{◌∙◌, subst, inl, inr, arith}
-use Rattle.std.specs.Prelude.{bytes_eq, codes}
 use Rattle.std.proofs.lemmas.Slice.Eq.{bytes_eq-Decides}
-use Rattle.headers.specs.LineMap.{LineMap, fields_of}
-use Rattle.headers.specs.Lines.{Line}
-use Rattle.headers.specs.Typed.{HasLine}
+use Rattle.std.specs.Prelude.{bytes_eq, codes}
+use Rattle.headers.specs.{LineMap.LineMap, LineMap.fields_of, Lines.Line, Typed.HasLine}
 use Rattle.decide_cors.specs.Answer.{AreSame, IsAnswer, allows}
 use Rattle.decide_cors.specs.Kinds.{IsKindOf, is_preflight}
-use Rattle.decide_cors.specs.Policy.{Policy}
+use Rattle.decide_cors.specs.{Policy.Policy, declared.kind.CorsKind.CorsKind, declared.policy.CorsAnswer.CorsAnswer}
 use Rattle.decide_cors.specs.Fields.{fields_sent, granted, grant_fields, vary_sent}
-use Rattle.decide_cors.specs.declared.kind.CorsKind.{CorsKind}
 use Rattle.decide_cors.specs.declared.kind.CorsKind.TheVariants.{Preflight, Plain, NoOrigin}
-use Rattle.decide_cors.specs.declared.policy.CorsAnswer.{CorsAnswer}
 
 -- requests whose fields Origin and Access-Control-Request-Method are equal are of one kind
 pre_once : (method : List ℕ) (r s : LineMap) (k l : CorsKind) → r (codes "origin") ≡ s (codes "origin")
@@ -53,8 +49,7 @@ pub same_lines : (policy : Policy) (method : List ℕ) (r s response : LineMap) 
     → r (codes "access-control-request-method") ≡ s (codes "access-control-request-method")
     → fields_of a.fields.items ≡ fields_of b.fields.items
 same_lines policy method r s response a b h k e f =
-    same_by policy method method r s response a b h k (pre_once method r s a.kind b.kind e f h.kind k.kind)
-    (ap (granted policy) e)
+    same_by policy method method r s response a b h k (pre_once _ r s _ _ e f h.kind k.kind) (ap (granted policy) e)
 
 -- if any origin is allowed, all requests of one kind get the same fields
 pub any_lines_same : (policy : Policy) (m n : List ℕ) (r s response : LineMap) (a b : CorsAnswer)

@@ -1,23 +1,14 @@
 -- What Vary says after an answer, and which requests it tells apart.
 use Rattle.std.proofs.Common.{◌≡◌, ◌≢◌, ◌⊎◌, ℕ, Bool, true, false, List, [], ◌∷◌, ◌++◌, Option, Some, None, refl, ap}
-use Rattle.std.proofs.Common.{sym, ◌∙◌, subst, inl, inr, IsTrue}
+use Rattle.std.proofs.Common.{sym, ◌∙◌, inl, inr, IsTrue}
+use Rattle.std.proofs.{Math.Bool.or-true, lemmas.Bool.cases_Bool, lemmas.Grind.flat_map-append}
+use Rattle.std.proofs.{lemmas.List.Folds.list_any-append}
 use Rattle.std.specs.Prelude.{codes, if◌then◌else◌, is_some, ◌||◌}
-use Rattle.std.specs.List.{list_any}
-use Rattle.std.proofs.Math.Bool.{or-true}
-use Rattle.std.proofs.lemmas.Bool.{cases_Bool}
-use Rattle.std.proofs.lemmas.Grind.{flat_map-append}
-use Rattle.std.proofs.lemmas.List.Folds.{list_any-append}
-use Rattle.headers.specs.LineMap.{Field, LineMap, fields_of, set_all}
-use Rattle.headers.specs.Lines.{Line}
-use Rattle.rfc_fields.specs.Directives.{is_same_token}
-use Rattle.rfc_fields.specs.Members.{field_members, members}
-use Rattle.rfc_fields.specs.Scan.{pieces, push}
-use Rattle.decide_cors.specs.Answer.{IsAnswer}
+use Rattle.headers.specs.{LineMap.Field, LineMap.LineMap, LineMap.fields_of, LineMap.set_all, Lines.Line}
+use Rattle.rfc_fields.specs.{Directives.is_same_token, Members.field_members, Members.members, Scan.pieces, Scan.push}
+use Rattle.decide_cors.specs.{Answer.IsAnswer, Kinds.is_preflight, Policy.Policy, declared.policy.CorsAnswer.CorsAnswer}
 use Rattle.decide_cors.specs.Cache.{Serves, nominates}
-use Rattle.decide_cors.specs.Kinds.{is_preflight}
-use Rattle.decide_cors.specs.Policy.{Policy}
 use Rattle.decide_cors.specs.Fields.{covers_origin, granted, grant_fields}
-use Rattle.decide_cors.specs.declared.policy.CorsAnswer.{CorsAnswer}
 use Rattle.decide_cors.proofs.SameLemmas.{never_pre, same_by}
 
 -- Vary has a star or `origin`
@@ -113,5 +104,4 @@ pub cache_same : (policy : Policy) (method : List ℕ) (r s response : LineMap) 
 cache_same policy method r s response a b h k other v =
     same_by policy method method r s response a b h k
     (never_pre method r a.kind other h.kind ∙ sym (never_pre method s b.kind other k.kind))
-    (same_grant policy r s (response (codes "vary"))
-    (subst (λ (lines : List Line). Serves lines r s) (vary_after policy method r response a h) v))
+    (same_grant policy r s (response (codes "vary")) (rw (vary_after policy method r response a h) at v))

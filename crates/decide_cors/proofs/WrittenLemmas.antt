@@ -1,11 +1,9 @@
 -- The field lines that vectors of methods and of names encode to.
-use Rattle.std.proofs.Common.{◌≡◌, ℕ, List, [], ◌∷◌, length, sym, subst, ◌∙◌}
-use Rattle.std.specs.Iterator.{Drains}
-use Rattle.std.specs.declared.vec.IntoIter.{IntoIter}
+use Rattle.std.proofs.Common.{◌≡◌, ℕ, List, [], ◌∷◌, length, sym, ◌∙◌}
+use Rattle.std.proofs.{lemmas.Iterator.items_from_drains, lemmas.Iterator.Adapters.YieldsList-from_vec}
+use Rattle.std.proofs.{lemmas.List.map-id}
+use Rattle.std.specs.{Iterator.Drains, declared.vec.IntoIter.IntoIter}
 use Rattle.std.specs.Vec.Iter.{into_iter_items, into_iter_len, into_iter_steps}
-use Rattle.std.proofs.lemmas.Iterator.{items_from_drains}
-use Rattle.std.proofs.lemmas.Iterator.Adapters.{YieldsList-from_vec}
-use Rattle.std.proofs.lemmas.List.{map-id}
 use Rattle.headers.specs.ListItem.{Reading, IsListOf, Lists, ListsValues}
 
 -- a vector's iterator gives its elements
@@ -19,8 +17,7 @@ moved : (reading : Reading) (given xs : List (List ℕ)) (value line : List ℕ)
     → given ≡ xs → value ∷ [] ≡ line ∷ [] → IsListOf reading xs line
 moved reading given xs value line h e w =
     let same : value ≡ line = cc w in
-    subst (λ (v : List ℕ). IsListOf reading xs v) same
-    (subst (λ (vs : List (List ℕ)). IsListOf reading vs value) e h)
+    rw same at (rw e at h)
 
 pub listed_by : {Z : Type 0} (reading : Reading) (s : IntoIter (List ℕ) Z) (xs : List (List ℕ)) (value line : List ℕ)
     → into_iter_items s ≡ xs → into_iter_len s ≡ length xs → Lists reading into_iter_steps s value
@@ -31,5 +28,4 @@ pub listed_values_by : {Z : Type 0} (reading : Reading) (s : IntoIter (List ℕ)
     (value line : List ℕ) → into_iter_items s ≡ xs → into_iter_len s ≡ length xs
     → ListsValues (λ (bytes : List ℕ). bytes) reading into_iter_steps s value
     → value ∷ [] ≡ line ∷ [] → IsListOf reading xs line
-listed_values_by reading s xs value line e l h w =
-    moved reading _ xs value line h.2 (map-id h.0 ∙ drained s xs h.0 e l h.1) w
+listed_values_by reading s xs value line e l h w = moved _ _ xs _ _ h.2 (map-id h.0 ∙ drained s xs _ e l h.1) w

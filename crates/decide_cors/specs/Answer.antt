@@ -1,13 +1,9 @@
 -- The answer of a policy to a request.
 use Rattle.std.specs.Prelude.{◌≡◌, ℕ, Bool, true, List, Option, is_some, codes}
-use Rattle.headers.specs.LineMap.{LineMap, fields_of}
-use Rattle.headers.specs.Lines.{Line}
-use Rattle.decide_cors.specs.Kinds.{IsKindOf, is_preflight}
-use Rattle.decide_cors.specs.Policy.{Policy}
-use Rattle.decide_cors.specs.Fields.{fields_sent, granted}
-use Rattle.decide_cors.specs.declared.kind.CorsKind.{CorsKind}
+use Rattle.headers.specs.{LineMap.LineMap, LineMap.fields_of, Lines.Line}
+use Rattle.decide_cors.specs.{Kinds.IsKindOf, Kinds.is_preflight, Policy.Policy, Fields.fields_sent, Fields.granted}
+use Rattle.decide_cors.specs.{declared.kind.CorsKind.CorsKind, declared.policy.CorsAnswer.CorsAnswer}
 use Rattle.decide_cors.specs.declared.kind.CorsKind.TheVariants.{Preflight, Plain, NoOrigin}
-use Rattle.decide_cors.specs.declared.policy.CorsAnswer.{CorsAnswer}
 
 -- A request without Origin is allowed. Any other is allowed if its response gets Access-Control-Allow-Origin.
 abbrev pub allows : CorsKind → Option Line → Bool

@@ -3,11 +3,7 @@ use Rattle.std.specs.Prelude.{◌≡◌, ◌≢◌, ◌⊎◌, ◌≤◌, ℕ, B
 use Rattle.std.specs.Prelude.{IsSomeAnd, if◌then◌else◌, map}
 use Rattle.std.specs.List.{list_all}
 use Rattle.http_header.specs.Token.{lowercase}
-use Rattle.headers.specs.LineMap.{LineMap}
-use Rattle.headers.specs.Lines.{Line}
-use Rattle.headers.specs.ListItem.{is_token}
-use Rattle.headers.specs.Merge.{merge}
-use Rattle.headers.specs.Places.{comma}
+use Rattle.headers.specs.{LineMap.LineMap, Lines.Line, ListItem.is_token, Merge.merge, Places.comma}
 use Rattle.decide_cors.specs.Elements.{elements}
 
 abbrev pub star : Line

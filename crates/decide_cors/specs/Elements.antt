@@ -1,9 +1,7 @@
 -- The elements of a list field.
 use Rattle.std.specs.Prelude.{Bool, List, filter, length, map, nat_lt, ◌==◌}
 use Rattle.std.specs.List.{slice_split}
-use Rattle.headers.specs.Lines.{Line}
-use Rattle.headers.specs.Places.{comma}
-use Rattle.headers.specs.Text.{trim}
+use Rattle.headers.specs.{Lines.Line, Places.comma, Text.trim}
 
 -- what is between the commas of a value
 abbrev pub pieces : Line → List Line

@@ -2,21 +2,16 @@
 use Rattle.std.specs.Prelude.{◌≡◌, ◌≢◌, ◌⊎◌, ℕ, Bool, true, false, List, map, Option, Some, None, Contains, IsTrue, ⊤}
 use Rattle.std.specs.Prelude.{codes, decimal, min, option_map, IfSome, IsSome}
 use Rattle.http_header.specs.Token.{lowercase}
-use Rattle.headers.specs.Lines.{Line}
+use Rattle.headers.specs.{Lines.Line, Origin.origin_text, declared.Origin.Origin}
 use Rattle.headers.specs.ListItem.{Reading, IsListOf, method_of, name_of}
-use Rattle.headers.specs.Origin.{origin_text}
-use Rattle.headers.specs.declared.Origin.{Origin}
 use Rattle.decide_cors.specs.Allowed.{Admits, IsAny, IsAnyName, Lists, ListsName, ListsNone, ListsNoName}
 use Rattle.decide_cors.specs.Browser.{Request, IsForbidden, IsSafeMethod, safe_fields, star}
-use Rattle.decide_cors.specs.Policy.{Policy}
-use Rattle.decide_cors.specs.SentOrigins.{are_sent}
-use Rattle.decide_cors.specs.declared.error.RulesError.{RulesError}
-use Rattle.decide_cors.specs.declared.error.RulesError.TheVariants as Error
-use Rattle.decide_cors.specs.declared.rules.Allowed.{Allowed}
+use Rattle.decide_cors.specs.{Policy.Policy, SentOrigins.are_sent, declared.error.RulesError.RulesError}
+use Rattle.decide_cors.specs.{declared.rules.Allowed.Allowed, declared.rules.AllowedNames.AllowedNames}
+use Rattle.decide_cors.specs.{declared.rules.CorsRules.CorsRules}
 use Rattle.decide_cors.specs.declared.rules.Allowed.TheVariants.{Any, Listed}
-use Rattle.decide_cors.specs.declared.rules.AllowedNames.{AllowedNames}
+use Rattle.decide_cors.specs.declared.error.RulesError.TheVariants as Error
 use Rattle.decide_cors.specs.declared.rules.AllowedNames.TheVariants as Names
-use Rattle.decide_cors.specs.declared.rules.CorsRules.{CorsRules}
 
 -- the texts of listed origins, or `None` for any
 abbrev pub texts : Allowed Origin → Option (List Line)

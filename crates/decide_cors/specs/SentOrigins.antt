@@ -2,8 +2,7 @@
 -- serializing").
 use Rattle.std.specs.Prelude.{ℕ, Bool, true, false, not, ◌&&◌, ◌||◌, ◌==◌, nat_lt, List, Option, Some, None, length}
 use Rattle.std.specs.Prelude.{bytes_eq, codes, slice_index}
-use Rattle.std.specs.Char.{is_ascii_uppercase}
-use Rattle.std.specs.List.{after_last, ends_with, list_all, starts_with}
+use Rattle.std.specs.{Char.is_ascii_uppercase, List.after_last, List.ends_with, List.list_all, List.starts_with}
 use Rattle.headers.specs.Lines.{Line}
 use Rattle.rfc_fields.specs.Numbers.{number_within}
 

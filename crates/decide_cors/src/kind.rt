@@ -1,6 +1,5 @@
 //! The kinds of requests.
-ghost use Rattle.std.specs.Prelude.{◌≡◌};
-ghost use Rattle.std.specs.Bool.{MatchBool};
+ghost use Rattle.std.specs.{Prelude.◌≡◌, Bool.MatchBool};
 ghost use Rattle.headers.specs.LineMap.{lines_at};
 ghost use Rattle.decide_cors.specs.Kinds.{is_preflight, AsksLeave, IsKindOf};
 

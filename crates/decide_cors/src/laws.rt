@@ -1,25 +1,22 @@
 //! Theorems about the definitions alone. To cite one in a proof, call it.
 ghost use Rattle.std.specs.Prelude.{◌≡◌, ◌≢◌, ◌↔◌, ◌⊎◌, ◌∷◌, [], ◌++◌, ℕ, List, None, IsTrue, codes};
-ghost use Rattle.headers.specs.LineMap.{LineMap, fields_of, set_all};
-ghost use Rattle.headers.specs.Lines.{Line};
+ghost use Rattle.headers.specs.{LineMap.LineMap, LineMap.fields_of, LineMap.set_all, Lines.Line};
 ghost use Rattle.decide_cors.specs.Answer.{AreSame, IsAnswer};
 ghost use Rattle.decide_cors.specs.Browser.{CorsCheck, IsExposed, IsOkStatus, IsPreflightFor, IsSentFor};
 ghost use Rattle.decide_cors.specs.Browser.{PreflightPasses, Request};
-ghost use Rattle.decide_cors.specs.Cache.{Serves};
-ghost use Rattle.decide_cors.specs.Kinds.{IsKindOf};
-ghost use Rattle.decide_cors.specs.Policy.{Policy};
-ghost use Rattle.decide_cors.specs.Rules.{AllowsCredentials, AllowsOrigin, AllowsRequest, Exposes};
-ghost use Rattle.decide_cors.specs.Rules.{IsLawful, IsPolicyOf};
-ghost use Rattle.decide_cors.specs.declared.kind.CorsKind.{CorsKind};
-ghost use Rattle.decide_cors.specs.declared.policy.CorsAnswer.{CorsAnswer};
-ghost use Rattle.decide_cors.specs.declared.rules.CorsRules.{CorsRules};
+ghost use Rattle.decide_cors.specs.{Cache.Serves, Kinds.IsKindOf, Policy.Policy, declared.kind.CorsKind.CorsKind};
+ghost use Rattle.decide_cors.specs.{declared.policy.CorsAnswer.CorsAnswer, declared.rules.CorsRules.CorsRules};
+ghost use Rattle.decide_cors.specs.Rules.{AllowsCredentials, AllowsOrigin, AllowsRequest, Exposes, IsLawful};
+ghost use Rattle.decide_cors.specs.Rules.{IsPolicyOf};
 
 /// Theorem: each request is of some kind, and so has an answer, which is computed from the kind.
+#[tactic(auto, using(crate::proofs::SameLemmas::some_kind))]
 pub fn request_has_a_kind()
     ensures { (method : List ℕ) (sent : LineMap) → (kind : CorsKind) × IsKindOf method sent kind }
 {}
 
 /// Theorem: a request has at most one answer: one kind, one permission, and one list of fields.
+#[tactic(auto, using(crate::proofs::SameLemmas::answer_once))]
 pub fn request_has_one_answer()
     ensures { (policy : Policy) (method : List ℕ) (sent response : LineMap) (a b : CorsAnswer)
         → IsAnswer policy method sent response a → IsAnswer policy method sent response b → AreSame a b }
@@ -75,6 +72,7 @@ pub fn stored_lines_are_own()
 {}
 
 /// Theorem: the field lines of `Vary` stay, and at most `origin` is added after them.
+#[tactic(auto, using(crate::proofs::VaryLemmas::vary_stays))]
 pub fn vary_stays()
     ensures { (policy : Policy) (method : List ℕ) (sent response : LineMap) (answer : CorsAnswer)
         → IsAnswer policy method sent response answer
@@ -84,6 +82,7 @@ pub fn vary_stays()
 {}
 
 /// Theorem: the fields depend on the method, `Origin` and `Access-Control-Request-Method` alone.
+#[tactic(auto, using(crate::proofs::SameLemmas::same_lines))]
 pub fn lines_go_by_origin()
     ensures { (policy : Policy) (method : List ℕ) (r s response : LineMap) (a b : CorsAnswer)
         → IsAnswer policy method r response a → IsAnswer policy method s response b
@@ -93,6 +92,7 @@ pub fn lines_go_by_origin()
 {}
 
 /// Theorem: if any origin is allowed, two requests of one kind get the same fields.
+#[tactic(auto, using(crate::proofs::SameLemmas::any_lines_same))]
 pub fn any_origin_gets_equal_lines()
     ensures { (policy : Policy) (m n : List ℕ) (r s response : LineMap) (a b : CorsAnswer)
         → IsAnswer policy m r response a → IsAnswer policy n s response b → policy.origins ≡ None

@@ -1,6 +1,5 @@
 //! Whether a text is listed.
-ghost use Rattle.std.specs.Prelude.{◌≡◌, bytes_eq};
-ghost use Rattle.std.specs.List.{list_any};
+ghost use Rattle.std.specs.{Prelude.◌≡◌, Prelude.bytes_eq, List.list_any};
 
 use headers::HeaderValue;
 

@@ -1,7 +1,6 @@
 //! Which origins may read a response.
 ghost use Rattle.std.specs.Prelude.{◌≡◌, IfOk, codes, option_map};
-ghost use Rattle.headers.specs.LineMap.{lines_at};
-ghost use Rattle.headers.specs.Lines.{lines_of, only_line};
+ghost use Rattle.headers.specs.{LineMap.lines_at, Lines.lines_of, Lines.only_line};
 ghost use Rattle.decide_cors.specs.Fields.{grant};
 
 use crate::listed::is_listed;

@@ -1,11 +1,9 @@
 //! A server's policy, and its answer to a request.
 ghost use Rattle.std.specs.Prelude.{◌≡◌, ◌&&◌, ◌⊎◌, ◌++◌, true, IfErr, IfOk, OnOk, Some, option_map, is_some, codes};
 ghost use Rattle.headers.specs.LineMap.{field_of, fields_of, lines_at};
-ghost use Rattle.decide_cors.specs.Answer.{allows, IsAnswer};
+ghost use Rattle.decide_cors.specs.{Answer.allows, Answer.IsAnswer, Policy.Policy, SentOrigins.are_sent};
 ghost use Rattle.decide_cors.specs.Fields.{filled_line, granted, grant_fields, lines_if, vary_sent};
-ghost use Rattle.decide_cors.specs.Policy.{Policy};
 ghost use Rattle.decide_cors.specs.Rules.{HasUnsent, IsErrorOf, IsLawful, IsPolicyOf, IsWritten, texts};
-ghost use Rattle.decide_cors.specs.SentOrigins.{are_sent};
 
 use crate::error::RulesError;
 use crate::fields::{field, field_if, filled};

@@ -1,8 +1,6 @@
 //! Rules that browsers would take in another sense than they mean.
-ghost use Rattle.std.specs.Prelude.{Contains};
-ghost use Rattle.std.specs.Bool.{MatchBool};
-ghost use Rattle.decide_cors.specs.Allowed.{Lists, ListsName};
-ghost use Rattle.decide_cors.specs.Browser.{star};
+ghost use Rattle.std.specs.{Prelude.Contains, Bool.MatchBool};
+ghost use Rattle.decide_cors.specs.{Allowed.Lists, Allowed.ListsName, Browser.star};
 ghost use Rattle.decide_cors.specs.Rules.{HasStar, RefusesAny, RefusesReading};
 
 use crate::error::RulesError;

@@ -1,8 +1,6 @@
 //! The cross-origin requests that a server allows.
-ghost use Rattle.std.specs.Prelude.{◌≡◌};
-ghost use Rattle.std.specs.Bool.{MatchBool};
-ghost use Rattle.decide_cors.specs.Allowed.{IsAny, IsAnyName};
-ghost use Rattle.decide_cors.specs.Rules.{AllowsOriginsAlone};
+ghost use Rattle.std.specs.{Prelude.◌≡◌, Bool.MatchBool};
+ghost use Rattle.decide_cors.specs.{Allowed.IsAny, Allowed.IsAnyName, Rules.AllowsOriginsAlone};
 
 use headers::{HeaderName, Origin};
 use http::Method;

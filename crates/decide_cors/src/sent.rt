@@ -1,9 +1,8 @@
 //! Which texts browsers send as origins.
-ghost use Rattle.std.specs.Prelude.{◌≡◌, option_map};
-ghost use Rattle.std.specs.List.{list_all};
+ghost use Rattle.std.specs.{Prelude.◌≡◌, Prelude.option_map, List.list_all};
 ghost use Rattle.headers.specs.Lines.{lines_of};
-ghost use Rattle.decide_cors.specs.SentOrigins.{are_sent, has_leading_zero, has_sent_port};
-ghost use Rattle.decide_cors.specs.SentOrigins.{is_default_port, is_port, is_sent, is_sent_byte};
+ghost use Rattle.decide_cors.specs.SentOrigins.{are_sent, has_leading_zero, has_sent_port, is_default_port, is_port};
+ghost use Rattle.decide_cors.specs.SentOrigins.{is_sent, is_sent_byte};
 
 use headers::HeaderValue;
 use headers_syntax::after_last;

@@ -1,7 +1,6 @@
 //! The response's `Vary`, and `origin` added to it.
 ghost use Rattle.std.specs.Prelude.{◌≡◌, ◌∷◌, [], ◌++◌, IfOk, OnOk, codes};
-ghost use Rattle.headers.specs.LineMap.{fields_of, lines_at};
-ghost use Rattle.headers.specs.Lines.{lines_of};
+ghost use Rattle.headers.specs.{LineMap.fields_of, LineMap.lines_at, Lines.lines_of};
 ghost use Rattle.decide_cors.specs.Fields.{covers_origin, vary_fields};
 
 use headers::{Encoded, HeaderMap, HeaderValue};

@@ -1,8 +1,7 @@
 //! The encoding of rules.
 ghost use Rattle.std.specs.Prelude.{◌≡◌, ◌∷◌, [], decimal, length, map, IfErr, IfOk, IsSome, option_map};
-ghost use Rattle.headers.specs.Lines.{lines_of};
+ghost use Rattle.headers.specs.{Lines.lines_of, Origin.origin_text};
 ghost use Rattle.headers.specs.ListItem.{method_of, name_of, IsListOf};
-ghost use Rattle.headers.specs.Origin.{origin_text};
 ghost use Rattle.decide_cors.specs.Allowed.{IsAny, IsAnyName};
 ghost use Rattle.decide_cors.specs.Rules.{IsListLine, IsNamesLine, age_line, greatest_age, texts};
 

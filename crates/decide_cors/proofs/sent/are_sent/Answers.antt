@@ -1,6 +1,5 @@
 use Rattle.std.proofs.Common.{rules, ◌∙◌, subst, ◌≡◌, List}
-use Rattle.std.specs.List.{list_all}
-use Rattle.std.specs.Prelude.{option_map}
+use Rattle.std.specs.{List.list_all, Prelude.option_map}
 use Rattle.http_header.specs.FieldValue.{FieldValue}
 use Rattle.headers.specs.Lines.{lines_of}
 use Rattle.decide_cors.specs.SentOrigins.{is_sent}

@@ -1,6 +1,5 @@
 use Rattle.std.proofs.Common.{◌≡◌, map, take}
-use Rattle.headers.specs.Lines.{lines_of}
-use Rattle.headers.specs.Origin.{origin_text}
+use Rattle.headers.specs.{Lines.lines_of, Origin.origin_text}
 use Rattle.decide_cors.proofs.written.lines_of_origins.Given as goal
 
 abbrev pub invariant-loop-origin : goal.invariant-loop-origin
