@@ -1,5 +1,5 @@
 //! The lines that are printed for a name.
-ghost use Rattle.std.specs.Prelude.{◌≡◌, ◌<◌, ◌++◌, length, option_map, IfOk};
+ghost use Rattle.std.specs.Prelude.{◌≡◌, ◌<◌, ◌++◌, [], Some, length, option_map, IfOk, MatchBool};
 ghost use Rattle.http_header.specs.HeaderMap.{get_all};
 ghost use Rattle.headers.specs.Lines.{lines_of};
 ghost use Rattle.headers_section.specs.Printed.{block_printed};
@@ -162,17 +162,28 @@ pub fn canonical_block(
     }
 }
 
-/// Returns the field lines to print for a name that the map has. They are the lines that
-/// `canonical` returns for its header; `None` if the header rejects its lines. The values of a name
+fn has_no_line(map: &HeaderMap, name: &HeaderName) -> bool
+    ensures { MatchBool result (get_all map.now name.now ≡ []) (0 < length (get_all map.now name.now)) }
+{
+    map.get_all(name).iter().next().is_none()
+}
+
+/// Returns the field lines to print for a name: none if the map has none, else those that
+/// `canonical` returns for its header. `None` if the header rejects its lines. The values of a name
 /// that is no known header are unchanged. Fails only if an allocation fails.
 pub fn read_block(
     alloc: Global,
     map: &HeaderMap,
     name: &HeaderName,
 ) -> Result<Option<Vec<HeaderValue>>, AllocError>
-    ensures { 0 < length (get_all map.now name.now) → IfOk result (λ block. IsBlock name.now
+    ensures block { 0 < length (get_all map.now name.now) → IfOk result (λ block. IsBlock name.now
         (lines_of (get_all map.now name.now)) (option_map (λ lines. lines_of lines.items) block)) }
+    ensures none { get_all map.now name.now ≡ [] → IfOk result
+        (λ block. option_map (λ lines. lines_of lines.items) block ≡ Some []) }
 {
+    if has_no_line(map, name) {
+        return Ok(Some(Vec::new(alloc)));
+    }
     match canonical_block(alloc, map, name)? {
         Printed::Encoded(lines) => Ok(Some(lines)),
         Printed::Rejected => Ok(None),

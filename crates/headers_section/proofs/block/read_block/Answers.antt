@@ -4,8 +4,8 @@ use Rattle.headers.specs.Lines.{Line, lines_of}
 use Rattle.headers_section.specs.CanonicalText.{IsBlock}
 use Rattle.headers_section.proofs.block.read_block.Goals as goal
 
-pub returns-in_ok-kept_lines-in-Kept : goal.returns-in_ok-kept_lines-in-Kept
-returns-in_ok-kept_lines-in-Kept c has =
+pub returns-in_ok-kept_lines-in-Kept-clause-block : goal.returns-in_ok-kept_lines-in-Kept-clause-block
+returns-in_ok-kept_lines-in-Kept-clause-block c has =
     let name = c.args.name.now in
     let own = lines_of (get_all c.args.map.now name) in
     let kept : IsBlock name own (Some own) = (rw c.in-Kept.is at c.in_ok-lines.ensures) has in
