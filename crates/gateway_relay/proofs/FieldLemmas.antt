@@ -1,23 +1,19 @@
 -- Fields under spans.
-use Rattle.std.proofs.Common.{◌≡◌, ◌<◌, ℕ, List, [], ◌∷◌, ◌∙◌, ap, refl, map, take, fold, All, Any, inl, inr}
-use Rattle.std.proofs.Common.{subst, sym}
+use Rattle.std.proofs.Common.{◌≡◌, ◌<◌, ℕ, List, [], ◌∷◌, ◌∙◌, ap, refl, map, take, fold, All, Any, inl, inr, subst}
+use Rattle.std.proofs.Common.{sym}
 use Rattle.std.proofs.lemmas.List.{get_or-map, length-map, take-map}
 use Rattle.std.proofs.lemmas.List.Elements.{All-head, All-tail, All-take}
 use Rattle.bytes.proofs.Ranges.{slice_range_front}
 use Rattle.httparse.specs.Spans.{IsHeaderWithin, IsWithin, header_bytes, span_bytes}
-use Rattle.httparse.specs.declared.spans.HeaderSpan.{HeaderSpan}
-use Rattle.httparse.specs.declared.spans.Span.{Span}
+use Rattle.httparse.specs.{declared.spans.HeaderSpan.HeaderSpan, declared.spans.Span.Span}
 use Rattle.http.specs.declared.error.Error.{Error}
-use Rattle.http.specs.declared.error.Error.TheVariants as Mapped
-use Rattle.http_header.specs.FieldName.{IsFieldName}
+use Rattle.http_header.specs.{FieldName.IsFieldName, Token.lowercase}
 use Rattle.http_header.specs.FieldValue.{FieldValue, IsFieldValue, plain_value}
 use Rattle.http_header.specs.HeaderMap.{Entries, RefusesAppend, append}
-use Rattle.http_header.specs.Token.{lowercase}
-use Rattle.http1.specs.Fields.{Header}
-use Rattle.http1.specs.ServerTrace.{headers_at}
+use Rattle.http1.specs.{Fields.Header, ServerTrace.headers_at}
 use Rattle.http1_typed.specs.Parts.{MapError, entry_at, map_at}
-use Rattle.gateway_relay.specs.Content.{map_of}
-use Rattle.gateway_relay.specs.Failures.{IsMapFailure, map_failure}
+use Rattle.gateway_relay.specs.{Content.map_of, Failures.IsMapFailure, Failures.map_failure}
+use Rattle.http.specs.declared.error.Error.TheVariants as Mapped
 
 -- a span of the first bytes covers what it covers of all
 pub span_bytes-take : (n : ℕ) (text : List ℕ) (s : Span) → IsWithin n s → span_bytes (take n text) s ≡ span_bytes text s

@@ -1,36 +1,25 @@
 -- Heads that were read.
-use Rattle.std.proofs.Common.{◌≡◌, ℕ, List, ◌++◌, ◌∙◌, ap, sym, subst, drop, false, Err, IfErr, IfOk, IsErr, Ok}
-use Rattle.std.proofs.Common.{Option, Result, ◌⊎◌, inl, inr, map}
+use Rattle.std.proofs.Common.{◌≡◌, ℕ, List, ◌++◌, ◌∙◌, ap, sym, subst, drop, false, Err, IfErr, IfOk, IsErr, Ok, Option}
+use Rattle.std.proofs.Common.{Result, ◌⊎◌, inl, inr, map}
 use Rattle.std.proofs.KnownBytes.{Consumes-kept}
 use Rattle.std.specs.Io.KnownBytes.{Consumes, Keeps}
 use Rattle.httparse.specs.Grammar.{RequestHead, ResponseHead}
-use Rattle.httparse.specs.Spans.{name_and_value}
-use Rattle.httparse.specs.declared.spans.HeaderSpan.{HeaderSpan}
-use Rattle.httparse.specs.declared.spans.RequestSpans.{RequestSpans}
-use Rattle.httparse.specs.declared.spans.ResponseSpans.{ResponseSpans}
+use Rattle.httparse.specs.{Spans.name_and_value, declared.spans.HeaderSpan.HeaderSpan}
+use Rattle.httparse.specs.{declared.spans.RequestSpans.RequestSpans, declared.spans.ResponseSpans.ResponseSpans}
 use Rattle.http1.specs.Client.{ClientReads, ReadsAt, ReadsFirst, ReadsHead, TakesHead}
-use Rattle.http1.specs.Conn.{awaits_head}
-use Rattle.http1.specs.Fields.{Header}
-use Rattle.http1.specs.Message.{AcceptsRequest, AcceptsResponse}
-use Rattle.http1.specs.Server as Serving
-use Rattle.http1.specs.Server.{ServerReads, new_server}
-use Rattle.http1.specs.declared.client.Client.{Client}
-use Rattle.http1.specs.declared.conn.Event.{Event}
-use Rattle.http1.specs.declared.conn.Event.TheVariants.{Head, Informational}
-use Rattle.http1.specs.declared.conn.Limits.{Limits}
-use Rattle.http1.specs.declared.conn.Progress.{Progress}
-use Rattle.http1.specs.declared.conn.Reading.{Reading}
-use Rattle.http1.specs.declared.conn.Reading.TheVariants as Reads
-use Rattle.http1.specs.declared.error.ReadError.{ReadError}
-use Rattle.http1.specs.declared.framing.Framing.{Framing}
-use Rattle.http1.specs.declared.server.Server.{Server}
-use Rattle.gateway_relay.specs.Content.{map_of}
+use Rattle.http1.specs.{Conn.awaits_head, Fields.Header, Message.AcceptsRequest, Message.AcceptsResponse}
+use Rattle.http1.specs.{Server.ServerReads, Server.new_server, declared.client.Client.Client, declared.conn.Event.Event}
+use Rattle.http1.specs.{declared.conn.Event.TheVariants.Head, declared.conn.Event.TheVariants.Informational}
+use Rattle.http1.specs.{declared.conn.Limits.Limits, declared.conn.Progress.Progress, declared.conn.Reading.Reading}
+use Rattle.http1.specs.{declared.error.ReadError.ReadError, declared.framing.Framing.Framing}
+use Rattle.http1.specs.{declared.server.Server.Server}
+use Rattle.gateway_relay.specs.{Content.map_of, declared.failure.Failure.Failure, declared.response.Response.Response}
 use Rattle.gateway_relay.specs.Failures.{HasNoMap, IsMapFailure, IsReceiveFailure, Receives}
 use Rattle.gateway_relay.specs.Heads.{FailsToReadRequest, FailsToReadResponse, IsHeadFailure, IsResponseAt}
 use Rattle.gateway_relay.specs.Heads.{ReadsResponseHead}
-use Rattle.gateway_relay.specs.declared.failure.Failure.{Failure}
+use Rattle.http1.specs.Server as Serving
+use Rattle.http1.specs.declared.conn.Reading.TheVariants as Reads
 use Rattle.gateway_relay.specs.declared.failure.Failure.TheVariants as Failed
-use Rattle.gateway_relay.specs.declared.response.Response.{Response}
 
 -- ---- failures
 
@@ -124,9 +113,7 @@ no_value P (Err e) error = tt
 pub takes_request : (old new : Server) (limits : Limits) (input : List ℕ) (spans : List HeaderSpan)
     (read : Progress RequestSpans) (r : RequestSpans) → old ≡ new_server limits → ServerReads old input spans new read
     → read.event ≡ Head r → Serving.TakesHead (new_server limits) input spans new read.consumed r
-takes_request old new limits input spans read r same reads is =
-    subst (λ (x : Event RequestSpans). Serving.ReadsHead (new_server limits) input spans new read.consumed x) is
-    (subst (λ (x : Server). ServerReads x input spans new read) same reads)
+takes_request old new limits input spans read r same reads is = rw is at (rw same at reads)
 
 -- ---- responses
 
@@ -161,9 +148,7 @@ head_taken client new before taken input after left left_after spans len r respo
       received = received;
       head = t.head;
       framing = t.framing;
-      accepts = subst (λ (s : List ℕ). AcceptsResponse client.limits client.method s t.head t.framing after) is
-          (subst (λ (s : List ℕ). AcceptsResponse client.limits client.method input t.head t.framing s) left_is
-          t.accepts);
+      accepts = rw is at (rw left_is at t.accepts);
       parts = record {
         minor = parts.minor ∙ t.covered.version;
         status = parts.status ∙ t.covered.code;

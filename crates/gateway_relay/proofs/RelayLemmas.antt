@@ -1,55 +1,38 @@
 -- A relay, step by step.
 use Rattle.std.proofs.Common.{◌≡◌, ℕ, ◌+◌, ◌-◌, ◌<◌, ◌≤◌, ◌^◌, List, [], ◌∷◌, ◌++◌, ◌∙◌, ap, refl, sym, subst, take}
-use Rattle.std.proofs.Common.{drop, length, length-append, length-drop, length-take, append_assoc, append-nil}
-use Rattle.std.proofs.Common.{None, Some, Option, Result, Ok, Err, IfErr, IfOk, OnOk, arith, ◌≢◌, Bool, IsTrue, inl}
-use Rattle.std.proofs.Common.{inr}
-use Rattle.std.proofs.Math.Seq.{drop-length, take-add}
-use Rattle.std.proofs.lemmas.List.{take_all}
+use Rattle.std.proofs.Common.{drop, length, length-append, length-drop, append_assoc, append-nil, None, Some, Option}
+use Rattle.std.proofs.Common.{Result, Ok, Err, IfErr, IfOk, OnOk, arith, ◌≢◌, Bool, IsTrue, inl, inr}
+use Rattle.std.proofs.{Math.Seq.drop-length, Math.Seq.take-add, lemmas.List.take_all}
 use Rattle.std.proofs.KnownBytes.{Appends-nil, Appends-trans, Consumes-kept, Consumes-nil, Consumes-trans, Keeps-refl}
 use Rattle.std.specs.Io.KnownBytes.{Appends, Consumes, IsAtEnd, Keeps}
 use Rattle.std.specs.List.{concat}
-use Rattle.httparse.specs.Grammar.{Field}
-use Rattle.httparse.specs.Spans.{span_bytes}
-use Rattle.httparse.specs.declared.spans.HeaderSpan.{HeaderSpan}
-use Rattle.httparse.specs.declared.spans.Span.{Span}
-use Rattle.http_header.specs.FieldValue.{FieldValue}
-use Rattle.http_header.specs.HeaderMap.{Entries}
-use Rattle.http1.specs.Body.{Body, body_of}
-use Rattle.http1.proofs.ConservativeLemmas.{request_is_plain, response_is_plain}
-use Rattle.http1.specs.Client as Asking
+use Rattle.httparse.specs.{Grammar.Field, declared.spans.HeaderSpan.HeaderSpan}
+use Rattle.http_header.specs.{FieldValue.FieldValue, HeaderMap.Entries}
+use Rattle.http1.specs.{Body.Body, Body.body_of, Conservative.IsPlainRequest, Conservative.IsPlainResponse}
+use Rattle.http1.specs.{Fields.Header, Output.GivesOrRefuses, ReadError.BodyError, ServerTrace.headers_at}
+use Rattle.http1.specs.{declared.client.Client.Client, declared.conn.BodySize.BodySize, declared.conn.Reading.Reading}
+use Rattle.http1.specs.{declared.conn.Writing.Writing, declared.decode.Decoded.Decoded, declared.decode.Decoder.Decoder}
+use Rattle.http1.specs.{declared.encode.Encoder.Encoder, declared.error.ReadError.ReadError}
+use Rattle.http1.specs.{declared.error.WriteError.WriteError, declared.server.Server.Server}
 use Rattle.http1.specs.Conn.{Plan, after_data, data_refusal, data_text}
-use Rattle.http1.specs.Conservative.{IsPlainRequest, IsPlainResponse}
 use Rattle.http1.specs.Decoder.{AwaitsTrailers, Completes, Continues, Ends, HasNoBody, Runs, Starves, with_front}
-use Rattle.http1.specs.Encoder.{AreAccepted, after_piece, encoder_for, body_text, end_refusal, end_text}
-use Rattle.http1.specs.Encoder.{piece_refusal, piece_text}
-use Rattle.http1.specs.Fields.{Header}
+use Rattle.http1.specs.Encoder.{AreAccepted, after_piece, encoder_for, body_text, end_refusal, end_text, piece_refusal}
+use Rattle.http1.specs.Encoder.{piece_text}
 use Rattle.http1.specs.Head.{head_refusal, is_request_line, is_status_line, request_text, response_text}
-use Rattle.http1.specs.Output.{GivesOrRefuses}
-use Rattle.http1.specs.Server as Serving
-use Rattle.http1.specs.ReadError.{BodyError}
-use Rattle.http1.specs.ServerTrace.{headers_at}
-use Rattle.http1.specs.declared.client.Client.{Client}
-use Rattle.http1.specs.declared.conn.BodySize.{BodySize}
-use Rattle.http1.specs.declared.conn.Reading.{Reading}
-use Rattle.http1.specs.declared.conn.Reading.TheVariants as Reads
-use Rattle.http1.specs.declared.conn.Writing.{Writing}
-use Rattle.http1.specs.declared.conn.Writing.TheVariants as Writes
-use Rattle.http1.specs.declared.decode.Decoded.{Decoded}
-use Rattle.http1.specs.declared.decode.Decoder.{Decoder}
 use Rattle.http1.specs.declared.decode.Decoder.TheVariants.{Chunked, Length, UntilClose}
-use Rattle.http1.specs.declared.encode.Encoder.{Encoder}
-use Rattle.http1.specs.declared.error.ReadError.{ReadError}
-use Rattle.http1.specs.declared.error.WriteError.{WriteError}
-use Rattle.http1.specs.declared.error.WriteError.TheVariants as Write
-use Rattle.http1.specs.declared.server.Server.{Server}
+use Rattle.http1.proofs.ConservativeLemmas.{request_is_plain, response_is_plain}
 use Rattle.gateway_relay.specs.Content.{ArePassed, Finds, FindsPart, Gives, after_pieces, begins, map_of, pieces_text}
 use Rattle.gateway_relay.specs.Content.{reads, receives, waits}
 use Rattle.gateway_relay.specs.Failures.{FailsToWrite, HasNoMap, IsMapFailure, IsPieceFailure, IsReceiveFailure}
 use Rattle.gateway_relay.specs.Failures.{IsRelayFailure, Writes, write_failure}
 use Rattle.gateway_relay.specs.Relay.{HasEnd, IsRelayed, Relays, Sends}
-use Rattle.gateway_relay.specs.declared.failure.Failure.{Failure}
+use Rattle.gateway_relay.specs.{declared.failure.Failure.Failure, declared.relay.TheConstants.MAX_TRAILERS}
+use Rattle.http1.specs.Client as Asking
+use Rattle.http1.specs.Server as Serving
+use Rattle.http1.specs.declared.conn.Reading.TheVariants as Reads
+use Rattle.http1.specs.declared.conn.Writing.TheVariants as Writes
+use Rattle.http1.specs.declared.error.WriteError.TheVariants as Write
 use Rattle.gateway_relay.specs.declared.failure.Failure.TheVariants as Failed
-use Rattle.gateway_relay.specs.declared.relay.TheConstants.{MAX_TRAILERS}
 
 -- ---- sending
 
@@ -60,8 +43,7 @@ rest_of text at = take_all (length text - at) (drop at text) (omega (arith, leng
 pub appends_more : (a b c : Option (List ℕ)) (text : List ℕ) (at count : ℕ) → Appends a b (take at text)
     → Appends b c (take count (take (length text - at) (drop at text))) → Appends a c (take (at + count) text)
 appends_more a b c text at count first second =
-    subst (Appends a c) (sym (take-add at count text)) (Appends-trans a b c _ _ first
-    (subst (λ (t : List ℕ). Appends b c (take count t)) (rest_of text at) second))
+    rw (← (take-add at count text)) at (Appends-trans a b c _ _ first (rw (rest_of _ at) at second))
 
 -- it takes no more than there is
 pub within_rest : (text : List ℕ) (at count : ℕ) → at ≤ length text
@@ -113,28 +95,25 @@ refusal_is (Some refused) spare len e outcome other = cc
 refused_as : (refusal : Option WriteError) (text : List ℕ) (held : Option (List ℕ)) (spare len : ℕ)
     (e : WriteError) → GivesOrRefuses {T = Unit {0}} refusal spare len (Err e)
     → FailsToWrite refusal text held held (write_failure e)
-refused_as refusal text held spare len Write.State outcome =
-    (refusal_is refusal spare len _ outcome (λ is. absurd (cc)), refl)
+refused_as refusal text held spare len Write.State outcome = (refusal_is _ _ _ _ outcome (λ is. absurd (cc)), refl)
 refused_as refusal text held spare len Write.InvalidStartLine outcome =
-    (refusal_is refusal spare len _ outcome (λ is. absurd (cc)), refl)
+    (refusal_is _ _ _ _ outcome (λ is. absurd (cc)), refl)
 refused_as refusal text held spare len Write.InvalidHeader outcome =
-    (refusal_is refusal spare len _ outcome (λ is. absurd (cc)), refl)
-refused_as refusal text held spare len Write.Host outcome =
-    (refusal_is refusal spare len _ outcome (λ is. absurd (cc)), refl)
+    (refusal_is _ _ _ _ outcome (λ is. absurd (cc)), refl)
+refused_as refusal text held spare len Write.Host outcome = (refusal_is _ _ _ _ outcome (λ is. absurd (cc)), refl)
 refused_as refusal text held spare len (Write.Framing reason) outcome =
-    (refusal_is refusal spare len _ outcome (λ is. absurd (cc)), refl)
-refused_as refusal text held spare len Write.BodySize outcome =
-    (refusal_is refusal spare len _ outcome (λ is. absurd (cc)), refl)
+    (refusal_is _ _ _ _ outcome (λ is. absurd (cc)), refl)
+refused_as refusal text held spare len Write.BodySize outcome = (refusal_is _ _ _ _ outcome (λ is. absurd (cc)), refl)
 refused_as refusal text held spare len Write.MissingUpgrade outcome =
-    (refusal_is refusal spare len _ outcome (λ is. absurd (cc)), refl)
+    (refusal_is _ _ _ _ outcome (λ is. absurd (cc)), refl)
 refused_as refusal text held spare len Write.UnusualFraming outcome =
-    (refusal_is refusal spare len _ outcome (λ is. absurd (cc)), refl)
+    (refusal_is _ _ _ _ outcome (λ is. absurd (cc)), refl)
 refused_as refusal text held spare len Write.BodyTooLong outcome =
-    (refusal_is refusal spare len _ outcome (λ is. absurd (cc)), refl)
+    (refusal_is _ _ _ _ outcome (λ is. absurd (cc)), refl)
 refused_as refusal text held spare len Write.BodyTooShort outcome =
-    (refusal_is refusal spare len _ outcome (λ is. absurd (cc)), refl)
+    (refusal_is _ _ _ _ outcome (λ is. absurd (cc)), refl)
 refused_as refusal text held spare len Write.UnexpectedTrailers outcome =
-    (refusal_is refusal spare len _ outcome (λ is. absurd (cc)), refl)
+    (refusal_is _ _ _ _ outcome (λ is. absurd (cc)), refl)
 refused_as refusal text held spare len Write.OutOfMemory outcome = refl
 
 accepted_as : {U : Type 0} (refusal : Option WriteError) (spare len : ℕ) (value : U)
@@ -185,10 +164,9 @@ pub gives_back : {first d : Decoder} {stream input : List ℕ} {pieces : List (L
     → Completes first (stream ++ more) (with_front (concat pieces) body) rest
 gives_back (begins input) more body rest completes = completes
 gives_back {first} (receives stream pieces d input added given) more body rest completes =
-    subst (λ (s : List ℕ). Completes first s (with_front (concat pieces) body) rest) (sym
-    (append_assoc stream added more))
-    (gives_back given (added ++ more) body rest
-    (subst (λ (s : List ℕ). Completes d s body rest) (append_assoc input added more) completes))
+    subst (λ (s : List ℕ). Completes first s (with_front (concat pieces) body) rest)
+    (sym (append_assoc stream added more))
+    (gives_back given (added ++ more) body rest (rw (append_assoc input added more) at completes))
 gives_back (waits stream pieces d new input len given continues) more body rest completes =
     gives_back given more body rest (continues.back more body rest completes)
 gives_back {first} (reads stream pieces d new input len piece given continues) more body rest completes =
@@ -203,9 +181,8 @@ gives_forth : {first d : Decoder} {stream input : List ℕ} {pieces : List (List
     → (body : Body) × (whole.trailers ≡ body.trailers) × Completes d (input ++ more) body rest
 gives_forth (begins input) more whole rest completes = (whole, refl, completes)
 gives_forth {first} (receives stream pieces d input added given) more whole rest completes =
-    let f = gives_forth given (added ++ more) whole rest (subst (λ (s : List ℕ). Completes first s whole rest)
-    (append_assoc stream added more) completes) in
-    (f.0, f.1, subst (λ (s : List ℕ). Completes d s f.0 rest) (sym (append_assoc input added more)) f.2)
+    let f = gives_forth given (added ++ more) whole rest (rw (append_assoc stream added more) at completes) in
+    (f.0, f.1, rw (← (append_assoc input added more)) at f.2)
 gives_forth (waits stream pieces d new input len given continues) more whole rest completes =
     let f = gives_forth given more whole rest completes in
     let g = continues.forth more f.0 rest f.2 in
@@ -226,9 +203,8 @@ unfinished : {first d : Decoder} {stream input : List ℕ} {pieces : List (List 
     → ((body : Body) (rest : List ℕ) → ¬ (Completes d input body rest))
     → (body : Body) (rest : List ℕ) → ¬ (Completes first stream body rest)
 unfinished {first} {d} {stream} {input} given none body rest completes =
-    let f = gives_forth given [] body rest (subst (λ (s : List ℕ). Completes first s body rest) (sym
-    (append-nil stream)) completes) in
-    none f.0 rest (subst (λ (s : List ℕ). Completes d s f.0 rest) (append-nil input) f.2)
+    let f = gives_forth given [] body rest (rw (sym (append-nil stream)) at completes) in
+    none f.0 rest (rw (append-nil input) at f.2)
 
 -- a decoder of content that only the end of the connection ends, and no other, stays one
 runs_from : (d new : Decoder) (input : List ℕ) (len : ℕ) (piece : List ℕ) → Runs d input new len piece
@@ -304,9 +280,7 @@ module _ {d : Decoder} {e : Encoder} {before input : List ℕ} {left left_now he
   pub found : (seen : List ℕ) (spans : List HeaderSpan) (next : Reading) (part event : Decoded)
       → Finds r seen spans next part → seen ≡ input → part ≡ event → FindsPart p.last input spans next event
   found seen spans next part event finds same is =
-      subst (λ (x : Decoded). FindsPart p.last input spans next x) is
-      (subst (λ (x : List ℕ). FindsPart p.last x spans next part) same
-      (subst (λ (x : Reading). Finds x seen spans next part) p.is_reading finds))
+      subst (λ (x : Decoded). FindsPart p.last input spans next x) is (rw same at (rw p.is_reading at finds))
 
   -- the same, by other names
   unfoldable pub passing_as : (input_new : List ℕ) (left_new held_new : Option (List ℕ)) (w_new : Writing)
@@ -338,12 +312,9 @@ module _ {d : Decoder} {e : Encoder} {before input : List ℕ} {left left_now he
   passing_piece piece new len next w_new text reading continues small accepted counted written =
       let all = p.pieces ++ piece ∷ [] in
       let last = after_pieces p.pieces e in
-      let accepts : piece_refusal last (length piece) ≡ None =
-      subst (λ (x : Writing). data_refusal x (length piece) ≡ None) p.is_writing accepted in
-      let counts : w_new ≡ Writes.Body (after_piece last (length piece)) =
-      counted ∙ ap (λ (x : Writing). after_data x (length piece)) p.is_writing in
-      let writes : text ≡ pending ++ piece_text last piece =
-      written ∙ ap (λ (x : Writing). pending ++ data_text x piece) p.is_writing in
+      let accepts : piece_refusal last (length piece) ≡ None = rw p.is_writing at accepted in
+      let counts = counted ∙ ap (λ (x : Writing). after_data x (length piece)) p.is_writing in
+      let writes = written ∙ ap (λ (x : Writing). pending ++ data_text x piece) p.is_writing in
       record {
         taken = p.taken;
         received = p.received;
@@ -406,8 +377,7 @@ module _ {d : Decoder} {e : Encoder} {before input : List ℕ} {left left_now he
         pieces = p.pieces;
         last = p.last;
         is_reading = p.is_reading;
-        gives = subst (λ (i : List ℕ). Gives d (before ++ (p.taken ++ more)) p.pieces p.last i) (sym is)
-            (subst (λ (s : List ℕ). Gives d s p.pieces p.last (input ++ more)) (append_assoc before p.taken more)
+        gives = rw (← is) at (rw (append_assoc before p.taken more) at
             (receives (before ++ p.taken) p.pieces p.last input more p.gives));
         passed = p.passed;
         is_writing = p.is_writing;
@@ -523,8 +493,7 @@ module _ {d : Decoder} {e : Encoder} {before input : List ℕ} {left left_now he
   trailers_fail ends left_new spans len count Failed.InvalidFields found is = (
     _,
     _,
-    subst (λ (s : List ℕ). Completes d s (with_front (concat p.pieces) (body_of [] found.trailers))
-        (drop len input ++ [])) (append-nil (before ++ p.taken))
+    rw (append-nil (before ++ p.taken)) at
         (gives_back p.gives [] (body_of [] found.trailers) (drop len input ++ []) (found.completes [])),
     subst HasNoMap found.covered is,
   )
@@ -552,9 +521,7 @@ pub end_found : (d : Decoder) (input : List ℕ) (spans : List HeaderSpan) (len 
     → HasEnd d input trailers (drop len input)
 end_found d input spans len count trailers ends is = (
   ends.trailers,
-  subst (λ (s : List ℕ). Completes d s (body_of [] ends.trailers) (drop len input)) (append-nil input)
-      (subst (λ (s : List ℕ). Completes d (input ++ []) (body_of [] ends.trailers) s) (append-nil
-      (drop len input)) (ends.completes [])),
+  rw (append-nil input) at (rw (append-nil (drop len input)) at (ends.completes [])),
   is ∙ ap map_of ends.covered,
 )
 
@@ -568,10 +535,6 @@ end_closed d input trailers until none empty = (
       (subst (λ (x : Decoder). Completes x [] (body_of [] []) []) (sym until) (refl, refl, refl)),
   empty,
 )
-
--- how short a piece is
-pub length-span_bytes : (text : List ℕ) (s : Span) → length (span_bytes text s) ≤ s.end
-length-span_bytes text s = omega (arith, length-take (s.end - s.start) (drop s.start text))
 
 -- ---- how much was read, after so many turns
 
@@ -643,9 +606,8 @@ module _ {d : Decoder} {e : Encoder} {before old_input input : List ℕ}
     at_end,
     λ is_ending until. cut is_ending (none_left (until_to p.gives until)) (until_to p.gives until),
     λ ends_alone body rest completes. unfinished old.gives
-        (starves.unfinished (λ until. ends_alone (until_from old.gives until))) body rest
-        (subst (λ (s : List ℕ). Completes d s body rest)
-        (same_stream ∙ ap (λ (m : List ℕ). (before ++ old.taken) ++ m) nothing ∙ append-nil (before ++ old.taken))
+        (starves.unfinished (λ until. ends_alone (until_from old.gives until))) body rest (rw
+        (same_stream ∙ ap (λ (m : List ℕ). (before ++ old.taken) ++ m) nothing ∙ append-nil (before ++ old.taken)) at
         completes),
   )
 
@@ -686,22 +648,20 @@ relays_whole {ends} {d} {e} {before} {after} {left} {left_after} {held} {held_af
     let end = r.ends.0 in
     let body = body_of (concat r.pieces) end.0 in
     let completes : Completes r.last (r.unread ++ []) (body_of [] end.0) after =
-    subst (λ (s : List ℕ). Completes r.last s (body_of [] end.0) after) (sym (append-nil r.unread)) end.1 in
+    rw (← (append-nil r.unread)) at end.1 in
     let back = gives_back r.gives [] (body_of [] end.0) after completes in
     let bytes = append-nil (concat r.pieces) in
-    let all : pieces_text r.pieces e ≡ r.sends.0 =
-    r.sends.2 ∙ ap (λ (t : List ℕ). r.sends.0 ++ t) r.sends.4 ∙ append-nil r.sends.0 in
+    let all = r.sends.2 ∙ ap (λ (t : List ℕ). r.sends.0 ++ t) r.sends.4 ∙ append-nil r.sends.0 in
     record {
       body = body;
       taken = r.taken;
       received = r.received;
-      whole = subst (λ (s : List ℕ). Completes d s body after) (append-nil (before ++ r.taken))
-          (subst (λ (b : List ℕ). Completes d ((before ++ r.taken) ++ []) (body_of b end.0) after) bytes back);
+      whole = rw (append-nil (before ++ r.taken)) at (rw bytes at back);
       fields = end.2;
       pieces = r.pieces;
       bytes = refl;
       passed = r.passed;
-      written = subst (λ (t : List ℕ). Appends held held_after t) (sym all) r.sends.3;
+      written = rw (← all) at r.sends.3;
     }
 
 -- ---- the plain form
@@ -715,11 +675,8 @@ module _ (size : BodySize) (headers : List Header) (p : Plan) (pieces : List (Li
       ++ (pieces_text pieces (encoder_for p.framing) ++ end_text (after_pieces pieces
       (encoder_for p.framing)) trailers))
   relayed_request c method target planned valid =
-      subst (λ (t : List ℕ). IsPlainRequest (request_text method target 1 (headers ++ p.extra) ++ t))
-      (body_text-pieces pieces (encoder_for p.framing) trailers)
-      (request_is_plain size headers p pieces trailers (AreAccepted-pieces pieces
-      (encoder_for p.framing) trailers passed accepted)
-      c method target planned valid)
+      rw (body_text-pieces pieces (encoder_for p.framing) trailers) at (request_is_plain size headers p pieces trailers
+      (AreAccepted-pieces pieces (encoder_for p.framing) trailers passed accepted) c method target planned valid)
 
   pub relayed_response : (s : Server) (status : ℕ) (reason : List ℕ)
       → Serving.response_plan s status size headers ≡ Ok p
@@ -728,9 +685,5 @@ module _ (size : BodySize) (headers : List Header) (p : Plan) (pieces : List (Li
       ++ (pieces_text pieces (encoder_for p.framing) ++ end_text (after_pieces pieces
       (encoder_for p.framing)) trailers))
   relayed_response s status reason planned valid =
-      subst (λ (t : List ℕ). IsPlainResponse s.request.method (response_text s.request.minor status reason
-      (headers ++ p.extra) ++ t))
-      (body_text-pieces pieces (encoder_for p.framing) trailers)
-      (response_is_plain size headers p pieces trailers (AreAccepted-pieces pieces
-      (encoder_for p.framing) trailers passed accepted)
-      s status reason planned valid)
+      rw (body_text-pieces pieces (encoder_for p.framing) trailers) at (response_is_plain size headers p pieces trailers
+      (AreAccepted-pieces pieces (encoder_for p.framing) trailers passed accepted) s status reason planned valid)

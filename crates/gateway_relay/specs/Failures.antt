@@ -1,27 +1,19 @@
 -- Why a message could not be passed on.
-use Rattle.std.specs.Prelude.{◌≡◌, ◌≢◌, ⊤, ℕ, ◌≤◌, ◌^◌, ◌⊎◌, Bool, IsTrue, List, [], ◌∷◌, ◌++◌, length, map, take}
-use Rattle.std.specs.Prelude.{Any, MatchResult, None, Option, Result, Some}
+use Rattle.std.specs.Prelude.{◌≡◌, ◌≢◌, ⊤, ℕ, ◌≤◌, ◌^◌, ◌⊎◌, Bool, IsTrue, List, [], ◌∷◌, ◌++◌, length, map, take, Any}
+use Rattle.std.specs.Prelude.{MatchResult, None, Option, Result, Some}
 use Rattle.std.specs.Io.KnownBytes.{Appends, Consumes, IsAtEnd}
 use Rattle.httparse.specs.Spans.{name_and_value}
 use Rattle.http.specs.declared.error.Error.{Error}
-use Rattle.http.specs.declared.error.Error.TheVariants as Mapped
-use Rattle.http_header.specs.FieldName.{IsFieldName}
-use Rattle.http_header.specs.FieldValue.{IsFieldValue}
-use Rattle.http_header.specs.HeaderMap.{RefusesAppend}
-use Rattle.http1.specs.Body.{Body}
+use Rattle.http_header.specs.{FieldName.IsFieldName, FieldValue.IsFieldValue, HeaderMap.RefusesAppend}
+use Rattle.http1.specs.{Body.Body, Encoder.piece_refusal, Fields.Header, ReadError.BodyError}
+use Rattle.http1.specs.{declared.decode.Decoder.Decoder, declared.decode.Decoder.TheVariants.UntilClose}
+use Rattle.http1.specs.{declared.encode.Encoder.Encoder, declared.error.WriteError.WriteError}
 use Rattle.http1.specs.Decoder.{Completes, HasNoBody}
-use Rattle.http1.specs.Encoder.{piece_refusal}
-use Rattle.http1.specs.Fields.{Header}
-use Rattle.http1.specs.ReadError.{BodyError}
-use Rattle.http1.specs.declared.decode.Decoder.{Decoder}
-use Rattle.http1.specs.declared.decode.Decoder.TheVariants.{UntilClose}
-use Rattle.http1.specs.declared.encode.Encoder.{Encoder}
-use Rattle.http1.specs.declared.error.WriteError.{WriteError}
-use Rattle.http1.specs.declared.error.WriteError.TheVariants as Write
 use Rattle.gateway_relay.specs.Content.{Gives, after_pieces, map_of}
-use Rattle.gateway_relay.specs.declared.failure.Failure.{Failure}
+use Rattle.gateway_relay.specs.{declared.failure.Failure.Failure, declared.relay.TheConstants.MAX_TRAILERS}
+use Rattle.http.specs.declared.error.Error.TheVariants as Mapped
+use Rattle.http1.specs.declared.error.WriteError.TheVariants as Write
 use Rattle.gateway_relay.specs.declared.failure.Failure.TheVariants as Failed
-use Rattle.gateway_relay.specs.declared.relay.TheConstants.{MAX_TRAILERS}
 
 -- ---- reading
 

@@ -1,30 +1,19 @@
 -- The heads of messages, as they are read.
 use Rattle.std.specs.Prelude.{◌≡◌, ◌≢◌, ⊤, ℕ, false, List, [], ◌++◌, map, Option}
 use Rattle.std.specs.Io.KnownBytes.{Consumes, IsAtEnd}
-use Rattle.httparse.specs.Grammar.{HasNoRequest, HasNoResponse, RequestHead, ResponseHead, reason_phrase}
-use Rattle.httparse.specs.Grammar.{status_code}
-use Rattle.httparse.specs.Spans.{name_and_value, span_bytes}
-use Rattle.httparse.specs.declared.spans.HeaderSpan.{HeaderSpan}
-use Rattle.httparse.specs.declared.spans.RequestSpans.{RequestSpans}
-use Rattle.httparse.specs.declared.spans.ResponseSpans.{ResponseSpans}
-use Rattle.http1.specs.Client.{RefusesFirst, after_head}
-use Rattle.http1.specs.Decoder.{decoder_for}
-use Rattle.http1.specs.Message.{AcceptsRequest, AcceptsResponse}
+use Rattle.httparse.specs.Grammar.{HasNoRequest, HasNoResponse, RequestHead, ResponseHead, reason_phrase, status_code}
+use Rattle.httparse.specs.{Spans.name_and_value, Spans.span_bytes, declared.spans.HeaderSpan.HeaderSpan}
+use Rattle.httparse.specs.{declared.spans.RequestSpans.RequestSpans, declared.spans.ResponseSpans.ResponseSpans}
+use Rattle.http1.specs.{Client.RefusesFirst, Client.after_head, Decoder.decoder_for, Message.AcceptsRequest}
+use Rattle.http1.specs.{Message.AcceptsResponse, ServerTrace.headers_at, declared.client.Client.Client}
+use Rattle.http1.specs.{declared.conn.Limits.Limits, declared.error.ReadError.ReadError}
+use Rattle.http1.specs.{declared.framing.Framing.Framing, declared.server.Server.Server}
 use Rattle.http1.specs.Server.{RefusesAt, new_server, request_of}
-use Rattle.http1.specs.ServerTrace.{headers_at}
-use Rattle.http1.specs.declared.client.Client.{Client}
-use Rattle.http1.specs.declared.conn.Limits.{Limits}
-use Rattle.http1.specs.declared.conn.Reading.TheVariants as Reads
-use Rattle.http1.specs.declared.error.ReadError.{ReadError}
-use Rattle.http1.specs.declared.framing.Framing.{Framing}
-use Rattle.http1.specs.declared.server.Server.{Server}
-use Rattle.gateway_relay.specs.Content.{map_of}
+use Rattle.gateway_relay.specs.{Content.map_of, declared.failure.Failure.Failure, declared.request.Request.Request}
+use Rattle.gateway_relay.specs.{declared.request.TheConstants.MAX_FIELDS, declared.response.Response.Response}
 use Rattle.gateway_relay.specs.Failures.{HasNoMap, Receives}
-use Rattle.gateway_relay.specs.declared.failure.Failure.{Failure}
+use Rattle.http1.specs.declared.conn.Reading.TheVariants as Reads
 use Rattle.gateway_relay.specs.declared.failure.Failure.TheVariants as Failed
-use Rattle.gateway_relay.specs.declared.request.Request.{Request}
-use Rattle.gateway_relay.specs.declared.request.TheConstants.{MAX_FIELDS}
-use Rattle.gateway_relay.specs.declared.response.Response.{Response}
 
 -- ---- requests
 

@@ -1,20 +1,13 @@
 -- What a relay of content does.
 use Rattle.std.specs.Prelude.{◌≡◌, ℕ, List, [], ◌++◌, map, Option, Result, Bool, IfErr, IfOk, OnOk}
-use Rattle.std.specs.List.{concat}
-use Rattle.std.specs.Io.KnownBytes.{Appends, Consumes}
-use Rattle.httparse.specs.Grammar.{Field}
-use Rattle.httparse.specs.Spans.{name_and_value}
-use Rattle.http_header.specs.FieldValue.{FieldValue}
-use Rattle.http_header.specs.HeaderMap.{Entries}
-use Rattle.http1.specs.Body.{Body, body_of}
-use Rattle.http1.specs.Decoder.{Completes}
-use Rattle.http1.specs.declared.conn.Writing.{Writing}
-use Rattle.http1.specs.declared.conn.Writing.TheVariants as Writes
-use Rattle.http1.specs.declared.decode.Decoder.{Decoder}
-use Rattle.http1.specs.declared.encode.Encoder.{Encoder}
+use Rattle.std.specs.{List.concat, Io.KnownBytes.Appends, Io.KnownBytes.Consumes}
+use Rattle.httparse.specs.{Grammar.Field, Spans.name_and_value}
+use Rattle.http_header.specs.{FieldValue.FieldValue, HeaderMap.Entries}
+use Rattle.http1.specs.{Body.Body, Body.body_of, Decoder.Completes, declared.conn.Writing.Writing}
+use Rattle.http1.specs.{declared.decode.Decoder.Decoder, declared.encode.Encoder.Encoder}
 use Rattle.gateway_relay.specs.Content.{ArePassed, Gives, after_pieces, map_of, pieces_text}
-use Rattle.gateway_relay.specs.Failures.{IsRelayFailure}
-use Rattle.gateway_relay.specs.declared.failure.Failure.{Failure}
+use Rattle.gateway_relay.specs.{Failures.IsRelayFailure, declared.failure.Failure.Failure}
+use Rattle.http1.specs.declared.conn.Writing.TheVariants as Writes
 
 -- the text is written, or after a failure a first part of it
 abbrev pub Sends : {T E : Type 0} → Result T E → Option (List ℕ) → Option (List ℕ) → List ℕ → Type 0

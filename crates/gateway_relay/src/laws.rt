@@ -1,20 +1,13 @@
 //! Theorems about the definitions alone. To cite one in a proof, call it.
 ghost use Rattle.std.specs.Prelude.{◌≡◌, ◌++◌, ℕ, Bool, List, Option, None, Ok};
-ghost use Rattle.http_header.specs.FieldValue.{FieldValue};
-ghost use Rattle.http_header.specs.HeaderMap.{Entries};
-ghost use Rattle.http1.specs.Client.{request_plan};
-ghost use Rattle.http1.specs.Conn.{Plan};
+ghost use Rattle.http_header.specs.{FieldValue.FieldValue, HeaderMap.Entries};
+ghost use Rattle.http1.specs.{Client.request_plan, Conn.Plan, Fields.Header, Server.response_plan};
+ghost use Rattle.http1.specs.{declared.client.Client.Client, declared.conn.BodySize.BodySize};
+ghost use Rattle.http1.specs.{declared.conn.Writing.Writing, declared.decode.Decoder.Decoder};
+ghost use Rattle.http1.specs.{declared.encode.Encoder.Encoder, declared.server.Server.Server};
 ghost use Rattle.http1.specs.Conservative.{IsPlainRequest, IsPlainResponse};
 ghost use Rattle.http1.specs.Encoder.{encoder_for, end_refusal, end_text};
-ghost use Rattle.http1.specs.Fields.{Header};
 ghost use Rattle.http1.specs.Head.{head_refusal, is_request_line, is_status_line, request_text, response_text};
-ghost use Rattle.http1.specs.Server.{response_plan};
-ghost use Rattle.http1.specs.declared.client.Client.{Client};
-ghost use Rattle.http1.specs.declared.conn.BodySize.{BodySize};
-ghost use Rattle.http1.specs.declared.conn.Writing.{Writing};
-ghost use Rattle.http1.specs.declared.decode.Decoder.{Decoder};
-ghost use Rattle.http1.specs.declared.encode.Encoder.{Encoder};
-ghost use Rattle.http1.specs.declared.server.Server.{Server};
 ghost use Rattle.gateway_relay.specs.Content.{ArePassed, after_pieces, pieces_text};
 ghost use Rattle.gateway_relay.specs.Relay.{IsRelayed, Relays};
 
@@ -29,6 +22,7 @@ pub fn relayed_content_is_the_message()
 
 /// Theorem: a request whose head a client wrote and whose content was relayed is in the plain form.
 /// It has at most one framing field, a plain one, and content that fits it.
+#[tactic(auto, using(crate::proofs::RelayLemmas::relayed_request))]
 pub fn relayed_request_is_plain()
     ensures { (client : Client) (method target : List ℕ) (size : BodySize) (headers : List Header) (plan : Plan)
         (pieces : List (List ℕ)) (trailers : List Header) → request_plan client method size headers ≡ Ok plan
@@ -42,6 +36,7 @@ pub fn relayed_request_is_plain()
 
 /// Theorem: a response whose head a server wrote and whose content was relayed is in the plain
 /// form.
+#[tactic(auto, using(crate::proofs::RelayLemmas::relayed_response))]
 pub fn relayed_response_is_plain()
     ensures { (server : Server) (status : ℕ) (reason : List ℕ) (size : BodySize) (headers : List Header)
         (plan : Plan) (pieces : List (List ℕ)) (trailers : List Header)

@@ -3,18 +3,13 @@ ghost use Rattle.std.specs.Prelude.{◌≡◌, ◌≢◌, ◌<◌, ◌^◌, ◌+
 ghost use Rattle.std.specs.Prelude.{OnErr, OnOk};
 ghost use Rattle.httparse.specs.Spans.{IsSectionWithin, IsWithin, span_bytes};
 ghost use Rattle.http1.specs.Conn.{after_data, data_refusal, data_text};
-ghost use Rattle.http1.specs.Encoder.{end_refusal, end_text};
-ghost use Rattle.http1.specs.Head.{pairs};
-ghost use Rattle.http1.specs.ServerTrace.{headers_at};
+ghost use Rattle.http1.specs.{Encoder.end_refusal, Encoder.end_text, Head.pairs, ServerTrace.headers_at};
 ghost use Rattle.http1.specs.declared.conn.Reading.TheVariants as Reads;
 ghost use Rattle.http1.specs.declared.conn.Writing.TheVariants as Written;
-ghost use Rattle.http1.specs.declared.decode.Decoder.{Decoder};
-ghost use Rattle.http1.specs.declared.decode.Decoder.TheVariants.{UntilClose};
-ghost use Rattle.http1.specs.declared.encode.Encoder.{Encoder};
-ghost use Rattle.gateway_relay.specs.Content.{map_of};
+ghost use Rattle.http1.specs.{declared.decode.Decoder.Decoder, declared.decode.Decoder.TheVariants.UntilClose};
+ghost use Rattle.http1.specs.{declared.encode.Encoder.Encoder};
+ghost use Rattle.gateway_relay.specs.{Content.map_of, declared.failure.Failure.TheVariants.CutShort, Relay.Relays};
 ghost use Rattle.gateway_relay.specs.Failures.{IsMapFailure, IsPieceFailure, Writes};
-ghost use Rattle.gateway_relay.specs.declared.failure.Failure.TheVariants.{CutShort};
-ghost use Rattle.gateway_relay.specs.Relay.{Relays};
 
 use crate::failure::Failure;
 use crate::sink::ContentSink;

@@ -1,8 +1,7 @@
 //! The head of a request, as the client sends it.
 ghost use Rattle.std.specs.Prelude.{◌≡◌, IfErr, IfOk, MatchOption, length};
 ghost use Rattle.httparse.specs.Spans.{IsRequestWithin};
-ghost use Rattle.http1.specs.Server.{new_server};
-ghost use Rattle.http1.specs.ServerTrace.{headers_at};
+ghost use Rattle.http1.specs.{Server.new_server, ServerTrace.headers_at};
 ghost use Rattle.gateway_relay.specs.Failures.{IsMapFailure};
 ghost use Rattle.gateway_relay.specs.Heads.{FailsToReadRequest, IsClosedBefore, IsRequestAt, ReadsRequestHead};
 

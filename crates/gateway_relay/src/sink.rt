@@ -1,10 +1,8 @@
 //! The side of a gateway that writes the content of a message.
 ghost use Rattle.std.specs.Prelude.{◌≡◌, ◌++◌, [], length, OnOk, OnErr};
 ghost use Rattle.http1.specs.Conn.{after_data, data_refusal, data_text, finish_refusal, finish_text};
-ghost use Rattle.http1.specs.Head.{pairs};
-ghost use Rattle.http1.specs.declared.conn.Writing.{Writing};
-ghost use Rattle.gateway_relay.specs.Content.{Kept};
-ghost use Rattle.gateway_relay.specs.Failures.{Refuses};
+ghost use Rattle.http1.specs.{Head.pairs, declared.conn.Writing.Writing};
+ghost use Rattle.gateway_relay.specs.{Content.Kept, Failures.Refuses};
 
 use bytes::BytesMut;
 use http1::{Client, Header, Server, WriteError};

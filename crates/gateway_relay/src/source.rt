@@ -1,11 +1,8 @@
 //! The side of a gateway that reads the content of a message.
 ghost use Rattle.std.specs.Prelude.{◌≡◌, ◌≢◌, Bool, IsTrue, length, false, IfErr, IfOk, OnErr, OnOk};
-ghost use Rattle.http1.specs.Decoder.{HasNoBody};
-ghost use Rattle.http1.specs.ReadError.{BodyError};
-ghost use Rattle.http1.specs.declared.conn.Reading.{Reading};
+ghost use Rattle.http1.specs.{Decoder.HasNoBody, ReadError.BodyError, declared.conn.Reading.Reading};
 ghost use Rattle.http1.specs.declared.conn.Reading.TheVariants as Reads;
-ghost use Rattle.http1.specs.declared.decode.Decoder.{Decoder};
-ghost use Rattle.http1.specs.declared.decode.Decoder.TheVariants.{UntilClose};
+ghost use Rattle.http1.specs.{declared.decode.Decoder.Decoder, declared.decode.Decoder.TheVariants.UntilClose};
 ghost use Rattle.gateway_relay.specs.Content.{Asked, Finds, IsPartWithin, WaitsNoMore};
 
 use http1::decode::Decoded;
@@ -96,8 +93,7 @@ impl ContentSource for Server {
 
 impl ContentSource for Client {
     ghost use Rattle.std.specs.Prelude.{false, true};
-    ghost use Rattle.http1.specs.Client.{reading as read_by};
-    ghost use Rattle.http1.specs.declared.framing.MethodKind.TheVariants.{Other};
+    ghost use Rattle.http1.specs.{Client.reading as read_by, declared.framing.MethodKind.TheVariants.Other};
 
     ghost reading = { read_by };
 

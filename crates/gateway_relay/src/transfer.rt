@@ -1,8 +1,7 @@
 //! Bytes from a reader and to a writer.
 ghost use Rattle.std.specs.Prelude.{◌≡◌, ◌++◌, ℕ, List, [], length, IfErr, IfOk, OnErr, OnOk};
 ghost use Rattle.std.specs.Io.KnownBytes.{Consumes, IsAtEnd, Keeps};
-ghost use Rattle.gateway_relay.specs.Failures.{IsReceiveFailure};
-ghost use Rattle.gateway_relay.specs.Relay.{Sends};
+ghost use Rattle.gateway_relay.specs.{Failures.IsReceiveFailure, Relay.Sends};
 
 use crate::failure::Failure;
 use bytes::BytesMut;

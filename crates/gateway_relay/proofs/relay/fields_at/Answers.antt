@@ -1,17 +1,13 @@
-use Rattle.std.proofs.Common.{◌∙◌, List, ℕ, ap, subst, take}
+use Rattle.std.proofs.Common.{◌∙◌, List, ℕ, ap, take}
 use Rattle.std.proofs.lemmas.Result.{err_from_is_err_and}
-use Rattle.http1.specs.ServerTrace.{headers_at}
-use Rattle.http1_typed.specs.Parts.{MapError, map_at}
-use Rattle.gateway_relay.specs.Failures.{IsMapFailure}
-use Rattle.gateway_relay.proofs.FieldLemmas.{map_at-take, map_fails}
-use Rattle.gateway_relay.proofs.HeadLemmas.{fails_as}
+use Rattle.http1_typed.specs.Parts.{map_at}
+use Rattle.gateway_relay.proofs.{FieldLemmas.map_at-take, FieldLemmas.map_fails, HeadLemmas.fails_as}
 use Rattle.gateway_relay.proofs.relay.fields_at.Goals as goal
 
 pub returns-clause-fields : goal.returns-clause-fields
 returns-clause-fields c =
-    c.in_ok-header_map.ensures.ok
-    ∙ ap (λ (section : List ℕ). map_at section (take c.args.count c.args.spans.now)) c.in_ok-section.ensures
-    ∙ map_at-take c.args.len c.args.input.now c.args.spans.now c.args.count c.requires.headers_fit
+    c.in_ok-header_map.ensures.ok ∙ ap (λ (section : List ℕ). map_at section (take c.args.count c.args.spans.now))
+    c.in_ok-section.ensures ∙ map_at-take _ _ _ _ c.requires.headers_fit
 
 pub returns-in_err-header_map-clause-reason : goal.returns-in_err-header_map-clause-reason
 returns-in_err-header_map-clause-reason c =
@@ -19,6 +15,5 @@ returns-in_err-header_map-clause-reason c =
     let r = c.from_residual-in_err-header_map in
     let error = c.in_err-header_map.field-0.0 in
     let p = err_from_is_err_and r.result r.ensures.1 in
-    fails_as r.result p.1 p.2 (IsMapFailure (headers_at c.args.input.now c.args.spans.now c.args.count))
-    (map_fails c.args.len c.args.input.now spans c.requires.headers_fit error
-    (subst (λ (s : List ℕ). MapError s spans error) c.in_ok-section.ensures c.in_err-header_map.ensures.err))
+    fails_as r.result p.1 p.2 _
+    (map_fails _ _ spans c.requires.headers_fit error (rw c.in_ok-section.ensures at c.in_err-header_map.ensures.err))

@@ -1,30 +1,21 @@
-use Rattle.std.proofs.Common.{◌∙◌, ◌++◌, Err, List, Ok, ℕ, ap, append_assoc, refl, subst, sym}
-use Rattle.std.proofs.KnownBytes.{Keeps-refl}
-use Rattle.std.proofs.lemmas.Result.{err_from_is_err_and}
+use Rattle.std.proofs.Common.{◌∙◌, ◌++◌, Err, List, Ok, ℕ, ap, append_assoc, refl, sym}
+use Rattle.std.proofs.{KnownBytes.Keeps-refl, lemmas.Result.err_from_is_err_and}
 use Rattle.bytes.specs.Filled.{Filled}
-use Rattle.http1.specs.Decoder.{HasNoBody}
-use Rattle.http1.specs.ReadError.{BodyError}
 use Rattle.http1.specs.ServerTrace.{headers_at}
-use Rattle.http1.specs.declared.decode.Decoded.{Decoded}
-use Rattle.gateway_relay.specs.Content.{WaitsNoMore, map_of}
-use Rattle.gateway_relay.specs.Failures.{IsMapFailure}
-use Rattle.gateway_relay.specs.Relay.{HasEnd}
-use Rattle.gateway_relay.specs.declared.relay.TheConstants.{MAX_TRAILERS}
+use Rattle.gateway_relay.specs.Content.{map_of}
 use Rattle.gateway_relay.proofs.RelayLemmas.{above, counts_all, counts_begin, counts_piece, counts_read, some_more}
 use Rattle.gateway_relay.proofs.RelayLemmas.{content_fails, end_found, found, nothing_more, on_ok, passing_as}
 use Rattle.gateway_relay.proofs.RelayLemmas.{passing_begins, passing_piece, passing_received, passing_sent}
-use Rattle.gateway_relay.proofs.RelayLemmas.{passing_waits, piece_fails}
-use Rattle.gateway_relay.proofs.RelayLemmas.{receive_fails, relays_closed, relays_ended, relays_failed, relays_unsent}
-use Rattle.gateway_relay.proofs.RelayLemmas.{trailers_fail}
+use Rattle.gateway_relay.proofs.RelayLemmas.{passing_waits, piece_fails, receive_fails, relays_closed, relays_ended}
+use Rattle.gateway_relay.proofs.RelayLemmas.{relays_failed, relays_unsent, trailers_fail}
 use Rattle.gateway_relay.proofs.relay.relay_content.Goals as goal
 
 pub loop-turn-init : goal.loop-turn-init
 unfolding passing_as passing_begins
 loop-turn-init g c = record {
   passing = λ d e reading writing. (
-    passing_as (passing_begins d e c.args.input.now.items _ _ _ _ reading writing) _ _ _ _ _
-        refl refl refl refl c.new-output.ensures.items,
-    counts_begin c.args.input.now.items,
+    passing_as (passing_begins d e _ _ _ _ _ reading writing) _ _ _ _ _ refl refl refl refl c.new-output.ensures.items,
+    counts_begin _,
   );
   asked = λ d e reading writing. refl;
   kept = refl;
@@ -35,12 +26,9 @@ returns-in-Err-clause-relays g c d e reading writing =
     let p = (c.loop-turn.invariant.passing d e reading writing).0 in
     let wrong = c.in-Err.ensures.err p.last p.is_reading in
     let seen = c.as_slice.ensures in
-    relays_failed p g.S.ContentSource.ends_with_connection _ _ _ _ _ refl (Keeps-refl _)
-    (content_fails p g.S.ContentSource.ends_with_connection (g.R.Read.remaining c.loop-turn.reader) c.in-Err.error
-    (subst (λ (s : List ℕ). HasNoBody p.last s MAX_TRAILERS) seen
-    (subst (λ (n : ℕ). HasNoBody p.last c.as_slice.result.now n) c.as_slice.array_long wrong.0))
-    (subst (λ (s : List ℕ). BodyError p.last s MAX_TRAILERS c.in-Err.error) seen
-    (subst (λ (n : ℕ). BodyError p.last c.as_slice.result.now n c.in-Err.error) c.as_slice.array_long wrong.1)))
+    relays_failed p g.S.ContentSource.ends_with_connection _ _ _ _ _ refl (Keeps-refl _) (content_fails p
+    g.S.ContentSource.ends_with_connection (g.R.Read.remaining c.loop-turn.reader) c.in-Err.error
+    (rw seen at (rw c.as_slice.array_long at wrong.0)) (rw seen at (rw c.as_slice.array_long at wrong.1)))
 
 pub returns-in_err-pass_piece-in-Data-clause-relays : goal.returns-in_err-pass_piece-in-Data-clause-relays
 returns-in_err-pass_piece-in-Data-clause-relays g c d e reading writing =
@@ -53,22 +41,18 @@ returns-in_err-pass_piece-in-Data-clause-relays g c d e reading writing =
 pub returns-in_err-send-in-NeedMore-clause-relays : goal.returns-in_err-send-in-NeedMore-clause-relays
 returns-in_err-send-in-NeedMore-clause-relays g c d e reading writing =
     let s = c.send.ensures.sends in
-    let y = err_from_is_err_and c.from_residual-in_err-send-in-NeedMore.result
-    c.from_residual-in_err-send-in-NeedMore.ensures.1 in
-    relays_unsent (c.loop-turn.invariant.passing d e reading writing).0 g.S.ContentSource.ends_with_connection s.0
-    s.1 _ _ _ _ _ (y.1 ∙ ap Err y.2) c.in_err-send-in-NeedMore.ensures.err
-    (sym c.as_slice-in-NeedMore.ensures ∙ s.2) s.3
+    let y = err_from_is_err_and _ c.from_residual-in_err-send-in-NeedMore.ensures.1 in
+    relays_unsent (c.loop-turn.invariant.passing d e reading writing).0 _ s.0 s.1 _ _ _ _ _ (y.1 ∙ ap Err y.2)
+    c.in_err-send-in-NeedMore.ensures.err (sym c.as_slice-in-NeedMore.ensures ∙ s.2) s.3
 
 pub returns-in_err-receive-in-NeedMore-clause-relays : goal.returns-in_err-receive-in-NeedMore-clause-relays
 returns-in_err-receive-in-NeedMore-clause-relays g c d e reading writing =
     let s = c.in_ok-send-in-NeedMore.ensures.sends in
     let p = passing_sent (c.loop-turn.invariant.passing d e reading writing).0 s.0 s.1 _
     (sym c.as_slice-in-NeedMore.ensures ∙ s.2) s.3 s.4 in
-    let y = err_from_is_err_and c.from_residual-in_err-receive-in-NeedMore.result
-    c.from_residual-in_err-receive-in-NeedMore.ensures.1 in
-    relays_failed p g.S.ContentSource.ends_with_connection _ _ _ _ _ (y.1 ∙ ap Err y.2)
-    c.in_err-receive-in-NeedMore.ensures.err.1
-    (receive_fails p g.S.ContentSource.ends_with_connection _ _ c.in_err-receive-in-NeedMore.ensures.reason)
+    let y = err_from_is_err_and _ c.from_residual-in_err-receive-in-NeedMore.ensures.1 in
+    relays_failed p _ _ _ _ _ _ (y.1 ∙ ap Err y.2) c.in_err-receive-in-NeedMore.ensures.err.1
+    (receive_fails p _ _ _ c.in_err-receive-in-NeedMore.ensures.reason)
 
 pub returns-then-branch-eq0-clause-relays : goal.returns-then-branch-eq0-clause-relays
 unfolding passing_received passing_sent passing_waits
@@ -83,8 +67,7 @@ returns-then-branch-eq0-clause-relays g c d e reading writing =
     let count = c.if-branch-eq0.true in
     let at_end = c.in_ok-receive-in-NeedMore.ensures.end (ap Ok count) in
     relays_closed p now _ f.2 got.0 (nothing_more got.0 (got.1 ∙ count)) (sym (append_assoc _ p.taken got.0))
-    (got.2 ∙ ap (λ (t : List ℕ). t ++ got.0) c.advance.ensures.items)
-    g.S.ContentSource.ends_with_connection at_end c.end_of_input.result refl c.end_of_input.ensures.fields
+    (got.2 ∙ ap (λ (t : List ℕ). t ++ got.0) c.advance.ensures.items) _ at_end _ refl c.end_of_input.ensures.fields
     c.end_of_input.ensures.read (c.end_of_input.ensures.until_close now.last now.is_reading)
     (c.end_of_input.ensures.cut now.last now.is_reading)
 
@@ -98,10 +81,9 @@ returns-then-branch-eq0-clause-asked g c d e reading writing =
 pub returns-in_err-send-in-End-clause-relays : goal.returns-in_err-send-in-End-clause-relays
 returns-in_err-send-in-End-clause-relays g c d e reading writing =
     let s = c.send-in-End.ensures.sends in
-    let y = err_from_is_err_and c.from_residual-in_err-send-in-End.result
-    c.from_residual-in_err-send-in-End.ensures.1 in
-    relays_unsent (c.loop-turn.invariant.passing d e reading writing).0 g.S.ContentSource.ends_with_connection s.0
-    s.1 _ _ _ _ _ (y.1 ∙ ap Err y.2) c.in_err-send-in-End.ensures.err (sym c.as_slice-in-End.ensures ∙ s.2) s.3
+    let y = err_from_is_err_and _ c.from_residual-in_err-send-in-End.ensures.1 in
+    relays_unsent (c.loop-turn.invariant.passing d e reading writing).0 _ s.0 s.1 _ _ _ _ _ (y.1 ∙ ap Err y.2)
+    c.in_err-send-in-End.ensures.err (sym c.as_slice-in-End.ensures ∙ s.2) s.3
 
 pub returns-in_err-fields-in-End-clause-relays : goal.returns-in_err-fields-in-End-clause-relays
 returns-in_err-fields-in-End-clause-relays g c d e reading writing =
@@ -109,12 +91,9 @@ returns-in_err-fields-in-End-clause-relays g c d e reading writing =
     let p = passing_sent (c.loop-turn.invariant.passing d e reading writing).0 s.0 s.1 _ (sym c.as_slice-in-End.ensures
     ∙ s.2) s.3 s.4 in
     let f = found p _ _ _ _ _ c.in-Ok.ensures.ok c.as_slice.ensures c.in-End.is in
-    let y = err_from_is_err_and c.from_residual-in_err-fields-in-End.result
-    c.from_residual-in_err-fields-in-End.ensures.1 in
-    relays_failed p g.S.ContentSource.ends_with_connection _ _ _ _ _ (y.1 ∙ ap Err y.2) (Keeps-refl _)
-    (trailers_fail p g.S.ContentSource.ends_with_connection _ c.read_content.new.trailers _ _ _ f
-    (subst (λ (s : List ℕ). IsMapFailure (headers_at s c.read_content.new.trailers c.in-End.trailers)
-    c.in_err-fields-in-End.field-0.0) c.as_slice-in-End-2.ensures c.in_err-fields-in-End.ensures.reason))
+    let y = err_from_is_err_and _ c.from_residual-in_err-fields-in-End.ensures.1 in
+    relays_failed p _ _ _ _ _ _ (y.1 ∙ ap Err y.2) (Keeps-refl _)
+    (trailers_fail p _ _ _ _ _ _ f (rw c.as_slice-in-End-2.ensures at c.in_err-fields-in-End.ensures.reason))
 
 pub returns-in-End-clause-relays : goal.returns-in-End-clause-relays
 returns-in-End-clause-relays g c d e reading writing =
@@ -125,8 +104,7 @@ returns-in-End-clause-relays g c d e reading writing =
     let fields = c.in_ok-fields-in-End.ensures.fields
     ∙ ap (λ (x : List ℕ). map_of
     (headers_at x c.read_content.new.trailers c.in-End.trailers)) c.as_slice-in-End-2.ensures in
-    relays_ended sent g.S.ContentSource.ends_with_connection _ _ refl
-    (subst (HasEnd sent.last _ _) (sym c.advance-in-End.ensures.items) (end_found sent.last _ _ _ _ _ f fields))
+    relays_ended sent _ _ _ refl (rw (← c.advance-in-End.ensures.items) at (end_found sent.last _ _ _ _ _ f fields))
 
 pub returns-in-End-clause-asked : goal.returns-in-End-clause-asked
 returns-in-End-clause-asked g c d e reading writing =
@@ -148,8 +126,7 @@ loop-turn-preserved g c = record {
               passing_as moved _ _ _ _ _ input (ap g.R.Read.remaining w.reader-is)
                   (ap g.W.Write.contents w.writer-is) (ap g.T.ContentSink.writing w.sink-is)
                   (ap (λ (b : Filled). b.items) w.output-is),
-              counts_piece c.loop-turn._turn c.args.input.now.items p.taken c.loop-turn.input.items counted _ _
-                  (above _ _ f.2) f.3.within input,
+              counts_piece _ _ p.taken _ counted _ _ (above _ _ f.2) f.3.within input,
             )
         | goal.in-NeedMore+in_ok-send-in-NeedMore+in_ok-receive-in-NeedMore+else-branch-eq0 w ↦
             let f = found p _ _ _ _ _ c.in-Ok.ensures.ok c.as_slice.ensures w.in-NeedMore.is in
@@ -163,8 +140,8 @@ loop-turn-preserved g c = record {
               passing_as now _ _ _ _ _ input (ap g.R.Read.remaining w.reader-is)
                   (ap g.W.Write.contents w.writer-is) (ap g.T.ContentSink.writing w.sink-is)
                   (ap (λ (b : Filled). b.items) w.output-is ∙ w.clear.ensures.items),
-              counts_read c.loop-turn._turn c.args.input.now.items p.taken c.loop-turn.input.items counted _ got.0 _
-                  (some_more got.0 _ got.1 w.if-branch-eq0.false) (input ∙ read),
+              counts_read _ _ p.taken _ counted _ got.0 _ (some_more got.0 _ got.1 w.if-branch-eq0.false)
+                  (input ∙ read),
             )
       ];
   asked = λ d e reading writing.
@@ -181,8 +158,7 @@ loop-turn-preserved g c = record {
 pub returns-in-End-clause-waiting : goal.returns-in-End-clause-waiting
 returns-in-End-clause-waiting g c d e reading writing =
     let p = (c.loop-turn.invariant.passing d e reading writing).0 in
-    subst (λ (x : Decoded). WaitsNoMore x (g.S.ContentSource.is_waiting c.read_content.new.self)) c.in-End.is
-    (c.in-Ok.ensures.waiting p.last p.is_reading)
+    rw c.in-End.is at (c.in-Ok.ensures.waiting p.last p.is_reading)
 
 pub returns-then-branch-eq0-clause-waiting : goal.returns-then-branch-eq0-clause-waiting
 returns-then-branch-eq0-clause-waiting g c d e reading writing =

@@ -1,9 +1,8 @@
 use Rattle.std.proofs.Common.{◌≡◌, ◌+◌, ◌≤◌, ◌++◌, length}
+use Rattle.http1.specs.{declared.decode.Decoder.Decoder, declared.encode.Encoder.Encoder}
+use Rattle.gateway_relay.proofs.RelayLemmas.{Passing}
 use Rattle.http1.specs.declared.conn.Reading.TheVariants as Reads
 use Rattle.http1.specs.declared.conn.Writing.TheVariants as Writes
-use Rattle.http1.specs.declared.decode.Decoder.{Decoder}
-use Rattle.http1.specs.declared.encode.Encoder.{Encoder}
-use Rattle.gateway_relay.proofs.RelayLemmas.{Passing}
 use Rattle.gateway_relay.proofs.relay.relay_content.Given as goal
 
 abbrev pub invariant-loop-turn : goal.invariant-loop-turn

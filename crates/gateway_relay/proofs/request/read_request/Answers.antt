@@ -1,8 +1,6 @@
 use Rattle.std.proofs.Common.{◌∙◌, List, ℕ, drop, subst, sym}
 use Rattle.std.proofs.lemmas.Result.{err_from_is_err_and}
-use Rattle.http1.specs.Fields.{Header}
-use Rattle.http1.specs.Message.{AcceptsRequest}
-use Rattle.http1.specs.ServerTrace.{headers_at}
+use Rattle.http1.specs.{Fields.Header, Message.AcceptsRequest, ServerTrace.headers_at}
 use Rattle.gateway_relay.specs.Failures.{IsMapFailure}
 use Rattle.gateway_relay.proofs.HeadLemmas.{request_has_no_map, takes_request}
 use Rattle.gateway_relay.proofs.request.read_request.Goals as goal
@@ -13,14 +11,13 @@ returns-in_err-request-in-Head-clause-err g c begins =
     let failure = c.in_err-request-in-Head.field-0.0 in
     let seen = c.as_slice.ensures in
     let spans = c.read.new.headers in
-    let p = err_from_is_err_and c.from_residual.result c.from_residual.ensures.1 in
-    let t = takes_request c.loop-read.server c.read.new.self limits c.as_slice.result.now spans c.in-Ok.read
-    c.in-Head.head (c.loop-read.invariant.same begins ∙ begins) c.in-Ok.ensures.ok c.in-Head.is in
+    let p = err_from_is_err_and _ c.from_residual.ensures.1 in
+    let t = takes_request _ _ limits _ spans _ _ (c.loop-read.invariant.same begins ∙ begins) c.in-Ok.ensures.ok
+    c.in-Head.is in
     let taken = c.loop-read.invariant.taken in
     let rest = drop c.in-Ok.read.consumed c.as_slice.result.now in
-    request_has_no_map c.from_residual.result p.1 p.2 limits c.args.input.now.items c.loop-read.input.items _ _ taken.0
-    t.head t.framing rest taken.1 taken.2
-    (subst (λ (s : List ℕ). AcceptsRequest limits s t.head t.framing rest) seen t.accepts)
-    (subst (λ (fields : List Header). IsMapFailure fields failure) t.covered.fields
-    (subst (λ (s : List ℕ). IsMapFailure (headers_at s spans c.in-Head.head.headers) failure)
+    request_has_no_map _ p.1 p.2 limits _ _ _ _ taken.0 t.head t.framing rest taken.1 taken.2
+    (subst (λ (s : List ℕ). AcceptsRequest limits s t.head t.framing rest) seen t.accepts) (subst
+    (λ (fields : List Header). IsMapFailure fields failure) t.covered.fields (subst
+    (λ (s : List ℕ). IsMapFailure (headers_at s spans c.in-Head.head.headers) failure)
     (c.as_slice-in-Head.ensures ∙ sym seen) c.in_err-request-in-Head.ensures.reason))

@@ -1,10 +1,7 @@
 use Rattle.std.proofs.Common.{◌∙◌, ◌≤◌, List, ℕ, ap, drop, subst, sym}
 use Rattle.std.proofs.lemmas.Result.{err_from_is_err_and}
-use Rattle.http1.specs.Fields.{Header}
-use Rattle.http1.specs.Message.{AcceptsResponse}
-use Rattle.http1.specs.ServerTrace.{headers_at}
+use Rattle.http1.specs.{Fields.Header, Message.AcceptsResponse, ServerTrace.headers_at}
 use Rattle.gateway_relay.specs.Failures.{IsMapFailure}
-use Rattle.gateway_relay.specs.Heads.{IsResponseAt}
 use Rattle.gateway_relay.proofs.HeadLemmas.{head_taken, response_has_no_map, takes_head}
 use Rattle.gateway_relay.proofs.response.read_response.Goals as goal
 
@@ -14,30 +11,25 @@ returns-in_err-response-in-Head-clause-err g c reading writing =
     let failure = c.in_err-response-in-Head.field-0.0 in
     let seen = c.as_slice.ensures in
     let spans = c.read.new.headers in
-    let p = err_from_is_err_and c.from_residual-in_err-response-in-Head.result
-    c.from_residual-in_err-response-in-Head.ensures.1 in
-    let t = takes_head client c.loop-read.client c.read.new.self c.as_slice.result.now spans c.in-Ok.read
-    c.in-Head.head (c.loop-read.invariant.same reading writing) reading writing c.in-Ok.ensures.ok c.in-Head.is in
+    let p = err_from_is_err_and _ c.from_residual-in_err-response-in-Head.ensures.1 in
+    let t = takes_head client _ _ _ spans _ _ (c.loop-read.invariant.same reading writing) reading writing
+    c.in-Ok.ensures.ok c.in-Head.is in
     let taken = c.loop-read.invariant.taken in
     let rest = drop c.in-Ok.read.consumed c.as_slice.result.now in
-    response_has_no_map c.from_residual-in_err-response-in-Head.result p.1 p.2 client c.args.input.now.items
-    c.loop-read.input.items _ _ taken.0 t.head t.framing rest taken.1 taken.2
-    (subst (λ (s : List ℕ). AcceptsResponse client.limits client.method s t.head t.framing rest) seen t.accepts)
-    (subst (λ (fields : List Header). IsMapFailure fields failure) t.covered.fields
-    (subst (λ (s : List ℕ). IsMapFailure (headers_at s spans c.in-Head.head.headers) failure)
-    (c.as_slice-in-Head.ensures ∙ sym seen) (c.in_err-response-in-Head.ensures.reason
-    (subst (λ (n : ℕ). 100 ≤ n) (sym t.covered.code) t.accepts.status))))
+    response_has_no_map _ p.1 p.2 client _ _ _ _ taken.0 t.head t.framing rest taken.1 taken.2
+    (subst (λ (s : List ℕ). AcceptsResponse client.limits client.method s t.head t.framing rest) seen t.accepts) (subst
+    (λ (fields : List Header). IsMapFailure fields failure) t.covered.fields (subst
+    (λ (s : List ℕ). IsMapFailure (headers_at s spans c.in-Head.head.headers) failure)
+    (c.as_slice-in-Head.ensures ∙ sym seen)
+    (c.in_err-response-in-Head.ensures.reason (subst (λ (n : ℕ). 100 ≤ n) (sym t.covered.code) t.accepts.status))))
 
 pub returns-in-Head-clause-ok : goal.returns-in-Head-clause-ok
 returns-in-Head-clause-ok g c reading writing =
     let seen = c.as_slice.ensures in
     let again = c.as_slice-in-Head.ensures ∙ sym seen in
     let taken = c.loop-read.invariant.taken in
-    let t = takes_head c.args.client.now c.loop-read.client c.read.new.self c.as_slice.result.now
-    c.read.new.headers c.in-Ok.read
-    c.in-Head.head (c.loop-read.invariant.same reading writing) reading writing c.in-Ok.ensures.ok c.in-Head.is in
-    head_taken c.args.client.now c.read.new.self c.args.input.now.items taken.0 c.as_slice.result.now _ _ _
-    c.read.new.headers _ c.in-Head.head c.in_ok-response-in-Head.response t taken.1 (seen ∙ taken.2)
+    let t = takes_head _ _ _ _ _ _ _ (c.loop-read.invariant.same reading writing) reading writing c.in-Ok.ensures.ok
+    c.in-Head.is in
+    head_taken _ _ _ taken.0 _ _ _ _ _ _ _ _ t taken.1 (seen ∙ taken.2)
     (c.advance.ensures.items ∙ ap (λ (s : List ℕ). drop c.in-Head.head.len s) (sym seen))
-    (subst (λ (s : List ℕ). IsResponseAt s c.read.new.headers c.in-Head.head c.in_ok-response-in-Head.response) again
-    c.in_ok-response-in-Head.ensures.parts)
+    (rw again at c.in_ok-response-in-Head.ensures.parts)

@@ -8,9 +8,8 @@ returns-in-Ok-eq0-clause-sends g c =
     let at = c.loop-at.at + c.in-Ok-eq0.field-0 in (
       take at c.args.text.now,
       drop at c.args.text.now,
-      sym (take-append-drop at c.args.text.now),
-      appends_more _ _ _ c.args.text.now c.loop-at.at c.in-Ok-eq0.field-0 c.loop-at.invariant.told
-          c.in-Ok-eq0.ensures.bytes,
+      sym (take-append-drop at _),
+      appends_more _ _ _ _ _ _ c.loop-at.invariant.told c.in-Ok-eq0.ensures.bytes,
       tt,
     )
 
@@ -35,7 +34,6 @@ returns-in-Ok-flush-clause-sends g c = (
   c.args.text.now,
   [],
   sym (append-nil c.args.text.now),
-  Appends-kept _ _ _ _ (appends_all _ _ c.args.text.now c.loop-at.at c.loop-at.invariant.told c.loop-at-test.false)
-      c.in-Ok-flush.ensures.bytes,
+  Appends-kept _ _ _ _ (appends_all _ _ _ _ c.loop-at.invariant.told c.loop-at-test.false) c.in-Ok-flush.ensures.bytes,
   refl,
 )
