@@ -1,17 +1,12 @@
 -- The number of Age that a cache writes is parsed to itself.
-use Rattle.std.proofs.Common.{◌≡◌, ℕ, ◌<◌, ◌^◌, true, false, List, [], ◌∷◌, length, take, Some, refl, ◌∙◌, ap}
-use Rattle.std.proofs.Common.{arith, rules}
-use Rattle.std.specs.Prelude.{decimal, min}
-use Rattle.std.specs.List.{before_first, list_all, position_or_len}
-use Rattle.std.specs.Str.{all_ascii_digits}
-use Rattle.std.proofs.lemmas.Bool.{and_parts, ne_eqb}
+use Rattle.std.proofs.Common.{◌≡◌, ℕ, ◌<◌, ◌^◌, true, false, List, [], ◌∷◌, length, take, Some, refl, ◌∙◌, ap, arith}
+use Rattle.std.proofs.{lemmas.Bool.and_parts, lemmas.Bool.ne_eqb, lemmas.List.take_all}
 use Rattle.std.proofs.lemmas.Fmt.{decimal_nonempty, digits_decimal, digits_value-decimal}
-use Rattle.std.proofs.lemmas.List.{take_all}
-use Rattle.std.proofs.lemmas.Str.Parse.{IsNumeralModel, numerals_by_weight, tells_all_ascii_digits}
+use Rattle.std.specs.{Prelude.decimal, Prelude.min, List.before_first, List.list_all, List.position_or_len}
 use Rattle.cache_policy.specs.Fields.{age_of, capped, greatest, is_comma}
-use Rattle.rfc_fields.specs.Numbers.{is_number, number_within}
-use Rattle.headers_syntax.specs.Number.{decimal_value}
-use Rattle.headers_syntax.specs.Text.{trim}
+use Rattle.rfc_fields.specs.Numbers.{number_within}
+use Rattle.gateway_messages.proofs.NumberLemmas.{is_number-digits, numerals}
+use Rattle.headers_syntax.specs.{Number.decimal_value, Text.trim}
 use Rattle.headers_syntax.proofs.PlainLemmas.{decimal_plain, is_plain, plain_bounds, trim_piece}
 
 no_comma : (p : List ℕ) → list_all is_plain p ≡ true → position_or_len is_comma p ≡ length p
@@ -20,13 +15,6 @@ no_comma (b ∷ p) h =
     let x = and_parts (is_plain b) (list_all is_plain p) h in
     let other : is_comma b ≡ false = ne_eqb b 44 (plain_bounds b x.0).2 in
     let rest : position_or_len is_comma p ≡ length p = no_comma p x.1 in rw other (omega (arith, rest))
-
-numerals : IsNumeralModel (λ ds. all_ascii_digits ds ≡ true) decimal_value
-numerals = numerals_by_weight _ tells_all_ascii_digits decimal_value (search rules)
-
-is_number-digits : (s : List ℕ) → all_ascii_digits s ≡ true → 0 < length s → is_number s ≡ true
-is_number-digits [] e some = absurd (omega (arith, some))
-is_number-digits (b ∷ s) e some = e
 
 parsed : (n : ℕ) → n < 2 ^ 64 → number_within greatest (decimal n) ≡ Some n
 parsed n fits =

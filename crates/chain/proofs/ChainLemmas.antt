@@ -1,42 +1,29 @@
 -- What a client receives through gateways and caches is what the resource says.
-use Rattle.std.proofs.Common.{◌≡◌, ◌≢◌, ◌⊎◌, ℕ, ◌-◌, ◌≤◌, Bool, true, false, List, [], ◌∷◌, Some, None}
-use Rattle.std.proofs.Common.{refl, sym, ◌∙◌, ap, subst, inl, inr, arith}
-use Rattle.std.specs.Prelude.{All, Contains, bytes_eq, codes, if◌then◌else◌}
-use Rattle.std.specs.List.{list_any}
+use Rattle.std.proofs.Common.{◌≡◌, ◌≢◌, ◌⊎◌, ℕ, ◌-◌, ◌≤◌, Bool, true, false, List, [], ◌∷◌, Some, None, refl, sym, ◌∙◌}
+use Rattle.std.proofs.Common.{ap, subst, inl, inr, arith}
 use Rattle.std.proofs.lemmas.Bool.{cases_Bool}
+use Rattle.std.specs.{Prelude.All, Prelude.bytes_eq, Prelude.codes, Prelude.if◌then◌else◌, List.list_any}
 use Rattle.http_header.specs.Token.{lowercase}
-use Rattle.headers.specs.LineMap.{fields_of, set_all}
-use Rattle.headers.specs.Lines.{Line}
+use Rattle.headers.specs.{LineMap.fields_of, LineMap.set_all, Lines.Line}
 use Rattle.cache_store.specs.Lookups.{freshness_of}
-use Rattle.cache_policy.specs.Fields.{age_of, capped}
-use Rattle.cache_policy.specs.Requests.{AllowsMethod, IsGetOrHead}
-use Rattle.cache_rules.specs.Stored.{fields_of_stored}
+use Rattle.cache_policy.specs.{Fields.age_of, Fields.capped, Requests.AllowsMethod, Requests.IsGetOrHead}
 use Rattle.chain.specs.Caches.{Caching, HasComeFrom, IsFromStore, IsPlain, Origin, Reply, unless_head}
-use Rattle.chain.specs.Chains.{Hop, IsForwardedBack, IsGoodAt, IsOwn, IsTold, behind, meant, own_statuses}
-use Rattle.chain.specs.Chains.Hop.{Forwards, Stores}
+use Rattle.chain.specs.Chains.{Hop, IsForwardedBack, IsGoodAt, IsOwn, IsTold, behind, meant}
+use Rattle.chain.specs.{Chains.Hop.Forwards, Chains.Hop.Stores, Ways.sent_directly}
 use Rattle.chain.specs.Servers.{IsCarried, SaysCloseAtMost, Server, sent_of}
-use Rattle.chain.specs.Ways.{end_to_end_lines, sent_directly}
 use Rattle.rfc_fields.specs.Members.{field_members}
-use Rattle.rfc_fields.specs.Scan.{Member}
-use Rattle.gateway_messages.specs.Forwarding.{IsHopByHop, own_names}
-use Rattle.gateway_messages.specs.Spellings.{has_mark}
+use Rattle.gateway_messages.specs.{Forwarding.IsHopByHop, Forwarding.own_names, Spellings.has_mark}
+use Rattle.gateway_messages.specs.{declared.gateway.Gateway.Gateway, declared.protocol.Protocol.TheVariants.Http11}
 use Rattle.gateway_messages.specs.HopByHop.{connection_options, is_hop_by_hop, is_known}
-use Rattle.gateway_messages.specs.declared.gateway.Gateway.{Gateway}
-use Rattle.gateway_messages.specs.declared.protocol.Protocol.TheVariants.{Http11}
-use Rattle.decide_resource.specs.Answers.{AreSame, IsAnswer}
-use Rattle.decide_resource.specs.Requests.{Request, get_of, head_of}
-use Rattle.decide_resource.specs.Vary.{AreAlike, ChooseAlike}
-use Rattle.decide_resource.specs.declared.answer.Answer.{Answer}
-use Rattle.decide_resource.specs.declared.resource.Resource.{Resource}
-use Rattle.chain.proofs.ConnectionLemmas.{crosses_if}
-use Rattle.gateway_messages.proofs.SpellingLemmas.{well_spelt}
-use Rattle.chain.proofs.ServerLemmas.{same_sent, says_close_at_most}
-use Rattle.chain.proofs.StoreLemmas.{StoreLaws, age_is, alike_first, allowed_method, asked_first, come, counted}
-use Rattle.chain.proofs.StoreLemmas.{counts, from, once_more, with_method}
-use Rattle.chain.proofs.StoreLemmas.{lacks, plain_first, quiet, right, shown, stored_as, suits}
+use Rattle.decide_resource.specs.{Answers.IsAnswer, Requests.Request, Requests.get_of, Requests.head_of, Vary.AreAlike}
+use Rattle.decide_resource.specs.{Vary.ChooseAlike, declared.answer.Answer.Answer, declared.resource.Resource.Resource}
+use Rattle.chain.proofs.{ConnectionLemmas.crosses_if, ServerLemmas.same_sent, ServerLemmas.says_close_at_most}
+use Rattle.chain.proofs.StoreLemmas.{StoreLaws, age_is, alike_first, allowed_method, asked_first, come, counts, from}
+use Rattle.chain.proofs.StoreLemmas.{once_more, with_method, lacks, plain_first, quiet, right, shown, stored_as, suits}
 use Rattle.chain.proofs.SuitLemmas.{MembersSelect, VaryIsSound, suited}
-use Rattle.chain.proofs.WayLemmas.{ReadsNoMore, alike, apart, choose_alike, choose_direct, crosses, differs}
-use Rattle.chain.proofs.WayLemmas.{direct, no_options, same_lines}
+use Rattle.chain.proofs.WayLemmas.{ReadsNoMore, alike, apart, choose_alike, choose_direct, crosses, differs, direct}
+use Rattle.chain.proofs.WayLemmas.{no_options, same_lines}
+use Rattle.gateway_messages.proofs.SpellingLemmas.{well_spelt}
 
 -- ---- carried fields
 
@@ -135,14 +122,13 @@ module _ (reads : ReadsNoMore) where
   -- a request without connection options is as it is meant
   as_meant : (request : Request) → request.protocol ≡ Http11 → request.authority ≡ None
       → connection_options request.fields ≡ [] → (hops : List Hop) → Same (meant hops request) request
-  as_meant request modern origin none [] = stays request
+  as_meant request modern origin none [] = stays _
   as_meant request modern origin none (Stores caching ∷ hops) = as_meant request modern origin none hops
   as_meant request modern origin none (Forwards gateway ∷ hops) =
       let both = λ (present : ℕ) (resource : Resource) (answer : Answer).
       reads present resource request (sent_directly gateway request) answer (direct gateway request modern origin none)
       (choose_direct gateway request modern origin none) in
-      let line : request.fields (codes "cache-control") ≡ end_to_end_lines gateway request (codes "cache-control")
-      = crosses gateway request modern origin none (codes "cache-control") refl refl refl in
+      let line = crosses gateway request modern origin none (codes "cache-control") refl refl refl in
       record {
         there =
             record {
@@ -187,8 +173,7 @@ module _ (reads : ReadsNoMore) where
         → lowercase name ≢ codes "close" → has_mark name ≡ false → All (λ own. own ≢ name) own_names
         → reply.fields name ≡ f.behind.fields name
     passes at_most name end_to_end not_close unmarked not_own =
-        let crossing : is_hop_by_hop gateway.consumes_credentials (connection_options f.response.fields) name ≡ false
-        = crosses_if gateway.consumes_credentials f.response.fields
+        let crossing = crosses_if gateway.consumes_credentials f.response.fields
         (at_most.0, f.response_fields (codes "connection") ∙ at_most.1) name end_to_end not_close in
         f.fields name
         ∙ f.forwarded_back.fields.end_to_end name crossing (well_spelt gateway name unmarked) not_own
@@ -204,10 +189,7 @@ module _ (reads : ReadsNoMore) where
     ends name hop other =
         let same : connection_options f.behind.fields ≡ connection_options f.response.fields
         = ap (λ (lines : List Line). field_members true lines) (sym (f.response_fields (codes "connection"))) in
-        f.fields name
-        ∙ f.forwarded_back.fields.hop_by_hop name
-        (subst (λ (options : List Member). is_hop_by_hop gateway.consumes_credentials options name ≡ true) same hop)
-        other
+        f.fields name ∙ f.forwarded_back.fields.hop_by_hop name (rw same at hop) other
 
     -- a carried field that isn't behind the gateway isn't before it
     lacks_behind : (name : List ℕ) → IsCarried name → f.behind.fields name ≡ [] → reply.fields name ≡ []
@@ -225,8 +207,7 @@ module _ (reads : ReadsNoMore) where
     own_behind : IsOwn f.behind → IsOwn reply
     own_behind own =
         record {
-          status =
-              subst (λ (n : ℕ). Contains own_statuses n) (sym (f.status ∙ f.response_status)) own.status;
+          status = rw (← (f.status ∙ f.response_status)) at own.status;
           content = f.content ∙ own.content;
           fields = λ name c. lacks_behind name c (own.fields name c);
         }
@@ -397,13 +378,12 @@ module _ (reads : ReadsNoMore) (heads : HeadIsAsGet) (sound : VaryIsSound) (memb
   own_stored : IsOwn came.reply → IsOwn reply
   own_stored own =
       record {
-        status = subst (λ (n : ℕ). Contains own_statuses n) (sym status_is) own.status;
+        status = rw (← status_is) at own.status;
         content =
             once_more law caching origin now target request reply f []
             (own.content ∙ sym (nothing first.method))
             ∙ nothing request.method;
-        fields = λ name c.
-            lacks law caching origin now target request reply f name c.not_age (date_not_carried name c)
+        fields = λ name c. lacks _ caching origin now target request reply f name c.not_age (date_not_carried _ c)
             (own.fields name c);
       }
 
@@ -411,22 +391,17 @@ module _ (reads : ReadsNoMore) (heads : HeadIsAsGet) (sound : VaryIsSound) (memb
   from_store t =
       let said = t.said in
       let at_most = t.connection in
-      let stored = λ (name : List ℕ) (c : IsCarried name).
-      stored_as law caching origin now target request reply f at_most name c.end_to_end c.not_close
-      (date_not_carried name c) in
-      let varies : fields_of_stored f.stored (codes "vary")
-      ≡ set_all (server.own t.time came.reply.status) (fields_of said.answer.fields.items) (codes "vary")
-      = stored (codes "vary") vary_carried ∙ said.fields (codes "vary") vary_carried in
+      let stored = λ (name : List ℕ) (c : IsCarried name). stored_as law caching origin now target request reply f
+      at_most name c.end_to_end c.not_close (date_not_carried _ c) in
+      let varies = stored (codes "vary") vary_carried ∙ said.fields (codes "vary") vary_carried in
       let asked_now = asked_first law caching origin now target request reply f in
       let now_said = server.answers t.time asked_now in
       let both_alike = alike_first law caching origin now target request reply f in
-      let same : AreSame said.answer now_said.0
-      = suited sound members t.time (server.resource t.time) first asked_now said.answer now_said.0
-      (server.own t.time came.reply.status) said.is now_said.1 both_alike
-      (suits law caching origin now target request reply f
-      (set_all (server.own t.time came.reply.status) (fields_of said.answer.fields.items)) varies) in
-      let aged : capped (now - t.time) ≤ counted law caching origin now target request reply f
-      = counts law caching origin now target request reply f at_most t.time t.past t.aged in
+      let same = suited sound members t.time (server.resource t.time) first asked_now said.answer now_said.0
+      (server.own t.time came.reply.status) said.is now_said.1 both_alike (suits law caching origin now target
+      request reply f (set_all (server.own t.time came.reply.status) (fields_of said.answer.fields.items)) varies)
+      in
+      let aged = counts law caching origin now target request reply f at_most t.time t.past t.aged in
       let known = right law caching origin now target request reply f in
       record {
         time = t.time;
@@ -440,10 +415,9 @@ module _ (reads : ReadsNoMore) (heads : HeadIsAsGet) (sound : VaryIsSound) (memb
               status = sym same.status ∙ said.status ∙ ap (λ (n : ℕ). Some n) (sym status_is);
               content =
                   once_more law caching origin now target request reply f
-                  (server.content t.time came.reply.status (sent_of said.answer.sends)) said.content
-                  ∙ ap (λ (sent : _). unless_head request.method (server.content t.time came.reply.status sent))
-                  (same_sent said.answer.sends now_said.0.sends same.sends)
-                  ∙ ap
+                  (server.content t.time came.reply.status (sent_of said.answer.sends)) said.content ∙ ap
+                  (λ (sent : _). unless_head request.method (server.content t.time came.reply.status sent))
+                  (same_sent _ _ same.sends) ∙ ap
                   (λ (n : ℕ). unless_head request.method (server.content t.time n (sent_of now_said.0.sends)))
                   (sym status_is);
               fields = λ name c.
@@ -454,9 +428,7 @@ module _ (reads : ReadsNoMore) (heads : HeadIsAsGet) (sound : VaryIsSound) (memb
                   (sym status_is);
             };
         past = omega (arith, t.past, came.before, came.past);
-        aged =
-            subst (λ (n : ℕ). capped (now - t.time) ≤ n)
-            (sym (age_is law caching origin now target request reply f)) aged;
+        aged = rw (← (age_is law caching origin now target request reply f)) at aged;
         good =
             inr (
             record {
@@ -490,15 +462,14 @@ module _ (reads : ReadsNoMore) (heads : HeadIsAsGet) (sound : VaryIsSound) (memb
         past = omega arith;
         aged = omega arith;
         good = inl refl;
-        connection = says_close_at_most (site target) now request reply h;
+        connection = says_close_at_most _ _ _ _ h;
       }
       )
   tells (Forwards gateway ∷ hops) now target request reply (inr own) = inr own
   tells (Forwards gateway ∷ hops) now target request reply (inl f) =
       elim (tells hops now target f.next f.behind f.answered) [
         | inl t ↦
-            let same : Same (meant hops f.next) f.next =
-            as_meant reads f.next f.passed.protocol f.passed.authority
+            let same = as_meant reads f.next f.passed.protocol f.passed.authority
             (no_options gateway request f.next f.sent f.forwarded f.passed) hops in
             inl (
             through reads (site target) gateway (behind site hops) now target request reply f
@@ -515,8 +486,8 @@ module _ (reads : ReadsNoMore) (heads : HeadIsAsGet) (sound : VaryIsSound) (memb
       let earlier = came reads heads sound members law (site target) caching origin now target request reply f in
       elim (tells hops earlier.time target first earlier.reply earlier.answered) [
         | inl t ↦
-            let there : Same (meant hops first) first =
-            plain_meant reads target first (plain_first law caching origin now target request reply f) hops in
+            let there = plain_meant reads target first (plain_first law caching origin now target request reply f) hops
+            in
             let back : Same (meant hops request) request = plain_meant reads target request f.sought.plain hops in
             inl (
             told_as (site target) now reply request (meant hops request) back.back

@@ -4,11 +4,8 @@ use Rattle.std.specs.Prelude.{codes}
 use Rattle.headers.specs.Lines.{Line}
 use Rattle.chain.specs.Responses.{HasNoOptions, Returns}
 use Rattle.decide_cors.specs.Browser.{Checks, CorsCheck, Request as Sent, combined}
-use Rattle.gateway_messages.specs.Forwarding.{own_names}
-use Rattle.gateway_messages.specs.Responses.{Response}
-use Rattle.gateway_messages.specs.declared.gateway.Gateway.{Gateway}
-use Rattle.chain.proofs.ResponseLemmas.{unchanged}
-use Rattle.chain.proofs.WayLemmas.{differs, not_known}
+use Rattle.gateway_messages.specs.{Forwarding.own_names, Responses.Response, declared.gateway.Gateway.Gateway}
+use Rattle.chain.proofs.{ResponseLemmas.unchanged, WayLemmas.differs, WayLemmas.not_known}
 
 module _ (gateways : List Gateway) (response last : Response) (way : Returns gateways response last)
     (none : HasNoOptions response.fields) where

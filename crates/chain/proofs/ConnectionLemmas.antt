@@ -1,15 +1,11 @@
 -- A response that says of its connection at most that it is closed loses no other field on its way.
 use Rattle.std.proofs.Common.{◌≡◌, ◌≢◌, ℕ, Bool, true, false, List, refl, sym, ◌∙◌, ap, inl, inr}
-use Rattle.std.specs.Prelude.{◌||◌, bytes_eq, codes}
-use Rattle.std.specs.List.{list_any}
-use Rattle.std.proofs.lemmas.Bool.{cases_Bool}
-use Rattle.std.proofs.lemmas.Slice.Eq.{bytes_eq-Decides}
+use Rattle.std.proofs.{lemmas.Bool.cases_Bool, lemmas.Slice.Eq.bytes_eq-Decides}
+use Rattle.std.specs.{Prelude.◌||◌, Prelude.bytes_eq, Prelude.codes, List.list_any}
 use Rattle.http_header.specs.Token.{lowercase}
-use Rattle.headers.specs.LineMap.{LineMap}
-use Rattle.headers.specs.Lines.{Line}
+use Rattle.headers.specs.{LineMap.LineMap, Lines.Line}
 use Rattle.chain.specs.Servers.{SaysCloseAtMost, connection_lines}
-use Rattle.rfc_fields.specs.Members.{field_members}
-use Rattle.rfc_fields.specs.Scan.{pieces, push}
+use Rattle.rfc_fields.specs.{Members.field_members, Scan.pieces, Scan.push}
 use Rattle.gateway_messages.specs.HopByHop.{connection_options, hop_by_hop_fields, is_hop_by_hop, is_known, is_named}
 use Rattle.gateway_messages.specs.HopByHop.{proxy_fields}
 
@@ -40,7 +36,6 @@ pub crosses_if : (consumes : Bool) (fields : LineMap) → SaysCloseAtMost fields
     → is_known true name ≡ false → lowercase name ≢ codes "close"
     → is_hop_by_hop consumes (connection_options fields) name ≡ false
 crosses_if consumes fields at_most name end_to_end other =
-    ap (λ (lines : List Line). is_hop_by_hop consumes (field_members true lines) name) at_most.1
-    ∙ ap (λ (b : Bool). b || is_named (field_members true (connection_lines at_most.0)) name)
-    (known_by consumes name end_to_end)
-    ∙ names_none at_most.0 name other
+    ap (λ (lines : List Line). is_hop_by_hop consumes (field_members true lines) name) at_most.1 ∙ ap
+    (λ (b : Bool). b || is_named (field_members true (connection_lines at_most.0)) name)
+    (known_by consumes name end_to_end) ∙ names_none _ _ other

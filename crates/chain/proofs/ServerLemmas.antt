@@ -1,43 +1,34 @@
 -- A resource sets no connection option, and what a server sends for the same is the same.
 use Rattle.std.proofs.Common.{◌≡◌, ℕ, Bool, true, false, List, [], ◌∷◌, ◌++◌, Option, Some, None, refl, ◌∙◌, ap}
+use Rattle.std.proofs.lemmas.Bool.{and_from, and_parts}
 use Rattle.std.specs.Prelude.{bytes_eq, codes, if◌then◌else◌, is_some, not}
 use Rattle.std.specs.List.{list_all}
-use Rattle.std.proofs.lemmas.Bool.{and_from, and_parts}
 use Rattle.http_header.specs.FieldValue.{FieldValue}
 use Rattle.headers.specs.LineMap.{Field, LineMap, fields_of, set, set_all}
 use Rattle.headers.specs.Lines.{Line}
 use Rattle.chain.specs.Caches.{Reply}
 use Rattle.chain.specs.Servers.{IsSent, SaysCloseAtMost, Server, connection_lines, sent_of}
 use Rattle.decide_cors.specs.Fields.{covers_origin, grant_fields, granted, vary_sent}
-use Rattle.decide_cors.specs.Kinds.{is_preflight}
-use Rattle.decide_cors.specs.Policy.{Policy}
+use Rattle.decide_cors.specs.{Kinds.is_preflight, Policy.Policy}
 use Rattle.decide_preconditions.specs.Fields.{fields_removed, fields_sent, is_known_by, is_whole, keeps_encoding}
-use Rattle.decide_preconditions.specs.Responses.{IsAnswered}
-use Rattle.decide_preconditions.specs.declared.content.Content.{Content}
-use Rattle.decide_preconditions.specs.declared.plan.Plan.{Plan}
-use Rattle.decide_preconditions.specs.declared.resource.Resource.{Resource as Target}
-use Rattle.decide_preconditions.specs.declared.response.Response.{Response}
+use Rattle.decide_preconditions.specs.{Responses.IsAnswered, declared.content.Content.Content, declared.plan.Plan.Plan}
+use Rattle.decide_preconditions.specs.{declared.resource.Resource.Resource as Target}
+use Rattle.decide_preconditions.specs.{declared.response.Response.Response}
 use Rattle.decide_resource.specs.Answers.{AreSent, GivesIf, IsAnswer, IsShared, at_place, content_of, is_admitted}
 use Rattle.decide_resource.specs.Answers.{response_fields, target_of}
-use Rattle.decide_resource.specs.Applies.{rule, rule_for}
 use Rattle.decide_resource.specs.Fields.{accept_encoding_fields, describes, location_fields, metadata_fields}
 use Rattle.decide_resource.specs.Fields.{reason_fields, types_fields, vary_fields, vary_lines}
-use Rattle.decide_resource.specs.Requests.{Request}
-use Rattle.decide_resource.specs.declared.answer.Answer.{Answer}
-use Rattle.decide_resource.specs.declared.answer.Sends.{Sends}
-use Rattle.decide_resource.specs.declared.answer.Sends.TheVariants as sends
-use Rattle.decide_resource.specs.declared.reason.Reason.{Reason}
+use Rattle.decide_resource.specs.{Requests.Request, declared.answer.Answer.Answer, declared.answer.Sends.Sends}
+use Rattle.decide_resource.specs.{declared.reason.Reason.Reason, declared.representation.Representation.Representation}
+use Rattle.decide_resource.specs.{declared.resource.MethodRule.MethodRule, declared.resource.Resource.Resource}
+use Rattle.decide_resource.specs.{declared.resource.State.State}
 use Rattle.decide_resource.specs.declared.reason.Reason.TheVariants.{InvalidHost, Misdirected, UnknownMethod}
 use Rattle.decide_resource.specs.declared.reason.Reason.TheVariants.{MethodNotAllowed, Options, UnmetExpectation}
-use Rattle.decide_resource.specs.declared.reason.Reason.TheVariants.{PartialContent}
-use Rattle.decide_resource.specs.declared.reason.Reason.TheVariants.{Moved, Gone, NotFound, LengthRequired}
-use Rattle.decide_resource.specs.declared.reason.Reason.TheVariants.{ContentTooLarge, UnsupportedMediaType}
-use Rattle.decide_resource.specs.declared.reason.Reason.TheVariants.{UnsupportedCoding, NotAcceptable}
-use Rattle.decide_resource.specs.declared.reason.Reason.TheVariants.{PreconditionRequired, Admitted}
-use Rattle.decide_resource.specs.declared.representation.Representation.{Representation}
-use Rattle.decide_resource.specs.declared.resource.MethodRule.{MethodRule}
-use Rattle.decide_resource.specs.declared.resource.Resource.{Resource}
-use Rattle.decide_resource.specs.declared.resource.State.{State}
+use Rattle.decide_resource.specs.declared.reason.Reason.TheVariants.{PartialContent, Moved, Gone, NotFound}
+use Rattle.decide_resource.specs.declared.reason.Reason.TheVariants.{LengthRequired, ContentTooLarge}
+use Rattle.decide_resource.specs.declared.reason.Reason.TheVariants.{UnsupportedMediaType, UnsupportedCoding}
+use Rattle.decide_resource.specs.declared.reason.Reason.TheVariants.{NotAcceptable, PreconditionRequired, Admitted}
+use Rattle.decide_resource.specs.declared.answer.Sends.TheVariants as sends
 use Rattle.decide_resource.specs.declared.resource.State.TheVariants as state
 
 -- ---- what is the same
@@ -71,9 +62,7 @@ keep : (m : LineMap) (fields : List Field) → are_other fields ≡ true
 keep m [] h = refl
 keep m (f ∷ fields) h =
     let x = and_parts (is_other f) (are_other fields) h in
-    keep (set m f) fields x.1
-    ∙ ap (λ (b : Bool). if b then f.1 else m (codes "connection"))
-    (not_other (bytes_eq f.0 (codes "connection")) x.0)
+    keep (set m f) fields x.1 ∙ ap (λ (b : Bool). if b then f.1 else m (codes "connection")) (not_other _ x.0)
 
 -- ---- the fields of an answer
 
@@ -104,12 +93,10 @@ offering (Some p) (Some q) = refl
 explained : (resource : Resource) (request : Request) (reason : Reason)
     → are_other (reason_fields resource request reason) ≡ true
 explained resource request MethodNotAllowed = refl
-explained resource request Options =
-    offering (rule_for resource.rules.items (codes "PATCH")) (rule_for resource.rules.items (codes "POST"))
-explained resource request Moved = located resource.state
-explained resource request UnsupportedMediaType =
-    accepting (bytes_eq request.method (codes "PATCH")) (rule resource request)
-explained resource request UnsupportedCoding = accepting_coding (rule resource request)
+explained resource request Options = offering _ _
+explained resource request Moved = located _
+explained resource request UnsupportedMediaType = accepting _ _
+explained resource request UnsupportedCoding = accepting_coding _
 explained resource request InvalidHost = refl
 explained resource request Misdirected = refl
 explained resource request UnknownMethod = refl

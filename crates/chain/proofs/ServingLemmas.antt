@@ -1,13 +1,10 @@
 -- Which requests are plain, as the tests find it.
 use Rattle.std.proofs.Common.{◌≡◌, ℕ, Bool, true, false, List, [], ◌∷◌, refl, sym, ◌∙◌, ap, inl, inr}
-use Rattle.std.specs.Prelude.{All, ◌||◌}
-use Rattle.std.specs.List.{list_any}
 use Rattle.std.proofs.lemmas.Bool.{cases_Bool}
 use Rattle.std.proofs.lemmas.List.Elements.{All-cons, All-head, All-nil, All-tail}
-use Rattle.headers.specs.LineMap.{LineMap}
-use Rattle.headers.specs.Lines.{Line}
-use Rattle.chain.specs.Caches.{special_names}
-use Rattle.chain.specs.Serving.{has_special, is_there}
+use Rattle.std.specs.{Prelude.All, Prelude.◌||◌, List.list_any}
+use Rattle.headers.specs.{LineMap.LineMap, Lines.Line}
+use Rattle.chain.specs.{Caches.special_names, Serving.has_special, Serving.is_there}
 
 absent : (lines : List Line) → is_there lines ≡ false → lines ≡ []
 absent [] e = refl

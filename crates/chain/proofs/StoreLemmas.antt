@@ -1,59 +1,38 @@
 -- What a cache serves from its store came from those behind it.
-use Rattle.std.proofs.Common.{◌≡◌, ◌≢◌, ◌⊎◌, ℕ, ◌+◌, ◌-◌, ◌≤◌, Bool, true, false, List, [], ◌∷◌, ◌++◌}
-use Rattle.std.proofs.Common.{refl, sym, ◌∙◌, ap, subst, inl, inr, arith}
-use Rattle.std.specs.Prelude.{All, ◌||◌, ◌==◌, not, bytes_eq, codes, decimal, unwrap_or, max}
-use Rattle.std.specs.List.{list_all, list_any}
+use Rattle.std.proofs.Common.{◌≡◌, ◌≢◌, ◌⊎◌, ℕ, ◌+◌, ◌-◌, ◌≤◌, Bool, true, false, List, [], ◌∷◌, ◌++◌, refl, sym, ◌∙◌}
+use Rattle.std.proofs.Common.{ap, subst, inl, inr, arith}
 use Rattle.std.proofs.lemmas.Bool.{and_parts, cases_Bool}
-use Rattle.std.proofs.lemmas.Bool.Decides.{nat_tests}
-use Rattle.std.proofs.lemmas.List.Elements.{All-weaker}
-use Rattle.std.proofs.lemmas.List.Folds.{list_any_at}
+use Rattle.std.proofs.{lemmas.Bool.Decides.nat_tests, lemmas.List.Elements.All-weaker, lemmas.List.Folds.list_any_at}
+use Rattle.std.specs.Prelude.{◌||◌, ◌==◌, not, bytes_eq, codes, unwrap_or, max}
+use Rattle.std.specs.List.{list_all, list_any}
 use Rattle.http_header.specs.Token.{lowercase}
 use Rattle.headers.specs.LineMap.{Field, LineMap, lines_at}
-use Rattle.headers.specs.Lines.{Line, only_line}
-use Rattle.headers.specs.Text.{is_text}
-use Rattle.headers.specs.Typed.{HasLine}
-use Rattle.cache_store.specs.Changes.{IsStoredAs, IsToStore}
-use Rattle.cache_store.specs.Contents.{Contents, responses_at}
+use Rattle.headers.specs.{Lines.Line, Lines.only_line, Text.is_text, Typed.HasLine}
+use Rattle.cache_store.specs.{Changes.IsStoredAs, Changes.IsToStore, Contents.Contents, Contents.responses_at}
+use Rattle.cache_store.specs.{Served.IsRightlyServed, Served.Serves, declared.limits.Limits.Limits}
+use Rattle.cache_store.specs.{declared.lookup.Lookup.Lookup, Numbers.numbered}
 use Rattle.cache_store.specs.History.{HasUnder, History, IsJustified, Run}
 use Rattle.cache_store.specs.Lookups.{IsAnswer, IsFreshFor, age_of_stored, freshness_of}
-use Rattle.cache_store.specs.Served.{IsRightlyServed, Serves}
-use Rattle.cache_store.specs.declared.limits.Limits.{Limits}
-use Rattle.cache_store.specs.declared.lookup.Lookup.{Lookup}
 use Rattle.cache_store.specs.declared.lookup.Lookup.TheVariants.{Serve, ServeAndRevalidate, Validate, ValidateOrServe}
 use Rattle.cache_store.specs.declared.lookup.Lookup.TheVariants.{Unavailable, Forward}
-use Rattle.cache_store.proofs.HistoryLemmas.{HasUnder-responses_at}
-use Rattle.cache_store.proofs.NumberLemmas.{Has-numbered}
-use Rattle.cache_store.specs.Numbers.{numbered}
-use Rattle.cache_policy.specs.Decisions.{IsGoodEnough, MayServeOnError}
-use Rattle.cache_policy.specs.declared.decision.Decision.TheVariants as decisions
-use Rattle.cache_policy.specs.Age.{age_at, apparent_age}
-use Rattle.cache_policy.specs.Fields.{age_of, age_value, capped}
-use Rattle.cache_policy.specs.Requests.{AllowsMethod, IsGetOrHead, Request as Asked}
-use Rattle.cache_policy.specs.Storing.{IsShareable}
-use Rattle.cache_policy.specs.Targets.{governing}
-use Rattle.cache_policy.specs.declared.Governing.{Governing}
-use Rattle.cache_policy.specs.declared.Kind.{Kind}
-use Rattle.cache_policy.specs.declared.Kind.TheVariants.{Private, Shared}
-use Rattle.cache_policy.specs.Varying.{Agree, SayTheSame, Suits}
+use Rattle.cache_store.proofs.{HistoryLemmas.HasUnder-responses_at, NumberLemmas.Has-numbered}
+use Rattle.cache_policy.specs.{Decisions.IsGoodEnough, Decisions.MayServeOnError, Age.age_at, Age.apparent_age}
+use Rattle.cache_policy.specs.{Fields.age_of, Fields.age_value, Fields.capped, Requests.AllowsMethod}
+use Rattle.cache_policy.specs.{Requests.IsGetOrHead, Requests.Request as Asked, Storing.IsShareable, Targets.governing}
+use Rattle.cache_policy.specs.{declared.Governing.Governing, declared.Kind.Kind, declared.Kind.TheVariants.Private}
+use Rattle.cache_policy.specs.{declared.Kind.TheVariants.Shared, Varying.Agree, Varying.Suits}
 use Rattle.cache_policy.specs.Policies.{AnswersUnder, Policy, asks as counted_of, tells}
 use Rattle.cache_rules.proofs.StoringLemmas.{governed_alike}
-use Rattle.cache_rules.specs.Selection.{IsCandidate}
-use Rattle.cache_rules.specs.Stored.{fields_of_stored, times_of}
-use Rattle.cache_rules.specs.Storing.{reuse_names}
-use Rattle.cache_rules.specs.declared.storing.Reception.{Reception}
-use Rattle.cache_rules.specs.declared.stored.StoredResponse.{StoredResponse}
-use Rattle.chain.specs.Caches.{Act, Caching, HasAfter, HasComeFrom, IsFromStore, IsPlain}
-use Rattle.chain.specs.Caches.{Origin, Reply, ServesOnError, asked, calls_of, key_of, unless_head}
-use Rattle.chain.specs.Caches.Act.{Looks, Takes, Drops}
-use Rattle.chain.specs.Servers.{SaysCloseAtMost}
-use Rattle.rfc_fields.specs.Members.{field_members}
-use Rattle.rfc_fields.specs.Scan.{Member}
-use Rattle.rfc_fields.specs.Scan.Member.{Whole, Malformed}
+use Rattle.cache_rules.specs.{Selection.IsCandidate, Stored.fields_of_stored, Stored.times_of, Storing.reuse_names}
+use Rattle.cache_rules.specs.{declared.storing.Reception.Reception, declared.stored.StoredResponse.StoredResponse}
+use Rattle.chain.specs.Caches.{Act, Caching, HasAfter, HasComeFrom, IsFromStore, IsPlain, Origin, Reply, ServesOnError}
+use Rattle.chain.specs.Caches.{asked, calls_of, key_of, unless_head}
+use Rattle.chain.specs.{Caches.Act.Looks, Caches.Act.Takes, Caches.Act.Drops, Servers.SaysCloseAtMost}
+use Rattle.rfc_fields.specs.{Members.field_members, Scan.Member, Scan.Member.Whole, Scan.Member.Malformed}
 use Rattle.gateway_messages.specs.HopByHop.{connection_options, is_hop_by_hop, is_known, is_named}
-use Rattle.decide_resource.specs.Requests.{Request}
-use Rattle.decide_resource.specs.Vary.{AreAlike}
-use Rattle.chain.proofs.AgeLemmas.{age_of-decimal}
-use Rattle.chain.proofs.ConnectionLemmas.{crosses_if}
+use Rattle.decide_resource.specs.{Requests.Request, Vary.AreAlike}
+use Rattle.chain.proofs.{AgeLemmas.age_of-decimal, ConnectionLemmas.crosses_if}
+use Rattle.cache_policy.specs.declared.decision.Decision.TheVariants as decisions
 
 -- what a law of a store says
 abbrev pub ServesWhatIsJustified : Type 0
@@ -108,8 +87,7 @@ one_key t u r s h k e =
     ∙ sym (named r h.host h.has_host t) ∙ e ∙ named s k.host k.has_host u
     ∙ ap (λ (target : List ℕ). codes "http://" ++ (k.host ++ target)) k.is_path in
     let rest : h.host ++ (47 ∷ h.path) ≡ k.host ++ (47 ∷ k.path) = cc whole in
-    let one = one_host h.host k.host h.path k.path
-    (and_parts (is_text h.host) (list_all (λ b. not (b == 47)) h.host) h.bare).1
+    let one = one_host _ _ _ _ (and_parts (is_text h.host) (list_all (λ b. not (b == 47)) h.host) h.bare).1
     (and_parts (is_text k.host) (list_all (λ b. not (b == 47)) k.host) k.bare).1 rest in
     record {
       target = h.is_path ∙ ap (λ (path : List ℕ). 47 ∷ path) one.1 ∙ sym k.is_path;
@@ -267,10 +245,8 @@ module _ (law : StoreLaws) (caching : Caching) (origin : Origin) (now : ℕ) (ta
 
   at_once : Serves f.lookup f.number f.age → Right f.stored
   at_once serves =
-      let s : IsRightlyServed caching.policy caching.most key calls (asked request) shown
-      (responses_at key f.contents) f.number f.age
-      = law.serves caching.policy caching.limits calls f.contents run key caching.most (asked request) shown f.lookup
-      f.sought.answer f.number f.age serves in
+      let s = law.serves caching.policy caching.limits calls f.contents run key caching.most (asked request) shown
+      f.lookup f.sought.answer f.number f.age serves in
       let same : s.response ≡ f.stored = cc (sym s.at ∙ f.at) in
       subst Right same
       (
@@ -287,8 +263,7 @@ module _ (law : StoreLaws) (caching : Caching) (origin : Origin) (now : ℕ) (ta
   under : IsJustified caching.policy key calls f.stored
   under =
       law.justifies caching.policy caching.limits calls f.contents run key f.stored
-      (HasUnder-responses_at key f.contents f.stored
-      (Has-numbered (responses_at key f.contents) f.number f.stored f.at).0)
+      (HasUnder-responses_at _ _ _ (Has-numbered _ _ _ f.at).0)
 
   on_error : (lookup : Lookup)
       → IsAnswer caching.policy caching.most (asked request) shown (responses_at key f.contents) lookup
@@ -300,17 +275,12 @@ module _ (law : StoreLaws) (caching : Caching) (origin : Origin) (now : ℕ) (ta
       = cc (sym answer.shown ∙ ap (λ (n : ℕ). numbered n (responses_at key f.contents)) here ∙ f.at) in
       let decided : AnswersUnder caching.policy request.fields (fields_of_stored f.stored)
       (freshness_of found.lifetime f.stored shown) decisions.RevalidateOrServe
-      = subst
-      (λ (s : StoredResponse). AnswersUnder caching.policy request.fields (fields_of_stored s)
-      (freshness_of found.lifetime s shown) decisions.RevalidateOrServe)
-      same found.decided in
+      = rw same at found.decided in
       record {
         justified = under;
-        matches = subst (IsCandidate (asked request)) same selected.is;
+        matches = rw same at selected.is;
         lifetime = found.lifetime;
-        fresh_for =
-            subst (λ (s : StoredResponse). IsFreshFor caching.policy caching.most s found.lifetime) same
-            found.fresh_for;
+        fresh_for = rw same at found.fresh_for;
         good = inr decided.2;
         aged = aged;
       }
@@ -356,8 +326,7 @@ module _ (law : StoreLaws) (caching : Caching) (origin : Origin) (now : ℕ) (ta
     pub stored_as : (name : List ℕ) → is_known true name ≡ false → lowercase name ≢ codes "close"
         → name ≢ codes "date" → fields_of_stored f.stored name ≡ from.reply.fields name
     stored_as name end_to_end not_close not_date =
-        let crosses : is_hop_by_hop true (connection_options (fields_of_stored come.came)) name ≡ false
-        = crosses_if true (fields_of_stored come.came)
+        let crosses = crosses_if true (fields_of_stored come.came)
         (at_most.0, from.noted.fields (codes "connection") ∙ at_most.1) name end_to_end not_close in
         come.kept.fields.end_to_end name (λ hop. absurd (cc (crosses, hop))) not_date ∙ from.noted.fields name
 
@@ -379,16 +348,13 @@ module _ (law : StoreLaws) (caching : Caching) (origin : Origin) (now : ℕ) (ta
   suits response varies =
       let stored_lines = λ (name : List ℕ).
       ap (λ m. lines_at m name) come.kept.request ∙ from.noted.asked_fields name in
-      let each : (member : Member) → Agree (lines_at f.stored.request) request.fields member
-      → Agree come.request.fields request.fields member
-      = agree stored_lines in
+      let each = agree stored_lines in
       record {
-        method = own_method come.request.method request.method allowed_method;
+        method = own_method _ _ allowed_method;
         fields =
-            subst (λ (lines : List Line). All (Agree come.request.fields request.fields) (field_members true lines))
-            varies
-            (All-weaker (Agree (lines_at f.stored.request) request.fields) (Agree come.request.fields request.fields)
-            each (field_members true (fields_of_stored f.stored (codes "vary"))) is_candidate.fields);
+            rw varies at (All-weaker (Agree (lines_at f.stored.request) request.fields)
+            (Agree come.request.fields request.fields) each
+            (field_members true (fields_of_stored f.stored (codes "vary"))) is_candidate.fields);
       }
     where
       agree : ((name : List ℕ) → lines_at f.stored.request name ≡ come.request.fields name) → (member : Member)
@@ -396,8 +362,7 @@ module _ (law : StoreLaws) (caching : Caching) (origin : Origin) (now : ℕ) (ta
       agree lines (Whole name) h = (
         h.0,
         h.1,
-        subst (λ (ls : List Line). SayTheSame (lowercase name) ls (request.fields (lowercase name)))
-            (lines (lowercase name)) h.2,
+        rw (lines (lowercase name)) at h.2,
       )
       agree lines Malformed h = absurd h
 
@@ -407,9 +372,8 @@ module _ (law : StoreLaws) (caching : Caching) (origin : Origin) (now : ℕ) (ta
 
   pub age_is : age_value reply.fields ≡ counted
   age_is =
-      let line : reply.fields (codes "age") ≡ decimal counted ∷ []
-      = f.has_age ∙ ap (λ (field : Field). field.1) right.aged in
-      ap age_of line ∙ age_of-decimal (age_at (times_of f.stored shown) (fields_of_stored f.stored))
+      let line = f.has_age ∙ ap (λ (field : Field). field.1) right.aged in
+      ap age_of line ∙ age_of-decimal _
 
   -- it counts the time since the reply came, and its age by then
   pub counts : SaysCloseAtMost from.reply.fields → (time : ℕ) → time ≤ from.time
@@ -422,10 +386,8 @@ module _ (law : StoreLaws) (caching : Caching) (origin : Origin) (now : ℕ) (ta
       let then : from.sent ≤ from.received = omega (arith, from.after, from.before) in
       let requested : f.stored.requested ≡ clock.shows from.sent = come.kept.requested ∙ from.noted.requested_at in
       let received : f.stored.received ≡ clock.shows from.received = come.kept.received ∙ from.noted.received_at in
-      let shows_then : clock.shows from.received ≡ clock.shows from.sent + (from.received - from.sent)
-      = clock.runs from.sent from.received from.set_before then in
-      let shows_now : shown ≡ clock.shows from.sent + (now - from.sent)
-      = clock.runs from.sent now from.set_before early in
+      let shows_then = clock.runs from.sent from.received from.set_before then in
+      let shows_now = clock.runs from.sent now from.set_before early in
       grows (age_value (fields_of_stored f.stored)) (age_value from.reply.fields) f.stored.requested f.stored.received
       shown (clock.shows from.sent) from.sent from.time from.received now time
       (apparent_age (times_of f.stored shown) (fields_of_stored f.stored)) lines requested
@@ -448,8 +410,7 @@ module _ (law : StoreLaws) (caching : Caching) (origin : Origin) (now : ℕ) (ta
   kept_control : fields_of_stored f.stored (codes "cache-control") ≡ from.reply.fields (codes "cache-control")
   kept_control =
       let fair = come.allowed.fair in
-      let unnamed : is_named (connection_options (fields_of_stored come.came)) (codes "cache-control") ≡ false =
-      unnamed_control (connection_options (fields_of_stored come.came)) fair.unnamed in
+      let unnamed = unnamed_control (connection_options (fields_of_stored come.came)) fair.unnamed in
       come.kept.fields.end_to_end (codes "cache-control") (λ hop. absurd (cc (unnamed, hop))) (λ e. absurd (cc e))
       ∙ from.noted.fields (codes "cache-control")
     where
@@ -482,8 +443,7 @@ module _ (law : StoreLaws) (caching : Caching) (origin : Origin) (now : ℕ) (ta
   pub once_more : (content : List ℕ) → from.reply.content ≡ unless_head come.request.method content
       → reply.content ≡ unless_head request.method content
   once_more content said =
-      content_is ∙ ap (λ (c : List ℕ). unless_head request.method c) said
-      ∙ once come.request.method request.method allowed_method content
+      content_is ∙ ap (λ (c : List ℕ). unless_head request.method c) said ∙ once _ _ allowed_method content
 
   pub shareable : IsShareable caching.policy.kind come.request.fields (tells caching.policy reply.fields)
   shareable =

@@ -1,30 +1,21 @@
 -- Requests that a cache takes for one by Vary get the same answers.
-use Rattle.std.proofs.Common.{◌≡◌, ◌≢◌, ◌↔◌, ℕ, Bool, true, false, List, [], ◌∷◌, refl, sym}
-use Rattle.std.proofs.Common.{◌∙◌, ap, subst, inl, inr, arith, bytes_eq}
-use Rattle.std.specs.Prelude.{All, ◌||◌, codes, if◌then◌else◌}
-use Rattle.std.specs.List.{list_any}
-use Rattle.std.specs.Char.{to_ascii_lowercase}
-use Rattle.std.proofs.lemmas.Bool.{cases_Bool}
-use Rattle.std.proofs.lemmas.Bool.Decides.{nat_tests}
+use Rattle.std.proofs.Common.{◌≡◌, ◌≢◌, ◌↔◌, ℕ, Bool, true, false, List, [], ◌∷◌, refl, sym, ◌∙◌, ap, subst, inl, inr}
+use Rattle.std.proofs.Common.{arith, bytes_eq}
+use Rattle.std.proofs.{lemmas.Bool.cases_Bool, lemmas.Bool.Decides.nat_tests, lemmas.Slice.Eq.bytes_eq-Decides}
 use Rattle.std.proofs.lemmas.List.Elements.{All-head, All-tail}
-use Rattle.std.proofs.lemmas.Slice.Eq.{bytes_eq-Decides}
+use Rattle.std.specs.Prelude.{All, ◌||◌, codes, if◌then◌else◌}
+use Rattle.std.specs.{List.list_any, Char.to_ascii_lowercase}
 use Rattle.http_header.specs.Token.{lowercase}
-use Rattle.headers.specs.LineMap.{LineMap, fields_of, set_all}
-use Rattle.headers.specs.Lines.{Line}
-use Rattle.cache_policy.specs.Varying.{Agree, SayTheSame, has_pairs, is_list_name}
-use Rattle.rfc_fields.specs.Directives.{is_same_token}
-use Rattle.rfc_fields.specs.Members.{field_members}
-use Rattle.rfc_fields.specs.Scan.{Member}
-use Rattle.rfc_fields.specs.Scan.Member.{Whole, Malformed}
+use Rattle.headers.specs.{LineMap.LineMap, LineMap.fields_of, LineMap.set_all, Lines.Line}
+use Rattle.cache_policy.specs.Varying.{Agree, SayTheSame, has_pairs, is_list_name, Suits}
 use Rattle.cache_policy.specs.Requests.{AllowsMethod}
-use Rattle.cache_policy.specs.Varying.{Suits}
+use Rattle.rfc_fields.specs.{Directives.is_same_token, Members.field_members, Scan.Member}
+use Rattle.rfc_fields.specs.Scan.Member.{Whole, Malformed}
 use Rattle.chain.specs.Caches.{asked}
 use Rattle.decide_cors.specs.Cache.{Serves, nominates}
 use Rattle.decide_resource.specs.Answers.{AreSame, IsAnswer}
-use Rattle.decide_resource.specs.Requests.{Request}
+use Rattle.decide_resource.specs.{Requests.Request, declared.answer.Answer.Answer, declared.resource.Resource.Resource}
 use Rattle.decide_resource.specs.Vary.{AreAlike, ListAlike, SelectTheSame}
-use Rattle.decide_resource.specs.declared.answer.Answer.{Answer}
-use Rattle.decide_resource.specs.declared.resource.Resource.{Resource}
 
 -- ---- what members of Vary nominate
 
@@ -136,9 +127,7 @@ module _ (varying : List Line) (r s : Request) (alike : AreAlike r s)
 
   says : (name : Line) → lowercase name ≡ name → nominates varying name ≡ true
       → SayTheSame name (r.fields name) (s.fields name)
-  says name low e =
-      subst (λ (n : Line). SayTheSame n (r.fields n) (s.fields n)) low
-      (agreed r.fields s.fields name (field_members true varying) agree e)
+  says name low e = rw low at (agreed r.fields s.fields name (field_members true varying) agree e)
 
   serves : Serves varying r.fields middle.fields
   serves =
@@ -147,20 +136,21 @@ module _ (varying : List Line) (r s : Request) (alike : AreAlike r s)
         same = λ name e. rw e refl;
       }
 
-  first : AreAlike r middle
-  first =
-      let by = λ (name : Line) (e : r.fields name ≡ s.fields name).
-      either (nominates varying name) (r.fields name) (s.fields name) e in
+  -- what is alike but for fields whose lines aren't those of `middle`
+  alike_to : (p : Request) → p.protocol ≡ s.protocol → p.method ≡ s.method → p.authority ≡ s.authority
+      → p.content ≡ s.content
+      → ((name : Line) → r.fields name ≡ s.fields name → p.fields name ≡ middle.fields name) → AreAlike p middle
+  alike_to p protocol method authority content by =
       record {
-        protocol = alike.protocol;
-        method = alike.method;
-        authority = alike.authority;
+        protocol = protocol;
+        method = method;
+        authority = authority;
         host = by (codes "host") alike.host;
         expect = by (codes "expect") alike.expect;
-        content = alike.content;
+        content = content;
         content_type = by (codes "content-type") alike.content_type;
         content_encoding = by (codes "content-encoding") alike.content_encoding;
-        content_range = λ put. by (codes "content-range") (alike.content_range put);
+        content_range = λ put. by (codes "content-range") (alike.content_range (alike.method ∙ sym method ∙ put));
         asks =
             record {
               if_match = by (codes "if-match") alike.asks.if_match;
@@ -172,30 +162,13 @@ module _ (varying : List Line) (r s : Request) (alike : AreAlike r s)
             };
       }
 
+  first : AreAlike r middle
+  first =
+      alike_to r alike.protocol alike.method alike.authority alike.content
+      (λ name e. either (nominates varying name) (r.fields name) (s.fields name) e)
+
   second : AreAlike s middle
-  second =
-      let by = λ (name : Line) (e : r.fields name ≡ s.fields name).
-      other (nominates varying name) (r.fields name) (s.fields name) e in
-      record {
-        protocol = refl;
-        method = refl;
-        authority = refl;
-        host = by (codes "host") alike.host;
-        expect = by (codes "expect") alike.expect;
-        content = refl;
-        content_type = by (codes "content-type") alike.content_type;
-        content_encoding = by (codes "content-encoding") alike.content_encoding;
-        content_range = λ put. by (codes "content-range") (alike.content_range (alike.method ∙ put));
-        asks =
-            record {
-              if_match = by (codes "if-match") alike.asks.if_match;
-              if_none_match = by (codes "if-none-match") alike.asks.if_none_match;
-              if_modified_since = by (codes "if-modified-since") alike.asks.if_modified_since;
-              if_unmodified_since = by (codes "if-unmodified-since") alike.asks.if_unmodified_since;
-              range = by (codes "range") alike.asks.range;
-              if_range = by (codes "if-range") alike.asks.if_range;
-            };
-      }
+  second = alike_to s refl refl refl refl (λ name e. other _ _ _ e)
 
   select : SelectTheSame s.fields middle.fields
   select =
@@ -237,5 +210,4 @@ suited sound members present resource r s a b before h k alike suits =
     (members present resource s (middle varying r s alike suits.fields) b (second varying r s alike suits.fields)
     (select varying r s alike suits.fields)).0 k in
     sound present resource r (middle varying r s alike suits.fields) a b before h near
-    (first varying r s alike suits.fields) (read_only r.method s.method suits.method)
-    (serves varying r s alike suits.fields)
+    (first varying r s alike suits.fields) (read_only _ _ suits.method) (serves varying r s alike suits.fields)

@@ -1,27 +1,19 @@
 -- What a resource behind gateways reads of a request is what the client sent.
-use Rattle.std.proofs.Common.{◌≡◌, ◌≢◌, ◌↔◌, ℕ, Bool, true, false, List, [], ◌∷◌, Option, None, refl, sym, ◌∙◌, ap}
-use Rattle.std.proofs.Common.{inl, inr, codes}
-use Rattle.std.specs.Prelude.{All, ◌||◌, bytes_eq}
-use Rattle.std.specs.List.{list_any}
-use Rattle.std.proofs.lemmas.Bool.{cases_Bool}
+use Rattle.std.proofs.Common.{◌≡◌, ◌≢◌, ◌↔◌, ℕ, Bool, true, false, List, [], ◌∷◌, Option, None, refl, sym, ◌∙◌, ap, inl}
+use Rattle.std.proofs.Common.{inr, codes}
+use Rattle.std.proofs.{lemmas.Bool.cases_Bool, lemmas.Slice.Eq.bytes_eq-Decides}
 use Rattle.std.proofs.lemmas.List.Elements.{All-cons, All-nil}
-use Rattle.std.proofs.lemmas.Slice.Eq.{bytes_eq-Decides}
+use Rattle.std.specs.{Prelude.All, Prelude.◌||◌, Prelude.bytes_eq, List.list_any}
 use Rattle.headers.specs.Lines.{Line}
 use Rattle.chain.specs.Ways.{IsPassedOn, Reaches, end_to_end_lines, received, sent_directly}
-use Rattle.rfc_fields.specs.Members.{field_members}
-use Rattle.rfc_fields.specs.Scan.{Member}
-use Rattle.gateway_messages.specs.Forwarding.{own_names, replaced}
-use Rattle.gateway_messages.specs.HopByHop.{connection_options, hop_by_hop_fields, is_hop_by_hop, is_known, proxy_fields}
-use Rattle.gateway_messages.specs.Requests.{IsForwarded}
-use Rattle.gateway_messages.specs.Spellings.{has_mark}
-use Rattle.gateway_messages.specs.declared.gateway.Gateway.{Gateway}
-use Rattle.gateway_messages.specs.declared.protocol.Protocol.TheVariants.{Http11}
-use Rattle.gateway_messages.specs.declared.request.ForwardedRequest.{ForwardedRequest}
-use Rattle.decide_resource.specs.Answers.{IsAnswer}
-use Rattle.decide_resource.specs.Requests.{Request}
-use Rattle.decide_resource.specs.Vary.{AreAlike, AskAlike, ChooseAlike}
-use Rattle.decide_resource.specs.declared.answer.Answer.{Answer}
-use Rattle.decide_resource.specs.declared.resource.Resource.{Resource}
+use Rattle.rfc_fields.specs.{Members.field_members, Scan.Member}
+use Rattle.gateway_messages.specs.{Forwarding.own_names, Forwarding.replaced, Requests.IsForwarded, Spellings.has_mark}
+use Rattle.gateway_messages.specs.{declared.gateway.Gateway.Gateway, declared.protocol.Protocol.TheVariants.Http11}
+use Rattle.gateway_messages.specs.{declared.request.ForwardedRequest.ForwardedRequest}
+use Rattle.gateway_messages.specs.HopByHop.{connection_options, hop_by_hop_fields, is_hop_by_hop, is_known}
+use Rattle.gateway_messages.specs.HopByHop.{proxy_fields}
+use Rattle.decide_resource.specs.{Answers.IsAnswer, Requests.Request, Vary.AreAlike, Vary.AskAlike, Vary.ChooseAlike}
+use Rattle.decide_resource.specs.{declared.answer.Answer.Answer, declared.resource.Resource.Resource}
 use Rattle.gateway_messages.proofs.SpellingLemmas.{well_spelt}
 
 -- ---- names
@@ -64,8 +56,7 @@ module _ (gateway : Gateway) (request next : Request) (sent : ForwardedRequest)
             rw (other, t)
             (sym (passed.fields name ∙ forwarded.fields.hop_by_hop name t (apart name not_coding)))
         | inr f ↦
-            rw (other, f)
-            (sym (passed.fields name ∙ forwarded.fields.end_to_end name f (well_spelt gateway name unmarked)
+            rw (other, f) (sym (passed.fields name ∙ forwarded.fields.end_to_end name f (well_spelt _ _ unmarked)
             (differs name own_names not_own)))
       ]
 
@@ -107,8 +98,7 @@ module _ (gateway : Gateway) (request next : Request) (sent : ForwardedRequest)
 
   pub no_options : connection_options next.fields ≡ []
   no_options =
-      let none : next.fields (codes "connection") ≡ []
-      = passed.fields (codes "connection") ∙ forwarded.fields.hop_by_hop (codes "connection") refl
+      let none = passed.fields (codes "connection") ∙ forwarded.fields.hop_by_hop (codes "connection") refl
       (apart (codes "connection") refl) in
       ap (λ (lines : List Line). field_members true lines) none
 
@@ -194,11 +184,9 @@ module _ (reads : ReadsNoMore) (present : ℕ) (resource : Resource) (answer : A
       let after : Request = way.1 in
       let forwarded : IsForwarded gateway (received next) sent = way.2 in
       let passed : IsPassedOn next sent after = way.3 in
-      let direct_answer : Gets next ↔ Gets (sent_directly gateway next)
-      = reads present resource next (sent_directly gateway next) answer (direct gateway next modern origin none)
-      (choose_direct gateway next modern origin none) in
-      let onward : Gets p ↔ Gets after
-      = both p next after first
+      let direct_answer = reads present resource next (sent_directly gateway next) answer
+      (direct gateway next modern origin none) (choose_direct gateway next modern origin none) in
+      let onward = both p next after first
       (both next (sent_directly gateway next) after direct_answer (one gateway next after sent forwarded passed)) in
       behind p after last onward passed.protocol passed.authority
       (no_options gateway next after sent forwarded passed) gateways way.4

@@ -2,27 +2,18 @@
 use Rattle.std.specs.Prelude.{◌≡◌, ◌≢◌, ◌⊎◌, ℕ, ◌+◌, ◌-◌, ◌≤◌, Bool, true, ◌&&◌, not, ◌==◌, List, [], ◌∷◌, ◌++◌, All}
 use Rattle.std.specs.Prelude.{None, Some, bytes_eq, codes, if◌then◌else◌, unwrap_or}
 use Rattle.std.specs.List.{list_all}
-use Rattle.headers.specs.LineMap.{Field, LineMap, lines_at}
-use Rattle.headers.specs.Lines.{Line, only_line}
-use Rattle.headers.specs.Text.{is_text}
-use Rattle.cache_store.specs.Contents.{Contents, responses_at}
-use Rattle.cache_store.specs.History.{Call, History, Step}
-use Rattle.cache_store.specs.History.Call.{Looked, Arrived, Removed}
-use Rattle.cache_store.specs.Lookups.{IsAnswer, age_of_stored}
-use Rattle.cache_store.specs.Served.{Serves}
-use Rattle.cache_store.specs.declared.limits.Limits.{Limits}
-use Rattle.cache_store.specs.Numbers.{numbered}
-use Rattle.cache_store.specs.declared.lookup.Lookup.{Lookup}
+use Rattle.headers.specs.{LineMap.Field, LineMap.LineMap, LineMap.lines_at, Lines.Line, Lines.only_line, Text.is_text}
+use Rattle.cache_store.specs.{Contents.Contents, Contents.responses_at, History.Call, History.History, History.Step}
+use Rattle.cache_store.specs.{History.Call.Looked, History.Call.Arrived, History.Call.Removed, Lookups.IsAnswer}
+use Rattle.cache_store.specs.{Lookups.age_of_stored, Served.Serves, declared.limits.Limits.Limits, Numbers.numbered}
+use Rattle.cache_store.specs.{declared.lookup.Lookup.Lookup}
 use Rattle.cache_store.specs.declared.lookup.Lookup.TheVariants.{Serve, ServeAndRevalidate, Validate, ValidateOrServe}
 use Rattle.cache_store.specs.declared.lookup.Lookup.TheVariants.{Unavailable, Forward}
-use Rattle.cache_policy.specs.Policies.{Policy}
-use Rattle.cache_policy.specs.Requests.{IsGetOrHead, Request as Asked}
-use Rattle.cache_rules.specs.Stored.{fields_of_stored}
-use Rattle.cache_rules.specs.declared.storing.Reception.{Reception}
-use Rattle.cache_rules.specs.declared.stored.StoredResponse.{StoredResponse}
+use Rattle.cache_policy.specs.{Policies.Policy, Requests.IsGetOrHead, Requests.Request as Asked}
+use Rattle.cache_rules.specs.{Stored.fields_of_stored, declared.storing.Reception.Reception}
+use Rattle.cache_rules.specs.{declared.stored.StoredResponse.StoredResponse}
 use Rattle.gateway_messages.specs.declared.protocol.Protocol.TheVariants.{Http11}
-use Rattle.decide_resource.specs.Requests.{Request}
-use Rattle.decide_resource.specs.declared.request.RequestContent.TheVariants.{Absent}
+use Rattle.decide_resource.specs.{Requests.Request, declared.request.RequestContent.TheVariants.Absent}
 
 -- a response as it is received, with its content
 pub record Reply : Type 0 where

@@ -1,13 +1,11 @@
 -- The way of a request through gateways to a resource (RFC 9110, section 7.6).
 use Rattle.std.specs.Prelude.{◌≡◌, ℕ, List, [], ◌∷◌, None, bytes_eq, codes, if◌then◌else◌}
 use Rattle.headers.specs.LineMap.{LineMap}
-use Rattle.gateway_messages.specs.FieldLines.{fields_of, lines_under}
-use Rattle.gateway_messages.specs.Forwarding.{replaced}
-use Rattle.gateway_messages.specs.HopByHop.{connection_options, is_hop_by_hop}
-use Rattle.gateway_messages.specs.Requests.{IsForwarded, Request as Received}
-use Rattle.gateway_messages.specs.declared.gateway.Gateway.{Gateway}
-use Rattle.gateway_messages.specs.declared.protocol.Protocol.TheVariants.{Http11}
-use Rattle.gateway_messages.specs.declared.request.ForwardedRequest.{ForwardedRequest}
+use Rattle.gateway_messages.specs.{FieldLines.fields_of, FieldLines.lines_under, Forwarding.replaced}
+use Rattle.gateway_messages.specs.{HopByHop.connection_options, HopByHop.is_hop_by_hop, Requests.IsForwarded}
+use Rattle.gateway_messages.specs.{Requests.Request as Received, declared.gateway.Gateway.Gateway}
+use Rattle.gateway_messages.specs.{declared.protocol.Protocol.TheVariants.Http11}
+use Rattle.gateway_messages.specs.{declared.request.ForwardedRequest.ForwardedRequest}
 use Rattle.decide_resource.specs.Requests.{Request}
 
 -- a request as a gateway reads it: its content decides nothing

@@ -1,18 +1,14 @@
 //! A cache before other servers: which requests it answers from its store, and which responses it stores.
 ghost use Rattle.std.specs.Prelude.{◌≡◌, ◌==◌, ◌∷◌, [], ◌++◌, ◌⊎◌, ℕ, List, IfOk, IsErrOf, OnErr, MatchOption, codes};
 ghost use Rattle.std.specs.Prelude.{not, string_bytes};
-ghost use Rattle.std.specs.Bool.{MatchBool};
-ghost use Rattle.std.specs.List.{list_all};
-ghost use Rattle.headers.specs.LineMap.{lines_at};
-ghost use Rattle.headers.specs.Lines.{Line};
-ghost use Rattle.cache_store.specs.Contents.{used};
-ghost use Rattle.cache_store.specs.Kept.{contents_of, policy_of_store};
+ghost use Rattle.std.specs.{Bool.MatchBool, List.list_all};
+ghost use Rattle.headers.specs.{LineMap.lines_at, Lines.Line};
+ghost use Rattle.cache_store.specs.{Contents.used, Kept.contents_of, Kept.policy_of_store};
 ghost use Rattle.cache_policy.specs.Requests.{IsGetOrHead};
-ghost use Rattle.cache_rules.specs.Fields.{IsTooSmallFor};
-ghost use Rattle.cache_rules.specs.Storing.{storing_fields};
+ghost use Rattle.cache_rules.specs.{Fields.IsTooSmallFor, Storing.storing_fields};
 ghost use Rattle.chain.specs.Caches.{IsBareRead, IsPlain, key_of};
-ghost use Rattle.chain.specs.Serving.{HasBareHost, IsAction, IsActionOf, IsPending, IsTaken, has_special};
-ghost use Rattle.chain.specs.Serving.{is_there, reply_of};
+ghost use Rattle.chain.specs.Serving.{HasBareHost, IsAction, IsActionOf, IsPending, IsTaken, has_special, is_there};
+ghost use Rattle.chain.specs.Serving.{reply_of};
 ghost use Rattle.decide_resource.specs.Requests.{Request, request_of};
 
 use cache_policy::RequestHead as AskedHead;
@@ -239,8 +235,9 @@ pub fn answer_from_store(
     Ok(action)
 }
 
-/// Stores the response to a plain request that was sent on, if it may be stored (RFC 9111, section 3). Returns
-/// the number under which it is stored, or `None` if it isn't. `now` is what the clock shows.
+/// Stores the response to a plain request that was sent on, if it may be stored (RFC 9111, section
+/// 3). Returns the number under which it is stored, or `None` if it isn't. `now` is what the clock
+/// shows.
 ///
 /// Fails only if an allocation fails, if the store has no numbers left, or with `InsertError::Full` if the
 /// map of the response has no room for the fields that change before it is stored. Then nothing is stored that wasn't stored before.

@@ -1,27 +1,18 @@
 //! What follows from the definitions. A proof cites a law by calling it.
 ghost use Rattle.std.specs.Prelude.{◌≡◌, ◌≢◌, ◌↔◌, ◌⊎◌, ◌∷◌, [], ℕ, List, All, codes, false, true};
 ghost use Rattle.headers.specs.LineMap.{LineMap, fields_of, set_all};
-ghost use Rattle.cache_policy.specs.Varying.{Suits};
-ghost use Rattle.cache_policy.specs.Fields.{IsPresent};
-ghost use Rattle.cache_policy.specs.Policies.{tells};
-ghost use Rattle.cache_policy.specs.Storing.{IsOpen};
-ghost use Rattle.cache_policy.specs.declared.Kind.TheVariants.{Shared};
+ghost use Rattle.cache_policy.specs.{Varying.Suits, Fields.IsPresent, Policies.tells, Storing.IsOpen};
+ghost use Rattle.cache_policy.specs.{declared.Kind.TheVariants.Shared};
 ghost use Rattle.chain.specs.Caches.{Caching, IsFromStore, IsPlain, Reply, asked, key_of, unless_head};
 ghost use Rattle.chain.specs.Chains.{Hop, IsForwardedBack, IsOwn, IsTold, behind, meant};
 ghost use Rattle.chain.specs.Servers.{IsSent, SaysCloseAtMost, Server};
+ghost use Rattle.chain.specs.{Responses.HasNoOptions, Responses.Returns, Ways.Reaches, Ways.sent_directly};
 ghost use Rattle.decide_cors.specs.Browser.{CorsCheck, Request as Sent};
-ghost use Rattle.chain.specs.Responses.{HasNoOptions, Returns};
-ghost use Rattle.chain.specs.Ways.{Reaches, sent_directly};
-ghost use Rattle.gateway_messages.specs.Forwarding.{IsHopByHop, own_names};
-ghost use Rattle.gateway_messages.specs.Spellings.{has_mark};
-ghost use Rattle.gateway_messages.specs.HopByHop.{is_known};
-ghost use Rattle.gateway_messages.specs.Responses.{Response};
-ghost use Rattle.gateway_messages.specs.declared.gateway.Gateway.{Gateway};
+ghost use Rattle.gateway_messages.specs.{Forwarding.IsHopByHop, Forwarding.own_names, Spellings.has_mark};
+ghost use Rattle.gateway_messages.specs.{HopByHop.is_known, Responses.Response, declared.gateway.Gateway.Gateway};
 ghost use Rattle.decide_resource.specs.Answers.{AreSame, IsAnswer};
-ghost use Rattle.decide_resource.specs.Requests.{Request};
-ghost use Rattle.decide_resource.specs.declared.answer.Answer.{Answer};
-ghost use Rattle.decide_resource.specs.Vary.{AreAlike};
-ghost use Rattle.decide_resource.specs.declared.resource.Resource.{Resource};
+ghost use Rattle.decide_resource.specs.{Requests.Request, declared.answer.Answer.Answer, Vary.AreAlike};
+ghost use Rattle.decide_resource.specs.{declared.resource.Resource.Resource};
 
 use cache_store::laws::{calls_justify_what_is_stored, lookups_serve_what_calls_justify};
 use decide_resource::laws::{
@@ -44,6 +35,7 @@ pub fn gateways_are_invisible()
 /// Theorem: the field lines of a response reach the client through any gateways as the server sent
 /// them, in order, if the server sends no connection option. This holds for each name of letters,
 /// digits and dashes that no gateway writes itself, and that isn't for one connection.
+#[tactic(auto, using(crate::proofs::ResponseLemmas::unchanged))]
 pub fn responses_return_unchanged()
     ensures { (gateways : List Gateway) (response last : Response) (name : List ℕ)
         → Returns gateways response last → HasNoOptions response.fields

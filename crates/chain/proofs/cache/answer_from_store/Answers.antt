@@ -1,12 +1,7 @@
-use Rattle.std.proofs.Common.{◌≡◌, ◌∙◌, ◌++◌, sym, ℕ, List, [], inl, ap, codes, subst}
+use Rattle.std.proofs.Common.{◌≡◌, ◌∙◌, ◌++◌, sym, List, [], inl, ap, codes}
 use Rattle.std.specs.Prelude.{string_bytes, unwrap_or}
 use Rattle.headers.specs.Lines.{Line, only_line}
-use Rattle.cache_store.specs.Contents.{responses_at}
-use Rattle.cache_store.specs.History.{Step}
-use Rattle.cache_store.specs.History.Call.{Looked}
-use Rattle.cache_store.specs.Kept.{contents_of, policy_of_store}
-use Rattle.cache_store.specs.Lookups.{IsAnswer}
-use Rattle.chain.specs.Caches.{asked, key_of}
+use Rattle.chain.specs.Caches.{key_of}
 use Rattle.decide_resource.specs.Requests.{request_of}
 use Rattle.chain.proofs.cache.answer_from_store.Goals as goal
 
@@ -22,16 +17,8 @@ returns-clause-ok c =
       c.in_ok-lookup.lookup,
       record {
         plain = c.in-Some.ensures.0;
-        looked =
-            subst
-            (λ (k : List ℕ). Step (policy_of_store c.args.store.now) c.args.store.now.limits (Looked k)
-            (contents_of c.args.store.now) (contents_of c.lookup_guessing.new.self))
-            passed c.lookup_guessing.ensures.step;
-        answer =
-            subst
-            (λ (k : List ℕ). IsAnswer (policy_of_store c.args.store.now) c.args.most (asked request) c.args.now
-            (responses_at k (contents_of c.lookup_guessing.new.self)) c.in_ok-lookup.lookup)
-            passed c.in_ok-lookup.ensures.answer;
+        looked = rw passed at c.lookup_guessing.ensures.step;
+        answer = rw passed at c.in_ok-lookup.ensures.answer;
       },
       c.in_ok-action.ensures target c.in-Some.ensures.0 key,
     )

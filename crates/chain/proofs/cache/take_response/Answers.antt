@@ -1,7 +1,5 @@
 use Rattle.std.proofs.Common.{◌≡◌, ◌∙◌, refl, ℕ, List, subst}
 use Rattle.cache_store.specs.Changes.{IsInserted, IsStoredAs, IsToStore}
-use Rattle.cache_store.specs.History.{Step}
-use Rattle.cache_store.specs.History.Call.{Arrived}
 use Rattle.cache_store.specs.Kept.{contents_of, policy_of_store}
 use Rattle.cache_rules.specs.declared.stored.StoredResponse.{StoredResponse}
 use Rattle.chain.proofs.cache.take_response.Goals as goal
@@ -29,11 +27,7 @@ returns-clause-taken c = λ target request requested p.
         requested_at = p.at;
         received_at = refl;
       };
-      arrived =
-          subst
-          (λ (key : List ℕ). Step (policy_of_store c.args.store.now) c.args.store.now.limits
-          (Arrived key came c.args.reception) (contents_of c.args.store.now) (contents_of c.store.new.self))
-          (c.deref.ensures ∙ p.key) c.store.ensures.step;
+      arrived = rw (c.deref.ensures ∙ p.key) at c.store.ensures.step;
       stored = λ number ok.
           subst
           (λ (key : List ℕ). (kept : StoredResponse)

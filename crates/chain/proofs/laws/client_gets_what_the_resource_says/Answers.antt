@@ -1,5 +1,4 @@
-use Rattle.chain.proofs.ChainLemmas.{tells}
-use Rattle.chain.proofs.StoreLemmas.{StoreLaws}
+use Rattle.chain.proofs.{ChainLemmas.tells, StoreLemmas.StoreLaws}
 use Rattle.chain.proofs.laws.client_gets_what_the_resource_says.Goals as goal
 
 pub returns : goal.returns

@@ -1,6 +1,5 @@
 use Rattle.chain.specs.Chains.{behind}
-use Rattle.chain.proofs.ChainLemmas.{ends}
-use Rattle.chain.proofs.StoreLemmas.{StoreLaws, stores_none}
+use Rattle.chain.proofs.{ChainLemmas.ends, StoreLemmas.StoreLaws, StoreLemmas.stores_none}
 use Rattle.chain.proofs.laws.no_connection_field_crosses.Goals as goal
 
 pub returns-clause-forwarded : goal.returns-clause-forwarded

@@ -1,7 +1,5 @@
 use Rattle.std.proofs.Common.{subst}
-use Rattle.cache_policy.specs.Policies.{tells}
-use Rattle.cache_policy.specs.Storing.{IsShareable}
-use Rattle.cache_policy.specs.declared.Kind.{Kind}
+use Rattle.cache_policy.specs.{Policies.tells, Storing.IsShareable, declared.Kind.Kind}
 use Rattle.chain.specs.Chains.{behind}
 use Rattle.chain.proofs.StoreLemmas.{StoreLaws, come, content_is, from, shareable}
 use Rattle.chain.proofs.laws.shared_caches_serve_nothing_private.Goals as goal
