@@ -121,7 +121,14 @@ pub overflow_add-number : goal.overflow_add-number
 overflow_add-number c =
     let inside = within_taken _ _ _ _ _ _ c.responses.ensures c.take_out-responses.ensures.taken c.in-Some.ensures in
     let less = one_less _ _ _ inside c.remove-stored.ensures.items in
-    omega (arith, less, c.in_ok-first.ensures.ok, c.len.ensures ∙ c.take_out-responses.result.ok.0, c.len-2.ensures ∙ c.remove-stored.new.self.ok.0)
+    omega (
+      arith,
+      less,
+      c.in_ok-first.ensures.ok,
+      c.len.ensures ∙ c.take_out-responses.result.ok.0,
+      c.len-2.ensures ∙
+          c.remove-stored.new.self.ok.0,
+    )
 
 pub left_of-requires : goal.left_of-requires
 left_of-requires c =
@@ -131,7 +138,8 @@ left_of-requires c =
 
 pub put_with-requires-clause-room : goal.put_with-requires-clause-room
 put_with-requires-clause-room c =
-    let inside = within_taken _ _ _ _ _ c.in-Some.place c.responses.ensures c.take_out-responses.ensures.taken c.in-Some.ensures in
+    let inside = within_taken _ _ _ _ _ c.in-Some.place c.responses.ensures c.take_out-responses.ensures.taken
+    c.in-Some.ensures in
     room_again c.take_numbers.new.self.limits (contents_of c.take_numbers.new.self) c.take_out-responses.result.items
     c.in_ok-left.left.items c.in-Some.place c.remove-stored.result inside (rw
     (← (c.take_numbers.ensures.limits ∙ c.take_out-responses.ensures.limits)) at
@@ -144,8 +152,10 @@ put_with-requires-clause-room c =
 
 pub put_with-requires-clause-numbers : goal.put_with-requires-clause-numbers
 put_with-requires-clause-numbers c =
-    let inside = within_taken _ _ _ _ _ c.in-Some.place c.responses.ensures c.take_out-responses.ensures.taken c.in-Some.ensures in
-    let less = one_less c.take_out-responses.result.items c.remove-stored.new.self.items c.in-Some.place inside c.remove-stored.ensures.items in
+    let inside = within_taken _ _ _ _ _ c.in-Some.place c.responses.ensures c.take_out-responses.ensures.taken
+    c.in-Some.ensures in
+    let less = one_less c.take_out-responses.result.items c.remove-stored.new.self.items c.in-Some.place inside
+    c.remove-stored.ensures.items in
     rw (← c.take_numbers.ensures.contents) at (numbered-again c.args.self.now.next c.take_numbers.new.self.next
     c.in_ok-first.first (contents_of c.args.self.now) (contents_of c.take_out-responses.new.self)
     c.take_out-responses.result.items c.remove-stored.new.self.items c.in_ok-left.left.items c.args.self.now.numbered
@@ -163,7 +173,8 @@ put_with-requires-clause-numbers c =
 
 pub put_in-requires-clause-room : goal.put_in-requires-clause-room
 put_in-requires-clause-room c =
-    let inside = within_taken _ _ _ _ _ c.in-Some.place c.responses.ensures c.take_out-responses.ensures.taken c.in-Some.ensures in
+    let inside = within_taken _ _ _ _ _ c.in-Some.place c.responses.ensures c.take_out-responses.ensures.taken
+    c.in-Some.ensures in
     room_without c.take_numbers.new.self.limits (contents_of c.take_numbers.new.self) c.take_out-responses.result.items
     c.in_ok-left.left.items c.in-Some.place c.remove-stored.result inside (rw
     (← (c.take_numbers.ensures.limits ∙ c.take_out-responses.ensures.limits)) at
@@ -173,8 +184,10 @@ put_in-requires-clause-room c =
 
 pub put_in-requires-clause-numbers : goal.put_in-requires-clause-numbers
 put_in-requires-clause-numbers c =
-    let inside = within_taken _ _ _ _ _ c.in-Some.place c.responses.ensures c.take_out-responses.ensures.taken c.in-Some.ensures in
-    let less = one_less c.take_out-responses.result.items c.remove-stored.new.self.items c.in-Some.place inside c.remove-stored.ensures.items in
+    let inside = within_taken _ _ _ _ _ c.in-Some.place c.responses.ensures c.take_out-responses.ensures.taken
+    c.in-Some.ensures in
+    let less = one_less c.take_out-responses.result.items c.remove-stored.new.self.items c.in-Some.place inside
+    c.remove-stored.ensures.items in
     rw (← c.take_numbers.ensures.contents) at (numbered-left c.args.self.now.next c.take_numbers.new.self.next
     c.in_ok-first.first (contents_of c.args.self.now) (contents_of c.take_out-responses.new.self)
     c.take_out-responses.result.items c.remove-stored.new.self.items c.in_ok-left.left.items c.args.self.now.numbered

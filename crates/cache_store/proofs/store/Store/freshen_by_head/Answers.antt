@@ -37,8 +37,13 @@ returns-in_err-put_in-clause-numbers c = goes-without _ _ _ _
 
 pub returns-in_err-first-clause-memory : goal.returns-in_err-first-clause-memory
 returns-in_err-first-clause-memory c =
-    OnErr-from c.from_residual.result
-    (omega (arith, c.in_err-first.ensures.some, c.len.ensures ∙ c.take_out-responses.result.ok.0, ap length c.take_out-responses.ensures.taken))
+    OnErr-from c.from_residual.result (omega (
+      arith,
+      c.in_err-first.ensures.some,
+      c.len.ensures ∙
+          c.take_out-responses.result.ok.0,
+      ap length c.take_out-responses.ensures.taken,
+    ))
 
 pub left_of-requires : goal.left_of-requires
 left_of-requires c = omega (arith, c.in_ok-first.ensures.ok, c.len.ensures ∙ c.take_out-responses.result.ok.0)

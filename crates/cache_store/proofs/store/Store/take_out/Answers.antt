@@ -58,7 +58,13 @@ invariant_of-self c =
       few = omega (arith, c.args.self.now.few);
       light = omega (arith, c.args.self.now.light);
       sized = c.args.self.now.sized;
-      numbered = numbered-fewer c.args.self.now.next (shown c.args.self.now.targets.entries) (shown c.pop.new.self.entries) (λ number. omega (arith, times-taken c.args.target.now c.args.self.now.targets.entries c.pop.new.self.entries (ap (λ m. m.entries) c.pop.ensures.entries) (Some c.in-Some.responses) c.in-Some.ensures.value number)) c.args.self.now.numbered;
+      numbered = numbered-fewer c.args.self.now.next (shown c.args.self.now.targets.entries)
+          (shown c.pop.new.self.entries) (λ number. omega (
+            arith,
+            times-taken c.args.target.now
+                c.args.self.now.targets.entries c.pop.new.self.entries (ap (λ m. m.entries) c.pop.ensures.entries)
+                (Some c.in-Some.responses) c.in-Some.ensures.value number,
+          )) c.args.self.now.numbered;
     }
 
 pub invariant_of-self-in-None : goal.invariant_of-self-in-None
@@ -80,7 +86,13 @@ invariant_of-self-in-None c =
       few = c.args.self.now.few;
       light = c.args.self.now.light;
       sized = c.args.self.now.sized;
-      numbered = numbered-fewer c.args.self.now.next (shown c.args.self.now.targets.entries) (shown c.pop.new.self.entries) (λ number. omega (arith, times-taken c.args.target.now c.args.self.now.targets.entries c.pop.new.self.entries (ap (λ m. m.entries) c.pop.ensures.entries) None c.in-None.ensures.value number)) c.args.self.now.numbered;
+      numbered = numbered-fewer c.args.self.now.next (shown c.args.self.now.targets.entries)
+          (shown c.pop.new.self.entries) (λ number. omega (
+            arith,
+            times-taken c.args.target.now
+                c.args.self.now.targets.entries c.pop.new.self.entries (ap (λ m. m.entries) c.pop.ensures.entries) None
+                c.in-None.ensures.value number,
+          )) c.args.self.now.numbered;
     }
 
 pub returns-in-Some-clause-contents : goal.returns-in-Some-clause-contents
@@ -139,7 +151,11 @@ returns-in-None-clause-room c = rw c.new.ensures.items (record {
 })
 
 pub returns-in-Some-clause-numbers : goal.returns-in-Some-clause-numbers
-returns-in-Some-clause-numbers c = λ number. times-taken c.args.target.now c.args.self.now.targets.entries c.pop.new.self.entries (ap (λ m. m.entries) c.pop.ensures.entries) (Some c.in-Some.responses) c.in-Some.ensures.value number
+returns-in-Some-clause-numbers c = λ number. times-taken c.args.target.now c.args.self.now.targets.entries
+    c.pop.new.self.entries (ap (λ m. m.entries) c.pop.ensures.entries) (Some c.in-Some.responses)
+    c.in-Some.ensures.value number
 
 pub returns-in-None-clause-numbers : goal.returns-in-None-clause-numbers
-returns-in-None-clause-numbers c = λ number. rw c.new.ensures.items (times-taken c.args.target.now c.args.self.now.targets.entries c.pop.new.self.entries (ap (λ m. m.entries) c.pop.ensures.entries) None c.in-None.ensures.value number)
+returns-in-None-clause-numbers c = λ number. rw c.new.ensures.items (times-taken c.args.target.now
+    c.args.self.now.targets.entries c.pop.new.self.entries (ap (λ m. m.entries) c.pop.ensures.entries) None
+    c.in-None.ensures.value number)

@@ -15,7 +15,13 @@ invariant_of-self c =
       few = c.args.self.now.few;
       light = c.args.self.now.light;
       sized = c.args.self.now.sized;
-      numbered = numbered-fewer c.args.self.now.next (shown c.args.self.now.targets.entries) (shown c.promote.new.self.entries) (λ number. omega (arith, times-used c.args.target.now c.args.self.now.targets.entries c.promote.new.self.entries (ap (λ m. m.entries) c.promote.ensures.entries) number)) c.args.self.now.numbered;
+      numbered = numbered-fewer c.args.self.now.next (shown c.args.self.now.targets.entries)
+          (shown c.promote.new.self.entries) (λ number. omega (
+            arith,
+            times-used c.args.target.now
+                c.args.self.now.targets.entries c.promote.new.self.entries (ap (λ m. m.entries) c.promote.ensures.entries)
+                number,
+          )) c.args.self.now.numbered;
     }
 
 pub returns-clause-contents : goal.returns-clause-contents
