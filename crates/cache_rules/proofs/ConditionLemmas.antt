@@ -1,49 +1,28 @@
 -- The plans that a stored response can have for a request that a cache evaluates.
-use Rattle.std.proofs.Common.{◌≡◌, ℕ, ◌<◌, Bool, true, false, List, [], ◌∷◌, length, Option, Some, None}
-use Rattle.std.proofs.Common.{inl, inr, refl, sym, ◌∙◌, arith}
-use Rattle.std.specs.Prelude.{codes}
+use Rattle.std.proofs.Common.{◌≡◌, ℕ, ◌<◌, Bool, true, false, List, [], ◌∷◌, length, Option, Some, None, inl, inr, refl}
+use Rattle.std.proofs.Common.{sym, arith}
 use Rattle.std.proofs.lemmas.Bool.{lt-ltb}
+use Rattle.std.specs.Prelude.{codes}
 use Rattle.http_header.specs.FieldValue.{FieldValue, plain_value}
-use Rattle.headers.specs.Lines.{Line}
-use Rattle.headers.specs.Shapes.{only_tag}
-use Rattle.headers.specs.Typed.{HasLine}
+use Rattle.headers.specs.{Lines.Line, Shapes.only_tag, Typed.HasLine}
 use Rattle.cache_policy.specs.Requests.{IsGetOrHead, Request}
-use Rattle.decide_preconditions.specs.Conditions.{UnmodifiedSinceIsFalse}
-use Rattle.decide_preconditions.specs.Limits.{are_too_many}
-use Rattle.decide_preconditions.specs.Plans.{IsPlanned}
-use Rattle.decide_preconditions.specs.Preconditions.{Answers, AreIgnored, IsUnconditional}
-use Rattle.decide_preconditions.specs.declared.part.Part.{Part}
-use Rattle.decide_preconditions.specs.declared.plan.Plan.{Plan}
+use Rattle.decide_preconditions.proofs.HeadLemmas.{never_unconditional}
+use Rattle.decide_preconditions.specs.{Conditions.UnmodifiedSinceIsFalse, Limits.are_too_many, Plans.IsPlanned}
+use Rattle.decide_preconditions.specs.{declared.part.Part.Part, declared.plan.Plan.Plan}
+use Rattle.decide_preconditions.specs.{declared.resource.Validators.Validators}
+use Rattle.decide_preconditions.specs.Preconditions.{Answers, AreIgnored}
+use Rattle.decide_preconditions.specs.declared.resource.Resource.TheVariants.{Missing, Current}
+use Rattle.cache_rules.specs.Conditions.{AreValidators, IsForCache, IsStoredAnswer, answer_of, divisible, one_part}
+use Rattle.cache_rules.specs.declared.stored.StoredResponse.{StoredResponse}
 use Rattle.decide_preconditions.specs.declared.plan.Plan.TheVariants as plan
 use Rattle.decide_preconditions.specs.declared.precondition.Precondition.TheVariants as precondition
-use Rattle.decide_preconditions.specs.declared.resource.Resource.TheVariants.{Missing, Current}
-use Rattle.decide_preconditions.specs.declared.resource.Validators.{Validators}
-use Rattle.cache_rules.specs.Conditions.{AreValidators, IsForCache, IsStoredAnswer, answer_of, divisible}
-use Rattle.cache_rules.specs.Conditions.{one_part}
-use Rattle.cache_rules.specs.declared.stored.StoredResponse.{StoredResponse}
 
 no_line : (lines : List Line) → ¬ (HasLine lines) → lines ≡ []
 no_line [] none = refl
 no_line (line ∷ lines) none = absurd (none (omega arith))
 
-conditional : (method : List ℕ) → IsGetOrHead method → ¬ (IsUnconditional method)
-conditional method (inl get) unconditional = elim unconditional [
-  | inl connect ↦ let no : codes "GET" ≡ codes "CONNECT" = sym get ∙ connect in absurd (cc no)
-  | inr others ↦ elim others [
-    | inl options ↦ let no : codes "GET" ≡ codes "OPTIONS" = sym get ∙ options in absurd (cc no)
-    | inr trace ↦ let no : codes "GET" ≡ codes "TRACE" = sym get ∙ trace in absurd (cc no)
-  ]
-]
-conditional method (inr head) unconditional = elim unconditional [
-  | inl connect ↦ let no : codes "HEAD" ≡ codes "CONNECT" = sym head ∙ connect in absurd (cc no)
-  | inr others ↦ elim others [
-    | inl options ↦ let no : codes "HEAD" ≡ codes "OPTIONS" = sym head ∙ options in absurd (cc no)
-    | inr trace ↦ let no : codes "HEAD" ≡ codes "TRACE" = sym head ∙ trace in absurd (cc no)
-  ]
-]
-
 counted : (current : Validators) (method : List ℕ) → IsGetOrHead method → ¬ (AreIgnored (Current current) method)
-counted current method read (inl unconditional) = conditional method read unconditional
+counted current method read (inl unconditional) = never_unconditional method read unconditional
 counted current method read (inr missing) = missing
 
 module _ (now : ℕ) (request : Request) (current : Validators) (own : IsForCache request) where

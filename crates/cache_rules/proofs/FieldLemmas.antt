@@ -1,11 +1,8 @@
 -- Maps in which fields are set, name by name.
 use Rattle.std.proofs.Common.{◌≡◌, ◌∙◌, ℕ, Bool, true, false, List, [], ◌∷◌, ◌++◌, inl, inr, refl, sym, ap, subst}
-use Rattle.std.specs.Prelude.{◌&&◌, bytes_eq, if◌then◌else◌}
-use Rattle.std.specs.List.{list_any}
-use Rattle.std.proofs.lemmas.Bool.{cases_Bool}
-use Rattle.std.proofs.lemmas.Slice.Eq.{bytes_eq-Decides}
-use Rattle.http_header.specs.FieldValue.{FieldValue}
-use Rattle.http_header.specs.HeaderMap.{Entries, keys}
+use Rattle.std.proofs.{lemmas.Bool.cases_Bool, lemmas.Slice.Eq.bytes_eq-Decides}
+use Rattle.std.specs.{Prelude.◌&&◌, Prelude.bytes_eq, Prelude.if◌then◌else◌, List.list_any}
+use Rattle.http_header.specs.{FieldValue.FieldValue, HeaderMap.Entries, HeaderMap.keys}
 use Rattle.headers.specs.LineMap.{Field, LineMap, lines_at, set, set_all}
 use Rattle.headers.specs.Lines.{Line}
 use Rattle.rfc_fields.specs.Scan.{Member}
@@ -69,8 +66,7 @@ module _ (options : List Member) where
   without-other m k names name not =
       elim (cases_Bool (bytes_eq k name)) [
         | inl same ↦
-            let stays : hop name ≡ false =
-            subst (λ (n : List ℕ). hop n ≡ false) ((bytes_eq-Decides k name).0 same) not in
+            let stays : hop name ≡ false = rw ((bytes_eq-Decides k name).0 same) at not in
             kept stays (is_among names name) ∙ sym (kept stays (is_among (k ∷ names) name))
         | inr other ↦ rw other refl
       ]

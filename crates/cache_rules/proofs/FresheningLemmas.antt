@@ -1,19 +1,15 @@
 -- What fields leave of a stored response that another one validates.
 use Rattle.std.proofs.Common.{◌≡◌, ◌≢◌, ◌∙◌, ℕ, Bool, true, false, List, ◌++◌, ap}
-use Rattle.std.specs.Bool.{MatchBool}
 use Rattle.std.proofs.lemmas.List.{map-append}
-use Rattle.http_header.specs.FieldValue.{FieldValue}
-use Rattle.http_header.specs.HeaderMap.{Entries, IsHeaderMap}
+use Rattle.std.specs.Bool.{MatchBool}
+use Rattle.http_header.specs.{FieldValue.FieldValue, HeaderMap.Entries, HeaderMap.IsHeaderMap}
 use Rattle.headers.specs.LineMap.{Field, LineMap, field_of, fields_of, lines_at, set_all}
-use Rattle.headers.specs.declared.Encoded.{Encoded}
-use Rattle.headers.specs.Lines.{Line}
-use Rattle.headers.specs.Typed.{HasLine}
+use Rattle.headers.specs.{declared.Encoded.Encoded, Lines.Line, Typed.HasLine}
 use Rattle.cache_policy.proofs.FresheningLemmas.{freshens}
 use Rattle.cache_policy.specs.Freshening.{freshening_fields}
 use Rattle.cache_rules.specs.Freshening.{IsFreshened, IsRenewed, SaysAsBefore, aged_anew, aging_fields}
-use Rattle.cache_rules.specs.Stored.{fields_of_stored}
-use Rattle.cache_rules.specs.declared.freshening.Exchange.{Exchange}
-use Rattle.cache_rules.specs.declared.stored.StoredResponse.{StoredResponse}
+use Rattle.cache_rules.specs.{Stored.fields_of_stored, declared.freshening.Exchange.Exchange}
+use Rattle.cache_rules.specs.{declared.stored.StoredResponse.StoredResponse}
 
 -- the fields that say how old a response is, and others after them
 pub aging_first : (received : ℕ) (aging later all : List Encoded) → fields_of aging ≡ aging_fields received
@@ -42,10 +38,9 @@ freshened_by old new update fields exchange valid is h =
       content = h.content;
       requested = h.requested;
       received = h.received;
-      fields = λ name.
-          h.fields name
-          ∙ ap (λ (fs : List Field). set_all (aged_anew exchange.received (fields_of_stored old)) fs name) is
-          ∙ freshens (aged_anew exchange.received (fields_of_stored old)) update valid name;
+      fields = λ name. h.fields name ∙ ap
+          (λ (fs : List Field). set_all (aged_anew exchange.received (fields_of_stored old)) fs name) is ∙ freshens _ _
+          valid name;
     }
 
 -- where there are field lines, the field says as before exactly if they are the stored ones

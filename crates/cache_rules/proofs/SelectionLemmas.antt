@@ -1,16 +1,11 @@
 -- The most recent of the first stored responses, and of all.
-use Rattle.std.proofs.Common.{◌≡◌, ◌⊎◌, ℕ, ◌+◌, ◌<◌, ◌≤◌, Bool, true, false, List, length}
-use Rattle.std.proofs.Common.{get_or, Bor, Option, Some, None, inl, inr}
-use Rattle.std.proofs.Common.{refl, sym, ◌∙◌, ap, subst, arith}
-use Rattle.std.specs.Prelude.{option_map, nat_lt, if◌then◌else◌}
-use Rattle.std.specs.List.{slice_get}
+use Rattle.std.proofs.Common.{◌≡◌, ◌⊎◌, ℕ, ◌+◌, ◌<◌, ◌≤◌, Bool, true, false, List, length, get_or, Bor, Option, Some}
+use Rattle.std.proofs.Common.{None, inl, inr, refl, sym, ◌∙◌, ap, subst, arith}
 use Rattle.std.proofs.lemmas.Bool.{cases_order, ltb-false, ltb-true}
 use Rattle.std.proofs.lemmas.Option.{same_Some, slice_get_read, slice_get_within}
-use Rattle.cache_policy.specs.Requests.{Request}
-use Rattle.cache_rules.specs.Selection.{IsCandidate, IsMostRecent, IsSelected, renewed}
-use Rattle.cache_rules.specs.Stored.{made_at}
-use Rattle.cache_rules.specs.declared.selection.Newest.{Newest}
-use Rattle.cache_rules.specs.declared.stored.StoredResponse.{StoredResponse}
+use Rattle.std.specs.{Prelude.option_map, Prelude.nat_lt, Prelude.if◌then◌else◌, List.slice_get}
+use Rattle.cache_rules.specs.{Selection.IsMostRecent, Selection.IsSelected, Selection.renewed, Stored.made_at}
+use Rattle.cache_rules.specs.{declared.selection.Newest.Newest, declared.stored.StoredResponse.StoredResponse}
 
 module _ (Is : StoredResponse → Type 0) (all : List StoredResponse) where
   -- of the first n this is the most recent one that has the property
@@ -133,8 +128,7 @@ module _ (Is : StoredResponse → Type 0) (all : List StoredResponse) where
   pub step_in : (n : ℕ) (x : Bor StoredResponse) (newest next : Option Newest) → n < length all
       → x.now ≡ get_or all n x.now → Is x.now → next ≡ renewed newest n x → LeadsOf n newest → LeadsOf (n + 1) next
   step_in n x newest next low here is e h =
-      subst (LeadsOf (n + 1)) (sym e)
-      (one_more n x (slice_get_read all (length all) n x.now refl low here) newest is h)
+      rw (← e) at (one_more n x (slice_get_read all (length all) n x.now refl low here) newest is h)
 
   pub step_out : (n : ℕ) (x : StoredResponse) (newest next : Option Newest) → n < length all
       → x ≡ get_or all n x → ¬ (Is x) → next ≡ newest → LeadsOf n newest → LeadsOf (n + 1) next
@@ -175,14 +169,3 @@ module _ (Is : StoredResponse → Type 0) (all : List StoredResponse) where
               | inr higher ↦ absurd (not_later b a k h higher)
             ]
       ]
-
--- what is selected for a request may answer it
-pub select_suits : (request : Request) (all : List StoredResponse) (place : ℕ)
-    → IsSelected (IsCandidate request) all (Some place)
-    → (stored : StoredResponse) × (slice_get all place ≡ Some stored) × IsCandidate request stored
-select_suits request all place h = (h.response, h.at, h.is)
-
--- if none is selected, no stored response may answer the request
-pub select_none : (request : Request) (all : List StoredResponse) → IsSelected (IsCandidate request) all None
-    → (k : ℕ) (other : StoredResponse) → slice_get all k ≡ Some other → ¬ (IsCandidate request other)
-select_none request all h = h

@@ -1,22 +1,16 @@
 -- What the conditions of a client come to on a stored response (RFC 9111, section 4.3.2).
-use Rattle.std.specs.Prelude.{◌≡◌, ◌≢◌, ◌⊎◌, ℕ, ◌-◌, Bool, true, false, ◌&&◌, length, nat_le, nat_lt}
-use Rattle.std.specs.Prelude.{Option, Some, None, option_and_then, option_map, codes, if◌then◌else◌}
-use Rattle.headers.specs.Lines.{Line}
-use Rattle.headers.specs.Shapes.{only_tag}
-use Rattle.headers.specs.Typed.{HasLine}
+use Rattle.std.specs.Prelude.{◌≡◌, ◌≢◌, ◌⊎◌, ℕ, ◌-◌, Bool, true, false, ◌&&◌, length, nat_le, nat_lt, Option, Some}
+use Rattle.std.specs.Prelude.{None, option_and_then, option_map, codes, if◌then◌else◌}
+use Rattle.headers.specs.{Lines.Line, Shapes.only_tag, Typed.HasLine}
 use Rattle.rfc_dates.specs.Calendar.{unix_epoch}
-use Rattle.cache_policy.specs.Fields.{date_in}
-use Rattle.cache_policy.specs.Requests.{IsGetOrHead, Request}
-use Rattle.decide_preconditions.specs.Plans.{IsPlan}
-use Rattle.decide_preconditions.specs.declared.limits.RangeLimits.{RangeLimits}
+use Rattle.cache_policy.specs.{Fields.date_in, Requests.IsGetOrHead, Requests.Request}
+use Rattle.decide_preconditions.specs.{Plans.IsPlan, declared.limits.RangeLimits.RangeLimits, declared.plan.Plan.Plan}
+use Rattle.decide_preconditions.specs.{declared.resource.Resource.TheVariants.Current}
+use Rattle.decide_preconditions.specs.{declared.resource.Validators.Validators}
+use Rattle.cache_rules.specs.{Stored.fields_of_stored, Stored.made_at, declared.conditions.StoredAnswer.StoredAnswer}
+use Rattle.cache_rules.specs.{declared.stored.StoredResponse.StoredResponse}
 use Rattle.decide_preconditions.specs.declared.plan.Plan.TheVariants as plan
-use Rattle.decide_preconditions.specs.declared.plan.Plan.{Plan}
-use Rattle.decide_preconditions.specs.declared.resource.Resource.TheVariants.{Current}
-use Rattle.decide_preconditions.specs.declared.resource.Validators.{Validators}
-use Rattle.cache_rules.specs.Stored.{fields_of_stored, made_at}
-use Rattle.cache_rules.specs.declared.conditions.StoredAnswer.{StoredAnswer}
 use Rattle.cache_rules.specs.declared.conditions.StoredAnswer.TheVariants as stored_answer
-use Rattle.cache_rules.specs.declared.stored.StoredResponse.{StoredResponse}
 
 -- A cache evaluates the request: it reads, and has no condition that applies to an origin server alone.
 pub record IsForCache (request : Request) : Type 0 where

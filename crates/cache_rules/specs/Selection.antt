@@ -3,12 +3,9 @@ use Rattle.std.specs.Prelude.{◌≡◌, ◌↔◌, ℕ, ◌<◌, ◌≤◌, Lis
 use Rattle.std.specs.List.{AllPairs, Contains, slice_get}
 use denote.Ref.{Bor}
 use Rattle.headers.specs.LineMap.{LineMap}
-use Rattle.cache_policy.specs.Requests.{Request}
-use Rattle.cache_policy.specs.Updating.{IsUpdated}
-use Rattle.cache_policy.specs.Varying.{Suits}
+use Rattle.cache_policy.specs.{Requests.Request, Updating.IsUpdated, Varying.Suits}
 use Rattle.cache_rules.specs.Stored.{fields_of_stored, made_at, request_of_stored}
-use Rattle.cache_rules.specs.declared.selection.Newest.{Newest}
-use Rattle.cache_rules.specs.declared.stored.StoredResponse.{StoredResponse}
+use Rattle.cache_rules.specs.{declared.selection.Newest.Newest, declared.stored.StoredResponse.StoredResponse}
 
 -- the stored response may answer the request, as far as method and Vary go
 abbrev pub IsCandidate : Request → StoredResponse → Type 0

@@ -2,9 +2,7 @@
 use Rattle.std.specs.Prelude.{ℕ, ◌+◌, codes, unwrap_or}
 use Rattle.headers.specs.LineMap.{LineMap, lines_at}
 use Rattle.rfc_dates.specs.Calendar.{unix_epoch}
-use Rattle.cache_policy.specs.Fields.{capped, date_in}
-use Rattle.cache_policy.specs.Requests.{Request}
-use Rattle.cache_policy.specs.declared.Times.{Times}
+use Rattle.cache_policy.specs.{Fields.capped, Fields.date_in, Requests.Request, declared.Times.Times}
 use Rattle.cache_rules.specs.declared.stored.StoredResponse.{StoredResponse}
 
 -- the request that it answered

@@ -1,8 +1,7 @@
 //! The field Age of a stored response.
 ghost use Rattle.std.specs.Prelude.{◌≡◌, ◌∷◌, [], IfOk, codes, decimal};
 ghost use Rattle.headers.specs.LineMap.{field_of, lines_at};
-ghost use Rattle.cache_policy.specs.Age.{age_at};
-ghost use Rattle.cache_policy.specs.Fields.{capped};
+ghost use Rattle.cache_policy.specs.{Age.age_at, Fields.capped};
 
 use cache_policy::{Times, current_age};
 use headers::{Encoded, HeaderMap, HeaderValue};

@@ -1,13 +1,10 @@
 //! The conditions of a client, for a stored response.
 ghost use Rattle.std.specs.Prelude.{◌≡◌, ◌≢◌, IfOk, OnErr, codes, option_map};
 ghost use Rattle.std.specs.Bool.{MatchBool};
-ghost use Rattle.headers.specs.LineMap.{lines_at};
-ghost use Rattle.headers.specs.Lines.{Line};
-ghost use Rattle.headers.specs.Shapes.{only_tag};
+ghost use Rattle.headers.specs.{LineMap.lines_at, Lines.Line, Shapes.only_tag};
 ghost use Rattle.cache_policy.specs.Requests.{request_of};
-ghost use Rattle.cache_rules.specs.Conditions.{AreValidators, IsForCache, IsStoredAnswer, answer_of};
-ghost use Rattle.cache_rules.specs.Conditions.{divisible, one_part};
-ghost use Rattle.cache_rules.specs.Conditions.{modified_second, unix_second};
+ghost use Rattle.cache_rules.specs.Conditions.{AreValidators, IsForCache, IsStoredAnswer, answer_of, divisible};
+ghost use Rattle.cache_rules.specs.Conditions.{one_part, modified_second, unix_second};
 
 use crate::stored::StoredResponse;
 use cache_policy::{END_OF_DATES, RequestHead, date};

@@ -1,8 +1,7 @@
 //! Which stored responses a 304 updates.
 ghost use Rattle.std.specs.Prelude.{◌≡◌, IfOk, OnErr, Some};
 ghost use Rattle.headers.specs.LineMap.{lines_at};
-ghost use Rattle.cache_policy.specs.Requests.{request_of};
-ghost use Rattle.cache_policy.specs.Updating.{HasValidator};
+ghost use Rattle.cache_policy.specs.{Requests.request_of, Updating.HasValidator};
 ghost use Rattle.cache_rules.specs.Identifying.{IsIdentified, IsOnlyOne, IsUpdatedAnswer, one_more};
 ghost use Rattle.cache_rules.specs.Selection.{ArePlaces, IsAt, IsCandidate, IsOneAt, IsSomewhere, IsSought};
 

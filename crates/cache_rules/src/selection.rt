@@ -1,6 +1,5 @@
 //! Which of several stored responses answers a request.
-ghost use Rattle.std.specs.Prelude.{◌≡◌, option_map};
-ghost use Rattle.std.specs.Bool.{MatchBool};
+ghost use Rattle.std.specs.{Prelude.◌≡◌, Prelude.option_map, Bool.MatchBool};
 ghost use Rattle.headers.specs.LineMap.{lines_at};
 ghost use Rattle.cache_policy.specs.Requests.{request_of};
 ghost use Rattle.cache_rules.specs.Selection.{IsCandidate, IsSelected, IsSought, renewed};

@@ -1,16 +1,13 @@
 //! What a cache stores of a response.
 ghost use Rattle.std.specs.Prelude.{◌≡◌, ◌∷◌, ◌++◌, [], IfOk, OnErr, OnOk, true};
-ghost use Rattle.std.specs.Bool.{MatchBool};
-ghost use Rattle.std.specs.List.{list_any};
+ghost use Rattle.std.specs.{Bool.MatchBool, List.list_any};
 ghost use Rattle.http_header.specs.HeaderMap.{keys};
-ghost use Rattle.headers.specs.LineMap.{field_of, fields_of, lines_at, set_all};
-ghost use Rattle.headers.specs.Lines.{lines_of};
+ghost use Rattle.headers.specs.{LineMap.field_of, LineMap.fields_of, LineMap.lines_at, LineMap.set_all, Lines.lines_of};
 ghost use Rattle.rfc_fields.specs.Members.{field_members};
 ghost use Rattle.gateway_messages.specs.HopByHop.{connection_options, is_hop_by_hop, is_named};
-ghost use Rattle.cache_policy.specs.Policies.{policy_of};
-ghost use Rattle.cache_policy.specs.Requests.{request_of};
-ghost use Rattle.cache_rules.specs.Storing.{HasFairOptions, IsAsStored, IsChanged, IsStored, LacksDate};
-ghost use Rattle.cache_rules.specs.Storing.{is_lost, removals, reuse_names, storing_fields};
+ghost use Rattle.cache_policy.specs.{Policies.policy_of, Requests.request_of};
+ghost use Rattle.cache_rules.specs.Storing.{HasFairOptions, IsAsStored, IsChanged, IsStored, LacksDate, is_lost};
+ghost use Rattle.cache_rules.specs.Storing.{removals, reuse_names, storing_fields};
 
 use cache_policy::{Policy, RequestHead, date_field};
 use gateway_messages::is_hop_by_hop;

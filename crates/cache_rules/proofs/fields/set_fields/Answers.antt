@@ -1,8 +1,5 @@
-use Rattle.std.proofs.Common.{◌≡◌, refl, subst}
-use Rattle.headers_map.specs.declared.insert.InsertError.{InsertError}
+use Rattle.std.proofs.Common.{◌≡◌, refl}
 use Rattle.headers_map.specs.declared.insert.InsertError.TheVariants.{Full}
-use Rattle.headers.specs.LineMap.{settings}
-use Rattle.headers_map.specs.InsertErrors.{AppliesPart}
 use Rattle.cache_rules.proofs.fields.set_fields.Goals as goal
 
 pub returns-in-Err-clause-full : goal.returns-in-Err-clause-full
@@ -15,9 +12,6 @@ returns-in-Err-clause-full c = λ full.
       valid = c.keys_len-names.ensures.valid;
       part = (
         c.in-Err.error.done,
-        subst
-            (λ (cause : InsertError). AppliesPart c.args.map.now c.set_all.new.map (settings c.args.fields.items)
-            (record { done = c.in-Err.error.done; cause = cause }))
-            same c.in-Err.ensures.err,
+        rw same at c.in-Err.ensures.err,
       );
     }

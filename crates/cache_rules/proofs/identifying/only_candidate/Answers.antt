@@ -18,6 +18,4 @@ loop-place-preserved c =
     ]
 
 pub returns-in-One : goal.returns-in-One
-returns-in-One c =
-    end_one _ c.args.stored.now c.loop-place.place c.loop-place.found c.in-One.place c.in-One.is
-    c.loop-place-test.false c.loop-place.invariant
+returns-in-One c = end_one _ _ _ _ _ c.in-One.is c.loop-place-test.false c.loop-place.invariant

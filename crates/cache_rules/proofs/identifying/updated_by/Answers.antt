@@ -1,5 +1,4 @@
-use Rattle.std.proofs.Common.{Some, None}
-use Rattle.std.proofs.lemmas.Result.{IfOk-weaker}
+use Rattle.std.proofs.{Common.Some, Common.None, lemmas.Result.IfOk-weaker}
 use Rattle.headers.specs.LineMap.{lines_at}
 use Rattle.cache_policy.specs.Requests.{request_of}
 use Rattle.cache_rules.proofs.IdentifyingLemmas.{all_identified, answer_alone, no_place, one_place}
@@ -8,9 +7,7 @@ use Rattle.cache_rules.proofs.identifying.updated_by.Goals as goal
 pub returns-then-has_strong_tag-clause-places : goal.returns-then-has_strong_tag-clause-places
 returns-then-has_strong_tag-clause-places c =
     IfOk-weaker c.all_sought.result _ _
-    (λ places h.
-    all_identified (request_of c.args.request.now) (lines_at c.args.update.now) c.args.stored.now
-    (rw c.if-has_strong_tag.true at c.has_strong_tag.ensures) places.items h)
+    (λ places h. all_identified _ _ _ (rw c.if-has_strong_tag.true at c.has_strong_tag.ensures) places.items h)
     c.all_sought.ensures.places
 
 pub returns-in_ok-vec-in-Some-clause-places : goal.returns-in_ok-vec-in-Some-clause-places
@@ -23,6 +20,4 @@ returns-in_ok-vec-in-Some-clause-places c =
 pub returns-in-None-clause-places : goal.returns-in-None-clause-places
 returns-in-None-clause-places c =
     rw c.new.ensures.items
-    (no_place (request_of c.args.request.now) (lines_at c.args.update.now) c.args.stored.now
-    (answer_alone (request_of c.args.request.now) (lines_at c.args.update.now) c.args.stored.now
-    c.if-has_strong_tag.ensures None (rw c.in-None.is at c.select_updated.ensures)))
+    (no_place _ _ _ (answer_alone _ _ _ c.if-has_strong_tag.ensures None (rw c.in-None.is at c.select_updated.ensures)))

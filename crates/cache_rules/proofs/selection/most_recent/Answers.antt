@@ -19,10 +19,8 @@ loop-place-preserved c =
 
 pub returns-in-Some : goal.returns-in-Some
 returns-in-Some c =
-    end_some _ c.args.stored.now c.loop-place.place c.loop-place.newest c.in-Some.newest c.in-Some.is
-    c.loop-place-test.false c.loop-place.auto.place-end c.loop-place.invariant
+    end_some _ _ _ _ _ c.in-Some.is c.loop-place-test.false c.loop-place.auto.place-end c.loop-place.invariant
 
 pub returns-in-None : goal.returns-in-None
 returns-in-None c =
-    end_none _ c.args.stored.now c.loop-place.place c.loop-place.newest c.in-None.is c.loop-place-test.false
-    c.loop-place.auto.place-end c.loop-place.invariant
+    end_none _ _ _ _ c.in-None.is c.loop-place-test.false c.loop-place.auto.place-end c.loop-place.invariant

@@ -1,5 +1,4 @@
-use Rattle.std.specs.Prelude.{◌≡◌, ◌++◌, true}
-use Rattle.std.specs.List.{list_any}
+use Rattle.std.specs.{Prelude.◌≡◌, Prelude.◌++◌, Prelude.true, List.list_any}
 use Rattle.http_header.specs.HeaderMap.{keys}
 use Rattle.headers.specs.LineMap.{fields_of, lines_at}
 use Rattle.gateway_messages.specs.HopByHop.{connection_options, is_hop_by_hop}

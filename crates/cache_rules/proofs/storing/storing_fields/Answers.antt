@@ -1,8 +1,7 @@
 use Rattle.headers.specs.LineMap.{fields_of}
 use Rattle.cache_rules.proofs.StoringLemmas.{as_stored, dated_fields, listed_dated, listed_undated}
+use Rattle.cache_rules.proofs.storing.storing_fields.Goals.{else-lacks_date, then-lacks_date+in_ok-date+in_ok-push}
 use Rattle.cache_rules.proofs.storing.storing_fields.Goals as goal
-use Rattle.cache_rules.proofs.storing.storing_fields.Goals.{else-lacks_date}
-use Rattle.cache_rules.proofs.storing.storing_fields.Goals.{then-lacks_date+in_ok-date+in_ok-push}
 
 pub returns-clause-listed : goal.returns-clause-listed
 returns-clause-listed c =
