@@ -1,23 +1,17 @@
 -- What follows from the rows of `Answers`, and from the sums of an age.
-use Rattle.std.proofs.Common.{◌≡◌, ℕ, ◌+◌, ◌-◌, ◌<◌, ◌≤◌, min, Option, Some, None, refl, subst, arith, inl, inr}
+use Rattle.std.proofs.Common.{◌≡◌, ℕ, ◌+◌, ◌-◌, ◌<◌, ◌≤◌, min, Option, Some, None, refl, arith, inl, inr}
 use Rattle.std.specs.Prelude.{◌⊎◌, IfSome, IsSomeAnd, unwrap_or}
 use Rattle.headers.specs.LineMap.{LineMap}
-use Rattle.cache_fields.specs.Age.{age_at, corrected_initial_age}
-use Rattle.cache_policy.specs.Decisions.{Answers, AnswersUnstored, Decides, DecidesBy, DecidesMatched}
-use Rattle.cache_policy.specs.Decisions.{IsFromStore, IsGoodEnough, IsServable}
-use Rattle.cache_policy.specs.Decisions.{IsServedMeanwhile, IsTakenStale, MayServeMeanwhile, MustBeFresh}
-use Rattle.cache_policy.specs.Decisions.{freshness_at}
-use Rattle.cache_fields.specs.Directives.{directed}
-use Rattle.cache_fields.specs.Fields.{capped, greatest}
-use Rattle.cache_policy.specs.Requests.{Request}
-use Rattle.cache_fields.specs.declared.age.Times.{Times}
-use Rattle.cache_policy.specs.declared.decision.Decision.{Decision}
-use Rattle.cache_policy.specs.declared.decision.Decision.TheVariants.{Serve, ServeAndRevalidate, ServeStale}
-use Rattle.cache_policy.specs.declared.decision.Decision.TheVariants.{Revalidate, RevalidateOrServe}
-use Rattle.cache_policy.specs.declared.decision.Decision.TheVariants.{Unavailable, Fetch}
-use Rattle.cache_policy.specs.declared.decision.Freshness.{Freshness}
-use Rattle.cache_fields.specs.declared.directives.Directives.{Directives}
-use Rattle.cache_fields.specs.declared.kind.Kind.{Kind}
+use Rattle.cache_fields.specs.{Age.age_at, Age.corrected_initial_age, Directives.directed, Fields.capped}
+use Rattle.cache_fields.specs.{Fields.greatest, declared.age.Times.Times, declared.directives.Directives.Directives}
+use Rattle.cache_fields.specs.{declared.kind.Kind.Kind}
+use Rattle.cache_policy.specs.Decisions.{Answers, AnswersUnstored, Decides, DecidesBy, DecidesMatched, IsFromStore}
+use Rattle.cache_policy.specs.Decisions.{IsGoodEnough, IsServable, IsServedMeanwhile, IsTakenStale, MayServeMeanwhile}
+use Rattle.cache_policy.specs.Decisions.{MustBeFresh, freshness_at}
+use Rattle.cache_policy.specs.{Requests.Request, declared.decision.Decision.Decision}
+use Rattle.cache_policy.specs.{declared.decision.Freshness.Freshness}
+use Rattle.cache_policy.specs.declared.decision.Decision.TheVariants.{Serve, ServeAndRevalidate, ServeStale, Revalidate}
+use Rattle.cache_policy.specs.declared.decision.Decision.TheVariants.{RevalidateOrServe, Unavailable, Fetch}
 use Rattle.cache_fields.proofs.FreshnessLemmas.{one_lifetime}
 
 module _ (kind : Kind) (asks tells : Directives) (freshness : Freshness) where
@@ -130,25 +124,20 @@ module _ (kind : Kind) (asks tells : Directives) (freshness : Freshness) where
 -- an answer by directives is one by equal ones
 pub Answers-at : (kind : Kind) (asks others tells more : Directives) (freshness : Freshness) (a : Decision)
     → asks ≡ others → tells ≡ more → Answers kind asks tells freshness a → Answers kind others more freshness a
-Answers-at kind asks others tells more freshness a e f h =
-    subst (λ (d : Directives). Answers kind others d freshness a) f
-    (subst (λ (d : Directives). Answers kind d tells freshness a) e h)
+Answers-at kind asks others tells more freshness a e f h = rw f at (rw e at h)
 
 -- the answer by a lifetime that is stated, at any name of that lifetime
 by_stated : (kind : Kind) (request response : LineMap) (times : Times) (a : Decision) (stated : Option ℕ)
     (d : DecidesMatched kind request response times a) → d.stated ≡ stated
     → Answers kind (directed request) (directed response) (freshness_at stated times response) a
-by_stated kind request response times a stated d e =
-    subst (λ (o : Option ℕ). Answers kind (directed request) (directed response) (freshness_at o times response) a) e
-    d.answers
+by_stated kind request response times a stated d e = rw e at d.answers
 
 one_matched : (kind : Kind) (request response : LineMap) (times : Times) (a b : Decision)
     → DecidesMatched kind request response times a → DecidesMatched kind request response times b → a ≡ b
 one_matched kind request response times a b h k =
-    let same : h.stated ≡ k.stated =
-    one_lifetime kind times.response response h.stated k.stated h.lifetime k.lifetime in
+    let same = one_lifetime kind times.response response h.stated k.stated h.lifetime k.lifetime in
     one_answer kind (directed request) (directed response) (freshness_at k.stated times response) a b
-    (by_stated kind request response times a k.stated h same) k.answers
+    (by_stated _ _ _ _ a _ h same) k.answers
 
 -- ---- time goes on
 
@@ -182,8 +171,7 @@ within_before (Some limit) l a b h k = omega (arith, h, k)
 module _ (kind : Kind) (asks tells : Directives) (l a b : ℕ) (h : a ≤ b) where
   servable_before : IsServable asks tells (record { lifetime = l; age = b })
       → IsServable asks tells (record { lifetime = l; age = a })
-  servable_before k =
-      (k.0, (young_before asks.max_age a b h k.1.0, left_before asks.min_fresh l a b h k.1.1))
+  servable_before k = (k.0, (young_before _ a b h k.1.0, left_before _ l a b h k.1.1))
 
   meanwhile_before : MayServeMeanwhile kind asks tells (record { lifetime = l; age = b })
       → MayServeMeanwhile kind asks tells (record { lifetime = l; age = a })
@@ -210,9 +198,8 @@ module _ (kind : Kind) (request response : LineMap) (times : Times) (later : ℕ
   from_store_matched : (a b : Decision) → times.now ≤ later → DecidesMatched kind request response times a
       → DecidesMatched kind request response (record times { now = later }) b → IsFromStore b → IsFromStore a
   from_store_matched a b l h k s =
-      let same : k.stated ≡ h.stated =
-      one_lifetime kind times.response response k.stated h.stated k.lifetime h.lifetime in
-      let after = by_stated kind request response (record times { now = later }) b h.stated k same in
+      let same = one_lifetime kind times.response response k.stated h.stated k.lifetime h.lifetime in
+      let after = by_stated _ _ _ _ b _ k same in
       let good = good_enough kind (directed request) (directed response)
       (freshness_at h.stated (record times { now = later }) response) b after s in
       from_store kind (directed request) (directed response) (freshness_at h.stated times response) a h.answers
@@ -223,9 +210,8 @@ module _ (kind : Kind) (request response : LineMap) (times : Times) (later : ℕ
   fresh_matched : (a : Decision) → times.now ≤ later → DecidesMatched kind request response times a
       → DecidesMatched kind request response (record times { now = later }) Serve → a ≡ Serve
   fresh_matched a l h k =
-      let same : k.stated ≡ h.stated =
-      one_lifetime kind times.response response k.stated h.stated k.lifetime h.lifetime in
-      let after = by_stated kind request response (record times { now = later }) Serve h.stated k same in
+      let same = one_lifetime kind times.response response k.stated h.stated k.lifetime h.lifetime in
+      let after = by_stated _ _ _ _ _ _ k same in
       let grown = age_grows times later response l in
       let below : capped (age_at (record times { now = later }) response) < unwrap_or h.stated 0 = after.1 in
       let fresh : capped (age_at times response) < unwrap_or h.stated 0 = omega (arith, grown, below) in

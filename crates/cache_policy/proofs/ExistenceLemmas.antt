@@ -1,39 +1,28 @@
 -- Each response has a lifetime, and each request a decision.
-use Rattle.std.proofs.Common.{◌≡◌, ℕ, ◌+◌, ◌-◌, ◌/◌, ◌≤◌, Bool, true, false, List, Option, Some, None, codes, refl}
-use Rattle.std.proofs.Common.{ap, inl, inr}
+use Rattle.std.proofs.Common.{◌≡◌, ℕ, ◌+◌, ◌-◌, ◌/◌, ◌≤◌, Bool, true, false, List, Option, Some, None, codes, refl, ap}
+use Rattle.std.proofs.Common.{inl, inr}
 use Rattle.std.specs.Prelude.{IfSome, IsSomeAnd, IsTrue, length}
-use Rattle.std.specs.List.{list_all}
 use Rattle.http.specs.Method.{is_among, safe_methods}
-use Rattle.http_header.specs.Token.{IsToken, is_token_byte, lowercase}
-use Rattle.headers.specs.LineMap.{LineMap}
-use Rattle.headers.specs.Lines.{Line}
-use Rattle.rfc_fields.specs.Members.{field_members, is_whole}
-use Rattle.rfc_fields.specs.Scan.{Member}
-use Rattle.rfc_fields.specs.Scan.Member.{Whole, Malformed}
-use Rattle.cache_policy.specs.Decisions.{Answers, AnswersUnstored, Decides, DecidesBy}
-use Rattle.cache_policy.specs.Decisions.{IsFresh, IsGoodEnough, IsServable}
-use Rattle.cache_policy.specs.Decisions.{MayServeMeanwhile, MayServeOnError, MayServeStale}
-use Rattle.cache_policy.specs.Decisions.{MustBeFresh, freshness_at, staleness}
-use Rattle.cache_fields.specs.Directives.{directed}
-use Rattle.cache_fields.specs.Fields.{IsPresent, capped, date_in, dated}
-use Rattle.cache_fields.specs.Freshness.{HasHeuristic, HasLifetime, MayGuess, by_itself}
-use Rattle.cache_fields.specs.Freshness.{StatesNoAge, is_heuristic, shared_age}
+use Rattle.http_header.specs.Token.{IsToken, is_token_byte}
+use Rattle.headers.specs.{LineMap.LineMap, Lines.Line}
+use Rattle.rfc_fields.specs.{Members.field_members, Scan.Member, Scan.Member.Whole, Scan.Member.Malformed}
+use Rattle.cache_policy.specs.Decisions.{Answers, AnswersUnstored, Decides, DecidesBy, IsFresh, IsGoodEnough}
+use Rattle.cache_policy.specs.Decisions.{IsServable, MayServeMeanwhile, MayServeOnError, MayServeStale, MustBeFresh}
+use Rattle.cache_policy.specs.Decisions.{freshness_at, staleness}
 use Rattle.cache_policy.specs.Requests.{AllowsMethod, IsGetOrHead, IsSafe, Request}
-use Rattle.cache_policy.specs.Varying.{Agree, AreSame, HaveSameMembers, SayTheSame, Suits, has_pairs}
-use Rattle.cache_policy.specs.Varying.{is_list_name}
-use Rattle.cache_fields.specs.declared.age.Times.{Times}
-use Rattle.cache_policy.specs.declared.decision.Decision.{Decision}
-use Rattle.cache_policy.specs.declared.decision.Decision.TheVariants.{Serve, ServeAndRevalidate, ServeStale}
-use Rattle.cache_policy.specs.declared.decision.Decision.TheVariants.{Revalidate, RevalidateOrServe}
-use Rattle.cache_policy.specs.declared.decision.Decision.TheVariants.{Unavailable, Fetch}
-use Rattle.cache_policy.specs.declared.decision.Freshness.{Freshness}
-use Rattle.cache_fields.specs.declared.directives.Directives.{Directives}
-use Rattle.cache_fields.specs.declared.kind.Kind.{Kind}
+use Rattle.cache_policy.specs.Varying.{Agree, AreSame, HaveSameMembers, SayTheSame, Suits}
+use Rattle.cache_policy.specs.{declared.decision.Decision.Decision, declared.decision.Freshness.Freshness}
+use Rattle.cache_policy.specs.declared.decision.Decision.TheVariants.{Serve, ServeAndRevalidate, ServeStale, Revalidate}
+use Rattle.cache_policy.specs.declared.decision.Decision.TheVariants.{RevalidateOrServe, Unavailable, Fetch}
+use Rattle.cache_fields.specs.{Directives.directed, declared.age.Times.Times, declared.directives.Directives.Directives}
+use Rattle.cache_fields.specs.{declared.kind.Kind.Kind}
+use Rattle.cache_fields.specs.Fields.{IsPresent, capped, date_in, dated}
+use Rattle.cache_fields.specs.Freshness.{HasHeuristic, HasLifetime, MayGuess, by_itself, StatesNoAge, is_heuristic}
+use Rattle.cache_fields.specs.Freshness.{shared_age}
 use Rattle.cache_fields.specs.declared.kind.Kind.TheVariants.{Shared, Private}
-use Rattle.cache_policy.proofs.DecidableLemmas.{IsDecidable, decide_All, decide_Bool, decide_IfSome}
-use Rattle.cache_policy.proofs.DecidableLemmas.{decide_IsSome, decide_IsSomeAnd, decide_both, decide_bytes}
-use Rattle.cache_policy.proofs.DecidableLemmas.{decide_either, decide_five, decide_if, decide_le, decide_list}
-use Rattle.cache_policy.proofs.DecidableLemmas.{decide_lt, decide_not, decide_three}
+use Rattle.cache_policy.proofs.DecidableLemmas.{IsDecidable, decide_All, decide_Bool, decide_IfSome, decide_IsSome}
+use Rattle.cache_policy.proofs.DecidableLemmas.{decide_IsSomeAnd, decide_both, decide_bytes, decide_either, decide_five}
+use Rattle.cache_policy.proofs.DecidableLemmas.{decide_if, decide_le, decide_list, decide_lt, decide_not, decide_three}
 
 -- ---- lifetimes
 
@@ -82,43 +71,34 @@ module _ (kind : Kind) (status received : ℕ) (response : LineMap) where
 -- ---- answers
 
 decide_must : (kind : Kind) (tells : Directives) → IsDecidable (MustBeFresh kind tells)
-decide_must Private tells = decide_either (decide_Bool tells.must_revalidate true) (inr (λ h. absurd h))
-decide_must Shared tells =
-    decide_either (decide_Bool tells.must_revalidate true)
-    (decide_either (decide_IsSome tells.s_max_age) (decide_Bool tells.proxy_revalidate true))
+decide_must Private tells = decide_either (decide_Bool _ _) (inr (λ h. absurd h))
+decide_must Shared tells = decide_either (decide_Bool _ _) (decide_either (decide_IsSome _) (decide_Bool _ _))
 
 module _ (kind : Kind) (asks tells : Directives) (freshness : Freshness) where
   decide_servable : IsDecidable (IsServable asks tells freshness)
   decide_servable =
-      decide_both (decide_both (decide_Bool asks.no_cache false) (decide_Bool tells.no_cache false))
-      (decide_both
-      (decide_IfSome asks.max_age (λ limit. freshness.age ≤ limit) (λ limit. decide_le freshness.age limit))
-      (decide_IfSome asks.min_fresh (λ least. freshness.age + least ≤ freshness.lifetime)
-      (λ least. decide_le (freshness.age + least) freshness.lifetime)))
+      decide_both (decide_both (decide_Bool _ _) (decide_Bool _ _)) (decide_both
+      (decide_IfSome _ (λ limit. freshness.age ≤ limit) (λ limit. decide_le _ _))
+      (decide_IfSome _ (λ least. freshness.age + least ≤ freshness.lifetime) (λ least. decide_le _ _)))
 
   decide_within : (o : Option ℕ) → IsDecidable (IsSomeAnd o (λ limit. staleness freshness ≤ limit))
-  decide_within o =
-      decide_IsSomeAnd o (λ limit. staleness freshness ≤ limit) (λ limit. decide_le (staleness freshness) limit)
+  decide_within o = decide_IsSomeAnd o (λ limit. staleness freshness ≤ limit) (λ limit. decide_le _ _)
 
   decide_if_within : (o : Option ℕ) → IsDecidable (IfSome o (λ limit. staleness freshness ≤ limit))
-  decide_if_within o =
-      decide_IfSome o (λ limit. staleness freshness ≤ limit) (λ limit. decide_le (staleness freshness) limit)
+  decide_if_within o = decide_IfSome o (λ limit. staleness freshness ≤ limit) (λ limit. decide_le _ _)
 
   decide_meanwhile : IsDecidable (MayServeMeanwhile kind asks tells freshness)
   decide_meanwhile =
-      decide_three (decide_not (decide_must kind tells)) (decide_within tells.stale_while_revalidate)
-      (decide_both (decide_if (decide_IsSome asks.max_age) (decide_IsSome asks.max_stale))
-      (decide_if_within asks.max_stale))
+      decide_three (decide_not (decide_must _ _)) (decide_within tells.stale_while_revalidate)
+      (decide_both (decide_if (decide_IsSome _) (decide_IsSome _)) (decide_if_within asks.max_stale))
 
   decide_stale : IsDecidable (MayServeStale kind asks tells freshness)
   decide_stale = decide_both (decide_not (decide_must kind tells)) (decide_within asks.max_stale)
 
   decide_on_error : IsDecidable (MayServeOnError kind asks tells freshness)
   decide_on_error =
-      decide_five (decide_both (decide_Bool asks.no_cache false) (decide_Bool tells.no_cache false))
-      (decide_not (decide_must kind tells))
-      (decide_either (decide_IsSome asks.stale_if_error) (decide_IsSome tells.stale_if_error))
-      (decide_if_within asks.stale_if_error)
+      decide_five (decide_both (decide_Bool _ _) (decide_Bool _ _)) (decide_not (decide_must _ _))
+      (decide_either (decide_IsSome _) (decide_IsSome _)) (decide_if_within asks.stale_if_error)
       (decide_if_within tells.stale_if_error)
 
   some_unserved : (¬ (IsGoodEnough kind asks tells freshness)) → (b : Bool) → asks.only_if_cached ≡ b
@@ -165,8 +145,7 @@ decide_member Malformed (Whole t) = inr (λ e. absurd (cc e))
 decide_member Malformed Malformed = inl refl
 
 decide_same : (members others : List Member) → IsDecidable (AreSame members others)
-decide_same members others =
-    decide_both (decide_Bool (list_all is_whole members) true) (decide_list decide_member members others)
+decide_same members others = decide_both (decide_Bool _ _) (decide_list decide_member members others)
 
 decide_have_same : (pairs : Bool) (lines others : List Line) → IsDecidable (HaveSameMembers pairs lines others)
 decide_have_same pairs lines others =
@@ -178,18 +157,14 @@ decide_have_same pairs lines others =
 
 decide_say : (name : List ℕ) (lines others : List Line) → IsDecidable (SayTheSame name lines others)
 decide_say name lines others =
-    decide_either (decide_list decide_bytes lines others)
-    (decide_both (decide_Bool (is_list_name name) true) (decide_have_same (has_pairs name) lines others))
+    decide_either (decide_list decide_bytes lines others) (decide_both (decide_Bool _ _) (decide_have_same _ _ _))
 
 decide_token : (text : List ℕ) → IsDecidable (IsToken text)
-decide_token text =
-    decide_both (decide_lt 0 (length text))
-    (decide_All (λ b. IsTrue (is_token_byte b)) (λ b. decide_Bool (is_token_byte b) true) text)
+decide_token text = decide_both (decide_lt 0 _) (decide_All (λ b. IsTrue (is_token_byte b)) (λ b. decide_Bool _ _) text)
 
 decide_agree : (stored request : LineMap) (member : Member) → IsDecidable (Agree stored request member)
 decide_agree stored request (Whole name) =
-    decide_three (decide_token name) (decide_not (decide_bytes name (codes "*")))
-    (decide_say (lowercase name) (stored (lowercase name)) (request (lowercase name)))
+    decide_three (decide_token _) (decide_not (decide_bytes _ _)) (decide_say _ _ _)
 decide_agree stored request Malformed = inr (λ h. absurd h)
 
 decide_get_or_head : (method : List ℕ) → IsDecidable (IsGetOrHead method)

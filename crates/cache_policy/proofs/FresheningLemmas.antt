@@ -1,16 +1,12 @@
 -- What the fields of an update leave of a stored response, field by field.
-use Rattle.std.proofs.Common.{◌≡◌, ◌∙◌, ℕ, ◌<◌, Bool, true, false, List, [], ◌∷◌, length, refl, sym, ap, subst}
-use Rattle.std.proofs.Common.{arith, inl, inr}
+use Rattle.std.proofs.Common.{◌≡◌, ◌∙◌, ℕ, ◌<◌, Bool, true, false, List, [], ◌∷◌, length, refl, sym, ap, subst, arith}
+use Rattle.std.proofs.Common.{inl, inr}
+use Rattle.std.proofs.{lemmas.Bool.cases_Bool, lemmas.Bool.lt-ltb, lemmas.List.length-map}
+use Rattle.std.proofs.{lemmas.List.Elements.All-head, lemmas.List.Elements.All-tail, lemmas.Slice.Eq.bytes_eq-Decides}
 use Rattle.std.specs.Prelude.{All, ◌&&◌, not, nat_lt, bytes_eq, if◌then◌else◌}
 use Rattle.std.specs.List.{list_any}
-use Rattle.std.proofs.lemmas.Bool.{cases_Bool, lt-ltb}
-use Rattle.std.proofs.lemmas.List.{length-map}
-use Rattle.std.proofs.lemmas.List.Elements.{All-head, All-tail}
-use Rattle.std.proofs.lemmas.Slice.Eq.{bytes_eq-Decides}
-use Rattle.http_header.specs.FieldValue.{FieldValue}
-use Rattle.http_header.specs.HeaderMap.{Entries, IsHeaderMap, keys}
-use Rattle.headers.specs.LineMap.{LineMap, lines_at, set, set_all}
-use Rattle.headers.specs.Lines.{Line, lines_of}
+use Rattle.http_header.specs.{FieldValue.FieldValue, HeaderMap.Entries, HeaderMap.IsHeaderMap, HeaderMap.keys}
+use Rattle.headers.specs.{LineMap.LineMap, LineMap.lines_at, LineMap.set, LineMap.set_all, Lines.Line, Lines.lines_of}
 use Rattle.cache_policy.specs.Freshening.{freshened, freshening_fields, is_kept, taken}
 
 -- the name is one of these
@@ -96,7 +92,6 @@ has-lines (entry ∷ m) name filled =
 pub freshens : (stored : LineMap) (update : Entries FieldValue) → IsHeaderMap update → (name : List ℕ)
     → set_all stored (freshening_fields update) name ≡ freshened stored (lines_at update) name
 freshens stored update valid name =
-    set_all-taken (lines_at update) (keys update) stored name
-    ∙ ap
+    set_all-taken (lines_at update) (keys update) stored name ∙ ap
     (λ (b : Bool). if b && not (is_kept (lines_at update) name) then lines_at update name else stored name)
-    (has-lines update name valid.filled)
+    (has-lines _ _ valid.filled)

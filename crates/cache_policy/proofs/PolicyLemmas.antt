@@ -1,21 +1,17 @@
 -- What follows from the options of a policy.
-use Rattle.std.proofs.Common.{◌≡◌, ◌∙◌, Bool, true, false, ◌≤◌, inl, inr, sym, refl, ap, subst, cond}
-use Rattle.std.specs.Prelude.{◌⊎◌, ◌&&◌, nat_lt, None}
+use Rattle.std.proofs.Common.{◌≡◌, ◌∙◌, Bool, true, false, ◌≤◌, inl, inr, sym, refl, ap, cond}
 use Rattle.std.proofs.lemmas.Bool.{le-ltb}
+use Rattle.std.specs.Prelude.{◌⊎◌, ◌&&◌, nat_lt, None}
 use Rattle.headers.specs.LineMap.{LineMap}
-use Rattle.cache_policy.specs.Decisions.{Answers, AnswersUnstored, Decides, IsFromStore, IsServedMeanwhile}
-use Rattle.cache_policy.specs.Decisions.{IsTakenStale, MayComeFromStore, MustBeFresh, counted}
-use Rattle.cache_fields.specs.Directives.{directed}
+use Rattle.cache_policy.specs.Decisions.{Answers, Decides, IsFromStore, IsServedMeanwhile, IsTakenStale}
+use Rattle.cache_policy.specs.Decisions.{MayComeFromStore, MustBeFresh, counted}
 use Rattle.cache_policy.specs.Policies.{DecidesByUnder, DecidesUnder, Policy, asks, plain, tells}
-use Rattle.cache_policy.specs.Requests.{Request}
-use Rattle.cache_fields.specs.declared.age.Times.{Times}
-use Rattle.cache_policy.specs.declared.decision.Decision.{Decision}
-use Rattle.cache_policy.specs.declared.decision.Decision.TheVariants.{Serve, ServeAndRevalidate, ServeStale}
-use Rattle.cache_policy.specs.declared.decision.Decision.TheVariants.{Revalidate, RevalidateOrServe}
-use Rattle.cache_policy.specs.declared.decision.Decision.TheVariants.{Unavailable, Fetch}
-use Rattle.cache_policy.specs.declared.decision.Freshness.{Freshness}
-use Rattle.cache_fields.specs.declared.directives.Directives.{Directives}
-use Rattle.cache_fields.specs.declared.kind.Kind.{Kind}
+use Rattle.cache_policy.specs.{Requests.Request, declared.decision.Decision.Decision}
+use Rattle.cache_policy.specs.{declared.decision.Freshness.Freshness}
+use Rattle.cache_policy.specs.declared.decision.Decision.TheVariants.{Serve, ServeAndRevalidate, ServeStale, Revalidate}
+use Rattle.cache_policy.specs.declared.decision.Decision.TheVariants.{RevalidateOrServe, Unavailable, Fetch}
+use Rattle.cache_fields.specs.{Directives.directed, declared.age.Times.Times, declared.directives.Directives.Directives}
+use Rattle.cache_fields.specs.{declared.kind.Kind.Kind}
 use Rattle.cache_policy.proofs.DecisionLemmas.{stale_where_let, unstored_not_from_store}
 
 -- ---- no options
@@ -58,9 +54,7 @@ module _ (policy : Policy) (stored request : Request) (response : LineMap) (fres
       × (IsTakenStale (directed request.fields) freshness ⊎ IsServedMeanwhile (tells policy response) freshness)
   stale_where_allowed decision (inl h) s l =
       stale_where_let policy.kind (directed request.fields) (tells policy response) freshness decision
-      (subst (λ (d : Directives). Answers policy.kind d (tells policy response) freshness decision)
-      (counted-stale policy.immutable (directed request.fields) (tells policy response) freshness l) h.1)
-      s l
+      (rw (counted-stale policy.immutable (directed request.fields) (tells policy response) freshness l) at h.1) s l
   stale_where_allowed decision (inr h) s l = absurd (unstored_not_from_store request decision h.1 s)
 
   usable : (d : Directives) (decision : Decision) → Answers policy.kind d (tells policy response) freshness decision
@@ -84,8 +78,7 @@ module _ (policy : Policy) (stored request : Request) (response : LineMap) (fres
         both.1,
       )
   unstored_never decision (inr h) (inl m) = absurd (unstored_not_from_store request decision h.1 m)
-  unstored_never decision (inr h) (inr m) =
-      absurd (let k = subst (λ (d : Decision). AnswersUnstored request d) m h.1 in k)
+  unstored_never decision (inr h) (inr m) = absurd (let k = rw m at h.1 in k)
 
   pub no_cache_asks : (decision : Decision)
       → ((directed request.fields).no_cache ≡ true) ⊎ ((tells policy response).no_cache ≡ true)

@@ -1,12 +1,9 @@
 -- The encodings of validators, and the request that sends them.
 use Rattle.std.proofs.Common.{◌≡◌, ◌≢◌, ℕ, List, [], ◌∷◌, Option, Some, None, refl, sym, ap, ◌∙◌, inl, inr}
+use Rattle.std.proofs.{lemmas.Bool.cases_Bool, lemmas.Slice.Eq.bytes_eq-Decides}
 use Rattle.std.specs.Prelude.{bytes_eq, codes}
-use Rattle.std.proofs.lemmas.Bool.{cases_Bool}
-use Rattle.std.proofs.lemmas.Slice.Eq.{bytes_eq-Decides}
-use Rattle.headers.specs.LineMap.{Field, LineMap, set, set_all}
-use Rattle.headers.specs.Lines.{Line}
-use Rattle.cache_policy.specs.Validating.{IsCanonical, IsConditional, lines_of_option, tag_lines}
-use Rattle.cache_policy.specs.Validating.{validation_fields}
+use Rattle.headers.specs.{LineMap.Field, LineMap.LineMap, LineMap.set, LineMap.set_all, Lines.Line}
+use Rattle.cache_policy.specs.Validating.{IsCanonical, IsConditional, lines_of_option, tag_lines, validation_fields}
 
 -- a value is encoded in one field line: that of the value that field lines decode to, if they decode to one
 module _ {V A : Type 0} (value_of : List Line → Option A) (kept : V → A) (text : A → Line) (of : A → V)

@@ -1,15 +1,12 @@
 -- What the comparison of values says of their lines, and what is left of lists that are compared.
-use Rattle.std.proofs.Common.{◌≡◌, ◌≢◌, ◌∙◌, List, [], ◌∷◌, All, Option, Some, None, refl, sym, inl, inr}
-use Rattle.std.specs.Prelude.{Bool, true, false, ◌↔◌, bytes_eq}
-use Rattle.std.specs.Bool.{Decides, MatchBool}
-use Rattle.std.specs.Cmp.Lexicographic.{pointwise}
-use Rattle.std.proofs.lemmas.Bool.{cases_Bool}
+use Rattle.std.proofs.Common.{◌≡◌, ◌≢◌, List, [], ◌∷◌, All, Option, Some, None, refl, sym, inl, inr}
+use Rattle.std.proofs.{lemmas.Bool.cases_Bool, lemmas.Slice.Eq.bytes_eq-Decides}
 use Rattle.std.proofs.lemmas.List.Elements.{All-cons, All-tail}
-use Rattle.std.proofs.lemmas.Slice.Eq.{bytes_eq-Decides}
+use Rattle.std.specs.Prelude.{Bool, true, false, ◌↔◌, bytes_eq}
+use Rattle.std.specs.{Bool.Decides, Bool.MatchBool, Cmp.Lexicographic.pointwise}
 use Rattle.http_header.specs.FieldValue.{FieldValue}
 use Rattle.headers.specs.Lines.{lines_of}
-use Rattle.rfc_fields.specs.Scan.{Member}
-use Rattle.rfc_fields.specs.Scan.Member.{Whole, Malformed}
+use Rattle.rfc_fields.specs.{Scan.Member, Scan.Member.Whole, Scan.Member.Malformed}
 use Rattle.cache_policy.specs.Varying.{AreSame, IsSame}
 
 -- the first of a list, if it has one, and what comes after it
@@ -62,14 +59,3 @@ same_but_first (Whole s) (Whole t) ms ns e = (
 )
 same_but_first (Whole s) Malformed ms ns e = absurd e
 same_but_first Malformed n ms ns e = absurd e
-
--- lists whose first members differ are not the same
-pub not_same_first : (m : Member) (ms others : List Member) (first : Option Member) (rest : List Member)
-    → IsFirst first rest others → ¬ (IsSame m first) → ¬ (AreSame (m ∷ ms) others)
-not_same_first (Whole s) ms others None rest f n h = let e : Whole s ∷ ms ≡ [] = h.1 ∙ f in absurd (cc e)
-not_same_first (Whole s) ms others (Some (Whole t)) rest f n h =
-    let e : Whole s ∷ ms ≡ Whole t ∷ rest = h.1 ∙ f in
-    let same : s ≡ t = cc e in n same
-not_same_first (Whole s) ms others (Some Malformed) rest f n h =
-    let e : Whole s ∷ ms ≡ Malformed ∷ rest = h.1 ∙ f in absurd (cc e)
-not_same_first Malformed ms others first rest f n h = let no : false ≡ true = h.0 in absurd (cc no)

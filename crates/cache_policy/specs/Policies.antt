@@ -2,18 +2,11 @@
 use Rattle.std.specs.Prelude.{◌⊎◌, ℕ, Bool, false, List, [], Option}
 use Rattle.headers.specs.LineMap.{LineMap}
 use Rattle.cache_policy.specs.Decisions.{Answers, AnswersUnstored, counted, freshness_at}
-use Rattle.cache_fields.specs.Directives.{directed}
+use Rattle.cache_policy.specs.{Requests.Request, Storing.StoresBy, Varying.Suits, declared.decision.Decision.Decision}
+use Rattle.cache_policy.specs.{declared.decision.Freshness.Freshness, declared.policy.Policy.Policy as Given}
+use Rattle.cache_fields.specs.{Directives.directed, Targets.governing, declared.age.Times.Times}
+use Rattle.cache_fields.specs.{declared.directives.Directives.Directives, declared.kind.Kind.Kind}
 use Rattle.cache_fields.specs.Freshness.{HasHeuristicBy, HasLifetimeBy}
-use Rattle.cache_policy.specs.Requests.{Request}
-use Rattle.cache_policy.specs.Storing.{StoresBy}
-use Rattle.cache_fields.specs.Targets.{governing}
-use Rattle.cache_policy.specs.Varying.{Suits}
-use Rattle.cache_fields.specs.declared.age.Times.{Times}
-use Rattle.cache_policy.specs.declared.decision.Decision.{Decision}
-use Rattle.cache_policy.specs.declared.decision.Freshness.{Freshness}
-use Rattle.cache_fields.specs.declared.directives.Directives.{Directives}
-use Rattle.cache_fields.specs.declared.kind.Kind.{Kind}
-use Rattle.cache_policy.specs.declared.policy.Policy.{Policy as Given}
 
 -- Whom a cache serves; whether `immutable` counts; and the names of its targeted fields, in the order in which they
 -- count.

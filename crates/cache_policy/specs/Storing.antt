@@ -1,14 +1,11 @@
 -- What a cache may store (RFC 9111, section 3).
 use Rattle.std.specs.Prelude.{◌≡◌, ◌≢◌, ◌⊎◌, ⊤, ℕ, ◌≤◌, true, false, IsSome, codes}
 use Rattle.headers.specs.LineMap.{LineMap}
-use Rattle.cache_fields.specs.Directives.{directed}
-use Rattle.cache_fields.specs.Fields.{IsPresent}
+use Rattle.cache_fields.specs.{Directives.directed, Fields.IsPresent, declared.directives.Directives.Directives}
+use Rattle.cache_fields.specs.{declared.governing.Governing.Governing, declared.kind.Kind.Kind}
 use Rattle.cache_fields.specs.Freshness.{HasExpires, IsHeuristic, by_itself}
-use Rattle.cache_policy.specs.Requests.{IsGetOrHead, Request}
-use Rattle.cache_fields.specs.declared.directives.Directives.{Directives}
-use Rattle.cache_fields.specs.declared.governing.Governing.{Governing}
-use Rattle.cache_fields.specs.declared.kind.Kind.{Kind}
 use Rattle.cache_fields.specs.declared.kind.Kind.TheVariants.{Shared, Private}
+use Rattle.cache_policy.specs.Requests.{IsGetOrHead, Request}
 
 -- The status is final, the response is no part of another one, and the cache understands the status if
 -- `must-understand` is there. It understands those that are heuristically cacheable.

@@ -1,14 +1,9 @@
 -- How the origin is asked whether a stored response is still good (RFC 9111, section 4.3.1).
-use Rattle.std.specs.Prelude.{◌≡◌, ◌≢◌, ◌⊎◌, ℕ, List, [], ◌∷◌, ◌-◌, ◌&&◌, Option, Some, None, codes}
-use Rattle.std.specs.Prelude.{option_and_then, option_map, nat_le, nat_lt, if◌then◌else◌}
-use Rattle.headers.specs.Date.{fixdate}
-use Rattle.headers.specs.LineMap.{Field, LineMap}
-use Rattle.headers.specs.Lines.{Line, only_line}
-use Rattle.headers.specs.Shapes.{only_tag}
-use Rattle.headers.specs.Text.{trim}
-use Rattle.headers.specs.Typed.{ReadsNothing}
-use Rattle.rfc_dates.specs.Calendar.{unix_epoch}
-use Rattle.rfc_dates.specs.Date.{timestamp}
+use Rattle.std.specs.Prelude.{◌≡◌, ◌≢◌, ◌⊎◌, ℕ, List, [], ◌∷◌, ◌-◌, ◌&&◌, Option, Some, None, codes, option_and_then}
+use Rattle.std.specs.Prelude.{option_map, nat_le, nat_lt, if◌then◌else◌}
+use Rattle.headers.specs.{Date.fixdate, LineMap.Field, LineMap.LineMap, Lines.Line, Lines.only_line, Shapes.only_tag}
+use Rattle.headers.specs.{Text.trim, Typed.ReadsNothing}
+use Rattle.rfc_dates.specs.{Calendar.unix_epoch, Date.timestamp}
 
 -- one field line of a value, or none
 abbrev pub lines_of_option : {V : Type 0} → (V → Line) → Option V → List Line

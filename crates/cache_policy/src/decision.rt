@@ -1,14 +1,12 @@
 //! What a cache does with a request, by one stored response.
-ghost use Rattle.std.specs.Prelude.{◌≡◌, ◌≤◌, IfSome};
-ghost use Rattle.std.specs.Bool.{MatchBool};
+ghost use Rattle.std.specs.{Prelude.◌≡◌, Prelude.◌≤◌, Prelude.IfSome, Bool.MatchBool};
 ghost use Rattle.headers.specs.LineMap.{lines_at};
-ghost use Rattle.cache_policy.specs.Decisions.{Answers, AnswersUnstored, Decides, DecidesBy, counted};
-ghost use Rattle.cache_fields.specs.Directives.{directed};
-ghost use Rattle.cache_policy.specs.Policies.{DecidesByUnder, DecidesMatchedUnder, DecidesUnder, policy_of};
-ghost use Rattle.cache_policy.specs.Decisions.{IsNotRefused, IsServable};
-ghost use Rattle.cache_policy.specs.Decisions.{IsGoodEnough, IsUsable, IsWanted, staleness};
+ghost use Rattle.cache_policy.specs.Decisions.{Answers, AnswersUnstored, Decides, DecidesBy, counted, IsNotRefused};
+ghost use Rattle.cache_policy.specs.Decisions.{IsServable, IsGoodEnough, IsUsable, IsWanted, staleness};
 ghost use Rattle.cache_policy.specs.Decisions.{MayServeMeanwhile, MayServeOnError, MayServeStale, MustBeFresh};
+ghost use Rattle.cache_policy.specs.Policies.{DecidesByUnder, DecidesMatchedUnder, DecidesUnder, policy_of};
 ghost use Rattle.cache_policy.specs.Requests.{request_of};
+ghost use Rattle.cache_fields.specs.Directives.{directed};
 
 use crate::policy::Policy;
 use crate::request::{RequestHead, is_safe};

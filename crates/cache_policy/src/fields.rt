@@ -1,6 +1,5 @@
 //! Field lines that are compared or copied.
-ghost use Rattle.std.specs.Prelude.{◌≡◌, ◌≢◌, IfOk};
-ghost use Rattle.std.specs.Bool.{MatchBool};
+ghost use Rattle.std.specs.{Prelude.◌≡◌, Prelude.◌≢◌, Prelude.IfOk, Bool.MatchBool};
 ghost use Rattle.http_header.specs.HeaderMap.{get_all};
 ghost use Rattle.headers.specs.Lines.{lines_of};
 

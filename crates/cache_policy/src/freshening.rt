@@ -1,8 +1,7 @@
 //! What a 304 changes in a stored response.
 ghost use Rattle.std.specs.Prelude.{◌≡◌, ◌≢◌, [], IfOk, OnErr, option_map};
 ghost use Rattle.headers.specs.LineMap.{field_of, fields_of, lines_at};
-ghost use Rattle.cache_policy.specs.Freshening.{FreshensIf, freshening_fields, is_kept, is_kept_name};
-ghost use Rattle.cache_policy.specs.Freshening.{is_named};
+ghost use Rattle.cache_policy.specs.Freshening.{FreshensIf, freshening_fields, is_kept, is_kept_name, is_named};
 ghost use Rattle.cache_policy.specs.Updating.{IsUpdated};
 
 use crate::fields::values_at;

@@ -1,27 +1,20 @@
 //! Theorems about the definitions alone. To cite one in a proof, call it.
 ghost use Rattle.std.specs.Prelude.{◌≡◌, ◌⊎◌, ◌↔◌, ◌≤◌, ◌∷◌, [], ℕ, List, Option, Some, None, codes, true, false};
-ghost use Rattle.http_header.specs.FieldValue.{FieldValue};
-ghost use Rattle.http_header.specs.HeaderMap.{Entries, IsHeaderMap};
+ghost use Rattle.http_header.specs.{FieldValue.FieldValue, HeaderMap.Entries, HeaderMap.IsHeaderMap};
 ghost use Rattle.headers.specs.LineMap.{LineMap, lines_at, set_all};
-ghost use Rattle.cache_fields.specs.Age.{age_at};
+ghost use Rattle.cache_fields.specs.{Age.age_at, Fields.capped, Fields.greatest, Targets.governing, Targets.told_by};
+ghost use Rattle.cache_fields.specs.{declared.age.Times.Times, declared.directives.Directives.Directives};
+ghost use Rattle.cache_fields.specs.{declared.kind.Kind.Kind, declared.kind.Kind.TheVariants.Shared};
+ghost use Rattle.cache_fields.specs.Directives.{IsMalformed, Says, directed};
+ghost use Rattle.cache_fields.specs.Freshness.{HasHeuristic, HasLifetime, by_itself};
 ghost use Rattle.cache_policy.specs.Decisions.{Answers, AnswersUnstored, Decides, DecidesBy, IsFromStore};
 ghost use Rattle.cache_policy.specs.Decisions.{IsServedMeanwhile, IsTakenStale, MayComeFromStore, MustBeFresh};
-ghost use Rattle.cache_fields.specs.Directives.{IsMalformed, Says, directed};
-ghost use Rattle.cache_fields.specs.Fields.{capped, greatest};
-ghost use Rattle.cache_policy.specs.Freshening.{freshened, freshening_fields};
-ghost use Rattle.cache_fields.specs.Freshness.{HasHeuristic, HasLifetime, by_itself};
-ghost use Rattle.cache_policy.specs.Policies.{DecidesByUnder, Policy, asks, tells};
-ghost use Rattle.cache_policy.specs.Requests.{IsSafe, Request};
-ghost use Rattle.cache_policy.specs.Storing.{MayStore};
-ghost use Rattle.cache_fields.specs.Targets.{governing, told_by};
-ghost use Rattle.cache_policy.specs.Validating.{IsConditional, validation_fields};
-ghost use Rattle.cache_fields.specs.declared.age.Times.{Times};
-ghost use Rattle.cache_policy.specs.declared.decision.Decision.{Decision};
-ghost use Rattle.cache_policy.specs.declared.decision.Decision.TheVariants.{Fetch, Serve};
-ghost use Rattle.cache_policy.specs.declared.decision.Freshness.{Freshness};
-ghost use Rattle.cache_fields.specs.declared.directives.Directives.{Directives};
-ghost use Rattle.cache_fields.specs.declared.kind.Kind.{Kind};
-ghost use Rattle.cache_fields.specs.declared.kind.Kind.TheVariants.{Shared};
+ghost use Rattle.cache_policy.specs.{Freshening.freshened, Freshening.freshening_fields, Policies.DecidesByUnder};
+ghost use Rattle.cache_policy.specs.{Policies.Policy, Policies.asks, Policies.tells, Requests.IsSafe, Requests.Request};
+ghost use Rattle.cache_policy.specs.{Storing.MayStore, Validating.IsConditional, Validating.validation_fields};
+ghost use Rattle.cache_policy.specs.{declared.decision.Decision.Decision, declared.decision.Decision.TheVariants.Fetch};
+ghost use Rattle.cache_policy.specs.{declared.decision.Decision.TheVariants.Serve};
+ghost use Rattle.cache_policy.specs.{declared.decision.Freshness.Freshness};
 
 /// Theorem: each response has exactly one lifetime, or exactly none; `lifetime` returns it. The
 /// cases of `HasLifetime` cover each response, and exclude each other.
@@ -176,6 +169,7 @@ pub fn first_valid_target_governs()
 
 /// Theorem: after `set_all` of the validation fields a request has exactly the response's
 /// validators in If-None-Match and If-Modified-Since, and each other field is unchanged.
+#[tactic(auto, using(crate::proofs::ValidatingLemmas::conditional))]
 pub fn validation_makes_requests_conditional()
     ensures { (received : ℕ) (request response : LineMap)
         → IsConditional received request response (set_all request (validation_fields received response)) }
@@ -184,6 +178,7 @@ pub fn validation_makes_requests_conditional()
 /// Theorem: after `set_all` of the freshening fields a stored response has each field of the 304
 /// instead of its own, except those that no update changes. (`HeaderMap` ensures `IsHeaderMap` of
 /// each map.)
+#[tactic(auto, using(crate::proofs::FresheningLemmas::freshens))]
 pub fn freshening_replaces_each_field()
     ensures { (stored : LineMap) (update : Entries FieldValue) → IsHeaderMap update → (name : List ℕ)
         → set_all stored (freshening_fields update) name ≡ freshened stored (lines_at update) name }

@@ -1,12 +1,9 @@
 //! What a cache may store.
-ghost use Rattle.std.specs.Prelude.{◌≡◌, codes};
-ghost use Rattle.std.specs.Bool.{MatchBool};
+ghost use Rattle.std.specs.{Prelude.◌≡◌, Prelude.codes, Bool.MatchBool};
 ghost use Rattle.headers.specs.LineMap.{lines_at};
-ghost use Rattle.cache_policy.specs.Storing.{IsShareable, IsStatusStored, IsStorable, IsSuited};
-ghost use Rattle.cache_policy.specs.Storing.{MayStore, StoresBy};
+ghost use Rattle.cache_policy.specs.Storing.{IsShareable, IsStatusStored, IsStorable, IsSuited, MayStore, StoresBy};
+ghost use Rattle.cache_policy.specs.{Policies.MayStoreUnder, Policies.policy_of, Requests.request_of};
 ghost use Rattle.cache_fields.specs.Directives.{directed};
-ghost use Rattle.cache_policy.specs.Policies.{MayStoreUnder, policy_of};
-ghost use Rattle.cache_policy.specs.Requests.{request_of};
 
 use crate::policy::Policy;
 use crate::request::{RequestHead, is_get_or_head};

@@ -1,9 +1,8 @@
 //! Which stored response a 304 updates.
-ghost use Rattle.std.specs.Prelude.{◌≡◌, ◌≢◌, codes};
-ghost use Rattle.std.specs.Bool.{MatchBool};
+ghost use Rattle.std.specs.{Prelude.◌≡◌, Prelude.◌≢◌, Prelude.codes, Bool.MatchBool};
 ghost use Rattle.headers.specs.LineMap.{lines_at};
-ghost use Rattle.cache_policy.specs.Updating.{HasOptions, HasSameDate, HasSameTag, HasStrongTag, HasValidator};
-ghost use Rattle.cache_policy.specs.Updating.{IsTagOf, IsUpdated, is_weak, opaque_of};
+ghost use Rattle.cache_policy.specs.Updating.{HasOptions, HasSameDate, HasSameTag, HasStrongTag, HasValidator, IsTagOf};
+ghost use Rattle.cache_policy.specs.Updating.{IsUpdated, is_weak, opaque_of};
 
 use crate::fields::have_same_lines;
 use headers::HeaderMap;

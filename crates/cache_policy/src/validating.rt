@@ -1,9 +1,8 @@
 //! Conditional requests to validate a stored response.
 ghost use Rattle.std.specs.Prelude.{◌≡◌, ◌∷◌, [], IfOk, codes, option_map};
-ghost use Rattle.headers.specs.LineMap.{field_of, fields_of, lines_at};
-ghost use Rattle.headers.specs.Lines.{lines_of};
-ghost use Rattle.cache_policy.specs.Validating.{IsCanonical, dated_line, sent_date, since_lines};
-ghost use Rattle.cache_policy.specs.Validating.{tag_lines, validation_fields};
+ghost use Rattle.headers.specs.{LineMap.field_of, LineMap.fields_of, LineMap.lines_at, Lines.lines_of};
+ghost use Rattle.cache_policy.specs.Validating.{IsCanonical, dated_line, sent_date, since_lines, tag_lines};
+ghost use Rattle.cache_policy.specs.Validating.{validation_fields};
 
 use crate::dating::END_OF_DATES;
 use headers::{

@@ -1,5 +1,4 @@
-use Rattle.cache_policy.proofs.StrictLemmas.{malformed_is_not_guessed, malformed_is_stale}
-use Rattle.cache_policy.proofs.StrictLemmas.{malformed_is_validated}
+use Rattle.cache_policy.proofs.StrictLemmas.{malformed_is_not_guessed, malformed_is_stale, malformed_is_validated}
 use Rattle.cache_policy.proofs.StrictLemmas.{malformed_not_stored}
 use Rattle.cache_policy.proofs.laws.malformed_response_is_strict.Goals as goal
 

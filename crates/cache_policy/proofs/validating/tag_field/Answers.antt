@@ -1,14 +1,11 @@
 use Rattle.std.proofs.Common.{refl, ap, List, codes}
 use Rattle.http_header.specs.FieldValue.{FieldValue, plain_value}
-use Rattle.headers.specs.LineMap.{lines_at}
-use Rattle.headers.specs.Lines.{Line, lines_of}
-use Rattle.headers.specs.Shapes.{only_tag}
+use Rattle.headers.specs.{Lines.Line, Shapes.only_tag}
 use Rattle.cache_policy.proofs.ValidatingLemmas.{canonical-lines}
 use Rattle.cache_policy.proofs.validating.tag_field.Goals as goal
 
 pub returns : goal.returns
 returns c =
     ap (λ (lines : List Line). (codes "if-none-match", lines))
-    (canonical-lines (only_tag {V = Line} (λ tag. tag)).value_of (λ (tag : FieldValue). tag.bytes)
-    (λ (tag : Line). tag) plain_value (λ _. refl) refl (lines_at c.args.response.now (codes "etag"))
-    (lines_of c.in_ok-lines.lines.items) c.in_ok-lines.ensures)
+    (canonical-lines (only_tag {V = Line} (λ tag. tag)).value_of (λ (tag : FieldValue). tag.bytes) (λ (tag : Line). tag)
+    plain_value (λ _. refl) refl _ _ c.in_ok-lines.ensures)

@@ -1,8 +1,6 @@
-use Rattle.std.proofs.Common.{◌↔◌, All, List, subst}
 use Rattle.headers.specs.LineMap.{lines_at}
-use Rattle.rfc_fields.specs.Members.{field_left, member_of}
-use Rattle.rfc_fields.specs.Scan.{Member}
-use Rattle.cache_policy.specs.Varying.{Agree, AreAlike}
+use Rattle.rfc_fields.specs.Members.{member_of}
+use Rattle.cache_policy.specs.Varying.{Agree}
 use Rattle.cache_policy.proofs.VaryLemmas.{all_but_first}
 use Rattle.cache_policy.proofs.vary.are_alike.Goals as goal
 
@@ -10,10 +8,6 @@ pub loop-member-preserved : goal.loop-member-preserved
 loop-member-preserved c =
     let Agrees = Agree (lines_at c.args.stored.now) (lines_at c.args.request.now) in
     let is : Agrees (member_of c.in-Some.member) = rw c.if-not-agree.false at c.agree.ensures in
-    let later = all_but_first Agrees (member_of c.in-Some.member) (field_left c.next.new.self) is in
-    let so_far =
-    subst
-    (λ (left : List Member). AreAlike (lines_at c.args.stored.now) (lines_at c.args.request.now)
-    (lines_at c.args.response.now) ↔ All Agrees left)
-    c.in-Some.ensures.steps c.loop-member.invariant in
+    let later = all_but_first Agrees _ _ is in
+    let so_far = rw c.in-Some.ensures.steps at c.loop-member.invariant in
     ((λ a. later.0 (so_far.0 a)), (λ a. so_far.1 (later.1 a)))
