@@ -2,13 +2,10 @@
 use Rattle.std.proofs.Common.{◌≡◌, ℕ, zero, suc, ◌+◌, ◌<◌, ◌≤◌, refl, ap, arith, inl, inr}
 use Rattle.headers.specs.LineMap.{LineMap}
 use Rattle.decide_handshake.specs.Client.{AcceptsKey, Checks, IsOpened, IsSwitched, NamesWebsocket, Rule, flaw_number}
-use Rattle.decide_handshake.specs.Extensions.{HasExtensions, UsesAskedExtensions}
-use Rattle.decide_handshake.specs.Fields.{ListsUpgrade}
-use Rattle.decide_handshake.specs.Protocols.{UsesAskedProtocol}
-use Rattle.decide_handshake.specs.Rules.{IsFirstBroken, KeepsBelow}
-use Rattle.decide_handshake.specs.declared.client.Checked.{Checked}
-use Rattle.decide_handshake.specs.declared.client.Checked.TheVariants.{Open, Fail}
-use Rattle.decide_handshake.specs.declared.client.Flaw.{Flaw}
+use Rattle.decide_handshake.specs.{Extensions.HasExtensions, Extensions.UsesAskedExtensions, Fields.ListsUpgrade}
+use Rattle.decide_handshake.specs.{Protocols.UsesAskedProtocol, Rules.IsFirstBroken, Rules.KeepsBelow}
+use Rattle.decide_handshake.specs.{declared.client.Checked.Checked, declared.client.Checked.TheVariants.Open}
+use Rattle.decide_handshake.specs.{declared.client.Checked.TheVariants.Fail, declared.client.Flaw.Flaw}
 use Rattle.decide_handshake.specs.declared.client.Flaw.TheVariants.{NotSwitched, NoUpgrade, NoConnection, WrongAccept}
 use Rattle.decide_handshake.specs.declared.client.Flaw.TheVariants.{MalformedExtensions, UnaskedExtension}
 use Rattle.decide_handshake.specs.declared.client.Flaw.TheVariants.{UnaskedProtocol}

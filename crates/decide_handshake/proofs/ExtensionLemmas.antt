@@ -1,16 +1,12 @@
 -- Values that mean tokens, and lists whose elements were all tested.
-use Rattle.std.proofs.Common.{◌≡◌, ◌↔◌, ℕ, Bool, true, false, ◌==◌, List, [], ◌∷◌, ◌++◌, length, All, IsTrue}
-use Rattle.std.proofs.Common.{refl, sym, ◌∙◌, ap, arith, ◌<◌}
-use Rattle.std.specs.Bool.{MatchBool}
-use Rattle.std.specs.List.{AllWithin, HoldsAt, list_all}
-use Rattle.std.proofs.lemmas.Bool.{eqb-true, false_from_ne_true}
-use Rattle.std.proofs.lemmas.List.{append_cancel_right}
+use Rattle.std.proofs.Common.{◌≡◌, ◌↔◌, ℕ, Bool, true, false, ◌==◌, List, [], ◌∷◌, ◌++◌, length, All, IsTrue, refl, sym}
+use Rattle.std.proofs.Common.{◌∙◌, ap, arith, ◌<◌}
+use Rattle.std.proofs.{lemmas.Bool.eqb-true, lemmas.Bool.false_from_ne_true, lemmas.List.append_cancel_right}
+use Rattle.std.specs.{Bool.MatchBool, List.AllWithin, List.HoldsAt, List.list_all}
 use Rattle.http_header.specs.Token.{is_token_byte}
-use Rattle.rfc_fields.specs.Grammar.{quote}
-use Rattle.rfc_fields.specs.Values.{IsValue, ValueParts, is_token, octets_of}
-use Rattle.rfc_fields.specs.Values.ValueParts.{TokenText, QuotedText}
+use Rattle.rfc_fields.specs.{Grammar.quote, Values.IsValue, Values.ValueParts, Values.is_token, Values.octets_of}
+use Rattle.rfc_fields.specs.{Values.ValueParts.TokenText, Values.ValueParts.QuotedText, Members.field_members}
 use Rattle.headers.specs.Lines.{Line}
-use Rattle.rfc_fields.specs.Members.{field_members}
 use Rattle.decide_handshake.specs.Extensions.{IsExtensionList, MeansToken, UsesListed, is_among}
 
 some_length : (b : ℕ) (s : List ℕ) → (length (b ∷ s) == 0) ≡ false
@@ -30,12 +26,10 @@ quote_first s = rw (some_length quote s) refl
 one_value : (text : List ℕ) (v w : ValueParts) → IsValue text v → IsValue text w → v ≡ w
 one_value text (TokenText s) (TokenText t) h k = ap TokenText (sym h.written ∙ k.written)
 one_value text (TokenText s) (QuotedText t) h k =
-    let both : false ≡ true =
-    sym (quote_first (t ++ quote ∷ [])) ∙ (ap is_token (sym k.written ∙ h.written) ∙ h.valid) in
+    let both = sym (quote_first _) ∙ (ap is_token (sym k.written ∙ h.written) ∙ h.valid) in
     absurd (cc both)
 one_value text (QuotedText s) (TokenText t) h k =
-    let both : false ≡ true =
-    sym (quote_first (s ++ quote ∷ [])) ∙ (ap is_token (sym h.written ∙ k.written) ∙ k.valid) in
+    let both = sym (quote_first _) ∙ (ap is_token (sym h.written ∙ k.written) ∙ k.valid) in
     absurd (cc both)
 one_value text (QuotedText s) (QuotedText t) h k =
     let same : quote ∷ (s ++ quote ∷ []) ≡ quote ∷ (t ++ quote ∷ []) = sym h.written ∙ k.written in

@@ -3,10 +3,8 @@ use Rattle.std.proofs.Common.{◌≡◌, [], ◌∷◌, true, refl, codes}
 use Rattle.std.specs.List.{list_all}
 use Rattle.http_header.specs.Token.{is_token_byte}
 use Rattle.headers.specs.LineMap.{LineMap}
-use Rattle.rfc_fields.specs.Directives.{is_token_member}
-use Rattle.rfc_fields.specs.Members.{field_members}
+use Rattle.rfc_fields.specs.{Directives.is_token_member, Members.field_members, Scan.Member.Whole}
 use Rattle.rfc_fields.specs.Scan.{pieces, push}
-use Rattle.rfc_fields.specs.Scan.Member.{Whole}
 use Rattle.decide_handshake.specs.Fields.{ListsUpgrade, ListsWebsocket, is_protocol}
 
 websocket_member : field_members true (codes "websocket" ∷ []) ≡ Whole (codes "websocket") ∷ []

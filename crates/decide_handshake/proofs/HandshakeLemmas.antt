@@ -1,27 +1,21 @@
 -- Both ends together: what a server makes of a request, and what a client finds in the fields of an answer.
-use Rattle.std.proofs.Common.{◌≡◌, ◌↔◌, ℕ, List, [], ◌∷◌, Option, Some, None, inl, refl, sym, ◌∙◌, ap, arith}
-use Rattle.std.proofs.Common.{codes}
+use Rattle.std.proofs.Common.{◌≡◌, ◌↔◌, ℕ, List, [], ◌∷◌, Option, Some, None, inl, refl, sym, ◌∙◌, ap, arith, codes}
 use Rattle.std.specs.Prelude.{⊤}
-use Rattle.http.specs.declared.version.Version.{Version}
-use Rattle.http.specs.declared.version.TheConstants.Version.{HTTP_11}
+use Rattle.http.specs.{declared.version.Version.Version, declared.version.TheConstants.Version.HTTP_11}
 use Rattle.http_header.specs.FieldValue.{FieldValue}
 use Rattle.websocket.specs.Handshake.{IsValidKey, accept_key_of}
-use Rattle.headers.specs.LineMap.{LineMap}
-use Rattle.headers.specs.Lines.{Line, only_line}
-use Rattle.decide_handshake.specs.Client.{IsOpened, SendsKey}
-use Rattle.decide_handshake.specs.Extensions.{HasExtensions}
+use Rattle.headers.specs.{LineMap.LineMap, Lines.Line, Lines.only_line}
+use Rattle.decide_handshake.specs.{Client.IsOpened, Client.SendsKey, Extensions.HasExtensions}
+use Rattle.decide_handshake.specs.{declared.origins.Origins.Origins, declared.server.Answer.Answer}
 use Rattle.decide_handshake.specs.Messages.{Carries, CarriesButOffers, FitsProtocol, answer_fields, request_fields}
 use Rattle.decide_handshake.specs.Messages.{status_of}
 use Rattle.decide_handshake.specs.Protocols.{AsksFor, OffersProtocols, UsesAskedProtocol}
 use Rattle.decide_handshake.specs.Server.{Answers, HasHost, HasKey, IsHandshake, IsSwitch, Switches}
 use Rattle.decide_handshake.specs.declared.client.Flaw.TheVariants.{NotSwitched, UnaskedProtocol, WrongAccept}
-use Rattle.decide_handshake.specs.declared.origins.Origins.{Origins}
-use Rattle.decide_handshake.specs.declared.server.Answer.{Answer}
 use Rattle.decide_handshake.specs.declared.server.Answer.TheVariants.{Switch, BadRequest, UpgradeRequired, Forbidden}
-use Rattle.decide_handshake.proofs.ClientLemmas.{opened}
+use Rattle.decide_handshake.proofs.{ClientLemmas.opened, ServerLemmas.one_key}
 use Rattle.decide_handshake.proofs.FieldLemmas.{lists_upgrade, lists_websocket}
 use Rattle.decide_handshake.proofs.ProtocolLemmas.{taken_asked, uses_asked, uses_this}
-use Rattle.decide_handshake.proofs.ServerLemmas.{one_key}
 
 -- a request with the fields of a handshake, and with offers by their grammar, is one
 pub offering_is_handshake : (key : Line) (map request : LineMap) → IsValidKey key → HasHost map
@@ -95,8 +89,7 @@ module _ (method : List ℕ) (version : Version) (request : LineMap) (origins : 
   takes_asked : (accept : FieldValue) (protocol : Option FieldValue)
       → Switches method version request origins own accept protocol → FitsProtocol request (Switch accept protocol)
   takes_asked accept None switches = tt
-  takes_asked accept (Some protocol) switches =
-      taken_asked request own protocol switches.accepted.handshake.protocols switches.picked
+  takes_asked accept (Some protocol) switches = taken_asked _ _ _ switches.accepted.handshake.protocols switches.picked
 
   -- what a switch answers opens the connection for those that sent another handshake exactly if both keys call for one
   -- value, and it asks for the subprotocol too
@@ -105,8 +98,7 @@ module _ (method : List ℕ) (version : Version) (request : LineMap) (origins : 
       → Carries (answer_fields a) map response
       → IsOpened sent (status_of a) response ↔ ((accept_key_of key ≡ accept_key_of other) × FitsProtocol sent a)
   opens_for (Switch accept protocol) map response sent key other h s has sends carries =
-      let same : h.key ≡ key =
-      one_key method version request origins h.key key h.accepted.handshake.has_key has in
+      let same = one_key method version request origins h.key key h.accepted.handshake.has_key has in
       let value : accept.bytes ≡ accept_key_of key = rw h.value (ap accept_key_of same) in
       let opens = opens_by_value accept protocol map response sent other sends carries in (
         (λ it_opens. (sym value ∙ (opens.0 it_opens).0, (opens.0 it_opens).1)),

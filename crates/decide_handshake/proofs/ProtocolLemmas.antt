@@ -1,10 +1,8 @@
 -- Subprotocols: what a server takes was asked for, and what its response uses.
-use Rattle.std.proofs.Common.{◌≡◌, ℕ, Bool, List, [], ◌∷◌, Some, IsTrue, inl, inr}
-use Rattle.std.proofs.Common.{sym, ◌∙◌, ap, length, arith, find}
+use Rattle.std.proofs.Common.{◌≡◌, ℕ, Bool, List, [], ◌∷◌, Some, IsTrue, inl, inr, sym, ◌∙◌, ap, length, arith, find}
 use Rattle.std.proofs.lemmas.Bool.{cases_Bool}
 use Rattle.http_header.specs.FieldValue.{FieldValue}
-use Rattle.headers.specs.LineMap.{LineMap}
-use Rattle.headers.specs.Lines.{Line}
+use Rattle.headers.specs.{LineMap.LineMap, Lines.Line}
 use Rattle.decide_handshake.specs.Protocols.{AsksFor, OffersProtocols, UsesAskedProtocol, lists_protocol}
 use Rattle.decide_handshake.specs.Protocols.{protocol_lines, taken}
 
@@ -27,8 +25,7 @@ lists_some request protocol (inr well_formed) listed = record { well_formed = we
 pub taken_asked : (request : LineMap) (own : List FieldValue) (protocol : FieldValue) → OffersProtocols request
     → Some protocol ≡ taken request own → AsksFor request protocol.bytes
 taken_asked request own protocol offers is =
-    lists_some request protocol.bytes offers
-    (found_passes (λ (v : FieldValue). lists_protocol v.bytes request) own protocol (sym is))
+    lists_some _ _ offers (found_passes (λ (v : FieldValue). lists_protocol v.bytes request) _ _ (sym is))
 
 -- a response with one line uses what it names
 pub uses_this : (sent response : LineMap) (protocol : Line) → protocol_lines response ≡ protocol ∷ []

@@ -1,25 +1,19 @@
 -- What follows from the rules of the server, and which of them each return of `judge` has seen.
-use Rattle.std.proofs.Common.{◌≡◌, ℕ, zero, suc, ◌+◌, ◌<◌, ◌≤◌, List, [], Option, codes, refl, sym, ◌∙◌, ap, arith}
-use Rattle.std.proofs.Common.{inl, inr}
+use Rattle.std.proofs.Common.{◌≡◌, ℕ, zero, suc, ◌+◌, ◌<◌, ◌≤◌, List, Option, refl, sym, ◌∙◌, ap, arith, inl, inr}
 use Rattle.http.specs.declared.version.Version.{Version}
 use Rattle.http_header.specs.FieldValue.{FieldValue, plain_value}
 use Rattle.websocket.specs.Handshake.{accept_key_of}
-use Rattle.headers.specs.LineMap.{LineMap}
-use Rattle.headers.specs.Lines.{Line}
-use Rattle.decide_handshake.specs.Extensions.{HasExtensions}
-use Rattle.decide_handshake.specs.Fields.{ListsUpgrade, ListsWebsocket}
-use Rattle.decide_handshake.specs.Origins.{AllowsOrigin}
-use Rattle.decide_handshake.specs.Protocols.{OffersProtocols, taken}
-use Rattle.decide_handshake.specs.Rules.{KeepsBelow}
-use Rattle.decide_handshake.specs.Server.{Answers, HasHost, HasKey, HasVersion13, IsAccepted, IsFirst, IsGet}
-use Rattle.decide_handshake.specs.Server.{IsHttp11, IsRecent, IsSwitch, Rule, refusal_number}
-use Rattle.decide_handshake.specs.declared.origins.Origins.{Origins}
-use Rattle.decide_handshake.specs.declared.server.Answer.{Answer}
+use Rattle.headers.specs.{LineMap.LineMap, Lines.Line}
+use Rattle.decide_handshake.specs.{Extensions.HasExtensions, Fields.ListsUpgrade, Fields.ListsWebsocket}
+use Rattle.decide_handshake.specs.{Origins.AllowsOrigin, Protocols.OffersProtocols, Protocols.taken, Rules.KeepsBelow}
+use Rattle.decide_handshake.specs.{declared.origins.Origins.Origins, declared.server.Answer.Answer}
+use Rattle.decide_handshake.specs.{declared.server.Refusal.Refusal}
+use Rattle.decide_handshake.specs.Server.{Answers, HasHost, HasKey, HasVersion13, IsAccepted, IsFirst, IsGet, IsHttp11}
+use Rattle.decide_handshake.specs.Server.{IsRecent, IsSwitch, Rule, refusal_number}
 use Rattle.decide_handshake.specs.declared.server.Answer.TheVariants.{Switch, BadRequest, UpgradeRequired, Forbidden}
 use Rattle.decide_handshake.specs.declared.server.Fault.TheVariants.{NotGet, OldHttp, NotHttp11, NoHost, NoUpgrade}
 use Rattle.decide_handshake.specs.declared.server.Fault.TheVariants.{NoConnection, NoKey, MalformedProtocols}
 use Rattle.decide_handshake.specs.declared.server.Fault.TheVariants.{MalformedExtensions}
-use Rattle.decide_handshake.specs.declared.server.Refusal.{Refusal}
 use Rattle.decide_handshake.specs.declared.server.Refusal.TheVariants.{Faulty, OtherVersion, OtherOrigin}
 use Rattle.decide_handshake.proofs.RuleLemmas.{keeps_next, one_first, some_first}
 
@@ -244,10 +238,8 @@ module _ (method : List ℕ) (version : Version) (request : LineMap) (origins : 
     same_switch : (v w : FieldValue) (p q : Option FieldValue) → A (Switch v p) → A (Switch w q)
         → Switch v p ≡ Switch w q
     same_switch v w p q h k =
-        let key : h.key ≡ k.key =
-        one_key h.key k.key h.accepted.handshake.has_key k.accepted.handshake.has_key in
-        let same : v ≡ w =
-        h.value ∙ (ap (λ (line : Line). plain_value (accept_key_of line)) key ∙ sym k.value) in
+        let key = one_key h.key k.key h.accepted.handshake.has_key k.accepted.handshake.has_key in
+        let same = h.value ∙ (ap (λ (line : Line). plain_value (accept_key_of line)) key ∙ sym k.value) in
         let picked : p ≡ q = h.picked ∙ sym k.picked in
         rw (same, picked) refl
 

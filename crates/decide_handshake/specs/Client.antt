@@ -2,15 +2,11 @@
 use Rattle.std.specs.Prelude.{◌≡◌, ℕ, Some, IsSomeAnd, codes}
 use Rattle.http_header.specs.Token.{lowercase}
 use Rattle.websocket.specs.Handshake.{accept_key_of}
-use Rattle.headers.specs.LineMap.{LineMap}
-use Rattle.headers.specs.Lines.{Line, only_line}
-use Rattle.decide_handshake.specs.Extensions.{HasExtensions, UsesAskedExtensions}
-use Rattle.decide_handshake.specs.Fields.{ListsUpgrade}
-use Rattle.decide_handshake.specs.Protocols.{UsesAskedProtocol}
-use Rattle.decide_handshake.specs.Rules.{IsFirstBroken, KeepsAll}
-use Rattle.decide_handshake.specs.declared.client.Checked.{Checked}
-use Rattle.decide_handshake.specs.declared.client.Checked.TheVariants.{Open, Fail}
-use Rattle.decide_handshake.specs.declared.client.Flaw.{Flaw}
+use Rattle.headers.specs.{LineMap.LineMap, Lines.Line, Lines.only_line}
+use Rattle.decide_handshake.specs.{Extensions.HasExtensions, Extensions.UsesAskedExtensions, Fields.ListsUpgrade}
+use Rattle.decide_handshake.specs.{Protocols.UsesAskedProtocol, Rules.IsFirstBroken, Rules.KeepsAll}
+use Rattle.decide_handshake.specs.{declared.client.Checked.Checked, declared.client.Checked.TheVariants.Open}
+use Rattle.decide_handshake.specs.{declared.client.Checked.TheVariants.Fail, declared.client.Flaw.Flaw}
 use Rattle.decide_handshake.specs.declared.client.Flaw.TheVariants.{NotSwitched, NoUpgrade, NoConnection, WrongAccept}
 use Rattle.decide_handshake.specs.declared.client.Flaw.TheVariants.{MalformedExtensions, UnaskedExtension}
 use Rattle.decide_handshake.specs.declared.client.Flaw.TheVariants.{UnaskedProtocol}

@@ -1,15 +1,9 @@
 -- Extensions (RFC 6455, section 9.1). Blanks may be between any two words of its grammar (RFC 2616, section 2.1).
-use Rattle.std.specs.Prelude.{◌≡◌, ◌⊎◌, ℕ, ◌==◌, Bool, true, false, List, [], bytes_eq}
-use Rattle.std.specs.Prelude.{Option, Some, None, All, IsTrue, codes}
+use Rattle.std.specs.Prelude.{◌≡◌, ◌⊎◌, ℕ, ◌==◌, Bool, true, false, List, [], bytes_eq, Option, Some, None, All, IsTrue}
+use Rattle.std.specs.Prelude.{codes}
 use Rattle.std.specs.List.{list_all, list_any, slice_split}
-use Rattle.headers.specs.LineMap.{LineMap}
-use Rattle.headers.specs.Lines.{Line}
-use Rattle.headers.specs.Text.{trim}
-use Rattle.rfc_fields.specs.Cuts.{cut}
-use Rattle.rfc_fields.specs.Directives.{equals}
-use Rattle.rfc_fields.specs.Grammar.{semicolon}
-use Rattle.rfc_fields.specs.Members.{field_members}
-use Rattle.rfc_fields.specs.Scan.{Member}
+use Rattle.headers.specs.{LineMap.LineMap, Lines.Line, Text.trim}
+use Rattle.rfc_fields.specs.{Cuts.cut, Directives.equals, Grammar.semicolon, Members.field_members, Scan.Member}
 use Rattle.rfc_fields.specs.Scan.Member.{Whole, Malformed}
 use Rattle.rfc_fields.specs.Values.{IsValue, ValueParts, is_token, octets_of}
 use Rattle.decide_handshake.specs.Fields.{AbsentOr, HasMember}

@@ -1,10 +1,8 @@
 -- The fields of a handshake, and of a server's answer (RFC 6455, sections 4.1, 4.2.2 and 4.4).
 use Rattle.std.specs.Prelude.{◌≡◌, ⊤, ℕ, Bool, false, ◌||◌, bytes_eq, List, [], ◌∷◌, Option, Some, None, codes}
 use Rattle.http_header.specs.FieldValue.{FieldValue}
-use Rattle.headers.specs.LineMap.{Field, LineMap, set_all}
-use Rattle.headers.specs.Lines.{Line}
-use Rattle.decide_handshake.specs.Protocols.{AsksFor}
-use Rattle.decide_handshake.specs.declared.server.Answer.{Answer}
+use Rattle.headers.specs.{LineMap.Field, LineMap.LineMap, LineMap.set_all, Lines.Line}
+use Rattle.decide_handshake.specs.{Protocols.AsksFor, declared.server.Answer.Answer}
 use Rattle.decide_handshake.specs.declared.server.Answer.TheVariants.{Switch, BadRequest, UpgradeRequired, Forbidden}
 
 abbrev pub status_of : Answer → ℕ

@@ -4,11 +4,8 @@ use Rattle.std.specs.Prelude.{◌≡◌, ◌⊎◌, ℕ, Bool, true, false, List
 use Rattle.std.specs.Prelude.{find}
 use Rattle.std.specs.List.{list_all, list_any}
 use Rattle.http_header.specs.FieldValue.{FieldValue}
-use Rattle.headers.specs.LineMap.{LineMap}
-use Rattle.headers.specs.Lines.{Line, only_line}
-use Rattle.rfc_fields.specs.Directives.{is_token_member}
-use Rattle.rfc_fields.specs.Members.{field_members}
-use Rattle.rfc_fields.specs.Scan.{Member}
+use Rattle.headers.specs.{LineMap.LineMap, Lines.Line, Lines.only_line}
+use Rattle.rfc_fields.specs.{Directives.is_token_member, Members.field_members, Scan.Member}
 use Rattle.rfc_fields.specs.Scan.Member.{Whole, Malformed}
 use Rattle.decide_handshake.specs.Fields.{AbsentOr, HasMember}
 

@@ -4,20 +4,15 @@ use Rattle.http.specs.declared.version.Version.{Version}
 use Rattle.http.specs.declared.version.TheConstants.Version.{HTTP_11, HTTP_2, HTTP_3}
 use Rattle.http_header.specs.FieldValue.{FieldValue, plain_value}
 use Rattle.websocket.specs.Handshake.{IsValidKey, accept_key_of}
-use Rattle.headers.specs.LineMap.{LineMap}
-use Rattle.headers.specs.Lines.{Line, only_line}
-use Rattle.decide_handshake.specs.Extensions.{HasExtensions}
-use Rattle.decide_handshake.specs.Fields.{ListsUpgrade, ListsWebsocket}
-use Rattle.decide_handshake.specs.Origins.{AllowsOrigin}
-use Rattle.decide_handshake.specs.Protocols.{OffersProtocols, taken}
-use Rattle.decide_handshake.specs.Rules.{IsFirstBroken}
-use Rattle.decide_handshake.specs.declared.origins.Origins.{Origins}
-use Rattle.decide_handshake.specs.declared.server.Answer.{Answer}
+use Rattle.headers.specs.{LineMap.LineMap, Lines.Line, Lines.only_line}
+use Rattle.decide_handshake.specs.{Extensions.HasExtensions, Fields.ListsUpgrade, Fields.ListsWebsocket}
+use Rattle.decide_handshake.specs.{Origins.AllowsOrigin, Protocols.OffersProtocols, Protocols.taken}
+use Rattle.decide_handshake.specs.{Rules.IsFirstBroken, declared.origins.Origins.Origins, declared.server.Answer.Answer}
+use Rattle.decide_handshake.specs.{declared.server.Refusal.Refusal}
 use Rattle.decide_handshake.specs.declared.server.Answer.TheVariants.{Switch, BadRequest, UpgradeRequired, Forbidden}
 use Rattle.decide_handshake.specs.declared.server.Fault.TheVariants.{NotGet, OldHttp, NotHttp11, NoHost, NoUpgrade}
 use Rattle.decide_handshake.specs.declared.server.Fault.TheVariants.{NoConnection, NoKey, MalformedProtocols}
 use Rattle.decide_handshake.specs.declared.server.Fault.TheVariants.{MalformedExtensions}
-use Rattle.decide_handshake.specs.declared.server.Refusal.{Refusal}
 use Rattle.decide_handshake.specs.declared.server.Refusal.TheVariants.{Faulty, OtherVersion, OtherOrigin}
 
 -- ---- the rules of section 4.2.1, by their items

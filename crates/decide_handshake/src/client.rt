@@ -1,6 +1,5 @@
 //! The client's side of the handshake (RFC 6455, section 4.1).
-ghost use Rattle.std.specs.Prelude.{◌≡◌, IfOk};
-ghost use Rattle.std.specs.Bool.{MatchBool};
+ghost use Rattle.std.specs.{Prelude.◌≡◌, Prelude.IfOk, Bool.MatchBool};
 ghost use Rattle.websocket.specs.Handshake.{IsValidKey, base64};
 ghost use Rattle.headers.specs.LineMap.{fields_of, lines_at};
 ghost use Rattle.decide_handshake.specs.Client.{AcceptsKey, Checks, NamesWebsocket};

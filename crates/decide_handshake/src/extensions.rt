@@ -1,13 +1,11 @@
 //! Extensions (RFC 6455, section 9.1).
-ghost use Rattle.std.specs.Prelude.{◌≡◌, ◌↔◌, IsTrue, true};
-ghost use Rattle.std.specs.Bool.{MatchBool};
-ghost use Rattle.headers.specs.LineMap.{lines_at};
-ghost use Rattle.headers.specs.Lines.{lines_of};
+ghost use Rattle.std.specs.{Prelude.◌≡◌, Prelude.◌↔◌, Prelude.IsTrue, Prelude.true, Bool.MatchBool};
+ghost use Rattle.headers.specs.{LineMap.lines_at, Lines.lines_of};
 ghost use Rattle.rfc_fields.specs.Members.{field_members, member_of};
 ghost use Rattle.rfc_fields.specs.Values.{is_token, octets_of, value_parts};
-ghost use Rattle.decide_handshake.specs.Extensions.{HasExtensions, IsExtension, IsExtensionList};
-ghost use Rattle.decide_handshake.specs.Extensions.{IsParameter, MeansToken, UsesAskedExtensions, UsesListed};
-ghost use Rattle.decide_handshake.specs.Extensions.{AreParameters, extension_name, is_among, is_named};
+ghost use Rattle.decide_handshake.specs.Extensions.{HasExtensions, IsExtension, IsExtensionList, IsParameter};
+ghost use Rattle.decide_handshake.specs.Extensions.{MeansToken, UsesAskedExtensions, UsesListed, AreParameters};
+ghost use Rattle.decide_handshake.specs.Extensions.{extension_name, is_among, is_named};
 
 use crate::fields::has_member;
 use headers::{HeaderMap, HeaderValue, trim};

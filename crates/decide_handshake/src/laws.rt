@@ -1,20 +1,15 @@
 //! Theorems about the definitions alone. To cite one in a proof, call it.
 ghost use Rattle.std.specs.Prelude.{◌≡◌, ◌↔◌, ℕ, List, codes};
-ghost use Rattle.http.specs.declared.version.Version.{Version};
-ghost use Rattle.http.specs.declared.version.TheConstants.Version.{HTTP_11};
+ghost use Rattle.http.specs.{declared.version.Version.Version, declared.version.TheConstants.Version.HTTP_11};
 ghost use Rattle.websocket.specs.Handshake.{IsValidKey, accept_key_of};
 ghost use Rattle.http_header.specs.FieldValue.{FieldValue};
-ghost use Rattle.headers.specs.LineMap.{LineMap};
-ghost use Rattle.headers.specs.Lines.{Line};
-ghost use Rattle.decide_handshake.specs.Client.{Checks, IsOpened, SendsKey};
-ghost use Rattle.decide_handshake.specs.Extensions.{HasExtensions};
+ghost use Rattle.headers.specs.{LineMap.LineMap, Lines.Line};
+ghost use Rattle.decide_handshake.specs.{Client.Checks, Client.IsOpened, Client.SendsKey, Extensions.HasExtensions};
+ghost use Rattle.decide_handshake.specs.{Protocols.OffersProtocols, declared.client.Checked.Checked};
+ghost use Rattle.decide_handshake.specs.{declared.origins.Origins.Origins, declared.server.Answer.Answer};
 ghost use Rattle.decide_handshake.specs.Messages.{Carries, CarriesButOffers, FitsProtocol, answer_fields};
 ghost use Rattle.decide_handshake.specs.Messages.{request_fields, status_of};
-ghost use Rattle.decide_handshake.specs.Protocols.{OffersProtocols};
 ghost use Rattle.decide_handshake.specs.Server.{Answers, HasHost, HasKey, IsAccepted, IsHandshake, IsSwitch};
-ghost use Rattle.decide_handshake.specs.declared.client.Checked.{Checked};
-ghost use Rattle.decide_handshake.specs.declared.origins.Origins.{Origins};
-ghost use Rattle.decide_handshake.specs.declared.server.Answer.{Answer};
 
 /// Theorem: a request has exactly one answer. That it has one is stated by a double negation, since
 /// the definitions have no test of a key's base64.

@@ -1,6 +1,5 @@
 //! Origins (RFC 6455, sections 4.2.2 and 10.2).
-ghost use Rattle.std.specs.Prelude.{◌≡◌};
-ghost use Rattle.std.specs.Bool.{MatchBool};
+ghost use Rattle.std.specs.{Prelude.◌≡◌, Bool.MatchBool};
 ghost use Rattle.headers.specs.LineMap.{lines_at};
 ghost use Rattle.decide_handshake.specs.Origins.{AllowsOrigin, NamesListed, lists_origin};
 

@@ -1,8 +1,6 @@
 //! Subprotocols (RFC 6455, sections 4.1, 4.2.2 and 4.3).
-ghost use Rattle.std.specs.Prelude.{◌≡◌, option_map};
-ghost use Rattle.std.specs.Bool.{MatchBool};
-ghost use Rattle.headers.specs.LineMap.{lines_at};
-ghost use Rattle.headers.specs.Lines.{lines_of};
+ghost use Rattle.std.specs.{Prelude.◌≡◌, Prelude.option_map, Bool.MatchBool};
+ghost use Rattle.headers.specs.{LineMap.lines_at, Lines.lines_of};
 ghost use Rattle.rfc_fields.specs.Members.{member_of};
 ghost use Rattle.decide_handshake.specs.Protocols.{AsksFor, IsTokenList, OffersProtocols, UsesAskedProtocol, is_text};
 ghost use Rattle.decide_handshake.specs.Protocols.{lists_protocol, taken};

@@ -1,13 +1,10 @@
-use Rattle.std.proofs.Common.{true, rules}
-use Rattle.std.proofs.lemmas.Iterator.Consumers.{YieldsList-from_first}
-use Rattle.std.proofs.lemmas.Iterator.Search.{all_from_yields_List}
-use Rattle.headers.specs.Lines.{lines_of}
-use Rattle.rfc_fields.specs.Members.{field_left, field_members, member_of}
+use Rattle.std.proofs.{Common.rules, lemmas.Iterator.Consumers.YieldsList-from_first}
+use Rattle.std.proofs.{lemmas.Iterator.Search.all_from_yields_List}
+use Rattle.rfc_fields.specs.Members.{field_left, member_of}
 use Rattle.decide_handshake.specs.Fields.{is_protocol}
 use Rattle.decide_handshake.proofs.fields.are_protocols.Goals as goal
 
 pub returns : goal.returns
 returns c =
-    all_from_yields_List is_protocol c.all.new.self _ c.all.result c.all.ensures.ran
-    (YieldsList-from_first member_of field_left (field_members true (lines_of c.args.field.now)) c.new.ensures)
-    (λ x b q k. search rules)
+    all_from_yields_List is_protocol _ _ _ c.all.ensures.ran
+    (YieldsList-from_first member_of field_left _ c.new.ensures) (λ x b q k. search rules)

@@ -1,6 +1,5 @@
 use Rattle.std.proofs.Common.{true, rules}
-use Rattle.std.proofs.lemmas.Iterator.Consumers.{YieldsList-from_first}
-use Rattle.std.proofs.lemmas.Iterator.Search.{any_from_yields_List}
+use Rattle.std.proofs.{lemmas.Iterator.Consumers.YieldsList-from_first, lemmas.Iterator.Search.any_from_yields_List}
 use Rattle.headers.specs.LineMap.{lines_at}
 use Rattle.rfc_fields.specs.Members.{field_left, field_members, member_of}
 use Rattle.decide_handshake.specs.Protocols.{is_text, protocol_lines}

@@ -43,33 +43,28 @@ returns-in_default c =
 
 pub returns-then-not-is_version_13 : goal.returns-then-not-is_version_13
 returns-then-not-is_version_13 c =
-    first_version_13 c.args.method.now c.args.version (lines_at c.args.request.now) c.args.origins.now
-    (search rules) (search rules) (search rules) (search rules) (search rules) (search rules)
+    first_version_13 _ _ _ _ (search rules) (search rules) (search rules) (search rules) (search rules) (search rules)
     (c.in-Some.ensures.0, c.in-Some.ensures.1) (search rules)
 
 pub returns-then-not-offers_protocols : goal.returns-then-not-offers_protocols
 returns-then-not-offers_protocols c =
-    first_protocols c.args.method.now c.args.version (lines_at c.args.request.now) c.args.origins.now
-    (search rules) (search rules) (search rules) (search rules) (search rules) (search rules)
+    first_protocols _ _ _ _ (search rules) (search rules) (search rules) (search rules) (search rules) (search rules)
     (c.in-Some.ensures.0, c.in-Some.ensures.1) (search rules) (search rules)
 
 pub returns-then-not-has_extensions : goal.returns-then-not-has_extensions
 returns-then-not-has_extensions c =
-    first_extensions c.args.method.now c.args.version (lines_at c.args.request.now) c.args.origins.now
-    (search rules) (search rules) (search rules) (search rules) (search rules) (search rules)
+    first_extensions _ _ _ _ (search rules) (search rules) (search rules) (search rules) (search rules) (search rules)
     (c.in-Some.ensures.0, c.in-Some.ensures.1) (search rules) (search rules) (search rules)
 
 pub returns-then-not-allows_origin : goal.returns-then-not-allows_origin
 returns-then-not-allows_origin c =
-    first_origin c.args.method.now c.args.version (lines_at c.args.request.now) c.args.origins.now
-    (search rules) (search rules) (search rules) (search rules) (search rules) (search rules)
+    first_origin _ _ _ _ (search rules) (search rules) (search rules) (search rules) (search rules) (search rules)
     (c.in-Some.ensures.0, c.in-Some.ensures.1) (search rules) (search rules) (search rules) (search rules)
 
 pub returns : goal.returns
 returns c = (
   c.in-Some.ensures.0,
-  accepted c.args.method.now c.args.version (lines_at c.args.request.now) c.args.origins.now
-      (search rules) (search rules) (search rules) (search rules) (search rules)
-      c.in-Some.ensures.0 c.in-Some.ensures.1 (search rules) (search rules) (search rules) (search rules),
+  accepted _ _ _ _ (search rules) (search rules) (search rules) (search rules) (search rules) c.in-Some.ensures.0
+      c.in-Some.ensures.1 (search rules) (search rules) (search rules) (search rules),
   search rules,
 )
