@@ -10,8 +10,8 @@ use Rattle.headers_map.specs.LineMap.{LineMap}
 use Rattle.rfc_fields.specs.Directives.{DirectiveParts, is_named}
 use Rattle.rfc_fields.specs.Scan.{Member}
 use Rattle.cache_fields.specs.Directives.{IsMalformed, Says, all_said, directed, directed_by}
-use Rattle.cache_fields.specs.Directives.{directed_by_members, directs, members, nothing, said_in}
-use Rattle.cache_fields.specs.Directives.{strictest, with_later}
+use Rattle.cache_fields.specs.Directives.{asks_always, directed_by_members, directs, is_argued, members, nothing}
+use Rattle.cache_fields.specs.Directives.{said_in, stores_nothing, strictest, with_later}
 use Rattle.cache_fields.specs.declared.directives.Directives.{Directives}
 
 or_assoc : (a b c : Bool) → (a || (b || c)) ≡ ((a || b) || c)
@@ -169,20 +169,36 @@ finds_at name (member ∷ left) (suc k) y low e h =
     finds_rest name member left (finds_at name left k y (omega (arith, low)) e h)
 
 -- what is said, is directed: each flag is set if some directive has its name
-flag_no_store : (directives : List DirectiveParts)
-    → (directed_by directives).no_store ≡ list_any (is_named (codes "no-store")) directives
-flag_no_store [] = refl
-flag_no_store (d ∷ ds) = ap (λ (b : Bool). is_named (codes "no-store") d || b) (flag_no_store ds)
+flag_no_store : (directives : List DirectiveParts) → list_any (is_named (codes "no-store")) directives ≡ true
+    → (directed_by directives).no_store ≡ true
+flag_no_store [] found = found
+flag_no_store (d ∷ ds) found =
+    let own : Bool = is_named (codes "no-store") d in
+    elim (cases_Bool own) [
+      | inl here ↦
+          or_left (stores_nothing d) (directed_by ds).no_store
+          (or_left own (is_argued (codes "must-understand") d) here)
+      | inr other ↦
+          or_right (stores_nothing d) (directed_by ds).no_store (flag_no_store ds (rw other at found))
+    ]
 
 flag_private : (directives : List DirectiveParts)
     → (directed_by directives).private ≡ list_any (is_named (codes "private")) directives
 flag_private [] = refl
 flag_private (d ∷ ds) = ap (λ (b : Bool). is_named (codes "private") d || b) (flag_private ds)
 
-flag_no_cache : (directives : List DirectiveParts)
-    → (directed_by directives).no_cache ≡ list_any (is_named (codes "no-cache")) directives
-flag_no_cache [] = refl
-flag_no_cache (d ∷ ds) = ap (λ (b : Bool). is_named (codes "no-cache") d || b) (flag_no_cache ds)
+flag_no_cache : (directives : List DirectiveParts) → list_any (is_named (codes "no-cache")) directives ≡ true
+    → (directed_by directives).no_cache ≡ true
+flag_no_cache [] found = found
+flag_no_cache (d ∷ ds) found =
+    let own : Bool = is_named (codes "no-cache") d in
+    elim (cases_Bool own) [
+      | inl here ↦
+          or_left (asks_always d) (directed_by ds).no_cache
+          (or_left own (is_argued (codes "must-revalidate") d) here)
+      | inr other ↦
+          or_right (asks_always d) (directed_by ds).no_cache (flag_no_cache ds (rw other at found))
+    ]
 
 module _ (message : LineMap) where
   pub said_no_store : Says (codes "no-store") message → (directed message).no_store ≡ true
@@ -193,7 +209,7 @@ module _ (message : LineMap) where
       by (Some directives) e =
           let found : list_any (is_named (codes "no-store")) directives ≡ true =
           rw e at (finds_at (codes "no-store") (members message) a.0 a.1 a.2 a.3 a.4) in
-          rw e (flag_no_store directives ∙ found)
+          rw e (flag_no_store directives found)
 
   pub said_private : Says (codes "private") message → (directed message).private ≡ true
   said_private a = by (all_said (members message)) refl
@@ -213,7 +229,7 @@ module _ (message : LineMap) where
       by (Some directives) e =
           let found : list_any (is_named (codes "no-cache")) directives ≡ true =
           rw e at (finds_at (codes "no-cache") (members message) a.0 a.1 a.2 a.3 a.4) in
-          rw e (flag_no_cache directives ∙ found)
+          rw e (flag_no_cache directives found)
 
 -- what is directed, some member says
 says_from : (name : List ℕ) (all : List Member) (directives : List DirectiveParts) → all_said all ≡ Some directives
@@ -247,9 +263,14 @@ says_from name (member ∷ left) directives e found =
         ]
 
 flag_must_understand : (directives : List DirectiveParts)
-    → (directed_by directives).must_understand ≡ list_any (is_named (codes "must-understand")) directives
-flag_must_understand [] = refl
-flag_must_understand (d ∷ ds) = ap (λ (b : Bool). is_named (codes "must-understand") d || b) (flag_must_understand ds)
+    → list_any (is_named (codes "must-understand")) directives ≡ false
+    → (directed_by directives).must_understand ≡ false
+flag_must_understand [] none = refl
+flag_must_understand (d ∷ ds) none =
+    elim (cases_Bool (is_named (codes "must-understand") d)) [
+      | inl here ↦ let no : true ≡ false = rw here at none in absurd (cc no)
+      | inr other ↦ rw other (flag_must_understand ds (rw other at none))
+    ]
 
 pub unsaid_must_understand : (message : LineMap) → ¬ (Says (codes "must-understand") message)
     → (directed message).must_understand ≡ false
@@ -261,5 +282,5 @@ unsaid_must_understand message n = by (all_said (members message)) refl
     by (Some directives) e =
         elim (cases_Bool (list_any (is_named (codes "must-understand")) directives)) [
           | inl found ↦ absurd (n (says_from (codes "must-understand") (members message) directives e found))
-          | inr none ↦ rw e (flag_must_understand directives ∙ none)
+          | inr none ↦ rw e (flag_must_understand directives none)
         ]

@@ -1,7 +1,7 @@
 -- What Cache-Control directs (RFC 9111, section 5.2, and RFC 5861).
-use Rattle.std.specs.Prelude.{◌≡◌, ℕ, true, false, ◌||◌, List, [], ◌∷◌, Any}
+use Rattle.std.specs.Prelude.{◌≡◌, ℕ, Bool, true, false, ◌&&◌, ◌||◌, List, [], ◌∷◌, Any}
 use Rattle.std.specs.Prelude.{Option, Some, None, IsSomeAnd, IsTrue, option_and_then, option_map, unwrap_or}
-use Rattle.std.specs.Prelude.{codes, if◌then◌else◌}
+use Rattle.std.specs.Prelude.{codes, if◌then◌else◌, is_none, is_some}
 use Rattle.std.specs.Option.{option_map_or, option_or}
 use Rattle.headers_map.specs.LineMap.{LineMap}
 use Rattle.rfc_fields.specs.Directives.{DirectiveParts, directive_in, is_named}
@@ -31,6 +31,21 @@ seconds_in bare bad directive =
 -- the seconds of the directive if it has that name
 abbrev pub seconds_if : List ℕ → ℕ → ℕ → DirectiveParts → Option ℕ
 seconds_if name bare bad directive = if is_named name directive then Some (seconds_in bare bad directive) else None
+
+-- it is the directive of that name, without an argument, or with one
+abbrev pub is_alone : List ℕ → DirectiveParts → Bool
+is_alone name directive = is_named name directive && is_none directive.argument
+
+abbrev pub is_argued : List ℕ → DirectiveParts → Bool
+is_argued name directive = is_named name directive && is_some directive.argument
+
+-- no response is used without asking the origin
+abbrev pub asks_always : DirectiveParts → Bool
+asks_always directive = is_named (codes "no-cache") directive || is_argued (codes "must-revalidate") directive
+
+-- nothing is stored
+abbrev pub stores_nothing : DirectiveParts → Bool
+stores_nothing directive = is_named (codes "no-store") directive || is_argued (codes "must-understand") directive
 
 -- nothing is directed
 abbrev pub nothing : Directives
@@ -62,17 +77,19 @@ strictest =
 -- What one directive directs. `private` and `no-cache` that name fields count as if they named none, which a cache may
 -- do (sections 5.2.2.4 and 5.2.2.7). A number that is missing or isn't one is the strictest: the response is stale at
 -- once, and the request takes no other (section 4.2.1). Only `max-stale` may stand without a number (section 5.2.1.2):
--- any staleness will do.
+-- any staleness will do. Where no argument is defined, a directive that has one permits nothing, and forbids what it
+-- does without one. So of those that do both, `must-revalidate` (sections 3.5 and 5.2.2.2) is then a `no-cache`, and
+-- `must-understand` (section 5.2.2.3) a `no-store`. Arguments of `immutable` are ignored (RFC 8246, section 2).
 abbrev pub directs : DirectiveParts → Directives
 directs directive =
     record {
-      no_cache = is_named (codes "no-cache") directive;
-      no_store = is_named (codes "no-store") directive;
+      no_cache = asks_always directive;
+      no_store = stores_nothing directive;
       only_if_cached = is_named (codes "only-if-cached") directive;
-      must_revalidate = is_named (codes "must-revalidate") directive;
+      must_revalidate = is_alone (codes "must-revalidate") directive;
       proxy_revalidate = is_named (codes "proxy-revalidate") directive;
-      must_understand = is_named (codes "must-understand") directive;
-      public = is_named (codes "public") directive;
+      must_understand = is_alone (codes "must-understand") directive;
+      public = is_alone (codes "public") directive;
       private = is_named (codes "private") directive;
       immutable = is_named (codes "immutable") directive;
       max_age = seconds_if (codes "max-age") 0 0 directive;

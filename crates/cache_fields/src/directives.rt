@@ -5,9 +5,10 @@ ghost use Rattle.rfc_fields.specs.Directives.{directive_parts};
 ghost use Rattle.rfc_fields.specs.Members.{member_of};
 ghost use Rattle.rfc_fields.specs.Numbers.{number_within};
 ghost use Rattle.rfc_fields.specs.Values.{octets_of, value_parts};
-ghost use Rattle.cache_fields.specs.Directives.{directed, directs, nothing, said_in, seconds_if};
+ghost use Rattle.cache_fields.specs.Directives.{asks_always, directed, directs, is_alone, is_argued, nothing};
+ghost use Rattle.cache_fields.specs.Directives.{said_in, seconds_if, stores_nothing, strictest};
+ghost use Rattle.cache_fields.specs.Directives.{with_later};
 ghost use Rattle.cache_fields.specs.Fields.{greatest};
-ghost use Rattle.cache_fields.specs.Directives.{strictest, with_later};
 
 use http_header::{CACHE_CONTROL, HeaderMap};
 use rfc_fields::{Directive, FieldMembers, Malformed, directive_in};
@@ -26,13 +27,14 @@ pub struct Directives {
     pub no_store: bool,
     /// `only-if-cached`: the origin isn't asked.
     pub only_if_cached: bool,
-    /// `must-revalidate`: no stale answer.
+    /// `must-revalidate` without an argument: no stale answer. With one it counts as `no-cache`.
     pub must_revalidate: bool,
     /// `proxy-revalidate`: no stale answer from a shared cache.
     pub proxy_revalidate: bool,
-    /// `must-understand`: stored only if the cache understands the status.
+    /// `must-understand` without an argument: stored only if the cache understands the status. With one it
+    /// counts as `no-store`.
     pub must_understand: bool,
-    /// `public`: stored by any cache.
+    /// `public` without an argument: stored by any cache.
     pub public: bool,
     /// `private`: stored by no shared cache.
     pub private: bool,
@@ -121,13 +123,13 @@ fn directs(directive: &Directive<'_>) -> Directives
     ensures { result ≡ directs (directive_parts directive.now) }
 {
     Directives {
-        no_cache: directive.is(b"no-cache"),
-        no_store: directive.is(b"no-store"),
+        no_cache: asks_always(directive),
+        no_store: stores_nothing(directive),
         only_if_cached: directive.is(b"only-if-cached"),
-        must_revalidate: directive.is(b"must-revalidate"),
+        must_revalidate: is_alone(directive, b"must-revalidate"),
         proxy_revalidate: directive.is(b"proxy-revalidate"),
-        must_understand: directive.is(b"must-understand"),
-        public: directive.is(b"public"),
+        must_understand: is_alone(directive, b"must-understand"),
+        public: is_alone(directive, b"public"),
         private: directive.is(b"private"),
         immutable: directive.is(b"immutable"),
         max_age: seconds_if(directive, b"max-age", 0, 0),
@@ -137,6 +139,34 @@ fn directs(directive: &Directive<'_>) -> Directives
         stale_while_revalidate: seconds_if(directive, b"stale-while-revalidate", 0, 0),
         stale_if_error: seconds_if(directive, b"stale-if-error", 0, 0),
     }
+}
+
+// Whether it is the directive of this name, without an argument.
+fn is_alone(directive: &Directive<'_>, name: &[u8]) -> bool
+    ensures { result ≡ is_alone name.now (directive_parts directive.now) }
+{
+    directive.is(name) && directive.argument.is_none()
+}
+
+// Whether it is the directive of this name, with an argument.
+fn is_argued(directive: &Directive<'_>, name: &[u8]) -> bool
+    ensures { result ≡ is_argued name.now (directive_parts directive.now) }
+{
+    directive.is(name) && directive.argument.is_some()
+}
+
+// Whether no response is used without asking the origin.
+fn asks_always(directive: &Directive<'_>) -> bool
+    ensures { result ≡ asks_always (directive_parts directive.now) }
+{
+    directive.is(b"no-cache") || is_argued(directive, b"must-revalidate")
+}
+
+// Whether nothing is stored.
+fn stores_nothing(directive: &Directive<'_>) -> bool
+    ensures { result ≡ stores_nothing (directive_parts directive.now) }
+{
+    directive.is(b"no-store") || is_argued(directive, b"must-understand")
 }
 
 // The seconds of a directive, if it has this name: `bad` if its argument is no number, `bare` if it

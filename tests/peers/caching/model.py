@@ -26,6 +26,11 @@ class Malformed(Exception):
     """A field that breaks its grammar."""
 
 
+# What a directive counts as if it has an argument though none is defined: it permits nothing, and forbids what it does
+# without one (section 5.2).
+ARGUED = {"public": "", "must-revalidate": "no-cache", "must-understand": "no-store"}
+
+
 def directives(fields: Fields) -> Directives:
     """The members of Cache-Control in order: the name in lower case, and the argument if there is one."""
     found: Directives = []
@@ -39,7 +44,11 @@ def directives(fields: Fields) -> Directives:
         argument = part[2]
         if argument is not None and argument.startswith('"'):
             argument = re.sub(r"\\(.)", r"\1", argument[1:-1], flags=re.DOTALL)
-        found.append((part[1].lower(), argument))
+        name = part[1].lower()
+        if argument is not None and name in ARGUED:
+            name, argument = ARGUED[name], None
+        if name:
+            found.append((name, argument))
     return found
 
 
