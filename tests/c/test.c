@@ -2151,6 +2151,16 @@ static uint8_t call_origin(const void *arguments, uint64_t *number, uint8_t *roo
     return status;
 }
 
+/* Whether no user precedes the host of an origin, and only a port follows it. */
+static bool is_whole_origin(const struct word *text, const struct word *scheme, const struct word *host,
+                            const struct word *port) {
+    static char start[AREA];
+    memcpy(start, scheme->bytes, scheme->length);
+    memcpy(start + scheme->length, "://", 3);
+    memcpy(start + scheme->length + 3, host->bytes, host->length);
+    return has_whole_port(text, (struct word){start, scheme->length + 3 + host->length}, port);
+}
+
 static void check_origin(const struct row *row) {
     struct text text = lines(row, 0);
     if (is_answer(row, "(refused)")) {
@@ -2158,6 +2168,10 @@ static void check_origin(const struct row *row) {
         return;
     }
     const struct word *answer = answer_words(row)->words;
+    if (!is_word(&answer[2], "true") && !is_whole_origin(&answer[1], &answer[3], &answer[4], &answer[5])) {
+        check(row, call_origin, &text, TYPED_HEADERS_REFUSED, NO_NUMBER, NO_TEXT);
+        return;
+    }
     struct typed_headers_origin_parts parts = {answer[3].length, port_of(&answer[5]), is_word(&answer[2], "true")};
     check(row, call_origin, &text, TYPED_HEADERS_DONE, number_of_origin(parts), both(&answer[3], &answer[4]));
     if (!parts.is_null && !parts.port.is_set) {

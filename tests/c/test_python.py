@@ -509,6 +509,9 @@ def origin(words, wanted):
     given = decoded(headers.Origin.parse, words)
     if wanted[0] == REFUSED:
         return given == (REFUSED if words else None)
+    start = decode(wanted[3]) + b"://" + decode(wanted[4])
+    if wanted[2] != "true" and not has_whole_port(decode(wanted[1]), start, wanted[5]):
+        return given == REFUSED
     texts = [given.scheme.encode("latin-1"), given.host.encode("latin-1")]
     if not given.is_null and decoded(headers.Origin.parse, [f"{given.scheme}://{given.host}:65536"]) != REFUSED:
         return False
