@@ -44,6 +44,9 @@ abbrev IsNone : {A : Type 0} → Option A → Type 0
 IsNone None = ⊤
 IsNone (Some x) = ⊥
 
+abbrev items_of : {Z : Type 0} → Option (Vec StoredResponse Z) → List StoredResponse
+items_of {Z} found = option_map_or (λ (responses : Vec StoredResponse Z). responses.items) found []
+
 module _ {Y Z : Type 0} where
   -- a key other than one that is the target's isn't the target's
   absent_by_key : (target : List ℕ) (key : String Y) (es : List (String Y × Vec StoredResponse Z)) → bytes_eq target
@@ -197,30 +200,30 @@ module _ {Y Z : Type 0} where
   none-last (e ∷ es) new h left = absurd (some-last e es h)
 
   -- what is taken out and what is left count as all
-  module _ (target : List ℕ) (es new : List (String Y × Vec StoredResponse Z)) (left : new ≡ remove_entry (is_key
-      target) es)
-      (taken : Option (Vec StoredResponse Z)) (same : taken ≡ lookup (is_key target) es) where
-    abbrev items_of : Option (Vec StoredResponse Z) → List StoredResponse
-    items_of found = option_map_or (λ (responses : Vec StoredResponse Z). responses.items) found []
+  pub record IsTaken (target : List ℕ) (es new : List (String Y × Vec StoredResponse Z)) (items : List StoredResponse)
+      : Type 0 where
+    pub count : response_count (shown new) + length items ≡ response_count (shown es)
+    pub bytes : byte_count (shown new) + bytes_of items ≡ byte_count (shown es)
+    pub times : (number : ℕ) → times_used number (shown new) + times_in number items ≡ times_used number (shown es)
+    pub are : items ≡ responses_at target (shown es)
 
-    pub count-taken : response_count (shown new) + length (items_of taken) ≡ response_count (shown es)
-    count-taken = ap (λ l. response_count (shown l) + length (items_of taken)) left
-        ∙ ap (λ o. response_count (shown (remove_entry (is_key target) es)) + length (items_of o)) same ∙
-        sum_by-remove_shown target length refl es
-
-    pub bytes-taken : byte_count (shown new) + bytes_of (items_of taken) ≡ byte_count (shown es)
-    bytes-taken = ap (λ l. byte_count (shown l) + bytes_of (items_of taken)) left
-        ∙ ap (λ o. byte_count (shown (remove_entry (is_key target) es)) + bytes_of (items_of o)) same ∙
-        sum_by-remove_shown target bytes_of refl es
-
-    pub times-taken : (number : ℕ) → times_used number (shown new) + times_in number (items_of taken) ≡ times_used
-        number (shown es)
-    times-taken number = ap (λ l. times_used number (shown l) + times_in number (items_of taken)) left
-        ∙ ap (λ o. times_used number (shown (remove_entry (is_key target) es)) + times_in number (items_of o)) same ∙
-        sum_by-remove_shown target (times_in number) refl es
-
-    pub items-taken : items_of taken ≡ responses_at target (shown es)
-    items-taken = ap items_of same ∙ lookup-shown target es
+  pub is-taken : (target : List ℕ) (es new : List (String Y × Vec StoredResponse Z)) → new ≡ remove_entry (is_key
+      target) es → (taken : Option (Vec StoredResponse Z)) → taken ≡ lookup (is_key target) es
+      → IsTaken target es new (items_of taken)
+  is-taken target es new left taken same =
+      record {
+        count = by length refl;
+        bytes = by bytes_of refl;
+        times = λ number. by (times_in number) refl;
+        are = ap items_of same ∙ lookup-shown target es;
+      }
+    where
+      by : (f : List StoredResponse → ℕ) → f [] ≡ 0 → sum_by (λ (entry : Target). f entry.1) (shown new) + f (items_of
+          taken) ≡ sum_by (λ (entry : Target). f entry.1) (shown es)
+      by f none =
+          ap (λ l. sum_by (λ (entry : Target). f entry.1) (shown l) + f (items_of taken)) left
+          ∙ ap (λ o. sum_by (λ (entry : Target). f entry.1) (shown (remove_entry (is_key target) es)) + f (items_of o))
+          same ∙ sum_by-remove_shown target f none es
 
   pub shown-taken : (target : List ℕ) (es new : List (String Y × Vec StoredResponse Z)) → new ≡ remove_entry (is_key
       target) es
