@@ -1,12 +1,10 @@
 -- A text that is printed block by block.
-use Rattle.std.proofs.Common.{◌≡◌, ℕ, ◌+◌, ◌<◌, ◌≤◌, ◌||◌, Bool, false, List, [], ◌∷◌, ◌++◌, length, take}
-use Rattle.std.proofs.Common.{get_or, flat_map, Option, Some, None, is_none, option_map, refl, sym, ◌∙◌, ap, subst}
-use Rattle.std.specs.List.{list_any}
-use Rattle.std.proofs.Math.Bool.{or-false}
+use Rattle.std.proofs.Common.{◌≡◌, ℕ, ◌+◌, ◌<◌, ◌≤◌, ◌||◌, Bool, false, List, [], ◌∷◌, ◌++◌, length, take, get_or}
+use Rattle.std.proofs.Common.{flat_map, Option, Some, None, is_none, option_map, refl, sym, ◌∙◌, ap, subst}
+use Rattle.std.proofs.{Math.Bool.or-false, lemmas.List.Concat.flat_map-append, lemmas.List.Folds.list_any-append}
 use Rattle.std.proofs.lemmas.List.{append-nil, map-append, take_more, take_all}
-use Rattle.std.proofs.lemmas.List.Concat.{flat_map-append}
-use Rattle.std.proofs.lemmas.List.Folds.{list_any-append}
 use Rattle.std.proofs.lemmas.List.Elements.{All-nil, All-push, All-weaker}
+use Rattle.std.specs.List.{list_any}
 use Rattle.headers.specs.Lines.{Line}
 use Rattle.headers_section.specs.CanonicalText.{Block, IsBlock, block_text, HasBlocks}
 
@@ -58,9 +56,8 @@ pub HasBlocks-more : (lines : List ℕ → List Line) (order : List (List ℕ)) 
     → more ≡ text ++ block_text name block → after ≡ (before || is_none block)
     → HasBlocks lines (take (place + 1) order) more after
 HasBlocks-more lines order place name text more before after block within at has is printed marked =
-    let names : take (place + 1) order ≡ take place order ++ name ∷ [] =
-    take_more order place name within ∙ ap (λ (last : List ℕ). take place order ++ last ∷ []) (sym at) in
-    rw (names, printed, marked) (HasBlocks-push lines (take place order) text before name block has is)
+    let names = take_more _ _ _ within ∙ ap (λ (last : List ℕ). take place order ++ last ∷ []) (sym at) in
+    rw (names, printed, marked) (HasBlocks-push lines _ _ _ _ _ has is)
 
 pub HasBlocks-start : (lines : List ℕ → List Line) (order : List (List ℕ)) (text : List ℕ) → text ≡ []
     → HasBlocks lines (take 0 order) text false
@@ -69,8 +66,7 @@ HasBlocks-start lines order text empty = rw empty (HasBlocks-none lines)
 pub HasBlocks-all : (lines : List ℕ → List Line) (order : List (List ℕ)) (place : ℕ) (text : List ℕ)
     (some_refused : Bool) → length order ≤ place → HasBlocks lines (take place order) text some_refused
     → HasBlocks lines order text some_refused
-HasBlocks-all lines order place text some_refused all has =
-    subst (λ (names : List (List ℕ)). HasBlocks lines names text some_refused) (take_all place order all) has
+HasBlocks-all lines order place text some_refused all has = rw (take_all place order all) at has
 
 pub is_none-map : {A : Type 0} (f : A → List Line) (o : Option A) → is_none (option_map f o) ≡ is_none o
 is_none-map f None = refl

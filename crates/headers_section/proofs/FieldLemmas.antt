@@ -1,24 +1,19 @@
 -- Where a field is cut, and what that makes of a line.
 use Rattle.std.proofs.Common.{◌≡◌, ℕ, suc, ◌+◌, ◌<◌, ◌≤◌, true, false, IsTrue, List, ◌∷◌, ◌++◌, length, take, drop}
 use Rattle.std.proofs.Common.{get_or, nat_lt, nat_le, refl, sym, ◌∙◌, ap, subst, inl, inr, arith, All}
+use Rattle.std.proofs.{lemmas.Bool.cases_Bool, lemmas.Bool.Decides.nat_tests, lemmas.List.Elements.All-weaker}
+use Rattle.std.proofs.{lemmas.List.Splits.slice_split_at, lemmas.List.Sums.list_all-from_AllPass}
+use Rattle.std.proofs.lemmas.List.{get_or_at, append_cancel_left, length-append, length-take-le, take-take}
 use Rattle.std.specs.Prelude.{◌↔◌, Result, Ok, Err, OnOk, IsErrOf}
 use Rattle.std.specs.List.{list_all, slice_range, slice_split}
-use Rattle.std.proofs.lemmas.Bool.{cases_Bool}
-use Rattle.std.proofs.lemmas.Bool.Decides.{nat_tests}
-use Rattle.std.proofs.lemmas.List.{get_or_at, append_cancel_left, length-append, length-take-le, take-take}
-use Rattle.std.proofs.lemmas.List.Elements.{All-weaker}
-use Rattle.std.proofs.lemmas.List.Splits.{slice_split_at}
-use Rattle.std.proofs.lemmas.List.Sums.{list_all-from_AllPass}
 use Rattle.bytes.proofs.Ranges.{drop-take_less}
 use Rattle.memchr.specs.Find.{NoneBefore, Nowhere, Passes, is_byte}
-use Rattle.http_header.specs.declared.name.HeaderNameError.{HeaderNameError}
-use Rattle.http_header.specs.declared.name.HeaderNameError.TheVariants.{Invalid}
-use Rattle.http_header.specs.Token.{token_test, is_token_byte, lowercase}
-use Rattle.http_header.specs.FieldName.{IsFieldName, is_field_name}
-use Rattle.http_header.specs.FieldValue.{FieldValue, IsFieldValue, plain_value}
+use Rattle.http_header.specs.{declared.name.HeaderNameError.HeaderNameError}
+use Rattle.http_header.specs.{declared.name.HeaderNameError.TheVariants.Invalid, Token.token_test, Token.is_token_byte}
+use Rattle.http_header.specs.{Token.lowercase, FieldName.IsFieldName, FieldName.is_field_name, FieldValue.FieldValue}
+use Rattle.http_header.specs.{FieldValue.IsFieldValue, FieldValue.plain_value}
 use Rattle.http_header.proofs.TokenLemmas.{IsFieldName-from_test}
-use Rattle.headers.specs.Lines.{Line}
-use Rattle.headers.specs.Text.{trim}
+use Rattle.headers.specs.{Lines.Line, Text.trim}
 use Rattle.headers_section.specs.Section.{Field, IsField, IsNoField}
 use Rattle.headers_section.proofs.SectionLemmas.{split_at_place, none_before}
 
@@ -68,10 +63,8 @@ pub parts_once : (line before after : Line) (field : Field) (is : IsField line f
     → (is.name ≡ before) × (is.rest ≡ after)
 parts_once line before after field is none parted =
     let same : is.name ++ 58 ∷ is.rest ≡ before ++ 58 ∷ after = sym is.line_is ∙ parted in
-    let pieces : is.name ∷ slice_split (is_byte 58) is.rest ≡ before ∷ slice_split (is_byte 58) after =
-    sym (slice_split_at (is_byte 58) is.name 58 is.rest (names_have_none is.name is.valid_name) refl)
-    ∙ ap (slice_split (is_byte 58)) same
-    ∙ slice_split_at (is_byte 58) before 58 after none refl in
+    let pieces = sym (slice_split_at (is_byte 58) is.name 58 is.rest (names_have_none is.name is.valid_name) refl) ∙ ap
+    (slice_split (is_byte 58)) same ∙ slice_split_at (is_byte 58) before 58 after none refl in
     let front : is.name ≡ before = cc pieces in
     let back : 58 ∷ is.rest ≡ 58 ∷ after =
     append_cancel_left before _ _ (ap (λ (name : List ℕ). name ++ 58 ∷ is.rest) (sym front) ∙ same) in
@@ -103,15 +96,13 @@ module _ (bytes : List ℕ) (end colon : ℕ) (within : end ≤ length bytes) (f
 
   parted : take end bytes ≡ take colon bytes ++ 58 ∷ slice_range bytes (colon + 1) end
   parted =
-      split_at_colon (take end bytes) colon found.0.high found.1
-      ∙ ap (λ (name : List ℕ). name ++ 58 ∷ drop (colon + 1) (take end bytes)) name_part
-      ∙ ap (λ (rest : List ℕ). take colon bytes ++ 58 ∷ rest) value_part
+      split_at_colon _ _ found.0.high found.1 ∙ ap (λ (name : List ℕ). name ++ 58 ∷ drop (colon + 1) (take end bytes))
+      name_part ∙ ap (λ (rest : List ℕ). take colon bytes ++ 58 ∷ rest) value_part
 
   parts_of_field : (field : Field) (is : IsField (take end bytes) field)
       → (is.name ≡ take colon bytes) × (is.rest ≡ slice_range bytes (colon + 1) end)
   parts_of_field field is =
-      parts_once (take end bytes) _ _ field is
-      (subst (All (λ byte. is_byte 58 byte ≡ false)) name_part (none_before 58 (take end bytes) colon found.0)) parted
+      parts_once (take end bytes) _ _ field is (rw name_part at (none_before 58 (take end bytes) colon found.0)) parted
 
   -- what stands before the colon is no name
   pub IsNoField-without_name : ¬ (IsFieldName (take colon bytes)) → IsNoField (take end bytes)

@@ -1,9 +1,7 @@
 -- Blocks of names that some headers don't have.
 use Rattle.std.proofs.Common.{◌≡◌, ◌≢◌, ◌++◌, Bool, List, [], ◌∷◌, ℕ, Result, IfOk, sym, subst}
+use Rattle.std.proofs.{lemmas.Bool.false_from_ne_true, lemmas.Result.IfOk-weaker, lemmas.Slice.Eq.bytes_eq-Decides}
 use Rattle.std.specs.Prelude.{bytes_eq, false, MatchBool}
-use Rattle.std.proofs.lemmas.Bool.{false_from_ne_true}
-use Rattle.std.proofs.lemmas.Result.{IfOk-weaker}
-use Rattle.std.proofs.lemmas.Slice.Eq.{bytes_eq-Decides}
 use Rattle.headers.specs.Lines.{Line}
 use Rattle.headers_section.specs.KnownHeaders.{KnownHeader}
 use Rattle.headers_section.specs.CanonicalText.{Block, IsBlockAmong, IsTypedBlock}

@@ -1,14 +1,12 @@
 -- The names of fields at their first appearance, and what a map to which the fields were appended has under a name.
 use Rattle.std.proofs.Common.{◌≡◌, ℕ, ◌<◌, ◌||◌, Bool, true, false, not, List, [], ◌∷◌, ◌++◌, length, map, filter, All}
 use Rattle.std.proofs.Common.{bytes_eq, if◌then◌else◌, refl, sym, ◌∙◌, ap, subst, inl, inr, arith}
-use Rattle.std.specs.List.{list_any}
 use Rattle.std.proofs.Math.Bool.{or-false, or_assoc}
-use Rattle.std.proofs.lemmas.Bool.{cases_Bool}
+use Rattle.std.proofs.{lemmas.Bool.cases_Bool, lemmas.Map.Views.any-filter_same, lemmas.Slice.Eq.bytes_eq-Decides}
 use Rattle.std.proofs.lemmas.List.{append-nil, append_assoc, map-append, get_or_default}
 use Rattle.std.proofs.lemmas.List.Elements.{filter-append, All-nil, All-cons, All-filter, All-weaker}
 use Rattle.std.proofs.lemmas.List.Folds.{list_any_at, Any-from_list_any}
-use Rattle.std.proofs.lemmas.Map.Views.{any-filter_same}
-use Rattle.std.proofs.lemmas.Slice.Eq.{bytes_eq-Decides}
+use Rattle.std.specs.List.{list_any}
 use Rattle.http_header.specs.FieldValue.{FieldValue}
 use Rattle.http_header.specs.HeaderMap.{Entries, get_all, append, append_all, ContainsKey, RefusesAppend}
 use Rattle.http_header.proofs.HeaderMapLemmas.{get_all-append_same, get_all-append_other}
@@ -50,8 +48,7 @@ first_appearances-push (x ∷ list) name =
     let P : List ℕ → Bool = λ other. not (bytes_eq other x) in
     let seen = first_appearances list in
     let more : first_appearances (list ++ name ∷ []) ≡ with_name seen name = first_appearances-push list name in
-    let cut : filter P (seen ++ name ∷ []) ≡ filter P seen ++ filter P (name ∷ []) =
-    filter-append P seen (name ∷ []) in
+    let cut = filter-append P seen (name ∷ []) in
     elim (cases_Bool (bytes_eq x name)) [
       | inl t ↦
           let itself : bytes_eq name x ≡ true = (bytes_eq-Decides name x).1 (sym ((bytes_eq-Decides x name).0 t)) in
@@ -213,8 +210,7 @@ first_has (x ∷ list) =
 pub names_filled : (fields : List Field)
     → All (λ name. 0 < length (get_all (append_all [] fields) name)) (first_appearances (names fields))
 names_filled fields =
-    All-weaker (λ name. has name (names fields) ≡ true) _ (has_line fields) (first_appearances (names fields))
-    (first_has (names fields))
+    All-weaker (λ name. has name (names fields) ≡ true) _ (has_line _) (first_appearances (names fields)) (first_has _)
 
 -- a map that refuses the field after those that it holds
 pub FillsMap-from_refusal : (before : List Field) (field : Field) (later : List Field) (m : Entries FieldValue)

@@ -1,8 +1,7 @@
 -- Fields that are read from the front of a section, put into a map, and listed by name.
 use Rattle.std.proofs.Common.{◌≡◌, ℕ, List, [], ◌∷◌, ◌++◌, refl, sym, ◌∙◌, ap, subst, append_assoc, arith}
+use Rattle.std.proofs.{lemmas.List.append-nil, lemmas.List.Elements.Contains-append_right}
 use Rattle.std.specs.Prelude.{Option, Some, None, is_some, true, false, IfSome, IfNone}
-use Rattle.std.proofs.lemmas.List.{append-nil}
-use Rattle.std.proofs.lemmas.List.Elements.{Contains-append_right}
 use Rattle.http_header.specs.FieldValue.{FieldValue}
 use Rattle.http_header.specs.HeaderMap.{Entries, append, append_all, ContainsKey, RefusesAppend}
 use Rattle.headers.specs.Lines.{Line}
@@ -90,8 +89,7 @@ module _ (input rest : List ℕ) (map : Entries FieldValue) (list : List (List �
   ListsNames-from_collected = record { fields = so_far.fields; are_fields = are_fields; in_order = so_far.in_order }
 
   pub fits-from_collected : ¬ (HasTooManyFields input)
-  fits-from_collected many =
-      so_far.fits (subst FillsMap (AreFields-once (section input) many.0 so_far.fields many.1 are_fields) many.2)
+  fits-from_collected many = so_far.fits (subst FillsMap (AreFields-once _ _ _ many.1 are_fields) many.2)
 
 -- a field is next
 module _ (input rest : List ℕ) (map : Entries FieldValue) (list : List (List ℕ))

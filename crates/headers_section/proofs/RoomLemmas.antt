@@ -1,10 +1,8 @@
 -- Fields for which a map has room.
-use Rattle.std.proofs.Common.{◌≡◌, ℕ, List, [], ◌∷◌, ◌++◌, ◌⊎◌, ⊎_elim, inl, inr, refl, sym, ◌∙◌, ap, subst}
-use Rattle.http_header.specs.Token.{lowercase}
-use Rattle.http_header.specs.FieldValue.{FieldValue, plain_value}
+use Rattle.std.proofs.Common.{◌≡◌, ℕ, List, [], ◌∷◌, ◌++◌, ◌⊎◌, ⊎_elim, inl, inr, refl, sym, ◌∙◌, ap}
+use Rattle.http_header.specs.{Token.lowercase, FieldValue.FieldValue, FieldValue.plain_value}
 use Rattle.http_header.specs.HeaderMap.{Entries, append_all, RefusesAppend}
-use Rattle.headers.specs.Lines.{Line}
-use Rattle.headers.specs.Text.{trim}
+use Rattle.headers.specs.{Lines.Line, Text.trim}
 use Rattle.headers_section.specs.Section.{Field, IsField, AreFields, FillsMap}
 use Rattle.headers_section.proofs.FieldLemmas.{names_have_none, parts_once}
 
@@ -39,12 +37,10 @@ pub fits_more : (before : List Field) (field : Field) (m : Entries FieldValue) �
 fits_more before field m held room fits fills =
     ⊎_elim
     (λ h.
-    let full : RefusesAppend (append_all [] before) field.0 =
-    subst (λ (f : Field). RefusesAppend (append_all [] before) f.0) (sym h.1)
-    (subst (λ (fs : List Field). RefusesAppend (append_all [] fs) fills.next.0) (sym h.0) fills.full) in
-    room (subst (λ (n : Entries FieldValue). RefusesAppend n field.0) (sym held) full))
+    let full : RefusesAppend (append_all [] before) field.0 = rw (← h.1) at (rw (← h.0) at fills.full) in
+    room (rw (← held) at full))
     (λ h. fits (record { first = fills.first; next = fills.next; later = h.0; split = h.1; full = fills.full }))
-    (last_or_before before field fills.first fills.next fills.later fills.split)
+    (last_or_before _ _ _ _ _ fills.split)
 
 -- a line is one field at most
 IsField-once : (line : Line) (f g : Field) → IsField line f → IsField line g → f ≡ g

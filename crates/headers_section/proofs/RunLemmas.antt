@@ -1,12 +1,9 @@
 -- What a run knows of the input that it read whole.
 use Rattle.std.proofs.Common.{◌≡◌, ℕ, ◌≤◌, Bool, List, [], ◌++◌, length, Option, inr, refl, subst}
-use Rattle.std.specs.Prelude.{IfSome}
-use Rattle.std.specs.Io.KnownBytes.{Consumes, IsAtEnd, Appends}
-use Rattle.std.proofs.KnownBytes.{Consumes-all}
-use Rattle.std.proofs.lemmas.Option.{IfSome_then}
-use Rattle.headers_section.specs.Section.{input_limit, HasTooManyFields}
-use Rattle.headers_section.specs.CanonicalText.{IsCanonicalText}
-use Rattle.headers_section.specs.Answer.{WroteText, BeganText}
+use Rattle.std.proofs.{KnownBytes.Consumes-all, lemmas.Option.IfSome_then}
+use Rattle.std.specs.{Prelude.IfSome, Io.KnownBytes.Consumes, Io.KnownBytes.IsAtEnd, Io.KnownBytes.Appends}
+use Rattle.headers_section.specs.{Section.input_limit, Section.HasTooManyFields, CanonicalText.IsCanonicalText}
+use Rattle.headers_section.specs.{Answer.WroteText, Answer.BeganText}
 
 -- what holds of the bytes that were read up to the end, holds of the input
 read_whole : (had left : Option (List ℕ)) (input : List ℕ) → Consumes had left input → IsAtEnd left
@@ -23,6 +20,5 @@ module _ (had left held holds : Option (List ℕ)) (input text : List ℕ) (some
   pub began_text : (begun rest : List ℕ) → text ≡ begun ++ rest → Appends held holds begun
       → BeganText had left held holds
   began_text begun rest parts writes =
-      let whole : IsCanonicalText input (begun ++ rest) some_refused =
-      subst (λ (written : List ℕ). IsCanonicalText input written some_refused) parts canonical in
-      inr (end, read_whole had left input read end _ (within, (begun, rest, some_refused, whole, writes)))
+      let whole : IsCanonicalText input (begun ++ rest) some_refused = rw parts at canonical in
+      inr (end, read_whole _ _ _ read end _ (within, (begun, rest, some_refused, whole, writes)))

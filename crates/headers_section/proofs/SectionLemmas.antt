@@ -1,13 +1,11 @@
 -- The lines of an input, one after the other.
-use Rattle.std.proofs.Common.{◌≡◌, ℕ, ◌+◌, ◌-◌, ◌<◌, ◌≤◌, ◌==◌, false, List, [], ◌∷◌, ◌++◌, length, take, drop}
-use Rattle.std.proofs.Common.{map, get_or, refl, sym, ◌∙◌, ap, subst, inl, inr, arith, All}
-use Rattle.std.specs.List.{slice_split, take_while}
-use Rattle.std.specs.Prelude.{slice_index}
+use Rattle.std.proofs.Common.{◌≡◌, ℕ, ◌+◌, ◌-◌, ◌<◌, ◌≤◌, ◌==◌, false, List, [], ◌∷◌, ◌++◌, length, take, drop, map}
+use Rattle.std.proofs.Common.{get_or, refl, sym, ◌∙◌, ap, subst, inl, inr, arith, All}
 use Rattle.std.proofs.lemmas.Bool.{cases_Bool, false_from_ne_true}
 use Rattle.std.proofs.lemmas.List.{take-append-drop, take-take, drop_more, get_or-take, length-take-le}
-use Rattle.std.proofs.lemmas.List.Sums.{take_while-cons}
+use Rattle.std.proofs.{lemmas.List.Sums.take_while-cons, lemmas.List.Elements.All-from_get_or}
 use Rattle.std.proofs.lemmas.List.Splits.{slice_split_at, slice_split_none}
-use Rattle.std.proofs.lemmas.List.Elements.{All-from_get_or}
+use Rattle.std.specs.{List.slice_split, List.take_while, Prelude.slice_index}
 use Rattle.memchr.specs.Find.{NoneBefore, Nowhere, Passes, is_byte}
 use Rattle.headers.specs.Lines.{Line}
 use Rattle.headers_section.specs.Section.{without_return, is_newline, is_filled, input_lines, section}
@@ -61,8 +59,7 @@ without_return-front stop bytes within =
     let long : length line ≡ stop = length-take-le stop bytes within in
     elim (cases_Bool (slice_index line (length line - 1) == 13)) [
       | inl t ↦
-          let short : length (take (length line - 1) line) ≡ length line - 1 =
-          length-take-le (length line - 1) line (omega arith) in
+          let short = length-take-le (length line - 1) line (omega arith) in
           rw t (take-take (length line - 1) stop bytes (omega (arith, long))
           ∙ ap (λ (n : ℕ). take n bytes) (sym short))
       | inr f ↦ rw f (ap (λ (n : ℕ). take n bytes) (sym long))

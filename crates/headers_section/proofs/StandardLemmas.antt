@@ -1,9 +1,7 @@
 -- Each known header has a standard name.
 use Rattle.std.proofs.Common.{◌≡◌, ℕ, Bool, true, ◌&&◌, List, [], ◌∷◌, length, refl, sym, ◌∙◌, inl, inr}
-use Rattle.std.specs.Prelude.{bytes_eq}
-use Rattle.std.specs.List.{list_any}
-use Rattle.std.proofs.lemmas.Bool.{cases_Bool}
-use Rattle.std.proofs.lemmas.Slice.Eq.{bytes_eq-Decides}
+use Rattle.std.proofs.{lemmas.Bool.cases_Bool, lemmas.Slice.Eq.bytes_eq-Decides}
+use Rattle.std.specs.{Prelude.bytes_eq, List.list_any}
 use Rattle.http_header.specs.StandardHeader.{IsStandardName, standard_bytes, standard_with_len}
 use Rattle.http_header.specs.declared.name.standard.StandardHeader.{StandardHeader}
 use Rattle.headers_section.specs.KnownHeaders.{KnownHeader, known_headers}

@@ -1,30 +1,23 @@
 -- The text of a map that has the fields of an input, by the list of their names.
-use Rattle.std.proofs.Common.{◌≡◌, ℕ, ◌<◌, Bool, List, length, All, sym, ◌∙◌, ap, subst}
-use Rattle.http_header.specs.FieldValue.{FieldValue}
-use Rattle.http_header.specs.HeaderMap.{Entries, get_all}
+use Rattle.std.proofs.Common.{◌≡◌, ℕ, ◌<◌, Bool, List, length, All, ◌∙◌, ap}
+use Rattle.http_header.specs.{FieldValue.FieldValue, HeaderMap.Entries, HeaderMap.get_all}
 use Rattle.headers.specs.Lines.{Line, lines_of}
-use Rattle.headers_section.specs.Section.{Field, section, Holds}
+use Rattle.headers_section.specs.Section.{Field, Holds}
 use Rattle.headers_section.specs.CanonicalText.{names, lines_under, first_appearances, ListsNames, HasBlocks}
 use Rattle.headers_section.specs.CanonicalText.{IsCanonicalText}
-use Rattle.headers_section.proofs.BlockLemmas.{HasBlocks-same}
+use Rattle.headers_section.proofs.{BlockLemmas.HasBlocks-same, RoomLemmas.AreFields-once}
 use Rattle.headers_section.proofs.NameLemmas.{lines_held, names_filled}
-use Rattle.headers_section.proofs.RoomLemmas.{AreFields-once}
 
 module _ (input : List ℕ) (map : Entries FieldValue) (list : List (List ℕ)) (holds : Holds input map)
     (lists : ListsNames input list) where
   in_order : list ≡ first_appearances (names holds.fields)
   in_order =
-      lists.in_order
-      ∙ ap (λ (fields : List Field). first_appearances (names fields))
-      (AreFields-once (section input) lists.fields holds.fields lists.are_fields holds.are_fields)
+      lists.in_order ∙ ap (λ (fields : List Field). first_appearances (names fields))
+      (AreFields-once _ _ _ lists.are_fields holds.are_fields)
 
   -- each name has a line
   pub filled-from_names : All (λ name. 0 < length (get_all map name)) list
-  filled-from_names =
-      subst (λ (order : List (List ℕ)). All (λ (name : List ℕ). 0 < length (get_all map name)) order) (sym in_order)
-      (subst (λ (m : Entries FieldValue).
-      All (λ (name : List ℕ). 0 < length (get_all m name)) (first_appearances (names holds.fields)))
-      (sym holds.held) (names_filled holds.fields))
+  filled-from_names = rw (← in_order) at (rw (← holds.held) at (names_filled holds.fields))
 
   pub IsCanonicalText-from_blocks : (text : List ℕ) (some_refused : Bool)
       → HasBlocks (λ name. lines_of (get_all map name)) list text some_refused
@@ -35,8 +28,7 @@ module _ (input : List ℕ) (map : Entries FieldValue) (list : List (List ℕ)) 
         fields = holds.fields;
         are_fields = holds.are_fields;
         is_text =
-            HasBlocks-same own (lines_under holds.fields) _ text some_refused
-            (λ name.
-            ap (λ (m : Entries FieldValue). lines_of (get_all m name)) holds.held ∙ lines_held holds.fields name)
-            (subst (λ (order : List (List ℕ)). HasBlocks own order text some_refused) in_order blocks);
+            HasBlocks-same own (lines_under holds.fields) _ text some_refused (λ name. ap
+            (λ (m : Entries FieldValue). lines_of (get_all m name)) holds.held ∙ lines_held holds.fields name)
+            (rw in_order at blocks);
       }

@@ -2,10 +2,9 @@
 use Rattle.std.specs.Prelude.{◌⊎◌, ℕ, ◌<◌, ◌≤◌, Bool, true, false, List, ◌++◌, length, Option, IfSome, Result, Ok, Err}
 use Rattle.std.specs.Io.KnownBytes.{Appends, Keeps, IsAtEnd}
 use Rattle.headers_section.specs.Section.{input_limit, section, HasNoField, HasTooManyFields}
-use Rattle.headers_section.specs.CanonicalText.{IsCanonicalText}
-use Rattle.headers_section.specs.declared.status.Outcome.{Outcome}
+use Rattle.headers_section.specs.{CanonicalText.IsCanonicalText, declared.status.Outcome.Outcome}
+use Rattle.headers_section.specs.{declared.status.RunError.RunError}
 use Rattle.headers_section.specs.declared.status.Outcome.TheVariants.{Clean, SomeRefused, NotAField}
-use Rattle.headers_section.specs.declared.status.RunError.{RunError}
 use Rattle.headers_section.specs.declared.status.RunError.TheVariants.{Io, Memory, Room}
 
 -- the exit status of a result

@@ -1,29 +1,19 @@
 -- The known headers: the name of each, and how its field lines are decoded and encoded.
 use Rattle.std.specs.Prelude.{ℕ, List, [], ◌∷◌, ◌++◌, codes}
 use Rattle.http_header.specs.FieldValue.{FieldValue}
-use Rattle.headers.specs.AccessControlAllowCredentials.{access_control_allow_credentials_grammar}
-use Rattle.headers.specs.AccessControlAllowOrigin.{allow_origin_reads, allow_origin_writes}
-use Rattle.headers.specs.AccessControlRequestMethod.{request_method_reads, request_method_writes}
-use Rattle.headers.specs.CacheControlGrammar.{cache_grammar}
-use Rattle.headers.specs.ContentLength.{content_length_reads, content_length_writes}
-use Rattle.headers.specs.ContentRange.{content_range_grammar}
-use Rattle.headers.specs.ContentType.{ReadsType, type_line}
-use Rattle.headers.specs.EntityTagRange.{tags_grammar}
-use Rattle.headers.specs.Expect.{expect_grammar}
+use Rattle.headers.specs.{AccessControlAllowCredentials.access_control_allow_credentials_grammar}
+use Rattle.headers.specs.{AccessControlAllowOrigin.allow_origin_reads, AccessControlAllowOrigin.allow_origin_writes}
+use Rattle.headers.specs.{AccessControlRequestMethod.request_method_reads}
+use Rattle.headers.specs.{AccessControlRequestMethod.request_method_writes, CacheControlGrammar.cache_grammar}
+use Rattle.headers.specs.{ContentLength.content_length_reads, ContentLength.content_length_writes}
+use Rattle.headers.specs.{ContentRange.content_range_grammar, ContentType.ReadsType, ContentType.type_line}
+use Rattle.headers.specs.{EntityTagRange.tags_grammar, Expect.expect_grammar, Host.host_reads, Host.host_writes}
+use Rattle.headers.specs.{IfRange.if_range_grammar, Lines.Line, Merge.merged, Origin.origin_reads, Origin.origin_writes}
+use Rattle.headers.specs.{Places.comma, Places.semicolon, Range.range_grammar, ReferrerPolicy.referrer_grammar}
+use Rattle.headers.specs.{RetryAfter.retry_after_grammar, SecWebsocketVersion.sec_websocket_version_grammar}
+use Rattle.headers.specs.{SetCookie.set_cookie_grammar, StrictTransportSecurityGrammar.security_grammar}
 use Rattle.headers.specs.HeaderLaws.{Grammar, ReadsBy, written_by}
-use Rattle.headers.specs.Host.{host_reads, host_writes}
-use Rattle.headers.specs.IfRange.{if_range_grammar}
-use Rattle.headers.specs.Lines.{Line}
-use Rattle.headers.specs.Merge.{merged}
-use Rattle.headers.specs.Origin.{origin_reads, origin_writes}
-use Rattle.headers.specs.Places.{comma, semicolon}
-use Rattle.headers.specs.Range.{range_grammar}
-use Rattle.headers.specs.ReferrerPolicy.{referrer_grammar}
-use Rattle.headers.specs.RetryAfter.{retry_after_grammar}
-use Rattle.headers.specs.SecWebsocketVersion.{sec_websocket_version_grammar}
-use Rattle.headers.specs.SetCookie.{set_cookie_grammar}
 use Rattle.headers.specs.Shapes.{first_kept, only_date, only_number, only_tag, only_text}
-use Rattle.headers.specs.StrictTransportSecurityGrammar.{security_grammar}
 
 -- a header: its field name in lower case, and how its field lines are decoded and encoded
 pub record KnownHeader : Type 1 where

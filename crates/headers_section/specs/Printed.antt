@@ -1,8 +1,7 @@
 -- The block that a choice of what is printed stands for.
 use Rattle.std.specs.Prelude.{List, Some, None}
 use Rattle.headers.specs.Lines.{Line, lines_of}
-use Rattle.headers_section.specs.CanonicalText.{Block}
-use Rattle.headers_section.specs.declared.block.Printed.{Printed}
+use Rattle.headers_section.specs.{CanonicalText.Block, declared.block.Printed.Printed}
 use Rattle.headers_section.specs.declared.block.Printed.TheVariants.{Encoded, Rejected, Kept}
 
 -- the block of a name that has these lines

@@ -2,12 +2,9 @@
 use Rattle.std.specs.Prelude.{◌≡◌, ℕ, ◌-◌, Bool, true, false, List, [], ◌∷◌, ◌++◌, map, length, take, slice_index, ◌==◌}
 use Rattle.std.specs.Prelude.{if◌then◌else◌, Contains, take_while}
 use Rattle.std.specs.List.{slice_split, AllZip}
-use Rattle.http_header.specs.Token.{lowercase}
-use Rattle.http_header.specs.FieldName.{IsFieldName}
-use Rattle.http_header.specs.FieldValue.{FieldValue, IsFieldValue, plain_value}
-use Rattle.http_header.specs.HeaderMap.{Entries, append_all, RefusesAppend}
-use Rattle.headers.specs.Lines.{Line}
-use Rattle.headers.specs.Text.{trim}
+use Rattle.http_header.specs.{Token.lowercase, FieldName.IsFieldName, FieldValue.FieldValue, FieldValue.IsFieldValue}
+use Rattle.http_header.specs.{FieldValue.plain_value, HeaderMap.Entries, HeaderMap.append_all, HeaderMap.RefusesAppend}
+use Rattle.headers.specs.{Lines.Line, Text.trim}
 
 -- the greatest length of an input
 abbrev pub input_limit : ℕ

@@ -1,9 +1,8 @@
 //! The fields of an input.
-ghost use Rattle.std.specs.Prelude.{◌≡◌, ◌<◌, ◌≤◌, ◌∷◌, ◌++◌, [], length, take, drop, Err, OnOk, IfOk};
-ghost use Rattle.std.specs.Prelude.{IfSome, IfNone, MatchBool, take_while};
-ghost use Rattle.http_header.specs.FieldName.{IsFieldName};
+ghost use Rattle.std.specs.Prelude.{◌≡◌, ◌<◌, ◌≤◌, ◌∷◌, ◌++◌, [], length, take, drop, Err, OnOk, IfOk, IfSome, IfNone};
+ghost use Rattle.std.specs.Prelude.{MatchBool, take_while};
+ghost use Rattle.http_header.specs.{FieldName.IsFieldName, Token.lowercase};
 ghost use Rattle.http_header.specs.HeaderMap.{append, ContainsKey, RefusesAppend};
-ghost use Rattle.http_header.specs.Token.{lowercase};
 ghost use Rattle.headers_section.specs.Section.{without_return, is_filled, input_lines, section, IsField, IsNoField};
 ghost use Rattle.headers_section.specs.Section.{HasOnlyFields, HasNoField, HasTooManyFields, Holds};
 ghost use Rattle.headers_section.specs.CanonicalText.{ListsNames};

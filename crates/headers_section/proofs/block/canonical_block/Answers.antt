@@ -1,15 +1,12 @@
 use Rattle.std.proofs.Common.{◌≡◌, ◌++◌, [], Some, refl, subst, sym, ap, ◌∙◌}
-use Rattle.http_header.specs.StandardHeader.{IsStandardName}
-use Rattle.http_header.specs.Token.{lowercase}
-use Rattle.http_header.specs.HeaderMap.{get_all}
+use Rattle.http_header.specs.{StandardHeader.IsStandardName, Token.lowercase, HeaderMap.get_all}
 use Rattle.headers.specs.Lines.{lines_of}
 use Rattle.headers_section.specs.Printed.{block_printed}
 use Rattle.headers_section.specs.KnownHeaders.{caching_headers, content_headers, context_headers, security_headers}
 use Rattle.headers_section.specs.KnownHeaders.{known_headers}
 use Rattle.headers_section.proofs.KnownLemmas.{IsNoneOf, IfOk-behind, IsBlockAmong-behind}
-use Rattle.headers_section.proofs.StandardLemmas.{IsNoneOf-not_standard}
+use Rattle.headers_section.proofs.{StandardLemmas.IsNoneOf-not_standard, block.canonical_block.Goals.Then-is_none}
 use Rattle.headers_section.proofs.block.canonical_block.Goals as goal
-use Rattle.headers_section.proofs.block.canonical_block.Goals.{Then-is_none}
 
 -- the name is not standard
 not_standard : (c : Then-is_none) → ¬ (IsStandardName c.args.name.now)
@@ -23,13 +20,11 @@ not_standard c standard =
 pub returns-then-is_none : goal.returns-then-is_none
 returns-then-is_none c has =
     let own = lines_of (get_all c.args.map.now c.args.name.now) in
-    IsBlockAmong-behind known_headers [] c.args.name.now own (Some own)
-    (IsNoneOf-not_standard c.args.name.now (not_standard c)) refl
+    IsBlockAmong-behind known_headers [] _ own (Some own) (IsNoneOf-not_standard _ (not_standard c)) refl
 
 pub returns-in_default : goal.returns-in_default
 returns-in_default c has =
     let own = lines_of (get_all c.args.map.now c.args.name.now) in
     let none : IsNoneOf caching_headers c.as_str.result.now = assumption c.in_default in
-    IfOk-behind (block_printed own) c.content_block.result caching_headers
-    (content_headers ++ context_headers ++ security_headers) c.args.name.now own
-    (subst (IsNoneOf caching_headers) c.as_str.ensures.value none) (c.content_block.ensures has)
+    IfOk-behind (block_printed own) _ caching_headers (content_headers ++ context_headers ++ security_headers) _ own
+    (rw c.as_str.ensures.value at none) (c.content_block.ensures has)

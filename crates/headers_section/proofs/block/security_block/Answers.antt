@@ -1,4 +1,4 @@
-use Rattle.std.proofs.Common.{[], Some, refl, subst}
+use Rattle.std.proofs.Common.{[], Some, refl}
 use Rattle.http_header.specs.HeaderMap.{get_all}
 use Rattle.headers.specs.Lines.{lines_of}
 use Rattle.headers_section.specs.KnownHeaders.{security_headers}
@@ -9,5 +9,4 @@ pub returns-in_default : goal.returns-in_default
 returns-in_default c has =
     let own = lines_of (get_all c.args.map.now c.args.name.now) in
     let none : IsNoneOf security_headers c.as_str.result.now = assumption c.in_default in
-    IsBlockAmong-behind security_headers [] c.args.name.now own (Some own)
-    (subst (IsNoneOf security_headers) c.as_str.ensures.value none) refl
+    IsBlockAmong-behind security_headers [] _ own (Some own) (rw c.as_str.ensures.value at none) refl

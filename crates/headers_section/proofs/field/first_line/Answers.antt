@@ -1,6 +1,5 @@
 use Rattle.std.proofs.Common.{◌≡◌, ◌∙◌, ◌∷◌, ◌<◌, ap, sym, length, take, drop, arith}
-use Rattle.std.proofs.lemmas.List.{nil_from_length}
-use Rattle.std.proofs.lemmas.Bool.Decides.{nat_tests}
+use Rattle.std.proofs.{lemmas.List.nil_from_length, lemmas.Bool.Decides.nat_tests}
 use Rattle.headers.specs.Lines.{Line}
 use Rattle.headers_section.specs.Section.{without_return, section}
 use Rattle.headers_section.proofs.SectionLemmas.{section-some, section-none, without_return-front}
@@ -23,9 +22,8 @@ returns-clause-some c =
     let line = c.without_return-line.result.now in
     let is : line ≡ without_return (take stop rest) = c.without_return-line.ensures in
     let filled : 0 < length line = grind (arith, nat_tests, c.is_empty.ensures, c.if-is_empty.false) in
-    let front : without_return (take stop rest) ≡ take (length line) rest =
-    without_return-front stop rest (omega (arith, c.line_end-stop.ensures.order))
-    ∙ ap (λ (l : Line). take (length l) rest) (sym is) in
+    let front = without_return-front stop rest (omega (arith, c.line_end-stop.ensures.order)) ∙ ap
+    (λ (l : Line). take (length l) rest) (sym is) in
     section-some rest (drop next rest) (without_return (take stop rest)) c.line_end-stop.ensures.first
     (rw is at filled)
     ∙ ap (λ (l : Line). l ∷ section (drop next rest)) front

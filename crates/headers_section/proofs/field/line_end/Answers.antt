@@ -7,8 +7,7 @@ use Rattle.headers_section.proofs.field.line_end.Goals as goal
 
 pub returns-in-Some-clause-first : goal.returns-in-Some-clause-first
 returns-in-Some-clause-first c =
-    ap (take_while is_filled)
-    (input_lines-some c.args.rest.now c.in-Some.place _ _ c.in-Some.ensures.0 c.in-Some.ensures.1 refl refl)
+    ap (take_while is_filled) (input_lines-some _ _ _ _ c.in-Some.ensures.0 c.in-Some.ensures.1 refl refl)
 
 pub returns-in-None-clause-first : goal.returns-in-None-clause-first
 returns-in-None-clause-first c =

@@ -1,9 +1,8 @@
-use Rattle.std.proofs.Common.{◌≡◌, ◌∙◌, Err, List, ℕ, ◌+◌, ap, sym, subst, refl, take}
+use Rattle.std.proofs.Common.{◌≡◌, ◌∙◌, Err, List, ℕ, ◌+◌, ap, sym, subst, refl}
 use Rattle.std.specs.List.{slice_range}
 use Rattle.http_header.specs.declared.name.HeaderNameError.{HeaderNameError}
 use Rattle.http_header.specs.FieldValue.{IsFieldValue, plain_value}
 use Rattle.headers.specs.Text.{trim}
-use Rattle.headers_section.specs.Section.{IsNoField}
 use Rattle.headers_section.proofs.FieldLemmas.{HasFirstColon, IsNoField-without_colon, IsNoField-without_name}
 use Rattle.headers_section.proofs.FieldLemmas.{IsNoField-without_value, IsField-from_parts}
 use Rattle.headers_section.proofs.field.read_field.Goals as goal
@@ -18,17 +17,14 @@ part_is bytes shown part from to start stop whole cut trimmed =
     ∙ ap (λ (s : List ℕ). trim (slice_range s from to)) whole
 
 pub returns-in_default-clause-none : goal.returns-in_default-clause-none
-returns-in_default-clause-none c =
-    subst (λ (bytes : List ℕ). IsNoField (take c.args.end bytes)) c.as_slice-bytes.ensures
-    (IsNoField-without_colon (take c.args.end c.as_slice-bytes.result.now) c.in_default.ensures)
+returns-in_default-clause-none c = rw c.as_slice-bytes.ensures at (IsNoField-without_colon _ c.in_default.ensures)
 
 pub returns-in-Err-Invalid-clause-none : goal.returns-in-Err-Invalid-clause-none
 returns-in-Err-Invalid-clause-none c =
     let end = c.args.end in
     let colon = c.in-Some.colon in
-    IsNoField-without_name c.args.rest.now end colon c.requires
-    (subst (λ (bytes : List ℕ). HasFirstColon bytes end colon) c.as_slice-bytes.ensures
-    (c.in-Some.ensures.0, c.in-Some.ensures.1))
+    IsNoField-without_name _ end colon c.requires (subst (λ (bytes : List ℕ). HasFirstColon bytes end colon)
+    c.as_slice-bytes.ensures (c.in-Some.ensures.0, c.in-Some.ensures.1))
     (c.in-Err-Invalid.ensures.invalid (ap (λ (e : HeaderNameError). Err e) c.in-Err-Invalid.field-0-is))
 
 pub returns-in-Ok-from_shared-clause-some : goal.returns-in-Ok-from_shared-clause-some
@@ -36,13 +32,10 @@ returns-in-Ok-from_shared-clause-some c =
     let bytes = c.args.rest.now in
     let end = c.args.end in
     let colon = c.in-Some.colon in
-    let part : c.in_ok-slice.field-0 ≡ trim (slice_range bytes (colon + 1) end) =
-    part_is bytes c.as_slice-bytes.result.now c.in_ok-slice.field-0 (colon + 1) end c.trimmed-start.result.0
-    c.trimmed-start.result.1 c.as_slice-bytes.ensures c.in_ok-slice.ensures.ok c.trimmed-start.ensures.value in
-    IsField-from_parts bytes end colon c.requires
-    (subst (λ (s : List ℕ). HasFirstColon s end colon) c.as_slice-bytes.ensures
-    (c.in-Some.ensures.0, c.in-Some.ensures.1))
-    c.in-Ok.name c.in-Ok-from_shared.value c.in-Ok.ensures.valid
+    let part = part_is bytes _ _ (colon + 1) end _ _ c.as_slice-bytes.ensures c.in_ok-slice.ensures.ok
+    c.trimmed-start.ensures.value in
+    IsField-from_parts bytes end colon c.requires (subst (λ (s : List ℕ). HasFirstColon s end colon)
+    c.as_slice-bytes.ensures (c.in-Some.ensures.0, c.in-Some.ensures.1)) _ _ c.in-Ok.ensures.valid
     (subst IsFieldValue part (c.in-Ok-from_shared.ensures.succeeds.0 refl)) c.in-Ok.ensures.ok
     (c.in-Ok-from_shared.ensures.ok ∙ ap plain_value part)
 
@@ -51,9 +44,8 @@ returns-in-Err-clause-none c =
     let bytes = c.args.rest.now in
     let end = c.args.end in
     let colon = c.in-Some.colon in
-    let part : c.in_ok-slice.field-0 ≡ trim (slice_range bytes (colon + 1) end) =
-    part_is bytes c.as_slice-bytes.result.now c.in_ok-slice.field-0 (colon + 1) end c.trimmed-start.result.0
-    c.trimmed-start.result.1 c.as_slice-bytes.ensures c.in_ok-slice.ensures.ok c.trimmed-start.ensures.value in
+    let part = part_is bytes _ _ (colon + 1) end _ _ c.as_slice-bytes.ensures c.in_ok-slice.ensures.ok
+    c.trimmed-start.ensures.value in
     IsNoField-without_value bytes end colon c.requires
     (subst (λ (s : List ℕ). HasFirstColon s end colon) c.as_slice-bytes.ensures
     (c.in-Some.ensures.0, c.in-Some.ensures.1))

@@ -1,7 +1,7 @@
-use Rattle.std.proofs.Common.{◌≡◌, ◌∷◌, [], Err, List, ℕ, take, drop, ap, subst, sym}
+use Rattle.std.proofs.Common.{◌≡◌, ◌∷◌, Err, List, ℕ, take, drop, ap}
 use Rattle.http_header.specs.declared.map.HeaderMapError.{HeaderMapError}
-use Rattle.headers_section.specs.Section.{section, HasOnlyFields, HasNoField}
-use Rattle.headers_section.proofs.ReadLemmas.{IsCollected, IsCollected-none, IsCollected-more, Holds-from_collected}
+use Rattle.headers_section.specs.Section.{section}
+use Rattle.headers_section.proofs.ReadLemmas.{IsCollected-none, IsCollected-more, Holds-from_collected}
 use Rattle.headers_section.proofs.ReadLemmas.{ListsNames-from_collected, fits-from_collected, HasNoField-from_line}
 use Rattle.headers_section.proofs.ReadLemmas.{HasTooManyFields-from_collected, HasNoField-from_behind}
 use Rattle.headers_section.proofs.field.read_fields.Goals as goal
@@ -10,8 +10,7 @@ use Rattle.headers_section.proofs.field.read_fields.Goals as goal
 next_line : (shown rest : List ℕ) (end next : ℕ) → shown ≡ rest
     → section shown ≡ take end shown ∷ section (drop next shown)
     → section rest ≡ take end rest ∷ section (drop next rest)
-next_line shown rest end next whole cut =
-    subst (λ (s : List ℕ). section s ≡ take end s ∷ section (drop next s)) whole cut
+next_line shown rest end next whole cut = rw whole at cut
 
 pub loop-cut-init : goal.loop-cut-init
 loop-cut-init c = IsCollected-none c.args.input _ _ c.empty_map.ensures c.new.ensures.items
@@ -31,10 +30,7 @@ loop-cut-preserved c =
     let end = c.in-Some.cut.end in
     let next = c.in-Some.cut.next in
     let added = c.in-Ok.ensures in
-    subst
-    (λ (left : List ℕ). IsCollected c.args.input left c.append.new.self.map c.append.new.self.names.items)
-    (sym c.advance.ensures)
-    (IsCollected-more c.args.input rest _ _ c.loop-cut.invariant (take end rest) (drop next rest)
+    rw (← c.advance.ensures) at (IsCollected-more _ rest _ _ c.loop-cut.invariant (take end rest) (drop next rest)
     (next_line _ rest end next c.as_slice.ensures c.in-Some.ensures.some) (c.in-Some-2.name, c.in-Some-2.value)
     (rw c.in-Some-2.is at c.in_ok-name.ensures.some) _ _ added.held added.again added.new added.room)
 
@@ -43,36 +39,30 @@ returns-then-branch-clause-full c _ =
     let rest = c.loop-cut.rest in
     let end = c.in-Some.cut.end in
     let next = c.in-Some.cut.next in
-    HasTooManyFields-from_collected c.args.input rest _ _ c.loop-cut.invariant (take end rest) (drop next rest)
+    HasTooManyFields-from_collected _ rest _ _ c.loop-cut.invariant (take end rest) (drop next rest)
     (next_line _ rest end next c.as_slice.ensures c.in-Some.ensures.some) (c.in-Some-2.name, c.in-Some-2.value)
     (rw c.in-Some-2.is at c.in_ok-name.ensures.some)
-    (c.in-Err-MaxSizeReached.ensures.full
-    (ap (λ (e : HeaderMapError). Err e) c.in-Err-MaxSizeReached.field-0-is))
-    (subst (λ (left : List ℕ). HasOnlyFields (section left)) c.advance.ensures
-    (rw c.if-branch.true at c.in_ok-has_only_fields-in-Err-MaxSizeReached.ensures))
+    (c.in-Err-MaxSizeReached.ensures.full (ap (λ (e : HeaderMapError). Err e) c.in-Err-MaxSizeReached.field-0-is))
+    (rw c.advance.ensures at (rw c.if-branch.true at c.in_ok-has_only_fields-in-Err-MaxSizeReached.ensures))
 
 pub returns-in-Err-MaxSizeReached-clause-none : goal.returns-in-Err-MaxSizeReached-clause-none
 returns-in-Err-MaxSizeReached-clause-none c =
     let rest = c.loop-cut.rest in
     let end = c.in-Some.cut.end in
     let next = c.in-Some.cut.next in
-    HasNoField-from_behind c.args.input rest _ _ c.loop-cut.invariant (take end rest) (drop next rest)
+    HasNoField-from_behind _ rest _ _ c.loop-cut.invariant (take end rest) (drop next rest)
     (next_line _ rest end next c.as_slice.ensures c.in-Some.ensures.some) (c.in-Some-2.name, c.in-Some-2.value)
     (rw c.in-Some-2.is at c.in_ok-name.ensures.some)
-    (subst (λ (left : List ℕ). HasNoField (section left)) c.advance.ensures
-    (rw c.if-branch.false at c.in_ok-has_only_fields-in-Err-MaxSizeReached.ensures))
+    (rw c.advance.ensures at (rw c.if-branch.false at c.in_ok-has_only_fields-in-Err-MaxSizeReached.ensures))
 
 pub returns-clause-held : goal.returns-clause-held
 returns-clause-held c =
-    Holds-from_collected c.args.input c.loop-cut.rest _ _ c.loop-cut.invariant
-    (subst (λ (s : List ℕ). section s ≡ []) c.as_slice.ensures c.in_default.ensures.none)
+    Holds-from_collected _ _ _ _ c.loop-cut.invariant (rw c.as_slice.ensures at c.in_default.ensures.none)
 
 pub returns-clause-order : goal.returns-clause-order
 returns-clause-order c =
-    ListsNames-from_collected c.args.input c.loop-cut.rest _ _ c.loop-cut.invariant
-    (subst (λ (s : List ℕ). section s ≡ []) c.as_slice.ensures c.in_default.ensures.none)
+    ListsNames-from_collected _ _ _ _ c.loop-cut.invariant (rw c.as_slice.ensures at c.in_default.ensures.none)
 
 pub returns-clause-fits : goal.returns-clause-fits
 returns-clause-fits c =
-    fits-from_collected c.args.input c.loop-cut.rest _ _ c.loop-cut.invariant
-    (subst (λ (s : List ℕ). section s ≡ []) c.as_slice.ensures c.in_default.ensures.none)
+    fits-from_collected _ _ _ _ c.loop-cut.invariant (rw c.as_slice.ensures at c.in_default.ensures.none)

@@ -1,6 +1,5 @@
 use Rattle.std.proofs.Common.{◌∙◌, List, ℕ, ◌++◌, take, ap, sym, append_assoc}
-use Rattle.std.proofs.lemmas.List.{take-append-drop, take_rest}
-use Rattle.std.proofs.KnownBytes.{Appends-trans}
+use Rattle.std.proofs.{lemmas.List.take-append-drop, lemmas.List.take_rest, KnownBytes.Appends-trans}
 use Rattle.headers_section.proofs.output.write_text.Goals as goal
 
 pub loop-rest-preserved : goal.loop-rest-preserved

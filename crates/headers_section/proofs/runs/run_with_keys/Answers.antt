@@ -1,12 +1,9 @@
 use Rattle.std.proofs.Common.{◌≡◌, List, ℕ, Err, sym, ◌∙◌, subst}
 use Rattle.std.proofs.lemmas.Result.{err_from_is_err_and}
-use Rattle.headers_section.specs.Answer.{IsRun}
-use Rattle.headers_section.specs.Section.{HasTooManyFields}
-use Rattle.headers_section.specs.CanonicalText.{IsCanonicalText}
-use Rattle.headers_section.specs.declared.status.RunError.TheVariants.{Io}
-use Rattle.headers_section.proofs.RunLemmas.{wrote_text, began_text}
+use Rattle.headers_section.specs.{Answer.IsRun, Section.HasTooManyFields, CanonicalText.IsCanonicalText}
+use Rattle.headers_section.specs.{declared.status.RunError.TheVariants.Io}
+use Rattle.headers_section.proofs.{RunLemmas.wrote_text, RunLemmas.began_text, runs.run_with_keys.Goals.In-Some}
 use Rattle.headers_section.proofs.runs.run_with_keys.Goals as goal
-use Rattle.headers_section.proofs.runs.run_with_keys.Goals.{In-Some}
 
 -- the text that was made is that of the input
 made : (g : _) (c : In-Some g)
@@ -15,8 +12,7 @@ made g c =
     let text = c.in-Some.text in
     let of_bytes : IsCanonicalText c.in_ok-from_vec.field-0 text.bytes.items text.some_refused =
     rw c.in-Some.is at c.in_ok-text.ensures.text in
-    subst (λ (bytes : List ℕ). IsCanonicalText bytes text.bytes.items text.some_refused)
-    c.in_ok-from_vec.ensures.ok of_bytes
+    rw c.in_ok-from_vec.ensures.ok at of_bytes
 
 -- a map has room for its fields
 fits : (g : _) (c : In-Some g) → ¬ (HasTooManyFields c.in_ok-input.input.items)

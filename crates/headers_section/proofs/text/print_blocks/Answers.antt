@@ -1,18 +1,15 @@
-use Rattle.std.proofs.Common.{◌≡◌, ◌∙◌, ◌<◌, ◌++◌, ◌||◌, List, ℕ, Vec, Global, is_none, flat_map, length, ap, subst}
-use Rattle.std.proofs.Common.{sym}
+use Rattle.std.proofs.Common.{◌≡◌, ◌∙◌, ◌<◌, ◌++◌, ◌||◌, List, ℕ, Vec, Global, is_none, flat_map, length, ap, sym}
 use Rattle.std.proofs.Math.Bool.{or-true, or-false}
-use Rattle.http_header.specs.FieldValue.{FieldValue}
-use Rattle.http_header.specs.HeaderMap.{get_all}
+use Rattle.http_header.specs.{FieldValue.FieldValue, HeaderMap.get_all}
 use Rattle.headers.specs.Lines.{lines_of}
 use Rattle.headers_section.specs.CanonicalText.{Block, block_text, line_text}
-use Rattle.headers_section.specs.declared.block.Printed.{Printed}
+use Rattle.headers_section.specs.{declared.block.Printed.Printed, Printed.block_printed}
 use Rattle.headers_section.specs.declared.block.Printed.TheVariants.{Encoded, Rejected, Kept}
-use Rattle.headers_section.specs.Printed.{block_printed}
 use Rattle.headers_section.proofs.BlockLemmas.{HasBlocks-start, HasBlocks-more, HasBlocks-all}
-use Rattle.headers_section.proofs.text.print_blocks.Goals as goal
 use Rattle.headers_section.proofs.text.print_blocks.Goals.{in-Encoded+in_ok-print_lines-in-Encoded}
 use Rattle.headers_section.proofs.text.print_blocks.Goals.{in-Rejected+in_ok-print_refusal-in-Rejected}
 use Rattle.headers_section.proofs.text.print_blocks.Goals.{in-Kept+in_ok-print_values-in-Kept}
+use Rattle.headers_section.proofs.text.print_blocks.Goals as goal
 
 pub loop-name-init : goal.loop-name-init
 loop-name-init c = HasBlocks-start _ c.args.names.now c.new-bytes.result.items c.new-bytes.ensures.items
@@ -25,8 +22,7 @@ loop-name-preserved c =
     let text = c.loop-name.bytes.items in
     let block : Block = block_printed own c.in_ok-lines.field-0 in
     let has : 0 < length (get_all c.args.map.now name) =
-    subst (λ (listed : List ℕ). 0 < length (get_all c.args.map.now listed)) (sym c.name-item.is)
-    (c.requires c.loop-name.name-index name c.loop-name-test.true) in
+    rw (← c.name-item.is) at (c.requires c.loop-name.name-index name c.loop-name-test.true) in
     let same : (choice : Printed) → c.in_ok-lines.field-0 ≡ choice
     → block_text name (block_printed own choice) ≡ block_text name block =
     λ choice is. ap (λ (p : Printed). block_text name (block_printed own p)) (sym is) in
@@ -62,10 +58,8 @@ loop-name-preserved c =
           ∙ sym (or-false before)
           ∙ ap (λ (p : Printed). before || is_none (block_printed own p)) (sym way.in-Kept.is)
     ] in
-    HasBlocks-more (λ listed. lines_of (get_all c.args.map.now listed)) c.args.names.now c.loop-name.name-index name
-    text _ before c.match-branch-2.some_refused block c.loop-name-test.true c.name-item.is c.loop-name.invariant
-    (c.in_ok-lines.ensures has) printed marked
+    HasBlocks-more (λ listed. lines_of (get_all c.args.map.now listed)) _ _ name text _ before _ block
+    c.loop-name-test.true c.name-item.is c.loop-name.invariant (c.in_ok-lines.ensures has) printed marked
 
 pub returns : goal.returns
-returns c =
-    HasBlocks-all _ c.args.names.now c.loop-name.name-index _ _ c.loop-name-test.false c.loop-name.invariant
+returns c = HasBlocks-all _ _ _ _ _ c.loop-name-test.false c.loop-name.invariant
