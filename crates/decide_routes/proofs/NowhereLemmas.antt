@@ -1,28 +1,22 @@
 -- How a request for what is nowhere is answered.
-use Rattle.std.proofs.Common.{◌≡◌, ◌≢◌, ◌⊎◌, ℕ, Bool, true, false, cond, List, [], ◌∷◌, Option, Some, refl, sym}
-use Rattle.std.proofs.Common.{◌∙◌, ap, subst, inl, inr, lit<, bytes_eq}
+use Rattle.std.proofs.Common.{◌≡◌, ◌≢◌, ◌⊎◌, ℕ, Bool, true, false, cond, List, [], ◌∷◌, Option, Some, refl, sym, ◌∙◌}
+use Rattle.std.proofs.Common.{ap, subst, inl, inr, lit<, bytes_eq}
+use Rattle.std.proofs.lemmas.Slice.Eq.{bytes_eq-Decides}
 use Rattle.std.specs.Prelude.{◌&&◌, ◌||◌, not, codes, find}
 use Rattle.std.specs.List.{list_all, list_any}
-use Rattle.std.proofs.lemmas.Slice.Eq.{bytes_eq-Decides}
 use Rattle.headers.specs.LineMap.{Field}
-use Rattle.decide_resource.specs.Answers.{Gives, IsAnswer}
+use Rattle.decide_resource.specs.{Answers.Gives, Answers.IsAnswer, Reasons.Before, Reasons.IsFirst, Requests.Request}
+use Rattle.decide_resource.specs.{declared.answer.Answer.Answer, declared.answer.Sends.Sends}
+use Rattle.decide_resource.specs.{declared.reason.Reason.Reason, declared.resource.MethodRule.MethodRule}
+use Rattle.decide_resource.specs.{declared.resource.Resource.Resource, declared.resource.State.State}
 use Rattle.decide_resource.specs.Applies.{applies, creates, has_method, has_moved, is_absent, is_gone, rule_for, ruled}
 use Rattle.decide_resource.specs.Applies.{standard_methods}
-use Rattle.decide_resource.specs.Reasons.{Before, IsFirst}
-use Rattle.decide_resource.specs.Requests.{Request}
-use Rattle.decide_resource.specs.declared.answer.Answer.{Answer}
-use Rattle.decide_resource.specs.declared.answer.Sends.{Sends}
-use Rattle.decide_resource.specs.declared.reason.Reason.{Reason}
 use Rattle.decide_resource.specs.declared.reason.Reason.TheVariants.{InvalidHost, Misdirected, UnknownMethod}
 use Rattle.decide_resource.specs.declared.reason.Reason.TheVariants.{MethodNotAllowed, Options, UnmetExpectation}
-use Rattle.decide_resource.specs.declared.reason.Reason.TheVariants.{PartialContent}
-use Rattle.decide_resource.specs.declared.reason.Reason.TheVariants.{Moved, Gone, NotFound, LengthRequired}
-use Rattle.decide_resource.specs.declared.reason.Reason.TheVariants.{ContentTooLarge, UnsupportedMediaType}
-use Rattle.decide_resource.specs.declared.reason.Reason.TheVariants.{UnsupportedCoding, NotAcceptable}
-use Rattle.decide_resource.specs.declared.reason.Reason.TheVariants.{PreconditionRequired, Admitted}
-use Rattle.decide_resource.specs.declared.resource.MethodRule.{MethodRule}
-use Rattle.decide_resource.specs.declared.resource.Resource.{Resource}
-use Rattle.decide_resource.specs.declared.resource.State.{State}
+use Rattle.decide_resource.specs.declared.reason.Reason.TheVariants.{PartialContent, Moved, Gone, NotFound}
+use Rattle.decide_resource.specs.declared.reason.Reason.TheVariants.{LengthRequired, ContentTooLarge}
+use Rattle.decide_resource.specs.declared.reason.Reason.TheVariants.{UnsupportedMediaType, UnsupportedCoding}
+use Rattle.decide_resource.specs.declared.reason.Reason.TheVariants.{NotAcceptable, PreconditionRequired, Admitted}
 use Rattle.decide_routes.specs.Routes.{IsNowhere}
 
 -- ---- the rules
@@ -70,8 +64,7 @@ module _ (resource : Resource) (request : Request) (nowhere : IsNowhere resource
       ap (λ (s : State). is_absent s && not (creates (rule_for resource.rules.items request.method))) nowhere.absent
       ∙ ap (λ (b : Bool). not b)
       (
-      idle_found (λ (rule : MethodRule). bytes_eq rule.method (ruled request.method)) resource.rules.items
-      nowhere.idle
+      idle_found (λ (rule : MethodRule). bytes_eq rule.method (ruled request.method)) _ nowhere.idle
       )
 
   -- a method that the resource doesn't have isn't known
@@ -124,8 +117,7 @@ not_found present resource request answer nowhere is =
 pub not_refused : (present : ℕ) (resource : Resource) (request : Request) (answer : Answer) → IsNowhere resource
     → IsAnswer present resource request answer → answer.reason ≢ MethodNotAllowed
 not_refused present resource request answer nowhere is same =
-    never_refused resource request nowhere
-    (subst (λ (reason : Reason). IsFirst (applies resource request) reason) same is.first)
+    never_refused resource request nowhere (rw same at is.first)
 
 -- ---- the rules that it has
 

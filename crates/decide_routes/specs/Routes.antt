@@ -2,15 +2,10 @@
 use Rattle.std.specs.Prelude.{◌≡◌, ◌≢◌, ⊤, ◌<◌, ◌==◌, ℕ, Bool, true, false, not, List, [], ◌∷◌, ◌++◌, Option, Some}
 use Rattle.std.specs.Prelude.{None, length}
 use Rattle.std.specs.List.{list_all}
-use Rattle.matchit.specs.Router.{RouteOf}
+use Rattle.matchit.specs.{Router.RouteOf, Seek.has_slash, declared.params.Params.Params}
 use Rattle.matchit.specs.Rows.{RowsOf, catch_all_token, param_token}
-use Rattle.matchit.specs.Seek.{has_slash}
-use Rattle.matchit.specs.declared.params.Params.{Params}
-use Rattle.decide_resource.specs.Answers.{IsAnswer}
-use Rattle.decide_resource.specs.Applies.{has_method, standard_methods}
-use Rattle.decide_resource.specs.Requests.{Request}
-use Rattle.decide_resource.specs.declared.answer.Answer.{Answer}
-use Rattle.decide_resource.specs.declared.resource.Resource.{Resource}
+use Rattle.decide_resource.specs.{Answers.IsAnswer, Applies.has_method, Applies.standard_methods, Requests.Request}
+use Rattle.decide_resource.specs.{declared.answer.Answer.Answer, declared.resource.Resource.Resource}
 use Rattle.decide_resource.specs.declared.resource.State.TheVariants as state
 
 -- ---- patterns

@@ -1,14 +1,9 @@
 //! Theorems about the definitions alone. To cite one in a proof, call it.
 ghost use Rattle.std.specs.Prelude.{◌≡◌, ◌≢◌, ◌⊎◌, ℕ, List, Ok, Some, Contains};
-ghost use Rattle.matchit.specs.Router.{Inserted, RouteOf};
-ghost use Rattle.matchit.specs.Rows.{RowsOf};
-ghost use Rattle.matchit.specs.Seek.{first};
-ghost use Rattle.decide_resource.specs.Answers.{IsAnswer};
-ghost use Rattle.decide_resource.specs.Reasons.{Before};
-ghost use Rattle.decide_resource.specs.Requests.{Request};
-ghost use Rattle.decide_resource.specs.declared.answer.Answer.{Answer};
+ghost use Rattle.matchit.specs.{Router.Inserted, Router.RouteOf, Rows.RowsOf, Seek.first};
+ghost use Rattle.decide_resource.specs.{Answers.IsAnswer, Reasons.Before, Requests.Request};
+ghost use Rattle.decide_resource.specs.{declared.answer.Answer.Answer, declared.resource.Resource.Resource};
 ghost use Rattle.decide_resource.specs.declared.reason.Reason.TheVariants.{MethodNotAllowed, NotFound};
-ghost use Rattle.decide_resource.specs.declared.resource.Resource.{Resource};
 ghost use Rattle.decide_routes.specs.Routes.{IsDistinct, IsNowhere, Matches};
 
 /// Theorem: the route of a path is one of the router's, and its pattern matches the path.
