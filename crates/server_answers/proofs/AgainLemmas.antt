@@ -6,7 +6,7 @@ use Rattle.std.proofs.lemmas.Option.{slice_get-map}
 use Rattle.std.specs.Global.{Vec}
 use Rattle.std.specs.List.{list_all}
 use Rattle.std.specs.Option.{option_map_or}
-use Rattle.std.specs.Prelude.{◌==◌, codes, nat_lt, option_map, slice_get}
+use Rattle.std.specs.Prelude.{◌==◌, codes, option_map, slice_get}
 use Rattle.http_header.specs.FieldValue.{FieldValue}
 use Rattle.headers.specs.LineMap.{LineMap}
 use Rattle.headers.specs.Lines.{Line}
@@ -26,7 +26,7 @@ use Rattle.decide_preconditions.specs.declared.resource.Resource.{Resource as Ta
 use Rattle.decide_preconditions.specs.declared.resource.Resource.TheVariants.{Current}
 use Rattle.decide_preconditions.specs.declared.resource.Validators.{Validators}
 use Rattle.decide_resource.specs.Answers.{IsSelected, at_place, bare, place_in, target_of}
-use Rattle.decide_resource.specs.Applies.{applies, host_named, is_current, is_own, is_unacceptable, rule_for}
+use Rattle.decide_resource.specs.Applies.{applies, host_named, is_own, is_unacceptable, rule_for}
 use Rattle.decide_resource.specs.Reasons.{IsFirst}
 use Rattle.decide_resource.specs.Representations.{are_unacceptable, joined, rank_by, score}
 use Rattle.decide_resource.specs.Requests.{Request as Asked}
@@ -209,18 +209,7 @@ module _ (site : Resource) (st : State) (v w : Vec Representation) (now later : 
       ≡ is_unacceptable second (reading protocol authority get g)
   unfolding is_unacceptable
   unacceptable_same =
-      ap
-      (λ (items : List Representation). is_current st && (n.is_strict
-      && (nat_lt 0 (length items) && are_unacceptable n f items))) mine
-      ∙ ap
-      (λ (count : ℕ). is_current st && (n.is_strict
-      && (nat_lt 0 count && are_unacceptable n f (map (representation_of now) fs)))) same_length
-      ∙ ap
-      (λ (b : Bool). is_current st && (n.is_strict
-      && (nat_lt 0 (length (map (representation_of later) gs)) && b))) same_none
-      ∙ ap
-      (λ (items : List Representation). is_current st && (n.is_strict
-      && (nat_lt 0 (length items) && are_unacceptable n g items))) (sym theirs)
+      rw (mine, theirs, same_length, same_none)
 
   -- what doesn't keep the first from being performed doesn't keep the second from it
   still : (reason : Reason) → applies first (reading protocol authority get f) reason ≡ false

@@ -3,7 +3,6 @@ use Rattle.std.proofs.Common.{◌≡◌, ℕ, Bool, true, false, List, [], Optio
 use Rattle.std.proofs.lemmas.Slice.Eq.{bytes_eq-Decides}
 use Rattle.std.specs.Prelude.{bytes_eq, codes, string_bytes}
 use Rattle.http.specs.declared.request.Request.{Request}
-use Rattle.http_uri.specs.Uri.{uri_authority}
 use Rattle.headers.specs.LineMap.{LineMap, lines_at, remove}
 use Rattle.server_connection.specs.declared.plan.Plan.{Plan as Response}
 use Rattle.decide_resource.specs.Answers.{IsAnswer}
@@ -11,8 +10,7 @@ use Rattle.decide_resource.specs.Requests.{Request as Asked, get_of, head_of as 
 use Rattle.decide_resource.specs.declared.answer.Answer.{Answer}
 use Rattle.decide_resource.specs.declared.resource.Resource.{Resource}
 use Rattle.server_service.specs.Answer.{Decides, IsAnswerAt, clock}
-use Rattle.server_service.specs.Asked.{Asks, HasAuthority, IsProtocolOf}
-use Rattle.server_service.specs.Found.{LeadsTo}
+use Rattle.server_service.specs.Asked.{Asks}
 use Rattle.server_service.specs.declared.file.Entry.{Entry}
 use Rattle.server_service.specs.declared.file.File.{File}
 use Rattle.server_service.specs.declared.settings.Site.{Site}
@@ -47,8 +45,7 @@ module _ (law : AsHead) (present : ℕ) (resource : Resource) (asked : Asked) (i
   answers_head : (answer : Answer) → IsAnswer present resource asked answer
       → IsAnswer present resource (as_head asked) answer
   answers_head answer h =
-      law present resource asked answer
-      (subst (λ (q : Asked). IsAnswer present resource q answer) (sym (get_is asked is none)) h)
+      law present resource asked answer (rw (get_is asked is none) h)
 
   decides_head : (divider : List ℕ) (files : List File) (answer : Answer)
       → Decides present divider files resource asked answer
@@ -63,9 +60,9 @@ module _ (get head : Request (List ℕ)) (is : IsHeadOf get head) where
   asks_head : (asked : Asked) → Asks get asked → Asks head (as_head asked)
   asks_head asked x = (
     x.0,
-    subst (λ uri. HasAuthority (uri_authority uri) x.0) (sym is.uri) x.1,
+    rw is.uri x.1,
     record {
-      protocol = subst (λ version. IsProtocolOf version asked.protocol) (sym is.version) x.2.protocol;
+      protocol = rw is.version x.2.protocol;
       method = sym is.is_head;
       has_authority = x.2.has_authority;
       content = x.2.content;
@@ -82,7 +79,7 @@ head_answered law now left site look get head response source is x =
     = ap (λ (fields : LineMap). fields (codes "range")) x.asks.2.fields ∙ is.no_range in
     record {
       found = x.found;
-      leads = subst (λ uri. LeadsTo site.resource.negotiation.coding (has_at look) uri x.found) (sym is.uri) x.leads;
+      leads = rw is.uri x.leads;
       resource = x.resource;
       described = x.described;
       asked = as_head x.asked;

@@ -1,6 +1,6 @@
 -- Two parts that join are the content.
 use Rattle.std.proofs.Common.{◌≡◌, ◌≤◌, ℕ, ◌+◌, ◌-◌, ◌++◌, List, [], ◌∷◌, length, take, drop, Option, Some, None, refl}
-use Rattle.std.proofs.Common.{sym, ap, append-nil, subst, ◌∙◌, arith}
+use Rattle.std.proofs.Common.{ap, append-nil, ◌∙◌, arith}
 use Rattle.std.proofs.lemmas.List.{length-drop, take-append-drop, take_all}
 use Rattle.std.specs.Prelude.{string_bytes}
 use Rattle.http.specs.declared.request.Request.{Request}
@@ -61,15 +61,7 @@ pub halves : (content : List ℕ) (first second : Part) → JoinTo (length conte
     ++ take (second.last + 1 - second.first) (drop second.first content) ≡ content
 halves content first second joins =
     let k : ℕ = first.last + 1 in
-    let front : take (k - first.first) (drop first.first content) ≡ take k content
-    = ap (λ (s : ℕ). take (k - s) (drop s content)) joins.begins
-    ∙ ap (λ (n : ℕ). take n content) (let whole : k - 0 ≡ k = omega arith in whole) in
-    let rest : length (drop k content) ≤ second.last + 1 - k
-    = subst (λ (n : ℕ). n ≤ second.last + 1 - k) (sym (length-drop k content))
-    (subst (λ (n : ℕ). n - k ≤ second.last + 1 - k) joins.ends (let same : second.last + 1 - k ≤ second.last + 1 - k
-    = omega arith in same)) in
-    let back : take (second.last + 1 - second.first) (drop second.first content) ≡ drop k content
-    = ap (λ (s : ℕ). take (second.last + 1 - s) (drop s content)) joins.meet
-    ∙ take_all (second.last + 1 - k) (drop k content) rest in
-    ap (λ (l : List ℕ). l ++ take (second.last + 1 - second.first) (drop second.first content)) front
-    ∙ ap (λ (l : List ℕ). take k content ++ l) back ∙ take-append-drop k content
+    let whole : k - 0 ≡ k = omega arith in
+    let rest : length (drop k content) ≤ second.last + 1 - k = omega (arith, length-drop k content, joins.ends) in
+    rw (joins.begins, joins.meet, whole, take_all (second.last + 1 - k) (drop k content) rest)
+    (take-append-drop k content)

@@ -2,13 +2,12 @@
 use Rattle.std.proofs.Common.{◌≡◌, ◌↔◌, ℕ, Bool, true, false, not, cond, List, [], ◌∷◌, ◌++◌, Option, Some, refl, sym}
 use Rattle.std.proofs.Common.{ap, subst, ◌∙◌, append-nil, arith, inl, inr}
 use Rattle.std.proofs.lemmas.Slice.Eq.{bytes_eq-Decides}
-use Rattle.std.specs.Prelude.{◌||◌, Contains, IsSomeAnd, bytes_eq, codes, is_some, string_bytes}
+use Rattle.std.specs.Prelude.{◌||◌, bytes_eq, codes, is_some, string_bytes}
 use Rattle.http.specs.Request.{head_of}
 use Rattle.http.specs.declared.request.Request.{Request}
 use Rattle.headers.specs.LineMap.{Field, LineMap, fields_of as encoded_fields, lines_at, set, set_all}
 use Rattle.headers.specs.Lines.{Line}
-use Rattle.decide_cors.specs.Browser.{Checks, CorsCheck, GrantsMethod, GrantsName, IsPreflightFor, PreflightPasses}
-use Rattle.decide_cors.specs.Browser.{Request as Sent, combined, extracted, methods_in}
+use Rattle.decide_cors.specs.Browser.{CorsCheck, IsPreflightFor, PreflightPasses, Request as Sent}
 use Rattle.decide_cors.specs.Policy.{Policy}
 use Rattle.decide_cors.specs.Rules.{AllowsCredentials, AllowsOrigin, AllowsRequest, IsLawful, IsPolicyOf}
 use Rattle.decide_cors.specs.declared.rules.CorsRules.{CorsRules}
@@ -92,23 +91,15 @@ record IsReadAlike (m n : LineMap) : Type 0 where
   names : m (codes "access-control-allow-headers") ≡ n (codes "access-control-allow-headers")
 
 check_alike : (m n : LineMap) (sent : Sent) → IsReadAlike m n → CorsCheck m sent → CorsCheck n sent
-check_alike m n sent same h =
-    subst (λ (ls : List Line). Checks (combined ls) (combined (n (codes "access-control-allow-credentials"))) sent)
-    same.origin
-    (subst (λ (ls : List Line). Checks (combined (m (codes "access-control-allow-origin"))) (combined ls) sent)
-    same.credentials h)
+check_alike m n sent same h = rw (← same.origin, ← same.credentials) h
 
 passes_alike : (status : ℕ) (m n : LineMap) (sent : Sent) → IsReadAlike m n → PreflightPasses status m sent
     → PreflightPasses status n sent
 passes_alike status m n sent same h = record {
   check = check_alike m n sent same h.check;
   ok = h.ok;
-  method =
-      subst (λ (ls : List Line). IsSomeAnd (methods_in sent (combined ls)) (GrantsMethod sent)) same.methods h.method;
-  names =
-      subst
-      (λ (ls : List Line). IsSomeAnd (extracted (combined ls))
-      (λ listed. (name : Line) → Contains sent.unsafe name → GrantsName sent listed name)) same.names h.names;
+  method = rw (← same.methods) h.method;
+  names = rw (← same.names) h.names;
 }
 
 alike_back : (m n : LineMap) → IsReadAlike m n → IsReadAlike n m
@@ -238,12 +229,7 @@ module _ (now : Option ℕ) (left : ℕ) (site : Site) (look : List ℕ → Entr
       } in
       let options : asked.method ≡ codes "OPTIONS" = asks.2.method ∙ preflight.options in
       let decides : Decides present (string_bytes site.divider) x.found.files.items resource asked x.answer =
-      subst
-      (λ (r : Resource). Decides present (string_bytes site.divider) x.found.files.items r asked x.answer)
-      x.described.is
-      (subst
-      (λ (q : Asked). Decides present (string_bytes site.divider) x.found.files.items x.resource q x.answer) same
-      x.decides) in
+      rw (x.described.is, same) at x.decides in
       let a : IsAnswer present resource asked x.answer =
       decided resource asked options host own present (string_bytes site.divider) x.found.files.items x.answer
       decides in

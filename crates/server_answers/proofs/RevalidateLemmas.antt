@@ -8,10 +8,8 @@ use Rattle.std.specs.List.{list_any}
 use Rattle.std.specs.Prelude.{bytes_eq, codes, is_some, option_map, string_bytes}
 use Rattle.http.specs.Request.{head_of}
 use Rattle.http.specs.declared.request.Request.{Request}
-use Rattle.http.specs.declared.version.Version.{Version}
 use Rattle.http_header.specs.FieldValue.{FieldValue}
-use Rattle.http_uri.specs.Uri.{uri_authority, uri_path}
-use Rattle.http_uri.specs.declared.uri.Uri.{Uri}
+use Rattle.http_uri.specs.Uri.{uri_path}
 use Rattle.headers.specs.EntityTag.{IsSomeTag, IsTag, TagParts}
 use Rattle.headers.specs.LineMap.{LineMap, fields_of as encoded_fields, lines_at}
 use Rattle.headers.specs.Lines.{Line}
@@ -21,10 +19,8 @@ use Rattle.rfc_fields.specs.Laws.{ParsesOneWay}
 use Rattle.gateway_messages.specs.declared.protocol.Protocol.{Protocol}
 use Rattle.decide_preconditions.specs.Fields.{lines_sent}
 use Rattle.decide_preconditions.specs.Preconditions.{IsGetOrHead, StateIsKept}
-use Rattle.decide_preconditions.specs.Conditions.{IfMatchIsTrue, IfNoneMatchIsFalse}
 use Rattle.decide_preconditions.specs.declared.plan.Plan.TheVariants.{NotModified}
 use Rattle.decide_preconditions.specs.declared.precondition.Precondition.TheVariants as precondition
-use Rattle.decide_preconditions.specs.declared.resource.Resource.{Resource as Target}
 use Rattle.decide_resource.specs.Answers.{IsAnswer, IsSelected}
 use Rattle.decide_resource.specs.Applies.{applies}
 use Rattle.decide_resource.specs.Reasons.{IsFirst}
@@ -42,9 +38,8 @@ use Rattle.server_files.proofs.DigestLemmas.{digest_is_boundary, tag_is_tag}
 use Rattle.headers_syntax.proofs.EntityTagLemmas.{passes_from_text}
 use Rattle.server_service.specs.Answer.{Decides, IsAnswerAt, clock, file_at, pieces_for, pieces_of, source_of}
 use Rattle.server_service.specs.Answer.{source_sent, status_for}
-use Rattle.server_service.specs.Asked.{Asks, HasAuthority, IsProtocolOf}
+use Rattle.server_service.specs.Asked.{Asks}
 use Rattle.server_service.specs.File.{representation_of, tag_of}
-use Rattle.server_service.specs.Found.{LeadsTo}
 use Rattle.server_service.specs.Response.{fields_of, headers_sent}
 use Rattle.server_service.specs.declared.file.Entry.{Entry}
 use Rattle.server_service.specs.declared.file.File.{File}
@@ -112,12 +107,7 @@ module _ (now : Option ℕ) (left : ℕ) (site : Site) (look : List ℕ → Entr
       decided_read present (string_bytes site.divider) x.found.files.items
       (described_as site.resource x.found.state x.described.representations) x.asked.protocol x.asked.authority
       lines (head_of request).method read x.answer
-      (subst
-      (λ (resource : Resource). Decides present (string_bytes site.divider) x.found.files.items resource
-      (reading x.asked.protocol x.asked.authority (head_of request).method lines) x.answer) x.described.is
-      (subst
-      (λ (q : Asked). Decides present (string_bytes site.divider) x.found.files.items x.resource q x.answer)
-      asked_is x.decides))
+      (rw (asked_is, x.described.is) at x.decides)
 
   -- the field lines of ETag are those of the answer's fields
   etag_lines : lines_in (fields_of response) etag
@@ -228,15 +218,15 @@ module _ (now later : Option ℕ) (left more : ℕ) (site : Site) (look other : 
   alike : AreSeenAlike x.found.state y.found.state fs gs
   alike =
       leads_similar look other site.resource.negotiation.coding (head_of first).uri similar x.found y.found x.leads
-      (subst (λ (uri : Uri). LeadsTo site.resource.negotiation.coding (has_at other) uri y.found) again.uri y.leads)
+      (rw again.uri at y.leads)
 
   -- both ask alike
   asks_alike : Asks first (reading y.asked.protocol y.asked.authority (head_of first).method f)
   asks_alike = (
     y.asks.0,
-    subst (λ (uri : Uri). HasAuthority (uri_authority uri) y.asks.0) again.uri y.asks.1,
+    rw again.uri at y.asks.1,
     record {
-      protocol = subst (λ (version : Version). IsProtocolOf version y.asked.protocol) again.version y.asks.2.protocol;
+      protocol = rw again.version at y.asks.2.protocol;
       method = refl;
       has_authority = y.asks.2.has_authority;
       content = refl;
@@ -250,16 +240,12 @@ module _ (now later : Option ℕ) (left more : ℕ) (site : Site) (look other : 
 
   first_read : IsReadBy (clock now fs) before y.asked.protocol y.asked.authority f x.answer
   first_read =
-      subst
-      (λ (o : State). IsReadBy (clock now fs) (described_as site.resource o v) y.asked.protocol y.asked.authority f
-      x.answer) alike.state
-      (subst
-      (λ (q : Option Line). IsReadBy (clock now fs) (described_as site.resource x.found.state v) y.asked.protocol q f
-      x.answer) (ap (λ (q : Asked). q.authority) asked_alike)
-      (subst
-      (λ (p : Protocol). IsReadBy (clock now fs) (described_as site.resource x.found.state v) p x.asked.authority f
-      x.answer) (ap (λ (q : Asked). q.protocol) asked_alike)
-      (read_answer now left site look first r a x again.read)))
+      rw (
+        ← alike.state,
+        ← (ap (λ (q : Asked). q.authority) asked_alike),
+        ← (ap (λ (q : Asked). q.protocol) asked_alike),
+      )
+      (read_answer now left site look first r a x again.read)
 
   second_read : IsReadBy (clock later gs) after y.asked.protocol y.asked.authority g y.answer
   second_read = read_answer later more site other second s b y again.read_again
@@ -306,7 +292,7 @@ module _ (now later : Option ℕ) (left more : ℕ) (site : Site) (look other : 
   own_tag = sym (ap tag_lines then_seen) ∙ tagged.tagged
 
   was_kept : StateIsKept (clock now fs) f (current_by (clock now fs) label)
-  was_kept = subst (λ (target : Target). StateIsKept (clock now fs) f target) then_seen tagged.kept
+  was_kept = rw then_seen at tagged.kept
 
   has_line : (lines : List Line) → lines ≡ tag ∷ [] → HasLine lines
   has_line lines are = subst HasLine (sym are) (omega arith)
@@ -345,9 +331,7 @@ module _ (now later : Option ℕ) (left more : ℕ) (site : Site) (look other : 
       unmodified =
           not_modified (clock later gs) after asked_again second_read.1 y.answer second_read.2 first_there tagged.place
           selected_there
-          (subst
-          (λ (target : Target). Decide (clock later gs) after asked_again target precondition.NotModified)
-          (sym now_seen) decided)
+          (rw now_seen decided)
 
       told_unmodified : (s.status ≡ 304) × (lines_in (fields_of s) (codes "etag") ≡ tag ∷ []) × (s.pieces.items ≡ [])
       told_unmodified =
@@ -371,9 +355,7 @@ module _ (now later : Option ℕ) (left more : ℕ) (site : Site) (look other : 
       not_refused =
           not_failed (clock later gs) after asked_again second_read.1 y.answer second_read.2 first_there tagged.place
           selected_there
-          (λ decided. passes
-          (subst (λ (target : Target). Decide (clock later gs) after asked_again target precondition.Failed) now_seen
-          decided))
+          (λ decided. passes (rw now_seen at decided))
 
       other_code : (status : Option ℕ) → status ≢ Some 412 → status_for y.found.status Admitted status ≢ 412
       other_code None other e = omega (arith, e)
@@ -405,9 +387,7 @@ module _ (now later : Option ℕ) (left more : ℕ) (site : Site) (look other : 
             second_read.1,
             inl (
               has_line (g (codes "if-none-match")) asks,
-              subst (λ (ls : List Line). IfNoneMatchIsFalse (λ (o : List ℕ). ls) (current_by (clock later gs) label))
-                  (sym asks)
-                  (weakly_named parse tag some.0 some.1 (validators_by (clock later gs) label) own_tag),
+              rw asks (weakly_named parse tag some.0 some.1 (validators_by (clock later gs) label) own_tag),
             ),
           );
         })
@@ -423,9 +403,7 @@ module _ (now later : Option ℕ) (left more : ℕ) (site : Site) (look other : 
               elim lost [
                 | inl l ↦
                     l.1
-                    (subst (λ (ls : List Line). IfMatchIsTrue (λ (o : List ℕ). ls) (current_by (clock later gs) label))
-                    (sym asks)
-                    (strongly_named parse tag parts is (validators_by (clock later gs) label) own_tag strong))
+                    (rw asks (strongly_named parse tag parts is (validators_by (clock later gs) label) own_tag strong))
                 | inr l ↦ l.0 (has_line (g (codes "if-match")) asks)
               ]
           | inr other ↦ other.1 second_read.1

@@ -1,6 +1,6 @@
 -- What a request finds in two stores that have something similar where it looks.
-use Rattle.std.proofs.Common.{◌≡◌, ℕ, ◌++◌, Bool, true, false, List, [], ◌∷◌, map, refl, sym, ap, subst, ◌∙◌, inl, inr}
-use Rattle.std.proofs.Common.{Option, Some}
+use Rattle.std.proofs.Common.{◌≡◌, ℕ, ◌++◌, Bool, true, false, List, [], ◌∷◌, map, refl, sym, ap, ◌∙◌, inl, inr, Option}
+use Rattle.std.proofs.Common.{Some}
 use Rattle.std.proofs.lemmas.List.{map-append}
 use Rattle.http_header.specs.FieldValue.{FieldValue}
 use Rattle.http_uri.specs.Uri.{uri_path, uri_query}
@@ -25,43 +25,27 @@ pub record AreSeenAlike (s t : State) (fs gs : List File) : Type 0 where
   pub state : s ≡ t
   pub labels : map label_of fs ≡ map label_of gs
 
+seen_by : (s t same : State) (fs gs all : List File) → s ≡ same → t ≡ same → fs ≡ all → gs ≡ all
+    → AreSeenAlike s t fs gs
+seen_by s t same fs gs all a b c d = record { state = a ∙ sym b; labels = ap (map label_of) (c ∙ sym d) }
+
 absent_seen : (code : ℕ) (f g : _) → IsAbsent code f → IsAbsent code g
     → AreSeenAlike f.state g.state f.files.items g.files.items
-absent_seen code f g h k =
-    record { state = h.state ∙ sym k.state; labels = ap (map label_of) (h.files ∙ sym k.files) }
+absent_seen code f g h k = seen_by _ _ _ _ _ _ h.state k.state h.files k.files
 
 folder_seen : (path : List ℕ) (query : Option (List ℕ)) (f g : _) → FindsFolder path query f
     → FindsFolder path query g → AreSeenAlike f.state g.state f.files.items g.files.items
-folder_seen path query f g x y =
-    elim x [
-      | inl h ↦ elim y [ inl k ↦ absent_seen 404 f g h.1 k.1 | inr k ↦ absurd (k.has_index h.0) ]
-      | inr h ↦
-          elim y [
-            | inl k ↦ absurd (h.has_index k.0)
-            | inr k ↦
-                record { state = h.state ∙ sym k.state; labels = ap (map label_of) (h.files ∙ sym k.files) }
-          ]
-    ]
+folder_seen path query f g (inl h) (inl k) = absent_seen 404 f g h.1 k.1
+folder_seen path query f g (inl h) (inr k) = absurd (k.has_index h.0)
+folder_seen path query f g (inr h) (inl k) = absurd (h.has_index k.0)
+folder_seen path query f g (inr h) (inr k) = seen_by _ _ _ _ _ _ h.state k.state h.files k.files
 
 listing_seen : (path : List ℕ) (listing : Listing) (f g : _) → FindsListing path listing f
     → FindsListing path listing g → AreSeenAlike f.state g.state f.files.items g.files.items
-listing_seen path listing f g x y =
-    elim x [
-      | inl h ↦
-          elim y [
-            | inl k ↦
-                record {
-                  state = h.1.state ∙ sym k.1.state;
-                  labels = ap (map label_of) (h.1.files ∙ sym k.1.files);
-                }
-            | inr k ↦ let yes = h.0 in let no = k.0 in absurd (cc (yes, no))
-          ]
-      | inr h ↦
-          elim y [
-            | inl k ↦ let no = h.0 in let yes = k.0 in absurd (cc (yes, no))
-            | inr k ↦ absent_seen 404 f g h.1 k.1
-          ]
-    ]
+listing_seen path listing f g (inl h) (inl k) = seen_by _ _ _ _ _ _ h.1.state k.1.state h.1.files k.1.files
+listing_seen path listing f g (inl h) (inr k) = let yes = h.0 in let no = k.0 in absurd (cc (yes, no))
+listing_seen path listing f g (inr h) (inl k) = let no = h.0 in let yes = k.0 in absurd (cc (yes, no))
+listing_seen path listing f g (inr h) (inr k) = absent_seen 404 f g h.1 k.1
 
 -- what is offered of something similar has the same labels
 offered_similar : (m n : FieldValue) (coding : Coding) (e f : Entry) → m ≡ n → AreSimilar e f
@@ -80,21 +64,10 @@ offered_similar m n coding e f same (inr two) =
 module _ (look other : List ℕ → Entry) where
   stands_similar : (path : List ℕ) (e f : Entry) → AreSimilar (look path) (other path)
       → HasEntryAt (has_at look) path e → HasEntryAt (has_at other) path f → AreSimilar e f
-  stands_similar path e f similar x y =
-      elim x [
-        | inl h ↦
-            elim y [
-              | inl k ↦
-                  subst (λ (o : Entry). AreSimilar o f) (sym h.1)
-                  (subst (λ (o : Entry). AreSimilar (look path) o) (sym k.1) similar)
-              | inr k ↦ let yes = h.0 in let no = k.0 in absurd (cc (yes, no))
-            ]
-        | inr h ↦
-            elim y [
-              | inl k ↦ let no = h.0 in let yes = k.0 in absurd (cc (yes, no))
-              | inr k ↦ inl (h.1 ∙ sym k.1)
-            ]
-      ]
+  stands_similar path e f similar (inl h) (inl k) = rw (h.1, k.1) similar
+  stands_similar path e f similar (inl h) (inr k) = let yes = h.0 in let no = k.0 in absurd (cc (yes, no))
+  stands_similar path e f similar (inr h) (inl k) = let no = h.0 in let yes = k.0 in absurd (cc (yes, no))
+  stands_similar path e f similar (inr h) (inr k) = inl (h.1 ∙ sym k.1)
 
   contents_similar : (negotiates : Bool) (path : List ℕ) (a b : File) (fs gs : List File) → label_of a ≡ label_of b
       → ((coding : Coding) → negotiates ≡ true
@@ -154,31 +127,16 @@ module _ (look other : List ℕ → Entry) where
         → FindsEntry negotiates (has_at other) uri named o g
         → AreSeenAlike f.state g.state f.files.items g.files.items
     entry_similar named names e o (inl one) f g h k =
-        entry_same named names o f g
-        (subst (λ (x : Entry). FindsEntry negotiates (has_at look) uri named x f) one h) k
+        entry_same named names o f g (rw one at h) k
     entry_similar named names e o (inr two) f g h k =
-        files_similar named names two.0 two.1 two.4 f g
-        (subst (λ (x : Entry). FindsEntry negotiates (has_at look) uri named x f) two.2 h)
-        (subst (λ (x : Entry). FindsEntry negotiates (has_at other) uri named x g) two.3 k)
+        files_similar named names two.0 two.1 two.4 f g (rw two.2 at h) (rw two.3 at k)
 
     pub leads_similar : (f g : _) → LeadsTo negotiates (has_at look) uri f → LeadsTo negotiates (has_at other) uri g
         → AreSeenAlike f.state g.state f.files.items g.files.items
-    leads_similar f g x y =
-        elim x [
-          | inl h ↦
-              elim y [
-                | inl k ↦
-                    let named : h.0 ≡ k.0 = h.1.is_named ∙ sym k.1.is_named in
-                    let there : AreSimilar h.2.0 k.2.0 =
-                    subst (λ (o : Entry). AreSimilar o k.2.0) (sym (h.2.1 ∙ ap look named))
-                    (subst (λ (o : Entry). AreSimilar (look k.0) o) (sym k.2.1) (similar.named k.0 k.1)) in
-                    entry_similar k.0 k.1 h.2.0 k.2.0 there f g
-                    (subst (λ (p : List ℕ). FindsEntry negotiates (has_at look) uri p h.2.0 f) named h.2.2) k.2.2
-                | inr k ↦ absurd (k.0 h.0 h.1)
-              ]
-          | inr h ↦
-              elim y [
-                | inl k ↦ absurd (h.0 k.0 k.1)
-                | inr k ↦ absent_seen 404 f g h.1 k.1
-              ]
-        ]
+    leads_similar f g (inl h) (inl k) =
+        let named : h.0 ≡ k.0 = h.1.is_named ∙ sym k.1.is_named in
+        let there : AreSimilar h.2.0 k.2.0 = rw (h.2.1, named, k.2.1) (similar.named k.0 k.1) in
+        entry_similar k.0 k.1 h.2.0 k.2.0 there f g (rw named at h.2.2) k.2.2
+    leads_similar f g (inl h) (inr k) = absurd (k.0 h.0 h.1)
+    leads_similar f g (inr h) (inl k) = absurd (h.0 k.0 k.1)
+    leads_similar f g (inr h) (inr k) = absent_seen 404 f g h.1 k.1

@@ -264,8 +264,7 @@ module _ (present : ℕ) (resource : Resource) (asked : Asked) where
     performed_kept : (target : Target) (current : Validators) → target ≡ Current current
         → Decide target precondition.Perform → StateIsKept present asked.fields target
     performed_kept target current is h =
-        (h.conditional
-        (subst (λ (t : Target). ¬ (AreIgnored t asked.method)) (sym is) (never_ignored current asked.method read))).0
+        (h.conditional (rw is (never_ignored current asked.method read))).0
 
     -- ---- an answer with a tag
 

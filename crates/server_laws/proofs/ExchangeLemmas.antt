@@ -18,10 +18,9 @@ use Rattle.http_header.specs.Token.{is_token_byte, is_value_byte}
 use Rattle.http1.specs.declared.conn.Limits.{Limits}
 use Rattle.http1.specs.declared.framing.Framing.{Framing}
 use Rattle.http1.specs.Fields.{Header, known_fields}
-use Rattle.http1.specs.Framing.{method_kind}
 use Rattle.http1.specs.Message as Wire
 use Rattle.http1.specs.Message.{ReadsRequestMessage}
-use Rattle.http1.specs.Server.{is_head, request_of, response_refusal}
+use Rattle.http1.specs.Server.{request_of, response_refusal}
 use Rattle.http1.specs.Text.{eq_ignore_case}
 use Rattle.http1_typed.specs.Parts.{reason_of}
 use Rattle.http_server.specs.declared.state.Config.{Config}
@@ -41,7 +40,7 @@ use Rattle.server_connection.specs.Connection.{Exchanged, IsClosing}
 use Rattle.server_connection.specs.Encoding.{content_len, plan_fields, plan_size, size_for}
 use Rattle.server_connection.specs.Literal.{IsLiteral, SendsCall, SendsCalls}
 use Rattle.server_connection.specs.Pieces.{AreSent, Gives}
-use Rattle.server_connection.specs.Plan.{Answers, HasHeadOf, IsContentOf, Plans}
+use Rattle.server_connection.specs.Plan.{Answers, HasHeadOf, Plans}
 use Rattle.server_connection.specs.declared.plan.Plan.{Plan}
 use Rattle.server_connection.proofs.PieceLemmas.{Advances-length}
 use Rattle.server_laws.specs.Literal.{AsksForRoot, request_text, root_head}
@@ -70,14 +69,8 @@ next_is : (limits : Limits) (rest : List ℕ) (P : Wire.Request → Type 0) → 
     → (rest ≡ stream) ⊎ (rest ≡ []) → NextIs limits rest P → P message
 next_is limits rest P room at next =
     elim at [
-      | inl is ↦
-          next [] message []
-          (subst (λ (s : List ℕ). ReadsRequestMessage limits s message []) (sym (append-nil rest ∙ is))
-          (get_reads limits room))
-      | inr is ↦
-          next stream message []
-          (subst (λ (s : List ℕ). ReadsRequestMessage limits s message []) (ap (λ (s : List ℕ). s ++ stream) (sym is))
-          (get_reads limits room))
+      | inl is ↦ next [] message [] (rw (append-nil, is) (get_reads limits room))
+      | inr is ↦ next stream message [] (rw is (get_reads limits room))
     ]
 
 few_fields : ¬ (HasTooManyFields message)
@@ -187,7 +180,7 @@ module _ {H : Type 0} (plans : Plans H) (gives : H → Gives) (config : Config) 
       let done : h.1 ≡ [] = ends true c h.0 h.1 h.4 in
       absurd
       (not_on_empty true d h.5.0 h.5.1
-      (subst (λ (s : List ℕ). Exchanges config true s d h.5.0 h.5.1) done h.5.4))
+      (rw done at h.5.4))
 
   module _ (good : AreSendable) (last : H) where
     -- ---- the response
@@ -204,15 +197,12 @@ module _ {H : Type 0} (plans : Plans H) (gives : H → Gives) (config : Config) 
     called c asks chain =
         let next = chain.0 in
         let answer : Answers plans gives first c.0 c.1 last =
-        subst (λ (h : H). Answers plans gives first c.0 c.1 h) (sym chain.2) chain.1 in
+        rw chain.2 chain.1 in
         record {
           plan = answer.0;
           planned = answer.1;
           has_head = answer.2;
-          content =
-              subst
-              (λ (m : List ℕ). IsContentOf (is_head (method_kind m)) (gives last) answer.0 c.1.body.items) asks.method
-              answer.3;
+          content = rw asks.method at answer.3;
           goes = good c.0 answer.0 last asks answer.1;
         }
 
@@ -252,8 +242,7 @@ module _ {H : Type 0} (plans : Plans H) (gives : H → Gives) (config : Config) 
           elim at [
             | inl is ↦
                 x.3 message []
-                (subst (λ (s : List ℕ). ReadsRequestMessage config.limits s message []) (sym is.1)
-                (get_reads config.limits room))
+                (rw is.1 (get_reads config.limits room))
             | inr is ↦ x.2 is.2
           ]
       refuses (Unreadable e) answered rest at x =
@@ -275,7 +264,7 @@ module _ {H : Type 0} (plans : Plans H) (gives : H → Gives) (config : Config) 
                 let c = x.1.call in
                 let m = x.1.message in
                 let read : ReadsCall config stream m c.0 x.0 =
-                subst (λ (s : List ℕ). ReadsCall config s m c.0 x.0) is.1 x.1.request in
+                rw is.1 at x.1.request in
                 let asks = (get_asked config m c.0 x.0 read).0 in
                 let calls : h.calls ≡ c ∷ [] = x.1.calls ∙ ap (λ (l : List Call). l ++ c ∷ []) is.0 in
                 let p = called c asks (chained (c ∷ []) calls) in
@@ -290,8 +279,7 @@ module _ {H : Type 0} (plans : Plans H) (gives : H → Gives) (config : Config) 
                 ∙ x.2 in
                 cc (none, refusal)
             | inr is ↦
-                empty_reads config.limits x.1.message x.0
-                (subst (λ (s : List ℕ). ReadsRequestMessage config.limits s x.1.message x.0) is.2 x.1.request.reads)
+                empty_reads config.limits x.1.message x.0 (rw is.2 at x.1.request.reads)
           ]
 
       -- what was sent is the response of one call
@@ -302,23 +290,17 @@ module _ {H : Type 0} (plans : Plans H) (gives : H → Gives) (config : Config) 
           → SendsCalls plans gives config first last stream calls text rest → Result text
       one_sent [] text rest some x = absurd (omega (arith, some))
       one_sent (c ∷ []) text rest some x =
-          let alone : text ≡ x.1 = x.4 ∙ ap (λ (l : List ℕ). x.1 ++ l) x.6.2 ∙ append-nil x.1 in (
-            c,
-            x.2,
-            subst (λ (t : List ℕ). SendsCall plans gives config first last stream c t x.2) (sym alone)
-                (subst (λ (next : H). SendsCall plans gives config first next stream c x.1 x.2) (sym x.6.0) x.5),
-          )
+          (c, x.2, rw (x.4, x.6.2, append-nil, x.6.0) x.5)
       one_sent (c ∷ d ∷ more) text rest some x =
           let next = x.6 in
           absurd
           (not_on_empty next.5.stays d next.1 next.2
-          (subst (λ (s : List ℕ). Exchanges config next.5.stays s d next.1 next.2)
-          (ends x.5.stays c x.1 x.2 x.5.exchange) next.5.exchange))
+          (rw (ends x.5.stays c x.1 x.2 x.5.exchange) at next.5.exchange))
 
       all_sent : (literal sent later : List ℕ) → later ≡ [] → sent ≡ literal ++ later
           → Result literal → Result sent
       all_sent literal sent later none out x =
-          subst Result (sym (out ∙ ap (λ (t : List ℕ). literal ++ t) none ∙ append-nil literal)) x
+          rw (out, none, append-nil) x
 
       by_state : (state : State) (answered : List Call) (text interim rest sent : List ℕ) → IsClosing state
           → Progress answered rest → IsLiteral plans gives config first last state stream h.calls sent
@@ -351,11 +333,8 @@ module _ {H : Type 0} (plans : Plans H) (gives : H → Gives) (config : Config) 
       let h = e.history in
       let s = e.ended.0 in
       let at = progress s.answered s.text s.rest
-      (subst (λ (r : List ℕ). Serves config r s.answered s.text s.rest) e.is_received s.serves) in
+      (rw e.is_received at s.serves) in
       let literal : IsLiteral plans gives config first e.last h.state stream h.calls sent =
-      subst (λ (r : List ℕ). IsLiteral plans gives config first e.last h.state r h.calls sent) e.is_received
-      (subst (λ (t : List ℕ). IsLiteral plans gives config first e.last h.state h.received h.calls t) e.is_sent
-      e.literal) in
-      subst
-      (λ (l : H). (c : Call) × (after : List ℕ) × SendsCall plans gives config first l stream c sent after) e.ended.3
+      rw (e.is_received, e.is_sent) at e.literal in
+      rw e.ended.3 at
       (by_state good e.last h e.answered h.state s.answered s.text s.interim s.rest sent e.ended.1 at literal s.stands)

@@ -137,35 +137,26 @@ abbrev pub length_lines : Option (List Line) → List Header
 length_lines None = []
 length_lines (Some lines) = lines_under (length_name, lines)
 
+sent-cons : (has_policy : Bool) (field : Field) (fields : List Field)
+    → headers_sent has_policy (field ∷ fields)
+    ≡ lines_unless (has_policy && is_given field.0 fields) field ++ headers_sent has_policy fields
+sent-cons true field fields = refl
+sent-cons false field fields = refl
+
+sent-nil : (has_policy : Bool) → headers_sent has_policy [] ≡ []
+sent-nil true = refl
+sent-nil false = refl
+
 module _ (has_policy : Bool) where
   abbrev is_replaced : Field → List Field → Bool
   is_replaced field fields = has_policy && is_given field.0 fields
 
-  abbrev Follows : Bool → Field → List Field → Type 0
-  Follows b field fields =
-      headers_sent b (field ∷ fields)
-      ≡ lines_unless (b && is_given field.0 fields) field ++ headers_sent b fields
-
-  sent-cons : (field : Field) (fields : List Field) → Follows has_policy field fields
-  sent-cons field fields = by has_policy
-    where
-      by : (b : Bool) → Follows b field fields
-      by true = refl
-      by false = refl
-
-  sent-nil : headers_sent has_policy [] ≡ []
-  sent-nil = by has_policy
-    where
-      by : (b : Bool) → headers_sent b [] ≡ []
-      by true = refl
-      by false = refl
-
   plain_sent : (fields : List Field) → list_all is_plain fields ≡ true
       → list_all is_plain_line (headers_sent has_policy fields) ≡ true
-  plain_sent [] t = ap (list_all is_plain_line) sent-nil
+  plain_sent [] t = ap (list_all is_plain_line) (sent-nil has_policy)
   plain_sent (field ∷ fields) t =
       let both = and_parts (is_plain field) (list_all is_plain fields) t in
-      ap (list_all is_plain_line) (sent-cons field fields)
+      ap (list_all is_plain_line) (sent-cons has_policy field fields)
       ∙ all_append is_plain_line (lines_unless (is_replaced field fields) field) (headers_sent has_policy fields)
       (plain_unless (is_replaced field fields) field both.0) (plain_sent fields both.1)
 
@@ -190,7 +181,7 @@ module _ (has_policy : Bool) where
     before = [];
     after = headers_sent has_policy after;
     are =
-        sent-cons (length_name, lines) after
+        sent-cons has_policy (length_name, lines) after
         ∙ ap
         (λ (b : Bool). lines_unless (has_policy && b) (length_name, lines) ++ headers_sent has_policy after)
         (not_given after last)
@@ -201,7 +192,7 @@ module _ (has_policy : Bool) where
   length_in lines (field ∷ before) after first last =
       let both = and_parts (is_plain field) (list_all is_plain before) first in
       let rest : List Field = before ++ ((length_name, lines) ∷ after) in
-      subst (Between is_plain_line (lines_under (length_name, lines))) (sym (sent-cons field rest))
+      subst (Between is_plain_line (lines_under (length_name, lines))) (sym (sent-cons has_policy field rest))
       (after_all is_plain_line (lines_under (length_name, lines)) (lines_unless (is_replaced field rest) field)
       (headers_sent has_policy rest) (plain_unless (is_replaced field rest) field both.0)
       (length_in lines before after both.1 last))

@@ -1,6 +1,5 @@
 -- What a connection puts around the content of a response that states its length.
-use Rattle.std.proofs.Common.{◌≡◌, ℕ, Bool, false, cond, List, [], ◌++◌, Option, None, Result, sym, ap, subst, ◌∙◌}
-use Rattle.std.proofs.Common.{append-nil}
+use Rattle.std.proofs.Common.{◌≡◌, ℕ, false, cond, List, [], ◌++◌, Option, None, Result, sym, ap, ◌∙◌, append-nil}
 use Rattle.httparse.specs.Grammar.{RequestHead}
 use Rattle.http1.specs.declared.conn.Limits.{Limits}
 use Rattle.http1.specs.declared.conn.Writing.{Writing}
@@ -92,7 +91,7 @@ put_out plans gives first now config h x time tag media_type ok stays =
     let framed =
     framed_literally config.limits x.message.head x.reads.reads.framing x.plan time tag media_type ok stays x.server []
     [] x.head x.tail
-    (subst (λ (b : Bool). Frames b x.plan server [] [] x.server x.head x.tail) bodied x.frames) in (
+    (rw bodied at x.frames) in (
       x.out ∙ ap (λ (l : List ℕ). (x.text ++ x.interim) ++ (l ++ x.front)) framed.0,
       framed.1,
     )

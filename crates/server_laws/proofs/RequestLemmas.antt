@@ -126,7 +126,7 @@ one_message method text reads unframed limits m rest h =
     sym (ap (λ (x : RequestHead). request_framing (method_kind x.method) x.minor (known_of x.fields)) same.0)
     ∙ h.head.framed in
     let body = empty_body limits h.framing m.body rest (unframed h.framing framed)
-    (subst (λ (s : List ℕ). ReadsBody limits h.framing s m.body rest) same.1 h.body) in
+    (rw same.1 at h.body) in
     record { head = same.0; body = body.0; after = body.1 }
 
 -- ---- the request
@@ -143,7 +143,7 @@ unfolding trim_ows
 asked_by method valid unframed config m r rest h =
     let one = one_message method (request_text method) valid unframed config.limits m rest h.reads in
     let parts : ArePartsOf (root_head method) (head_of r) =
-    subst (λ (x : RequestHead). ArePartsOf x (head_of r)) one.head h.parts in
+    rw one.head at h.parts in
     let uri = is_root (head_of r).uri parts.uri in (
       record {
         method = parts.method;

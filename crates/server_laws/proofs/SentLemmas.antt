@@ -287,36 +287,22 @@ module _ (present : ℕ) (resource : Resource) (own_rule : MethodRule) (alone : 
       successful : (code : ℕ) → (is_connect method && nat_lt code 300) ≡ false
       successful code = ap (λ (b : Bool). b && nat_lt code 300) free
 
-      performed : IsAccepted method 200 0 []
-      performed = record {
-        stated = false;
-        states = None;
-        lines = refl;
-        fields = none_between is_plain [] refl;
-        final = record {
-          least = omega arith;
-          greatest = omega arith;
-          other = λ is. omega (arith, is);
-          bodiless = λ is. (refl, refl);
-          connect = successful 200;
-        };
-        text = refl;
-      }
-
-      optional : (own : List Field) → list_all is_plain own ≡ true → IsAccepted method 204 0 own
-      optional own plain = record {
+      -- without content and without a length
+      empty : (code : ℕ) (own : List Field) → 200 ≤ code → code ≤ 999 → code ≢ 205
+          → is_field_value (reason_of code) ≡ true → list_all is_plain own ≡ true → IsAccepted method code 0 own
+      empty code own least greatest other text plain = record {
         stated = false;
         states = None;
         lines = refl;
         fields = none_between is_plain own plain;
         final = record {
-          least = omega arith;
-          greatest = omega arith;
-          other = λ is. omega (arith, is);
+          least = least;
+          greatest = greatest;
+          other = other;
           bodiless = λ is. (refl, refl);
-          connect = successful 204;
+          connect = successful code;
         };
-        text = refl;
+        text = text;
       }
 
       planned : (file : Option File) (plan : Plan) (target : Target) (boundary : FieldValue)
@@ -377,7 +363,8 @@ module _ (present : ℕ) (resource : Resource) (own_rule : MethodRule) (alone : 
           → own ≡ response_fields request.fields (shown divider present (file_at files place)) response
           → is_bare_tag (tag_sent files sent) ≡ true → Accepts (status_for absent Admitted status) sent own
       going place status sent own None h same_status same_sent same_own tagged =
-          rw (same_status, same_sent, same_own) performed
+          rw (same_status, same_sent, same_own)
+          (empty 200 [] (omega arith) (omega arith) (λ is. omega (arith, is)) refl refl)
       going place status sent own (Some response) h same_status same_sent same_own tagged =
           let plan = response.plan in
           let file = file_at files place in
@@ -397,8 +384,7 @@ module _ (present : ℕ) (resource : Resource) (own_rule : MethodRule) (alone : 
       goes status sent own g tagged =
           let on : GoesOn present resource request g.place (shown divider present (file_at files g.place)) status sent
           own =
-          subst (λ (x : Option Representation). GoesOn present resource request g.place x status sent own)
-          (represented_at g.place) g.goes in
+          rw represented_at at g.goes in
           going g.place status sent own on.response on.answered on.has_status on.sends on.has_fields tagged
 
     by_reason : (admitted : Bool) (reason : Reason) → is_admitted reason ≡ admitted → (status : Option ℕ) (sent : Sends)
@@ -418,7 +404,8 @@ module _ (present : ℕ) (resource : Resource) (own_rule : MethodRule) (alone : 
               let code : status_for absent reason status ≡ 204 =
               (λ i. status_for absent (options i) (g.has_status i))
               ∙ ap (λ (r : Reason). status_for absent Options (Some (status_of resource.state r))) options in
-              rw (code, g.sends, options) (optional (free (inl options)) own plain)
+              rw (code, g.sends, options)
+              (empty (free (inl options)) 204 own (omega arith) (omega arith) (λ is. omega (arith, is)) refl plain)
           | inr page ↦
               explained method (status_for absent reason status) _ own
               (ap (λ (s : Option ℕ). is_explained (status_for absent reason s)) g.has_status ∙ page) plain
@@ -440,7 +427,7 @@ module _ (present : ℕ) (resource : Resource) (own_rule : MethodRule) (alone : 
           states = x.states;
           lines = x.lines;
           fields =
-              subst (Between is_plain own) (sym h.fields)
+              rw h.fields
               (before_all is_plain own (h.own ++ vary_fields lines) h.shared
               (before_all is_plain own h.own (vary_fields lines) x.fields (vary_plain lines))
               (shared_plain resource.cors request lines h.shared bare h.is_shared));
@@ -484,7 +471,7 @@ module _ (limits : Limits) (head : RequestHead) (framing : Framing) (now : Optio
   represented = ap (λ (r : Resource). r.representations.items) x.described.is ∙ x.described.are
 
   bare_policy : IsBareIfAny x.resource.cors
-  bare_policy = subst (λ (r : Resource). IsBareIfAny r.cors) (sym x.described.is) bare
+  bare_policy = rw x.described.is bare
 
   asked_kind : sender ≡ method_kind x.asked.method
   asked_kind = ap method_kind (method ∙ sym x.asks.2.method)
@@ -550,7 +537,7 @@ module _ (limits : Limits) (head : RequestHead) (framing : Framing) (now : Optio
       (cache_plain (is_stored x.answer.sends) site.cache_control)
 
   short : len < 2 ^ 64
-  short = subst (λ (n : ℕ). n < 2 ^ 64) len_is x.carries.short
+  short = rw len_is at x.carries.short
 
   states : StatesLength len accepted.stated (plan_fields response)
   states =
@@ -576,5 +563,4 @@ module _ (limits : Limits) (head : RequestHead) (framing : Framing) (now : Optio
       (subst (λ (m : ℕ). IsFinal sender code m stated) (sym len_is) accepted.final) in
       let text =
       subst (λ (c : ℕ). is_field_value (reason_of c) ≡ true) (sym x.carries.status) accepted.text in
-      plan_sent limits head framing response stated x.carries.short minor text
-      (subst (λ (m : ℕ). StatesLength m stated (plan_fields response)) (sym len_is) states) final
+      plan_sent limits head framing response stated x.carries.short minor text (rw len_is states) final

@@ -10,11 +10,10 @@ use Rattle.http1.specs.Fields.{Header, known_fields}
 use Rattle.http1.specs.Framing.{method_kind}
 use Rattle.http1.specs.Text.{eq_ignore_case}
 use Rattle.http_server.specs.declared.state.Config.{Config}
-use Rattle.http_server.specs.Encoding.{answering}
 use Rattle.http_server.specs.Exchange.{IsAdded, Call, IsAnswer as IsAnswerOf}
 use Rattle.server_connection.specs.Connection.{Exchanged}
-use Rattle.server_connection.specs.Encoding.{content_len, plan_fields, Frames}
-use Rattle.server_connection.specs.Pieces.{total_len, AreSent}
+use Rattle.server_connection.specs.Encoding.{content_len, plan_fields}
+use Rattle.server_connection.specs.Pieces.{total_len}
 use Rattle.server_connection.specs.declared.plan.Plan.{Plan}
 use Rattle.server_service.specs.Answer.{cache_fields, clock, closing_fields, date_fields, date_of, sniff_field}
 use Rattle.server_service.specs.File.{len_of}
@@ -40,7 +39,6 @@ use Rattle.server_laws.proofs.ExchangeLemmas.{IsSendable, one_call, waits_for_no
 use Rattle.server_laws.proofs.RequestLemmas.{get_asked, one_get}
 use Rattle.server_laws.proofs.SentLemmas.{answer_sent}
 use Rattle.server_connection.specs.Literal.{SendsCall}
-use Rattle.server_connection.specs.Plan.{sent_pieces}
 use Rattle.http1.specs.Server.{is_head}
 use Rattle.server_laws.specs.Sendable.{IsBareIfAny}
 use Rattle.server_laws.proofs.FramedLemmas.{framed_literally}
@@ -168,12 +166,10 @@ module _ (config : Config) (settings : Settings) (first : FileService Memory) (r
         let body : s.content ≡ c.1.body.items = s.body ∙ ap (λ (b : Bool). cond b [] c.1.body.items) bodied in
         let same : s.content ≡ content =
         p.3 memory.0 s.content memory.1
-        (subst (λ (b : Bool). AreSent (gives now) (sent_pieces b s.plan) s.content) bodied s.is_content)
+        (rw bodied at s.is_content)
         ∙ memory.2 in
         let answer : IsAnswerOf (root_head (codes "GET")) c.1 sent =
-        subst (λ (h : RequestHead). IsAnswerOf h c.1 sent) head
-        (subst (λ (t : List ℕ). IsAnswerOf e.message.head c.1 t)
-        (sym (e.joined ∙ ap (λ (l : List ℕ). l ++ e.answer) quiet)) e.is_answer) in
+        rw (e.joined, quiet) (rw head at e.is_answer) in
         let ok : IsOk time content_tag type s.plan =
         record {
           status = p.2.status;
@@ -183,13 +179,7 @@ module _ (config : Config) (settings : Settings) (first : FileService Memory) (r
         let framed =
         framed_literally config.limits (root_head (codes "GET")) framing s.plan time content_tag type ok
         get_stays_open s.server [] [] s.head s.tail
-        (subst
-        (λ (h : RequestHead).
-        Frames false s.plan (answering config.limits h framing) [] [] s.server s.head s.tail) head
-        (subst
-        (λ (b : Bool).
-        Frames b s.plan (answering config.limits e.message.head framing) [] [] s.server s.head s.tail) bodied
-        s.frames)) in
+        (rw (bodied, head) at s.frames) in
         record {
           now = time;
           message = answer.message;
