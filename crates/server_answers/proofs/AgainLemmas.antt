@@ -259,11 +259,11 @@ module _ (site : Resource) (st : State) (v w : Vec Representation) (now later : 
   selected_again place h = record {
     choice = h.choice;
     picks =
-        subst (λ (items : List Representation). Picks (score n g) items h.choice) (sym theirs)
+        rw theirs
         (picks_across (label_score n f) (score n g) label_of (representation_of later) score_now gs h.choice
-        (subst (λ (ls : List Label). Picks (label_score n f) ls h.choice) labels
+        (rw labels at
         (picks_across (score n f) (label_score n f) (representation_of now) label_of score_then fs h.choice
-        (subst (λ (items : List Representation). Picks (score n f) items h.choice) mine h.picks))));
+        (rw mine at h.picks))));
     is =
         h.is
         ∙ ap (λ (items : List Representation). place_in st items h.choice) mine

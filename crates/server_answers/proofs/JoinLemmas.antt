@@ -10,9 +10,8 @@ use Rattle.server_connection.specs.declared.piece.Piece.TheVariants.{Range}
 use Rattle.server_connection.specs.declared.plan.Plan.{Plan as Response}
 use Rattle.decide_preconditions.specs.declared.part.Part.{Part}
 use Rattle.decide_preconditions.specs.declared.plan.Plan.TheVariants.{Single}
-use Rattle.decide_resource.specs.declared.answer.Sends.{Sends}
 use Rattle.decide_resource.specs.declared.answer.Sends.TheVariants.{Planned}
-use Rattle.server_service.specs.Answer.{IsAnswerAt, file_at, pieces_for, pieces_of, source_of, source_sent, status_for}
+use Rattle.server_service.specs.Answer.{IsAnswerAt, file_at, pieces_of, source_of}
 use Rattle.server_service.specs.File.{gives_at, gives_of}
 use Rattle.server_service.specs.Parts.{bytes_of, part_extent}
 use Rattle.server_service.specs.declared.file.Entry.{Entry}
@@ -44,11 +43,8 @@ module _ (law : SendsRanges) (now : Option ℕ) (left : ℕ) (site : Site) (look
   pieces_are : response.pieces.items ≡ Range (part_extent part) ∷ []
   pieces_are =
       x.carries.pieces
-      ∙ ap
-      (λ (s : Sends). pieces_for divider site.pages.items x.found.files.items
-      (status_for x.found.status x.answer.reason x.answer.status) s) sends
-      ∙ part_pieces divider (file_at x.found.files.items place) part (InMemory kept)
-      (x.opens ∙ ap (λ (s : Sends). source_sent x.found.files.items s) sends)
+      ∙ rw sends
+      (part_pieces divider (file_at x.found.files.items place) part (InMemory kept) (rw sends at x.opens))
 
   pub sent_part : (sent : List ℕ) → AreSent (gives_of (Some (InMemory kept))) response.pieces.items sent
       → sent ≡ take (part.last + 1 - part.first) (drop part.first kept.content)

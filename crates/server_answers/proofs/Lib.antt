@@ -1,10 +1,8 @@
 mod AgainLemmas
-mod HeadLemmas
 mod JoinLemmas
 mod LineLemmas
 mod PreflightLemmas
-mod RevalidateLemmas
+mod SameAnswerLemmas
 mod SimilarLemmas
-mod StoreLemmas
+mod TagLemmas
 mod TagLineLemmas
-mod TaggedLemmas

@@ -1,6 +1,6 @@
 -- The response to a preflight, as a browser reads it.
 use Rattle.std.proofs.Common.{◌≡◌, ◌↔◌, ℕ, Bool, true, false, not, cond, List, [], ◌∷◌, ◌++◌, Option, Some, refl, sym}
-use Rattle.std.proofs.Common.{ap, subst, ◌∙◌, append-nil, arith, inl, inr}
+use Rattle.std.proofs.Common.{ap, ◌∙◌, append-nil, arith, inl, inr}
 use Rattle.std.proofs.lemmas.Slice.Eq.{bytes_eq-Decides}
 use Rattle.std.specs.Prelude.{◌||◌, bytes_eq, codes, is_some, string_bytes}
 use Rattle.http.specs.Request.{head_of}
@@ -13,17 +13,16 @@ use Rattle.decide_cors.specs.Rules.{AllowsCredentials, AllowsOrigin, AllowsReque
 use Rattle.decide_cors.specs.declared.rules.CorsRules.{CorsRules}
 use Rattle.server_connection.specs.declared.plan.Plan.{Plan as Response}
 use Rattle.gateway_messages.specs.Requests.{has_host}
-use Rattle.decide_resource.specs.Answers.{GivesIf, IsAnswer, Stops, is_admitted}
+use Rattle.decide_resource.specs.Answers.{IsAnswer, Stops}
 use Rattle.decide_resource.specs.Applies.{applies, is_misdirected}
 use Rattle.decide_resource.specs.Reasons.{IsFirst}
 use Rattle.decide_resource.specs.Requests.{Request as Asked, head_of as as_head}
 use Rattle.decide_resource.specs.declared.answer.Answer.{Answer}
-use Rattle.decide_resource.specs.declared.answer.Sends.{Sends}
 use Rattle.decide_resource.specs.declared.reason.Reason.{Reason}
 use Rattle.decide_resource.specs.declared.reason.Reason.TheVariants.{InvalidHost, Misdirected, UnknownMethod}
 use Rattle.decide_resource.specs.declared.reason.Reason.TheVariants.{MethodNotAllowed, Options}
 use Rattle.decide_resource.specs.declared.resource.Resource.{Resource}
-use Rattle.server_service.specs.Answer.{Decides, IsAnswerAt, clock, pieces_for, sends_several, status_for}
+use Rattle.server_service.specs.Answer.{Decides, IsAnswerAt, clock, sends_several, status_for}
 use Rattle.server_service.specs.Asked.{Asks}
 use Rattle.server_service.specs.Response.{fields_of, headers_sent, headers_set, is_named, lines_under, lines_unless}
 use Rattle.server_service.specs.declared.file.Entry.{Entry}
@@ -151,8 +150,7 @@ module _ (resource : Resource) (asked : Asked) (options : asked.method ≡ codes
 
     stops : Stops resource asked Options answer.status answer.sends a.own
     stops =
-        subst (λ (r : Reason). GivesIf (is_admitted r) present resource asked r answer.status answer.sends a.own)
-        reason_is a.gives
+        rw reason_is at a.gives
 
   -- no answer is that to a HEAD
   decided : (present : ℕ) (divider : List ℕ) (files : List File) (answer : Answer)
@@ -243,24 +241,18 @@ module _ (now : Option ℕ) (left : ℕ) (site : Site) (look : List ℕ → Entr
       let answered =
       law present resource asked x.answer rules policy nothing sent has a reason lawful made asked_so in
       let code : status_for x.found.status x.answer.reason x.answer.status ≡ 204 =
-      ap (λ (r : Reason). status_for x.found.status r x.answer.status) reason
-      ∙ ap (λ (status : Option ℕ). status_for x.found.status Options status) answered.0 in
+      rw (reason, answered.0) in
       let status : response.status ≡ 204 = x.carries.status ∙ code in
       let mine : LineMap = lines_in (fields_of response) in
       let theirs : LineMap = set_all nothing given in (
         status,
-        x.carries.pieces
-            ∙ ap
-            (λ (n : ℕ). pieces_for (string_bytes site.divider) site.pages.items x.found.files.items n x.answer.sends)
-            code
-            ∙ ap
-            (λ (s : Sends). pieces_for (string_bytes site.divider) site.pages.items x.found.files.items 204 s)
-            stopped.sends,
-        subst (λ (n : ℕ). PreflightPasses n mine sent ↔ AllowsRequest rules sent) (sym status)
-            ((
-              λ passes. answered.1.0 (passes_alike 204 mine theirs sent read_alike passes),
-              λ allows. passes_alike 204 theirs mine sent (alike_back mine theirs read_alike) (answered.1.1 allows),
-            )),
+        x.carries.pieces ∙ rw (code, stopped.sends),
+        (
+          λ passes. answered.1.0 (rw status at (passes_alike response.status mine theirs sent read_alike passes)),
+          λ allows.
+              passes_alike response.status theirs mine sent (alike_back mine theirs read_alike)
+              (rw status (answered.1.1 allows)),
+        ),
       )
 
   pub response_shared : ResponseIsShared → (rules : CorsRules) (sent : Sent) → IsLawful rules

@@ -1,4 +1,4 @@
-use Rattle.server_answers.proofs.HeadLemmas.{head_answered}
+use Rattle.server_answers.proofs.SameAnswerLemmas.{head_answered}
 use Rattle.server_answers.proofs.laws.head_has_the_response_of_get.Goals as goal
 
 pub returns : goal.returns

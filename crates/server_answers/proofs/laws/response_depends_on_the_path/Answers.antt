@@ -1,5 +1,5 @@
 use Rattle.http.specs.Request.{head_of}
-use Rattle.server_answers.proofs.StoreLemmas.{leads}
+use Rattle.server_answers.proofs.SameAnswerLemmas.{leads}
 use Rattle.server_answers.proofs.laws.response_depends_on_the_path.Goals as goal
 
 pub returns : goal.returns

@@ -1,6 +1,6 @@
 use Rattle.std.proofs.Common.{refl}
 use Rattle.std.specs.Prelude.{codes}
-use Rattle.server_answers.proofs.RevalidateLemmas.{by_match}
+use Rattle.server_answers.proofs.TagLemmas.{by_match}
 use Rattle.server_answers.proofs.laws.strong_tag_is_not_lost.Goals as goal
 
 pub returns : goal.returns

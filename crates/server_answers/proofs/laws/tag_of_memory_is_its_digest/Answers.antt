@@ -1,4 +1,4 @@
-use Rattle.server_answers.proofs.RevalidateLemmas.{kept_tag}
+use Rattle.server_answers.proofs.TagLemmas.{kept_tag}
 use Rattle.server_answers.proofs.laws.tag_of_memory_is_its_digest.Goals as goal
 
 pub returns : goal.returns
