@@ -1,53 +1,24 @@
--- The fields of answers say nothing of where a message ends, but for one that states the length.
+-- Fields none of which says where a message ends, but for one that states the length.
 use Rattle.std.proofs.Common.{◌≡◌, ℕ, ◌^◌, ◌<◌, Bool, true, false, not, ◌&&◌, ◌||◌, cond, List, [], ◌∷◌, ◌++◌, Option}
 use Rattle.std.proofs.Common.{Some, None, ap, append-nil, append_assoc, codes, refl, reverse, subst, sym, inl, inr, ◌∙◌}
 use Rattle.std.proofs.Math.Bool.{and-false}
-use Rattle.std.specs.List.{list_all, list_any}
-use Rattle.std.specs.Option.{is_some, option_map_or}
+use Rattle.std.specs.List.{list_all}
 use Rattle.std.specs.Prelude.{bytes_eq, decimal}
-use Rattle.std.proofs.lemmas.Bool.{and_from, and_parts, cases_Bool, cond-false, cond-true, not-true, or_cases}
+use Rattle.std.proofs.lemmas.Bool.{and_from, and_parts, cases_Bool, cond-false, cond-true, not-true}
 use Rattle.std.proofs.lemmas.List.{map-append}
 use Rattle.std.proofs.lemmas.List.Folds.{list_all-append, list_all-map}
 use Rattle.std.proofs.lemmas.Slice.Eq.{bytes_eq-Decides}
 use Rattle.httparse.specs.Grammar.{is_token}
-use Rattle.http_header.specs.FieldValue.{FieldValue}
 use Rattle.http1.specs.Fields.{Header, is_framing_field}
 use Rattle.http1.specs.Head.{is_field_value, is_header, starts_visible}
 use Rattle.http1.specs.Text.{eq_ignore_case}
-use Rattle.headers.specs.LineMap.{Field, LineMap}
-use Rattle.headers.specs.Lines.{Line, only_line}
+use Rattle.headers.specs.LineMap.{Field}
+use Rattle.headers.specs.Lines.{Line}
 use Rattle.headers.specs.Text.{trim}
-use Rattle.decide_cors.specs.Elements.{is_filled}
-use Rattle.decide_cors.specs.Fields.{covers_origin, fields_sent as policy_fields, filled_line, grant, lines_if}
-use Rattle.decide_cors.specs.Fields.{vary_sent}
-use Rattle.decide_cors.specs.Kinds.{is_preflight}
-use Rattle.decide_cors.specs.Policy.{Policy}
-use Rattle.decide_preconditions.specs.Fields.{etag_of, etag_sent, fields_sent, is_known_by, is_whole, keeps_encoding}
-use Rattle.decide_preconditions.specs.Fields.{length_sent, lines_sent}
-use Rattle.decide_preconditions.specs.declared.content.Content.{Content}
-use Rattle.decide_preconditions.specs.declared.plan.Plan.{Plan}
-use Rattle.decide_preconditions.specs.declared.plan.Plan.TheVariants as plans
-use Rattle.decide_preconditions.specs.declared.resource.Resource.{Resource as Target}
-use Rattle.decide_resource.specs.Answers.{IsShared, with_metadata}
-use Rattle.decide_resource.specs.Applies.{rule, rule_for}
-use Rattle.decide_resource.specs.Fields.{accept_encoding_fields, describes, location_fields, metadata_fields}
-use Rattle.decide_resource.specs.Fields.{reason_fields, types_fields, vary_fields}
-use Rattle.decide_resource.specs.Requests.{Request as Asked}
-use Rattle.decide_resource.specs.declared.answer.Sends.{Sends}
-use Rattle.decide_resource.specs.declared.answer.Sends.TheVariants as sends
-use Rattle.decide_resource.specs.declared.reason.Reason.{Reason}
-use Rattle.decide_resource.specs.declared.reason.Reason.TheVariants.{MethodNotAllowed, Options, Moved}
-use Rattle.decide_resource.specs.declared.reason.Reason.TheVariants.{UnsupportedMediaType, UnsupportedCoding}
-use Rattle.decide_resource.specs.declared.representation.Representation.{Representation}
-use Rattle.decide_resource.specs.declared.resource.MethodRule.{MethodRule}
-use Rattle.decide_resource.specs.declared.resource.Resource.{Resource}
-use Rattle.decide_resource.specs.declared.resource.State.{State}
-use Rattle.decide_resource.specs.declared.resource.State.TheVariants as state
-use Rattle.server_service.specs.Answer.{cache_fields, date_fields, explained_fields, sniff_field}
-use Rattle.server_service.specs.Response.{headers_sent, html_field, is_bare, is_bare_tag, is_kept, is_line}
-use Rattle.server_service.specs.Response.{is_named as is_given, lines_under, lines_unless, trimmed_line, trimmed_lines}
+use Rattle.server_service.specs.Response.{headers_sent, is_bare, is_kept, is_line, is_named as is_given, lines_under}
+use Rattle.server_service.specs.Response.{lines_unless, trimmed_line, trimmed_lines}
 use Rattle.server_service.proofs.TrimLemmas.{trim_bare}
-use Rattle.server_laws.specs.Sendable.{IsBareIfAny, IsBarePolicy, StatesLength}
+use Rattle.server_laws.specs.Sendable.{StatesLength}
 use Rattle.server_laws.proofs.FramingLemmas.{decimal_is_numeral, states_before, states_length, states_none}
 use Rattle.server_laws.proofs.FramingLemmas.{states_other, states_then}
 use Rattle.server_laws.proofs.TrimmedLemmas.{decimal_trimmed}
@@ -185,7 +156,8 @@ module _ (has_policy : Bool) where
         ∙ ap
         (λ (b : Bool). lines_unless (has_policy && b) (length_name, lines) ++ headers_sent has_policy after)
         (not_given after last)
-        ∙ ap (λ (b : Bool). lines_unless b (length_name, lines) ++ headers_sent has_policy after) (and-false has_policy);
+        ∙ ap (λ (b : Bool). lines_unless b (length_name, lines) ++ headers_sent has_policy after)
+        (and-false has_policy);
     first = refl;
     last = plain_sent after last;
   }
@@ -272,213 +244,3 @@ module _ (n : ℕ) where
       (states_plain b.before b.first first.0)
       (states_before n own (trimmed_lines b.after) stated (states_own stated short)
       (states_plain b.after b.last last.1)))
-
--- ---- the fields of an answer
-
-location_plain : (now : State) → list_all is_plain (location_fields now) ≡ true
-unfolding eq_ignore_case
-location_plain (state.Moved redirect location) = refl
-location_plain now = refl
-
-codings_plain : (own : Option MethodRule) → list_all is_plain (accept_encoding_fields own) ≡ true
-unfolding eq_ignore_case
-codings_plain None = refl
-codings_plain (Some own) = refl
-
-offered_plain : (patch post : Option MethodRule)
-    → list_all is_plain (types_fields (codes "accept-patch") patch ++ types_fields (codes "accept-post") post) ≡ true
-unfolding eq_ignore_case
-offered_plain None None = refl
-offered_plain None (Some post) = refl
-offered_plain (Some patch) None = refl
-offered_plain (Some patch) (Some post) = refl
-
-accept_plain : (patches : Bool) (own : Option MethodRule)
-    → list_all is_plain
-    (types_fields (codes "accept") own ++ cond patches (types_fields (codes "accept-patch") own) []) ≡ true
-unfolding eq_ignore_case
-accept_plain true None = refl
-accept_plain true (Some own) = refl
-accept_plain false None = refl
-accept_plain false (Some own) = refl
-
-module _ (resource : Resource) (request : Asked) where
-  pub reason_plain : (reason : Reason) → list_all is_plain (reason_fields resource request reason) ≡ true
-  unfolding eq_ignore_case
-  reason_plain MethodNotAllowed = refl
-  reason_plain Options =
-      offered_plain (rule_for resource.rules.items (codes "PATCH")) (rule_for resource.rules.items (codes "POST"))
-  reason_plain Moved = location_plain resource.state
-  reason_plain UnsupportedMediaType = accept_plain (bytes_eq request.method (codes "PATCH")) (rule resource request)
-  reason_plain UnsupportedCoding = codings_plain (rule resource request)
-  reason_plain reason = refl
-
-pub vary_plain : (lines : List Line) → list_all is_plain (vary_fields lines) ≡ true
-unfolding eq_ignore_case
-vary_plain [] = refl
-vary_plain (line ∷ lines) = refl
-
--- ---- the fields of a policy
-
-varied_plain : (listed covered : Bool) (lines : List Line)
-    → list_all is_plain (cond listed (cond covered [] ((codes "vary", lines) ∷ [])) []) ≡ true
-unfolding eq_ignore_case
-varied_plain true true lines = refl
-varied_plain true false lines = refl
-varied_plain false covered lines = refl
-
-abbrev is_bare_if_any : Option Line → Bool
-is_bare_if_any line = option_map_or is_bare line true
-
-lines_bare : (b : Bool) (line : Option Line) → is_bare_if_any line ≡ true → list_all is_bare (lines_if b line) ≡ true
-lines_bare b None bare = refl
-lines_bare true (Some line) bare = and_from (is_bare line) true bare refl
-lines_bare false (Some line) bare = refl
-
-line_if : (b : Bool) (line : Line) → (b ≡ true → is_bare line ≡ true) → is_bare_if_any (cond b (Some line) None) ≡ true
-line_if true line bare = bare refl
-line_if false line bare = refl
-
-listed_bare : (line : Line) (listed : List Line) → list_all is_bare listed ≡ true
-    → list_any (bytes_eq line) listed ≡ true → is_bare line ≡ true
-listed_bare line [] bare found = absurd (cc found)
-listed_bare line (other ∷ listed) bare found =
-    let both = and_parts (is_bare other) (list_all is_bare listed) bare in
-    elim (or_cases (bytes_eq line other) (list_any (bytes_eq line) listed) found) [
-      | inl same ↦ ap is_bare ((bytes_eq-Decides line other).0 same) ∙ both.0
-      | inr later ↦ listed_bare line listed both.1 later
-    ]
-
-grant_bare : (origins : Option (List Line)) (sent : Option Line) → option_map_or (list_all is_bare) origins true ≡ true
-    → is_bare_if_any (grant origins sent) ≡ true
-grant_bare None sent bare = refl
-grant_bare (Some listed) None bare = refl
-grant_bare (Some listed) (Some line) bare =
-    line_if (list_any (bytes_eq line) listed) line (listed_bare line listed bare)
-
-policy_plain : (policy : Policy) (leave : Bool) (sent varying : List Line) → IsBarePolicy policy
-    → list_all is_plain (policy_fields policy leave sent varying) ≡ true
-unfolding eq_ignore_case
-policy_plain policy leave sent varying bare =
-    let line : Option Line = grant policy.origins (only_line sent) in
-    let grants : Bool = is_some line in
-    and_from (list_all is_bare (lines_if grants line)) _
-    (lines_bare grants line (grant_bare policy.origins (only_line sent) bare.origins))
-    (and_from (list_all is_bare (lines_if (grants && policy.credentials) (Some (codes "true")))) _
-    (lines_bare (grants && policy.credentials) (Some (codes "true")) refl)
-    (and_from (list_all is_bare (lines_if (grants && not leave) (filled_line policy.exposed))) _
-    (lines_bare (grants && not leave) (filled_line policy.exposed)
-    (line_if (is_filled policy.exposed) policy.exposed (λ is. bare.exposed)))
-    (and_from (list_all is_bare (lines_if (grants && leave) (Some policy.methods))) _
-    (lines_bare (grants && leave) (Some policy.methods) bare.methods)
-    (and_from (list_all is_bare (lines_if (grants && leave) (filled_line policy.names))) _
-    (lines_bare (grants && leave) (filled_line policy.names)
-    (line_if (is_filled policy.names) policy.names (λ is. bare.names)))
-    (and_from (list_all is_bare (lines_if (grants && leave) policy.max_age))
-    (list_all is_plain (vary_sent policy varying))
-    (lines_bare (grants && leave) policy.max_age bare.max_age)
-    (varied_plain (is_some policy.origins) (covers_origin varying) (varying ++ codes "origin" ∷ [])))))))
-
-pub shared_plain : (cors : Option Policy) (request : Asked) (lines : List Line) (shared : List Field) → IsBareIfAny cors
-    → IsShared cors request lines shared → list_all is_plain shared ≡ true
-shared_plain None request lines shared bare h = ap (list_all is_plain) h
-shared_plain (Some policy) request lines shared bare h =
-    ap (list_all is_plain) (h.2 ∙ h.1.fields)
-    ∙ policy_plain policy (is_preflight h.0.kind) (request.fields (codes "origin")) lines bare
-
--- ---- the fields of a plan
-
-removed_plain : (keeps whole : Bool)
-    → list_all is_plain
-    (cond keeps [] ((codes "content-encoding", []) ∷ [])
-    ++ cond whole [] ((codes "content-digest", []) ∷ (codes "content-md5", []) ∷ []))
-    ≡ true
-unfolding eq_ignore_case
-removed_plain true true = refl
-removed_plain true false = refl
-removed_plain false true = refl
-removed_plain false false = refl
-
-metadata_plain : (b : Bool) (x : Representation) → list_all is_plain (metadata_fields b x) ≡ true
-unfolding eq_ignore_case
-metadata_plain true x = refl
-metadata_plain false x = refl
-
-tag_bare : (tag : Option FieldValue) → is_bare_tag tag ≡ true
-    → list_all is_bare (lines_sent (λ (x : FieldValue). x.bytes) tag) ≡ true
-tag_bare None bare = refl
-tag_bare (Some tag) bare = and_from (is_bare tag.bytes) true bare refl
-
-etag_bare : (plan : Plan) (tag : Option FieldValue) → is_bare_tag tag ≡ true
-    → list_all is_bare (lines_sent (λ (x : FieldValue). x.bytes) (etag_sent plan tag)) ≡ true
-etag_bare plans.Failed tag bare = refl
-etag_bare plans.Unsatisfiable tag bare = refl
-etag_bare plan tag bare = tag_bare tag bare
-
-abbrev first_four : List Field → List Field
-first_four (a ∷ b ∷ c ∷ d ∷ more) = a ∷ b ∷ c ∷ d ∷ []
-first_four fields = []
-
-abbrev after_five : List Field → List Field
-after_five (a ∷ b ∷ c ∷ d ∷ e ∷ more) = more
-after_five fields = []
-
-module _ (present : ℕ) (plan : Plan) (target : Target) (content : Content) (multipart : FieldValue) where
-  -- the lines of Content-Length
-  abbrev pub own_lines : List Line
-  own_lines = lines_sent decimal (length_sent plan content.len)
-
-  abbrev own_field : List Field
-  own_field = (length_name, own_lines) ∷ []
-
-  sent_between : (known : Bool) → is_bare_tag (etag_of target) ≡ true
-      → Between is_plain own_field (fields_sent present plan known target content multipart)
-  unfolding eq_ignore_case
-  sent_between known bare =
-      let all : List Field = fields_sent present plan known target content multipart in
-      record {
-        before = first_four all;
-        after = after_five all;
-        are = refl;
-        first =
-            and_from (list_all is_bare (lines_sent (λ (x : FieldValue). x.bytes) (etag_sent plan (etag_of target)))) true
-            (etag_bare plan (etag_of target) bare) refl;
-        last = removed_plain (keeps_encoding plan known) (is_whole plan);
-      }
-
-  pub with_between : (fields : LineMap) (x : Option Representation) → is_bare_tag (etag_of target) ≡ true
-      → Between is_plain own_field
-      (with_metadata fields x plan (fields_sent present plan (is_known_by fields) target content multipart))
-  with_between fields None bare = sent_between (is_known_by fields) bare
-  with_between fields (Some x) bare =
-      after_all is_plain own_field (metadata_fields (describes plan (is_known_by fields)) x)
-      (fields_sent present plan (is_known_by fields) target content multipart)
-      (metadata_plain (describes plan (is_known_by fields)) x) (sent_between (is_known_by fields) bare)
-
--- ---- the fields around those of the answer
-
-pub dates_plain : (now : Option ℕ) → list_all is_plain_line (date_fields now ++ sniff_field ∷ []) ≡ true
-unfolding eq_ignore_case
-dates_plain None = refl
-dates_plain (Some seconds) = refl
-
-pub closing_plain : (b : Bool) → list_all is_plain_line (cond b [] ((codes "connection", codes "close") ∷ [])) ≡ true
-unfolding eq_ignore_case
-closing_plain true = refl
-closing_plain false = refl
-
-pub cache_plain : (b : Bool) (value : Option FieldValue) → list_all is_plain_line (cond b (cache_fields value) []) ≡ true
-unfolding eq_ignore_case
-cache_plain true None = refl
-cache_plain true (Some value) = refl
-cache_plain false value = refl
-
-page_plain : (b : Bool) → list_all is_plain_line (cond b [] (html_field ∷ [])) ≡ true
-unfolding eq_ignore_case
-page_plain true = refl
-page_plain false = refl
-
-pub explained_plain : (code : ℕ) (sent : Sends) → list_all is_plain_line (explained_fields code sent) ≡ true
-explained_plain code sends.Nothing = page_plain _
-explained_plain code sends.Alternatives = page_plain _
-explained_plain code sent = refl

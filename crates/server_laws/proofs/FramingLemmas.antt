@@ -137,7 +137,10 @@ counts (h ∷ hs) none =
               (λ (b : Bool). cond b (elements h.1) [] ++ elements_named (codes "transfer-encoding") hs) c
               ∙ rest.codings;
           count =
-              sum_by-cons _ h hs ∙ ap (λ (b : Bool). cond (b || is_named (codes "transfer-encoding") h) 1 0 + count_by is_framing_field hs) s
+              sum_by-cons _ h hs
+              ∙ ap
+              (λ (b : Bool).
+              cond (b || is_named (codes "transfer-encoding") h) 1 0 + count_by is_framing_field hs) s
               ∙ one_more _ _ rest.count;
           plain =
               ap (λ (b : Bool). cond b (is_plain_number h.1) coding && list_all frames_plainly hs) s
@@ -151,7 +154,8 @@ counts (h ∷ hs) none =
               (λ (b : Bool). cond b (elements h.1) [] ++ elements_named (codes "transfer-encoding") hs) c
               ∙ rest.codings;
           count =
-              sum_by-cons _ h hs ∙ (λ i. cond (s i || c i) 1 0 + count_by is_framing_field hs) ∙ zero-add _ ∙ rest.count;
+              sum_by-cons _ h hs ∙ (λ i. cond (s i || c i) 1 0 + count_by is_framing_field hs)
+              ∙ zero-add _ ∙ rest.count;
           plain =
               (λ i. cond (s i) (is_plain_number h.1) (cond (c i) (is_plain_chunked h.1) true)
               && list_all frames_plainly hs)
@@ -163,7 +167,8 @@ states_option : (n : ℕ) (option : List ℕ) → is_trimmed_value option ≡ tr
 unfolding eq_ignore_case is_token_byte
 states_option n option trimmed = states_other n (connection_header option) trimmed refl
 
-states_connection : (n : ℕ) (r : Request) (k : KnownFields) (keep : Bool) → StatesLength n false (connection_headers r k keep)
+states_connection : (n : ℕ) (r : Request) (k : KnownFields) (keep : Bool)
+    → StatesLength n false (connection_headers r k keep)
 states_connection n r k true = by_test ((eqb r.minor 0) && not k.keep_alive)
   where
     by_test : (t : Bool) → StatesLength n false (cond t (connection_header (codes "keep-alive") ∷ []) [])

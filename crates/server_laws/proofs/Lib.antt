@@ -1,10 +1,9 @@
 mod ExchangeLemmas
 mod FieldLemmas
-mod FramedLemmas
 mod FramingLemmas
+mod OkLemmas
 mod RequestLemmas
 mod RootLemmas
 mod SentLemmas
 mod ServedLemmas
-mod TextLemmas
 mod TrimmedLemmas

@@ -41,7 +41,7 @@ use Rattle.server_laws.proofs.SentLemmas.{answer_sent}
 use Rattle.server_connection.specs.Literal.{SendsCall}
 use Rattle.http1.specs.Server.{is_head}
 use Rattle.server_laws.specs.Sendable.{IsBareIfAny}
-use Rattle.server_laws.proofs.FramedLemmas.{framed_literally}
+use Rattle.server_laws.proofs.OkLemmas.{framed_literally}
 use Rattle.server_laws.proofs.RootLemmas.{get_root}
 use Rattle.server_laws.proofs.TrimmedLemmas.{decimal_trimmed, fixdate_trimmed}
 
@@ -144,8 +144,8 @@ module _ (config : Config) (settings : Settings) (first : FileService Memory) (r
       late = λ is. let wrong : 200 ≡ 101 = sym whole.status ∙ is in omega (arith, wrong);
       accepted = λ framing.
           answer_sent config.limits (root_head (codes "GET")) framing time first.left first.site (HasOne store) request
-          plan after.source of.is_site (subst IsBareIfAny (sym (of.cors ∙ bare.cors)) tt) (omega arith) (sym asks.method)
-          x.0.1;
+          plan after.source of.is_site (subst IsBareIfAny (sym (of.cors ∙ bare.cors)) tt) (omega arith)
+          (sym asks.method) x.0.1;
     }
 
   module _ (now : FileService Memory) (sent : List ℕ) where
