@@ -1,0 +1,129 @@
+-- What calls make of a cache, one after the other.
+use Rattle.std.proofs.Common.{◌≡◌, ℕ, List, [], ◌∷◌, ◌++◌, map, Option, Some, None, refl, sym, ap, subst, inl, inr, ◌∙◌}
+use Rattle.cache_store.specs.History.{Call, History, Run}
+use Rattle.cache_store.specs.History.Call.{Removed}
+use Rattle.cache_store.specs.Kept.{contents_of}
+use Rattle.cache_pass.specs.Effects.{DoAll, Does, Kept, Settings, kept_of, removals, settings_of}
+use Rattle.cache_pass.specs.Steps.{HasEnded}
+use Rattle.cache_pass.specs.Worlds.{Acts, Deed, IsStep, Log, Reaches, World, asks_of, calls_of}
+use Rattle.cache_pass.specs.Worlds.Deed.{Begins, Comes, Fails, Ends}
+use Rattle.cache_pass.specs.Worlds.Event.{Calls}
+use Rattle.cache_pass.specs.declared.cache.Cache.{Cache}
+use Rattle.cache_pass.specs.declared.pass.Pass.{Pass}
+use Rattle.cache_pass.specs.declared.pass.Phase.{Phase}
+use Rattle.cache_pass.specs.declared.pass.Phase.TheVariants.{Began, Asking, Passing, Ended}
+
+pub none-some : {X : Type 0} {x : X} → None ≡ Some x → ⊥
+none-some {X = X} {x = x} h = cc
+
+module _ (settings : Settings) where
+  pub do-both : (later earlier : History) (old between new : Kept) → DoAll settings earlier old between
+      → DoAll settings later between new → DoAll settings (later ++ earlier) old new
+  do-both [] earlier old between new first same =
+      subst (λ (k : Kept). DoAll settings earlier old k) (sym same) first
+  do-both (call ∷ later) earlier old between new first (before, done, does) =
+      (before, do-both later earlier old between before first done, does)
+
+  pub do-one : (call : Call) (old new : Kept) → Does settings call old new → DoAll settings (call ∷ []) old new
+  do-one call old new does = (old, refl, does)
+
+  pub run-further : (calls earlier : History) (old new : Kept)
+      → Run settings.policy settings.limits earlier old.contents → DoAll settings calls old new
+      → Run settings.policy settings.limits (calls ++ earlier) new.contents
+  run-further [] earlier old new ran same =
+      subst (λ (k : Kept). Run settings.policy settings.limits earlier k.contents) (sym same) ran
+  run-further (call ∷ calls) earlier old new ran (before, done, does) =
+      (before.contents, run-further calls earlier old before ran done, does.step)
+
+-- a target is removed, and then these
+pub removes-with : (settings later : Settings) (key : List ℕ) (targets : List (List ℕ)) (old between new : Kept)
+    → later ≡ settings → Does settings (Removed key) old between → DoAll later (removals targets) between new
+    → DoAll settings (removals (key ∷ targets)) old new
+removes-with settings later key targets old between new same first rest =
+    do-both settings (removals targets) (Removed key ∷ []) old between new
+    (do-one settings (Removed key) old between first)
+    (subst (λ (s : Settings). DoAll s (removals targets) between new) same rest)
+
+-- one more target is removed
+pub removals-append : (targets : List (List ℕ)) (last : List ℕ)
+    → removals (targets ++ last ∷ []) ≡ Removed last ∷ removals targets
+removals-append [] last = refl
+removals-append (target ∷ targets) last = ap (λ (l : History). l ++ Removed target ∷ []) (removals-append targets last)
+
+pub calls-made : (pass : ℕ) (calls : History) (log : Log)
+    → calls_of (map (Calls pass) calls ++ log) ≡ calls ++ calls_of log
+calls-made pass [] log = refl
+calls-made pass (call ∷ calls) log = ap (λ (l : History). call ∷ l) (calls-made pass calls log)
+
+pub calls-asked : (pass : ℕ) (phase : Phase) (log : Log) → calls_of (asks_of pass phase ++ log) ≡ calls_of log
+calls-asked pass Began log = refl
+calls-asked pass (Asking asked) log = refl
+calls-asked pass (Passing asked status response) log = refl
+calls-asked pass Ended log = refl
+
+-- ---- a step
+
+module _ (old : Pass) (before : Cache) (new : Pass) (after : Cache) (calls : History) where
+  pub step-settings : (deed : Deed) → IsStep deed old before new after calls
+      → settings_of after ≡ settings_of before
+  step-settings (Begins now first) (h, same) = h.settings
+  step-settings (Comes status response now next) (h, same) = h.settings
+  step-settings (Fails now found) (h, same) = h.settings
+  step-settings (Ends content reception now number) (h, same) = h.settings
+
+  abbrev Done : History → Type 0
+  Done made = DoAll (settings_of before) made (kept_of before) (kept_of after)
+
+  by-ended : (content : List ℕ) (reception : _) (now : ℕ) (number : Option ℕ)
+      → (h : HasEnded old before content reception now new after number) → Done h.calls
+  by-ended content reception now number h = elim h.closed [
+    | inl (complete, (came, received, inl (outdated, none, same, unnamed))) ↦ subst Done (sym none) same
+    | inl (complete, (came, received, inr (current, storing))) ↦
+        subst Done (sym storing.all) (storing.described, storing.describes, storing.stores)
+    | inr (same, none, unnamed) ↦ subst Done (sym none) same
+  ]
+
+  pub step-does : (deed : Deed) → IsStep deed old before new after calls → Done calls
+  step-does (Begins now first) (h, same) =
+      subst Done (sym same) (do-one (settings_of before) _ (kept_of before) (kept_of after) h.does)
+  step-does (Comes status response now next) (h, same) = subst Done (sym same) h.does
+  step-does (Fails now found) (h, same) =
+      subst Done (sym same) (do-one (settings_of before) _ (kept_of before) (kept_of after) h.does)
+  step-does (Ends content reception now number) (h, same) =
+      subst Done (sym same) (by-ended content reception now number h)
+
+-- ---- a run
+
+pub acts-log : (pass : ℕ) (deed : Deed) (old new : World) (acts : Acts pass deed old new)
+    → calls_of new.log ≡ acts.calls ++ calls_of old.log
+acts-log pass deed old new acts =
+    ap calls_of acts.log
+    ∙ calls-asked pass (new.passes pass).phase (map (Calls pass) acts.calls ++ old.log)
+    ∙ calls-made pass acts.calls old.log
+
+-- what a world has stored comes of the calls that its log has
+abbrev pub HasRun : Settings → World → Type 0
+HasRun settings world = Run settings.policy settings.limits (calls_of world.log) (contents_of world.cache.store)
+
+pub acts-run : (settings : Settings) (pass : ℕ) (deed : Deed) (old new : World) → settings_of old.cache ≡ settings
+    → HasRun settings old → Acts pass deed old new → HasRun settings new
+acts-run settings pass deed old new are ran acts =
+    let does = subst (λ (s : Settings). DoAll s acts.calls (kept_of old.cache) (kept_of new.cache)) are
+    (step-does (old.passes pass) old.cache (new.passes pass) new.cache acts.calls deed acts.step) in
+    subst (λ (h : History). Run settings.policy settings.limits h (contents_of new.cache.store))
+    (sym (acts-log pass deed old new acts))
+    (run-further settings acts.calls (calls_of old.log) (kept_of old.cache) (kept_of new.cache) ran does)
+
+pub reached : (settings : Settings) (deeds : List (ℕ × Deed)) (world : World) → Reaches settings deeds world
+    → (settings_of world.cache ≡ settings) × HasRun settings world
+reached settings [] world is = (
+  is.settings_are,
+  subst (λ (h : History). Run settings.policy settings.limits h (contents_of world.cache.store))
+      (sym (ap calls_of is.silent)) is.empty,
+)
+reached settings (last ∷ deeds) world (before, were, acts) =
+    let on = reached settings deeds before were in (
+      step-settings (before.passes last.0) before.cache (world.passes last.0) world.cache acts.calls last.1 acts.step
+          ∙ on.0,
+      acts-run settings last.0 last.1 before world on.0 on.1 acts,
+    )

@@ -1,0 +1,54 @@
+-- What is stored of a response that passed on.
+use Rattle.std.proofs.Common.{◌≡◌, ℕ, ◌∷◌, Option, Some, None, List, refl, subst, inr}
+use Rattle.cache_rules.specs.declared.storing.Reception.TheVariants.{Complete}
+use Rattle.cache_rules.specs.declared.stored.StoredResponse.{StoredResponse}
+use Rattle.cache_store.specs.Changes.{IsInserted, IsStoredAs, IsToStore}
+use Rattle.cache_store.specs.History.{History, Step}
+use Rattle.cache_store.specs.History.Call.{Arrived}
+use Rattle.cache_pass.specs.Effects.{DoAll, Kept, Settings}
+use Rattle.cache_pass.specs.Keeping.{AreDescribing, IsKept, IsNumbered}
+use Rattle.cache_pass.specs.Removals.{IsOutdated}
+
+module _ (settings later : Settings) (same : later ≡ settings) (key : List ℕ) (came : StoredResponse) (clock : ℕ)
+    (old described new : Kept) (fine : ¬ (IsOutdated old.removals key clock)) (before : History)
+    (describing : AreDescribing settings key came before) (describes : DoAll settings before old described)
+    (step : Step later.policy later.limits (Arrived key came Complete) described.contents new.contents)
+    (unnoted : new.removals ≡ described.removals) where
+  abbrev Stores : Settings → ℕ → Type 0
+  Stores s number =
+      (stored : StoredResponse) × IsToStore s.policy came Complete × IsStoredAs came stored
+      × (stored.number ≡ number) × IsInserted s.limits key stored described.contents new.contents
+
+  number-kept : (number : Option ℕ) → ((n : ℕ) → number ≡ Some n → Stores later n)
+      → IsNumbered settings key came described new number
+  number-kept None named = tt
+  number-kept (Some n) named = subst (λ (s : Settings). Stores s n) same (named n refl)
+
+  all-kept : (number : Option ℕ) → IsNumbered settings key came described new number
+      → (calls : History) × IsKept settings key came clock old new calls number
+  all-kept number named = (
+    Arrived key came Complete ∷ before,
+    inr (
+      fine,
+      record {
+        before = before;
+        describing = describing;
+        described = described;
+        describes = describes;
+        stores = record {
+          step = subst (λ (s : Settings). Step s.policy s.limits (Arrived key came Complete) described.contents
+              new.contents) same step;
+          noted = unnoted;
+        };
+        named = named;
+        all = refl;
+      },
+    ),
+  )
+
+  pub keeps : (number : Option ℕ) → ((n : ℕ) → number ≡ Some n → Stores later n)
+      → (calls : History) × IsKept settings key came clock old new calls number
+  keeps number named = all-kept number (number-kept number named)
+
+  pub keeps-none : (calls : History) × IsKept settings key came clock old new calls None
+  keeps-none = all-kept None tt

@@ -1,0 +1,196 @@
+-- What replies show.
+use Rattle.std.proofs.Common.{◌≡◌, ◌⊎◌, ℕ, List, Option, Some, None, refl, sym, subst, inl, inr, ◌∙◌}
+use Rattle.std.proofs.lemmas.Option.{same_Some}
+use Rattle.std.specs.Prelude.{IsSomeAnd, MatchOption}
+use Rattle.headers.specs.LineMap.{LineMap}
+use Rattle.headers.specs.declared.Encoded.{Encoded}
+use Rattle.cache_policy.specs.Requests.{Request}
+use Rattle.cache_policy.specs.declared.decision.Decision.{Decision}
+use Rattle.cache_policy.specs.declared.decision.Decision.TheVariants as decisions
+use Rattle.cache_rules.specs.Conditions.{IsForCache}
+use Rattle.cache_rules.specs.declared.freshening.Exchange.{Exchange}
+use Rattle.cache_rules.specs.declared.stored.StoredResponse.{StoredResponse}
+use Rattle.cache_store.specs.Changes.{IsRestored}
+use Rattle.cache_store.specs.Contents.{responses_at}
+use Rattle.cache_store.specs.Lookups.{HasFields, IsAnswer, IsFound}
+use Rattle.cache_store.specs.Numbers.{numbered}
+use Rattle.cache_store.specs.declared.lookup.Lookup.{Lookup}
+use Rattle.cache_store.specs.declared.lookup.Lookup.TheVariants as lookup
+use Rattle.cache_store.proofs.NumberLemmas.{Has-numbered}
+use Rattle.cache_pass.proofs.CallLemmas.{none-some}
+use Rattle.cache_pass.specs.Answers.{IsShownAfter}
+use Rattle.cache_pass.specs.Effects.{Kept, Settings}
+use Rattle.cache_pass.specs.Replies.{IsAlone, IsFirst, IsNoneOnError, IsReplyTo, IsShown, IsShownOnError, MayFallBack}
+use Rattle.cache_pass.specs.Replies.{number_on_error}
+use Rattle.cache_pass.specs.declared.replying.First.{First}
+use Rattle.cache_pass.specs.declared.replying.First.TheVariants as first
+use Rattle.cache_pass.specs.declared.replying.Reply.{Reply}
+
+some-and : {X : Type 0} (o : Option X) (P : X → Type 0) → IsSomeAnd o P → (x : X) × (o ≡ Some x) × P x
+some-and None P none = absurd none
+some-and (Some x) P is = (x, refl, is)
+
+module _ (settings : Settings) (request : Request) (now : ℕ) (responses : List StoredResponse) where
+  -- the reply by a number: the request is evaluated, and the response with the number is shown
+  abbrev Replies : ℕ → Reply → Type 0
+  Replies number reply =
+      IsForCache request
+      × IsSomeAnd (numbered number responses) (λ stored. IsReplyTo request now stored reply)
+
+  -- the response with a number is the one that is selected for the request, and this is decided about it
+  record IsFoundBy (number : ℕ) (decision : Decision) : Type 0 where
+    place : ℕ
+    found : IsFound settings.policy settings.guess request now responses decision place
+    shown : numbered number responses ≡ Some found.selected.response
+
+  shows : (number : ℕ) (decision : Decision) → IsFoundBy number decision → (reply : Reply) → Replies number reply
+      → IsShown settings request now responses decision reply
+  shows number decision by reply is =
+      let stored = by.found.selected.response in
+      let replies : IsReplyTo request now stored reply =
+      subst (λ (o : Option StoredResponse). IsSomeAnd o (λ s. IsReplyTo request now s reply)) by.shown is.1 in
+      let same : reply.number ≡ number = replies.number ∙ (Has-numbered responses number stored by.shown).1 in
+      record {
+        place = by.place;
+        found = by.found;
+        named = subst (λ (n : ℕ). numbered n responses ≡ Some stored) (sym same) by.shown;
+        evaluated = is.0;
+        replies = replies;
+      }
+
+  abbrev Answers : Lookup → Type 0
+  Answers = IsAnswer settings.policy settings.guess request now responses
+
+  by-serve : (number : ℕ) (field : Encoded) → Answers (lookup.Serve number field)
+      → IsFoundBy number decisions.Serve ⊎ IsFoundBy number decisions.ServeStale
+  by-serve number field (inl is) = inl (record { place = is.place; found = is.found; shown = is.shown })
+  by-serve number field (inr is) = inr (record { place = is.place; found = is.found; shown = is.shown })
+
+  by-meanwhile : (number : ℕ) (field : Encoded) → Answers (lookup.ServeAndRevalidate number field)
+      → IsFoundBy number decisions.ServeAndRevalidate
+  by-meanwhile number field is = record { place = is.place; found = is.found; shown = is.shown }
+
+  abbrev Fields : Type 0
+  Fields = HasFields settings.policy settings.guess request now responses
+
+  serve-fields : (number : ℕ) (field : Encoded) → Answers (lookup.Serve number field) → Fields
+  serve-fields number field (inl is) = (decisions.Serve, is.place, is.found, λ same. (cc))
+  serve-fields number field (inr is) = (decisions.ServeStale, is.place, is.found, λ same. (cc))
+
+  meanwhile-fields : (number : ℕ) (field : Encoded) → Answers (lookup.ServeAndRevalidate number field) → Fields
+  meanwhile-fields number field is = (decisions.ServeAndRevalidate, is.place, is.found, λ same. (cc))
+
+  alone-first : (given : First) → IsAlone request given → MayFallBack settings request now responses
+      → IsFirst settings request now responses given
+  alone-first (first.Reply reply) none may = absurd none
+  alone-first (first.ReplyAndValidate reply) none may = absurd none
+  alone-first first.Ask is may = (is, may)
+  alone-first (first.Validate fields) none may = absurd none
+  alone-first first.Unavailable is may = inr (is, may)
+
+  pub serve-shows : (number : ℕ) (field : Encoded) → Answers (lookup.Serve number field) → (reply : Reply)
+      → Replies number reply → IsFirst settings request now responses (first.Reply reply)
+  serve-shows number field is reply replies = elim (by-serve number field is) [
+    | inl by ↦ inl (shows number decisions.Serve by reply replies)
+    | inr by ↦ inr (shows number decisions.ServeStale by reply replies)
+  ]
+
+  pub meanwhile-shows : (number : ℕ) (field : Encoded) → Answers (lookup.ServeAndRevalidate number field)
+      → (reply : Reply) → Replies number reply → IsFirst settings request now responses (first.ReplyAndValidate reply)
+  meanwhile-shows number field is = shows number decisions.ServeAndRevalidate (by-meanwhile number field is)
+
+  pub serve-alone : (number : ℕ) (field : Encoded) → Answers (lookup.Serve number field) → (given : First)
+      → IsAlone request given → IsFirst settings request now responses given
+  serve-alone number field is given alone = alone-first given alone (inr (inr (serve-fields number field is)))
+
+  pub meanwhile-alone : (number : ℕ) (field : Encoded) → Answers (lookup.ServeAndRevalidate number field)
+      → (given : First) → IsAlone request given → IsFirst settings request now responses given
+  meanwhile-alone number field is given alone = alone-first given alone (inr (inr (meanwhile-fields number field is)))
+
+  -- ---- if the origin fails
+
+  pub error-fields : (found : Lookup) → Answers found → (number : ℕ) → number_on_error found ≡ Some number → Fields
+  error-fields (lookup.Serve other field) is number same = serve-fields other field is
+  error-fields (lookup.ServeAndRevalidate other field) is number same = meanwhile-fields other field is
+  error-fields (lookup.ValidateOrServe other fields) is number same =
+      (decisions.RevalidateOrServe, is.place, is.found, λ same. (cc))
+  error-fields (lookup.Validate other fields) is number same = absurd (none-some same)
+  error-fields lookup.Unavailable is number same = absurd (none-some same)
+  error-fields lookup.Forward is number same = absurd (none-some same)
+
+  pub error-none : (found : Lookup) → Answers found → number_on_error found ≡ None
+      → IsNoneOnError settings request now responses
+  error-none (lookup.Serve other field) is same = absurd (none-some (sym same))
+  error-none (lookup.ServeAndRevalidate other field) is same = absurd (none-some (sym same))
+  error-none (lookup.ValidateOrServe other fields) is same = absurd (none-some (sym same))
+  error-none (lookup.Validate other fields) is same = inr (inr (is.place, inl is.found))
+  error-none lookup.Unavailable (inl is) same = inr (inr (is.0, inr is.1))
+  error-none lookup.Unavailable (inr is) same = inl is.0
+  error-none lookup.Forward is same = inl is.0
+
+  -- what is decided about a response that may be served if the origin failed
+  abbrev Serves : Decision → Type 0
+  Serves decision =
+      (decision ≡ decisions.Serve) ⊎ (decision ≡ decisions.ServeStale) ⊎ (decision ≡ decisions.ServeAndRevalidate)
+      ⊎ (decision ≡ decisions.RevalidateOrServe)
+
+  abbrev Found : ℕ → Type 0
+  Found number = (decision : Decision) × IsFoundBy number decision × Serves decision
+
+  error-found : (found : Lookup) → Answers found → (number : ℕ) → number_on_error found ≡ Some number → Found number
+  error-found (lookup.Serve other field) is number same =
+      subst Found (same_Some other number same) (elim (by-serve other field is) [
+        | inl by ↦ (decisions.Serve, by, inl refl)
+        | inr by ↦ (decisions.ServeStale, by, inr (inl refl))
+      ])
+  error-found (lookup.ServeAndRevalidate other field) is number same =
+      subst Found (same_Some other number same)
+      (decisions.ServeAndRevalidate, by-meanwhile other field is, inr (inr (inl refl)))
+  error-found (lookup.ValidateOrServe other fields) is number same =
+      subst Found (same_Some other number same) (
+        decisions.RevalidateOrServe,
+        record { place = is.place; found = is.found; shown = is.shown },
+        inr (inr (inr refl)),
+      )
+  error-found (lookup.Validate other fields) is number same = absurd (none-some same)
+  error-found lookup.Unavailable is number same = absurd (none-some same)
+  error-found lookup.Forward is number same = absurd (none-some same)
+
+  pub error-reply : (found : Lookup) → Answers found → (number : ℕ) → number_on_error found ≡ Some number
+      → (reply : Option Reply)
+      → MatchOption reply ((numbered number responses ≡ None) ⊎ (¬ (IsForCache request))) (Replies number)
+      → MatchOption reply (IsNoneOnError settings request now responses) (IsShownOnError settings request now responses)
+  error-reply found answers number same None (inl none) =
+      absurd (none-some (sym none ∙ (error-found found answers number same).1.shown))
+  error-reply found answers number same None (inr other) = inr (inl other)
+  error-reply found answers number same (Some reply) replies =
+      let is = error-found found answers number same in (is.0, shows number is.0 is.1 reply replies, is.2)
+
+  -- none is served too if memory ran out for the answer
+  pub failed-answer : (found : Option Reply)
+      → MatchOption found (IsNoneOnError settings request now responses) (IsShownOnError settings request now responses)
+      → MatchOption found (IsNoneOnError settings request now responses ⊎ Fields)
+      (IsShownOnError settings request now responses)
+  failed-answer None none = inl none
+  failed-answer (Some reply) shown = shown
+
+-- ---- after a 304
+
+module _ (settings : Settings) (key : List ℕ) (request : Request) (update : LineMap) (exchange : Exchange)
+    (old new : Kept) where
+  pub shows-after : (number : ℕ)
+      → IsRestored settings.policy key request update exchange old.contents new.contents number → (reply : Reply)
+      → Replies settings request exchange.received (responses_at key new.contents) number reply
+      → IsShownAfter settings key request update exchange old new reply
+  shows-after number restored reply is =
+      let shown = some-and (numbered number (responses_at key new.contents))
+      (λ stored. IsReplyTo request exchange.received stored reply) is.1 in
+      let same : number ≡ reply.number = sym (shown.2.number
+      ∙ (Has-numbered (responses_at key new.contents) number shown.0 shown.1).1) in
+      record {
+        restored = subst (IsRestored settings.policy key request update exchange old.contents new.contents) same
+            restored;
+        evaluated = is.0;
+        replies = subst (λ (n : ℕ). IsSomeAnd (numbered n (responses_at key new.contents))
+            (λ stored. IsReplyTo request exchange.received stored reply)) same is.1;
+      }

@@ -1,0 +1,250 @@
+-- What a step answers is right.
+use Rattle.std.proofs.Common.{◌≡◌, ℕ, List, [], ◌∷◌, ◌++◌, Option, Some, None, refl, sym, ap, subst, inl, inr, ◌∙◌}
+use Rattle.std.proofs.Common.{true, length, slice_get, arith}
+use Rattle.std.proofs.lemmas.Slice.Eq.{bytes_eq-Decides}
+use Rattle.std.specs.Prelude.{IsSomeAnd}
+use Rattle.http_header.specs.FieldValue.{FieldValue}
+use Rattle.http_header.specs.HeaderMap.{Entries}
+use Rattle.headers.specs.LineMap.{lines_at}
+use Rattle.cache_policy.specs.declared.decision.Decision.{Decision}
+use Rattle.cache_policy.specs.declared.decision.Decision.TheVariants as decisions
+use Rattle.cache_rules.specs.Conditions.{IsStoredAnswer}
+use Rattle.cache_rules.specs.Selection.{IsCandidate}
+use Rattle.cache_rules.specs.declared.conditions.StoredAnswer.{StoredAnswer}
+use Rattle.cache_rules.specs.declared.stored.StoredResponse.{StoredResponse}
+use Rattle.cache_rules.specs.Freshening.{IsFreshened}
+use Rattle.cache_rules.specs.declared.freshening.Exchange.{Exchange}
+use Rattle.cache_store.specs.Changes.{IsLetGo}
+use Rattle.cache_store.specs.Contents.{Contents, responses_at, without}
+use Rattle.cache_store.specs.History.{History, IsJustified}
+use Rattle.cache_store.specs.Kept.{contents_of}
+use Rattle.cache_store.specs.Numbers.{numbered}
+use Rattle.cache_store.proofs.HistoryLemmas.{Has-slice_get, HasUnder-responses_at, run-justified}
+use Rattle.cache_store.proofs.LawLemmas.{stored-may-be}
+use Rattle.cache_store.proofs.NumberLemmas.{Has-numbered, distinct-at, numbered-at}
+use Rattle.cache_pass.specs.Answers.{IsShownAfter}
+use Rattle.cache_pass.specs.Effects.{Settings, kept_of, settings_of, stored_at}
+use Rattle.cache_pass.specs.Origin.{IsNext}
+use Rattle.cache_pass.specs.Passes.{asked_of, key_of, request_of_pass}
+use Rattle.cache_pass.specs.Replies.{IsFirst, IsReplyTo, IsShown, IsShownOnError}
+use Rattle.cache_pass.specs.Right.{IsGood, IsGoodOnError, IsOfStored, IsRight, IsRightOnError, IsRightReply}
+use Rattle.cache_pass.specs.Right.{IsRightValidated}
+use Rattle.cache_pass.specs.Steps.{HasBegun, HasCome, HasFailed}
+use Rattle.cache_pass.specs.Worlds.{Acts, Deed, IsStep, Reaches, World, calls_of}
+use Rattle.cache_pass.specs.Worlds.Deed.{Begins, Comes, Fails, Ends}
+use Rattle.cache_pass.specs.declared.cache.Cache.{Cache}
+use Rattle.cache_pass.specs.declared.pass.Asked.{Asked}
+use Rattle.cache_pass.specs.declared.pass.Pass.{Pass}
+use Rattle.cache_pass.specs.declared.replying.First.{First}
+use Rattle.cache_pass.specs.declared.replying.First.TheVariants as first
+use Rattle.cache_pass.specs.declared.replying.Reply.{Reply}
+use Rattle.cache_pass.specs.declared.revalidating.Next.{Next}
+use Rattle.cache_pass.specs.declared.revalidating.Next.TheVariants as next
+use Rattle.cache_pass.proofs.CallLemmas.{HasRun, acts-run, reached}
+
+module _ (settings : Settings) (world : World) (ran : HasRun settings world) (pass : Pass) (now : ℕ) (reply : Reply)
+  where
+    -- a response with the number that is under the target of the pass, matches and is shown
+    of-stored : (stored : StoredResponse) → numbered reply.number (stored_at (key_of pass) world.cache) ≡ Some stored
+        → IsCandidate (request_of_pass pass) stored → IsReplyTo (request_of_pass pass) now stored reply
+        → IsOfStored settings world pass now reply stored
+    of-stored stored named matches shown =
+        let under = HasUnder-responses_at (key_of pass) (contents_of world.cache.store) stored
+        (Has-numbered (stored_at (key_of pass) world.cache) reply.number stored named).0 in
+        record {
+          named = named;
+          justified = run-justified settings.policy settings.limits (calls_of world.log)
+              (contents_of world.cache.store) ran (key_of pass) stored under;
+          may_be_stored = stored-may-be settings.policy settings.limits (calls_of world.log)
+              (contents_of world.cache.store) ran (key_of pass) stored under;
+          matches = matches;
+          shown = shown;
+        }
+
+    abbrev Shown : Decision → Type 0
+    Shown decision =
+        IsShown settings (request_of_pass pass) now (stored_at (key_of pass) world.cache) decision reply
+
+    of-shown : (decision : Decision) → (s : Shown decision)
+        → IsOfStored settings world pass now reply s.found.selected.response
+    of-shown decision s = of-stored s.found.selected.response s.named s.found.selected.is s.replies
+
+    abbrev Good : StoredResponse → Type 0
+    Good stored = IsGood settings (request_of_pass pass) now stored
+
+    good-serve : (s : Shown decisions.Serve) → Good s.found.selected.response
+    good-serve s = record {
+      lifetime = s.found.lifetime;
+      fresh_for = s.found.fresh_for;
+      good = (s.found.decided.0, inl s.found.decided.1);
+    }
+
+    good-stale : (s : Shown decisions.ServeStale) → Good s.found.selected.response
+    good-stale s = record {
+      lifetime = s.found.lifetime;
+      fresh_for = s.found.fresh_for;
+      good = (s.found.decided.0, inr (inr s.found.decided.3));
+    }
+
+    good-meanwhile : (s : Shown decisions.ServeAndRevalidate) → Good s.found.selected.response
+    good-meanwhile s = record {
+      lifetime = s.found.lifetime;
+      fresh_for = s.found.fresh_for;
+      good = (s.found.decided.0, inr (inl s.found.decided.2));
+    }
+
+    good-error : (s : Shown decisions.RevalidateOrServe)
+        → IsGoodOnError settings (request_of_pass pass) now s.found.selected.response
+    good-error s =
+        record { lifetime = s.found.lifetime; fresh_for = s.found.fresh_for; good = s.found.decided.2 }
+
+    right-serve : Shown decisions.Serve → IsRightReply settings world pass now reply
+    right-serve s = (s.found.selected.response, of-shown decisions.Serve s, good-serve s)
+
+    right-stale : Shown decisions.ServeStale → IsRightReply settings world pass now reply
+    right-stale s = (s.found.selected.response, of-shown decisions.ServeStale s, good-stale s)
+
+    right-meanwhile : Shown decisions.ServeAndRevalidate → IsRightReply settings world pass now reply
+    right-meanwhile s = (s.found.selected.response, of-shown decisions.ServeAndRevalidate s, good-meanwhile s)
+
+    as-on-error : IsRightReply settings world pass now reply → IsRightOnError settings world pass now reply
+    as-on-error (stored, is, good) = (stored, is, inl good)
+
+    right-error : IsShownOnError settings (request_of_pass pass) now (stored_at (key_of pass) world.cache) reply
+        → IsRightOnError settings world pass now reply
+    right-error (decision, s, inl same) = as-on-error (right-serve (subst Shown same s))
+    right-error (decision, s, inr (inl same)) = as-on-error (right-stale (subst Shown same s))
+    right-error (decision, s, inr (inr (inl same))) = as-on-error (right-meanwhile (subst Shown same s))
+    right-error (decision, s, inr (inr (inr same))) =
+        let is = subst Shown same s in
+        (is.found.selected.response, of-shown decisions.RevalidateOrServe is, inr (good-error is))
+
+-- ---- the response that a 304 updated
+
+slice-last : (xs : List StoredResponse) (x : StoredResponse) → slice_get (xs ++ x ∷ []) (length xs) ≡ Some x
+slice-last [] x = grind arith
+slice-last (y ∷ xs) x = grind (arith, slice-last xs x)
+
+at-put : (target : List ℕ) (responses : List StoredResponse) (rest : Contents)
+    → responses_at target ((target, responses) ∷ rest) ≡ responses
+at-put target responses rest = rw ((bytes_eq-Decides target target).1 refl)
+
+-- the last of the responses under a target is the one that its number names
+last-named : (cache : Cache) (target : List ℕ) (left : List StoredResponse) (fresh : StoredResponse) (rest : Contents)
+    → contents_of cache.store ≡ (target, left ++ fresh ∷ []) ∷ rest
+    → numbered fresh.number (stored_at target cache) ≡ Some fresh
+last-named cache target left fresh rest put =
+    let same : stored_at target cache ≡ left ++ fresh ∷ [] =
+    ap (responses_at target) put ∙ at-put target (left ++ fresh ∷ []) rest in
+    numbered-at (stored_at target cache) (length left) fresh
+    (distinct-at cache.store.next target (contents_of cache.store) cache.store.numbered)
+    (subst (λ (l : List StoredResponse). slice_get l (length left) ≡ Some fresh) (sym same) (slice-last left fresh))
+
+-- ---- a step
+
+module _ (settings : Settings) (before world : World) (pass : Pass) (new : Pass) (was_run : HasRun settings before)
+    (ran : HasRun settings world) (are : settings_of before.cache ≡ settings) where
+  abbrev Right : Deed → Type 0
+  Right = IsRight settings before world pass
+
+  begun-right : (now : ℕ) (given : First) → HasBegun pass before.cache now new world.cache given
+      → Right (Begins now given)
+  begun-right now (first.Reply reply) h = elim (subst (λ (s : Settings). IsFirst s (request_of_pass pass) now
+      (stored_at (key_of pass) world.cache) (first.Reply reply)) are h.answer) [
+        | inl s ↦ right-serve settings world ran pass now reply s
+        | inr s ↦ right-stale settings world ran pass now reply s
+      ]
+  begun-right now (first.ReplyAndValidate reply) h = right-meanwhile settings world ran pass now reply
+      (subst (λ (s : Settings). IsFirst s (request_of_pass pass) now (stored_at (key_of pass) world.cache)
+      (first.ReplyAndValidate reply)) are h.answer)
+  begun-right now first.Ask h = tt
+  begun-right now (first.Validate fields) h = tt
+  begun-right now first.Unavailable h = tt
+
+  failed-right : (now : ℕ) (found : Option Reply) → HasFailed pass before.cache now new world.cache found
+      → Right (Fails now found)
+  failed-right now None h = tt
+  failed-right now (Some reply) h = right-error settings world ran pass now reply
+      (subst (λ (s : Settings). IsShownOnError s (request_of_pass pass) now (stored_at (key_of pass) world.cache) reply)
+      are h.answer)
+
+  module _ (status : ℕ) (response : Entries FieldValue) (now : ℕ) (asked : Asked)
+      (asking : asked_of pass.phase ≡ Some asked) where
+    abbrev made : Exchange
+    made = record { requested = asked.requested; received = now }
+
+    validated-right : (reply : Reply)
+        → IsShownAfter settings (key_of pass) (request_of_pass pass) (lines_at response) made (kept_of before.cache)
+        (kept_of world.cache) reply
+        → IsRightValidated settings world pass now (lines_at response) asked reply
+    validated-right reply is =
+        let fresh = is.restored.fresh in
+        let named : numbered reply.number (stored_at (key_of pass) world.cache) ≡ Some fresh =
+        subst (λ (n : ℕ). numbered n (stored_at (key_of pass) world.cache) ≡ Some fresh) (sym is.restored.at)
+        (last-named world.cache (key_of pass) is.restored.left fresh
+        (without (key_of pass) (contents_of before.cache.store)) is.restored.put) in
+        let shown : IsReplyTo (request_of_pass pass) now fresh reply =
+        subst (λ (o : Option StoredResponse). IsSomeAnd o
+        (λ stored. IsReplyTo (request_of_pass pass) now stored reply)) named is.replies in (
+          fresh,
+          of-stored settings world ran pass now reply fresh named is.restored.reusable.suits shown,
+          (is.restored.refreshed.selected.response, is.restored.refreshed.freshened),
+        )
+
+    once-right : (fresh : StoredResponse) (answer : StoredAnswer)
+        → IsLetGo settings.policy (key_of pass) (request_of_pass pass) (lines_at response) made
+        (contents_of before.cache.store) (contents_of world.cache.store) fresh
+        → IsStoredAnswer now (request_of_pass pass) fresh true answer
+        → (old : StoredResponse) × IsJustified settings.policy (key_of pass) (calls_of before.log) old
+        × IsCandidate (request_of_pass pass) old × IsFreshened old (lines_at response) made fresh
+        × IsStoredAnswer now (request_of_pass pass) fresh true answer
+    once-right fresh answer is answered =
+        let chosen = is.refreshed.selected in (
+          chosen.response,
+          run-justified settings.policy settings.limits (calls_of before.log) (contents_of before.cache.store) was_run
+              (key_of pass) chosen.response
+              (HasUnder-responses_at (key_of pass) (contents_of before.cache.store) chosen.response
+              (Has-slice_get (stored_at (key_of pass) before.cache) is.refreshed.place chosen.response chosen.at)),
+          chosen.is.0,
+          is.refreshed.freshened,
+          answered,
+        )
+
+    abbrev Nexts : History → Next → Settings → Type 0
+    Nexts calls given s = IsNext s (key_of pass) (request_of_pass pass) asked status (lines_at response) now
+        (kept_of before.cache) (kept_of world.cache) calls given
+
+    next-right : (calls : History) (given : Next) → Nexts calls given settings → Right (Comes status response now given)
+    next-right calls (next.Reply reply) (inl (validates, outdated, none, asks)) = absurd (cc)
+    next-right calls (next.Reply reply) (inr (inl (validates, fine, one, is))) =
+        inl (validates.1, (asked, asking, validated-right reply is))
+    next-right calls (next.Reply reply) (inr (inr (inl (other, failed, one, is)))) =
+        inr (failed, right-error settings world ran pass now reply is)
+    next-right calls (next.Reply reply) (inr (inr (inr (other, unfailed, removed, is)))) = absurd is
+    next-right calls (next.Once fresh answer) (inl (validates, outdated, none, asks)) = absurd (cc)
+    next-right calls (next.Once fresh answer) (inr (inl (validates, fine, one, is))) =
+        (validates.1, (asked, asking, once-right fresh answer is.0 is.1))
+    next-right calls (next.Once fresh answer) (inr (inr (inl (other, failed, one, is)))) = absurd is
+    next-right calls (next.Once fresh answer) (inr (inr (inr (other, unfailed, removed, is)))) = absurd is
+    next-right calls next.Ask is = tt
+    next-right calls (next.PassOn kept) is = tt
+
+  come-right : (status : ℕ) (response : Entries FieldValue) (now : ℕ) (given : Next)
+      → HasCome pass before.cache status response now new world.cache given → Right (Comes status response now given)
+  come-right status response now given h = next-right status response now h.asked h.asking h.calls given
+      (subst (λ (s : Settings). IsNext s (key_of pass) (request_of_pass pass) h.asked status (lines_at response) now
+      (kept_of before.cache) (kept_of world.cache) h.calls given) are h.answer)
+
+  step-right : (calls : History) (deed : Deed) → IsStep deed pass before.cache new world.cache calls → Right deed
+  step-right calls (Begins now given) (h, same) = begun-right now given h
+  step-right calls (Comes status response now given) (h, same) = come-right status response now given h
+  step-right calls (Fails now found) (h, same) = failed-right now found h
+  step-right calls (Ends content reception now number) (h, same) = tt
+
+pub answers-right : (settings : Settings) (deeds : List (ℕ × Deed)) (before : World) → Reaches settings deeds before
+    → (pass : ℕ) (deed : Deed) (world : World) → Acts pass deed before world
+    → IsRight settings before world (before.passes pass) deed
+answers-right settings deeds before were pass deed world acts =
+    let on = reached settings deeds before were in
+    step-right settings before world (before.passes pass) (world.passes pass) on.1
+    (acts-run settings pass deed before world on.0 on.1 acts) on.0 acts.calls deed acts.step

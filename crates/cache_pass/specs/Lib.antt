@@ -1,0 +1,10 @@
+pub mod Answers
+pub mod Effects
+pub mod Keeping
+pub mod Origin
+pub mod Passes
+pub mod Removals
+pub mod Replies
+pub mod Right
+pub mod Steps
+pub mod Worlds

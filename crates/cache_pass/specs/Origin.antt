@@ -1,0 +1,69 @@
+-- What a cache does with a response of the origin (RFC 9111, sections 4.3 and 4.4; RFC 5861, section 4).
+use Rattle.std.specs.Prelude.{◌≡◌, ◌⊎◌, ℕ, List, [], ◌∷◌, map, true}
+use Rattle.std.specs.Bool.{MatchBool}
+use Rattle.url.specs.Parts.{Parts, serialize}
+use Rattle.headers.specs.LineMap.{LineMap}
+use Rattle.cache_policy.specs.Requests.{Request}
+use Rattle.cache_rules.specs.Errors.{IsFailure}
+use Rattle.cache_rules.specs.Invalidation.{Invalidates}
+use Rattle.cache_rules.specs.declared.freshening.Exchange.{Exchange}
+use Rattle.cache_store.specs.Contents.{responses_at}
+use Rattle.cache_store.specs.History.{History}
+use Rattle.cache_store.specs.History.Call.{Looked, Validated}
+use Rattle.cache_store.specs.Named.{AreNamed}
+use Rattle.cache_pass.specs.Answers.{IsRevalidated}
+use Rattle.cache_pass.specs.Effects.{Kept, Settings, removals}
+use Rattle.cache_pass.specs.Keeping.{IsWanted}
+use Rattle.cache_pass.specs.Removals.{IsOutdated}
+use Rattle.cache_pass.specs.Replies.{IsShownOnError}
+use Rattle.cache_pass.specs.declared.pass.Asked.{Asked}
+use Rattle.cache_pass.specs.declared.revalidating.Next.{Next}
+use Rattle.cache_pass.specs.declared.revalidating.Next.TheVariants.{Reply, Once, Ask, PassOn}
+
+-- the response is to a request that validates, and says that what is stored is still good
+abbrev pub IsValidation : Asked → ℕ → Type 0
+IsValidation asked status = (asked.validates ≡ true) × (status ≡ 304)
+
+-- These calls remove what a response to a method invalidates (section 4.4): the target, and those that the response
+-- names, unless memory runs out for these.
+abbrev pub IsInvalidation : List ℕ → List ℕ → ℕ → LineMap → History → Type 0
+IsInvalidation key method status response calls =
+    (Invalidates method status
+    × ((named : List Parts) × (AreNamed key response named ⊎ (named ≡ []))
+    × (calls ≡ removals (key ∷ map serialize named))))
+    ⊎ ((¬ (Invalidates method status)) × (calls ≡ []))
+
+module _ (settings : Settings) (key : List ℕ) where
+  module _ (request : Request) where
+    -- the response passes on, and is kept if it is to be stored
+    abbrev pub IsPassedOn : ℕ → LineMap → Next → Type 0
+    IsPassedOn status response (Reply reply) = ⊥
+    IsPassedOn status response (Once fresh answer) = ⊥
+    IsPassedOn status response Ask = ⊥
+    IsPassedOn status response (PassOn kept) =
+        MatchBool kept (IsWanted settings.policy request status response)
+        (¬ (IsWanted settings.policy request status response))
+
+    -- A response that says that the origin failed is replaced by what may be served now, or passes on.
+    abbrev pub IsFailing : ℕ → LineMap → ℕ → Kept → Next → Type 0
+    IsFailing status response now new (Reply reply) =
+        IsShownOnError settings request now (responses_at key new.contents) reply
+    IsFailing status response now new (Once fresh answer) = ⊥
+    IsFailing status response now new Ask = ⊥
+    IsFailing status response now new (PassOn kept) = IsPassedOn status response (PassOn kept)
+
+    module _ (asked : Asked) (status : ℕ) (response : LineMap) (now : ℕ) (old new : Kept) where
+      abbrev pub exchange : Exchange
+      exchange = record { requested = asked.requested; received = now }
+
+      -- which facts give each answer, and by which calls of the store
+      abbrev pub IsNext : History → Next → Type 0
+      IsNext calls next =
+          (IsValidation asked status × IsOutdated old.removals key asked.clock × (calls ≡ []) × (next ≡ Ask))
+          ⊎ (IsValidation asked status × (¬ (IsOutdated old.removals key asked.clock))
+          × (calls ≡ Validated key request response exchange ∷ [])
+          × IsRevalidated settings key request response exchange old new next)
+          ⊎ ((¬ (IsValidation asked status)) × IsFailure status × (calls ≡ Looked key ∷ [])
+          × IsFailing status response now new next)
+          ⊎ ((¬ (IsValidation asked status)) × (¬ (IsFailure status))
+          × IsInvalidation key request.method status response calls × IsPassedOn status response next)

@@ -1,0 +1,109 @@
+-- Passes over one cache, whose steps interleave.
+use Rattle.std.specs.Prelude.{◌≡◌, ◌⊎◌, ⊤, ℕ, List, [], ◌∷◌, ◌++◌, map, Option}
+use Rattle.http_header.specs.FieldValue.{FieldValue}
+use Rattle.http_header.specs.HeaderMap.{Entries}
+use Rattle.cache_rules.specs.declared.storing.Reception.{Reception}
+use Rattle.cache_store.specs.History.{Call, History, Removes}
+use Rattle.cache_store.specs.History.Call.{Looked, Arrived, Validated, Described, Answered, Removed}
+use Rattle.cache_store.specs.Kept.{contents_of}
+use Rattle.cache_pass.specs.Effects.{Settings, settings_of}
+use Rattle.cache_pass.specs.Passes.{key_of}
+use Rattle.cache_pass.specs.Steps.{HasBegun, HasCome, HasEnded, HasFailed}
+use Rattle.cache_pass.specs.declared.cache.Cache.{Cache}
+use Rattle.cache_pass.specs.declared.pass.Pass.{Pass}
+use Rattle.cache_pass.specs.declared.pass.Phase.{Phase}
+use Rattle.cache_pass.specs.declared.pass.Phase.TheVariants.{Began, Asking, Passing, Ended}
+use Rattle.cache_pass.specs.declared.replying.First.{First}
+use Rattle.cache_pass.specs.declared.replying.Reply.{Reply}
+use Rattle.cache_pass.specs.declared.revalidating.Next.{Next}
+
+-- ---- what happens
+
+-- a pass, by its name, asks the origin, or makes a call of the store
+pub data Event : Type 0 where
+  Asks : ℕ → Event
+  Calls : ℕ → Call → Event
+
+-- what happened, the latest first
+abbrev pub Log : Type 0
+Log = List Event
+
+-- the calls of the store
+abbrev pub calls_of : Log → History
+calls_of [] = []
+calls_of (Asks pass ∷ log) = calls_of log
+calls_of (Calls pass call ∷ log) = call ∷ calls_of log
+
+-- the call stores or updates responses under the target
+abbrev pub StoresAt : List ℕ → Call → Type 0
+StoresAt target (Looked other) = ⊥
+StoresAt target (Arrived other came reception) = other ≡ target
+StoresAt target (Validated other request update exchange) = other ≡ target
+StoresAt target (Described other request head exchange) = other ≡ target
+StoresAt target (Answered other method status) = ⊥
+StoresAt target (Removed other) = ⊥
+
+-- the pass has asked, and nothing since then removed the target
+abbrev pub IsCurrent : ℕ → List ℕ → Log → Type 0
+IsCurrent pass target [] = ⊥
+IsCurrent pass target (Asks other ∷ log) = (other ≡ pass) ⊎ IsCurrent pass target log
+IsCurrent pass target (Calls other call ∷ log) = (¬ (Removes target call)) × IsCurrent pass target log
+
+-- what stores or updates responses was asked since their target was last removed (RFC 9111, section 4.4)
+abbrev pub AreCurrent : Log → Type 0
+AreCurrent [] = ⊤
+AreCurrent (Asks pass ∷ log) = AreCurrent log
+AreCurrent (Calls pass call ∷ log) =
+    ((target : List ℕ) → StoresAt target call → IsCurrent pass target log) × AreCurrent log
+
+-- ---- who acts
+
+-- the cache, each pass by its name, and what happened
+pub record World : Type 0 where
+  pub cache : Cache
+  pub passes : ℕ → Pass
+  pub log : Log
+
+-- a step of a pass, and what it answered
+pub data Deed : Type 0 where
+  Begins : ℕ → First → Deed
+  Comes : ℕ → Entries FieldValue → ℕ → Next → Deed
+  Fails : ℕ → Option Reply → Deed
+  Ends : List ℕ → Reception → ℕ → Option ℕ → Deed
+
+-- The step is as its contract says, and makes these calls.
+abbrev pub IsStep : Deed → Pass → Cache → Pass → Cache → History → Type 0
+IsStep (Begins now first) old before new after calls =
+    HasBegun old before now new after first × (calls ≡ Looked (key_of old) ∷ [])
+IsStep (Comes status response now next) old before new after calls =
+    (come : HasCome old before status response now new after next) × (calls ≡ come.calls)
+IsStep (Fails now found) old before new after calls =
+    HasFailed old before now new after found × (calls ≡ Looked (key_of old) ∷ [])
+IsStep (Ends content reception now number) old before new after calls =
+    (ended : HasEnded old before content reception now new after number) × (calls ≡ ended.calls)
+
+-- a pass that asks after its step asked in it
+abbrev pub asks_of : ℕ → Phase → Log
+asks_of pass Began = []
+asks_of pass (Asking asked) = Asks pass ∷ []
+asks_of pass (Passing asked status response) = []
+asks_of pass Ended = []
+
+-- a step of the pass with this name; no other pass changes
+pub record Acts (pass : ℕ) (deed : Deed) (old new : World) : Type 0 where
+  pub calls : History
+  pub step : IsStep deed (old.passes pass) old.cache (new.passes pass) new.cache calls
+  pub others : (other : ℕ) → (other ≡ pass) ⊎ (new.passes other ≡ old.passes other)
+  pub log : new.log ≡ asks_of pass (new.passes pass).phase ++ (map (Calls pass) calls ++ old.log)
+
+-- nothing is stored, and nothing has happened
+pub record IsNew (settings : Settings) (world : World) : Type 0 where
+  pub empty : contents_of world.cache.store ≡ []
+  pub settings_are : settings_of world.cache ≡ settings
+  pub began : (pass : ℕ) → (world.passes pass).phase ≡ Began
+  pub silent : world.log ≡ []
+
+-- this comes of a new world by any steps of any passes, in any order
+abbrev pub Reaches : Settings → List (ℕ × Deed) → World → Type 0
+Reaches settings [] world = IsNew settings world
+Reaches settings (last ∷ deeds) world = (before : World) × Reaches settings deeds before × Acts last.0 last.1 before world

@@ -1,0 +1,48 @@
+//! Theorems about every run of passes over one cache. To cite one in a proof, call it.
+ghost use Rattle.std.specs.Prelude.{◌≡◌, ℕ, List};
+ghost use Rattle.http_header.specs.FieldValue.{FieldValue};
+ghost use Rattle.http_header.specs.HeaderMap.{Entries};
+ghost use Rattle.headers.specs.LineMap.{lines_at};
+ghost use Rattle.cache_policy.specs.Requests.{IsSafe};
+ghost use Rattle.cache_rules.specs.Errors.{IsFailure};
+ghost use Rattle.cache_pass.specs.Effects.{Settings, kept_of, settings_of};
+ghost use Rattle.cache_pass.specs.Keeping.{IsWanted};
+ghost use Rattle.cache_pass.specs.Passes.{request_of_pass};
+ghost use Rattle.cache_pass.specs.Right.{IsRight};
+ghost use Rattle.cache_pass.specs.Steps.{HasCome};
+ghost use Rattle.cache_pass.specs.declared.cache.Cache.{Cache};
+ghost use Rattle.cache_pass.specs.declared.pass.Pass.{Pass};
+ghost use Rattle.cache_pass.specs.declared.pass.Phase.TheVariants.{Ended};
+ghost use Rattle.cache_pass.specs.declared.revalidating.Next.{Next};
+ghost use Rattle.cache_pass.specs.Worlds.{Acts, AreCurrent, Deed, Reaches, World};
+
+/// Theorem: whatever steps of whatever passes come before, in any order, what a step answers is right for its
+/// pass. A stored response that it names is stored under the target of this pass, by calls that justify that;
+/// it may be stored, and matches this request by method and Vary. It is fresh at that time, or allowed stale;
+/// or the origin failed at that time, and it is allowed stale then; or a 304 to this very request has just
+/// updated it. Where a step names none, the client gets what the origin answers to this pass.
+pub fn answers_are_right()
+    ensures { (settings : Settings) (deeds : List (ℕ × Deed)) (before : World) → Reaches settings deeds before
+        → (pass : ℕ) (deed : Deed) (world : World) → Acts pass deed before world
+        → IsRight settings before world (before.passes pass) deed }
+{}
+
+/// Theorem: whatever steps of whatever passes come, in any order, a response that is stored, or updates stored
+/// ones, was asked by its pass since its target was last removed (RFC 9111, section 4.4). So no answer that a
+/// PUT has outdated is stored.
+pub fn what_is_stored_was_asked_since_the_last_removal()
+    ensures { (settings : Settings) (deeds : List (ℕ × Deed)) (world : World) → Reaches settings deeds world
+        → AreCurrent world.log }
+{}
+
+/// Theorem: a response that isn't to be stored, as one with `no-store`, or with `private` in a shared cache,
+/// leaves the cache as it was, and its pass ends: so no other pass learns of it. Its request is safe; it says
+/// neither that the origin failed nor that what is stored is still good.
+pub fn what_is_not_stored_leaves_nothing()
+    ensures { (old : Pass) (before : Cache) (status : ℕ) (response : Entries FieldValue) (now : ℕ) (new : Pass)
+        (after : Cache) (next : Next)
+        → HasCome old before status response now new after next
+        → ¬ (IsWanted (settings_of before).policy (request_of_pass old) status (lines_at response))
+        → IsSafe old.method → ¬ (IsFailure status) → ¬ (status ≡ 304)
+        → (kept_of after ≡ kept_of before) × (new.phase ≡ Ended) }
+{}
