@@ -7,12 +7,12 @@ use Rattle.cache_policy.specs.Requests.{Request}
 use Rattle.cache_policy.specs.declared.Kind.TheVariants.{Shared}
 use Rattle.cache_rules.specs.Stored.{fields_of_stored, request_of_stored}
 use Rattle.cache_rules.specs.Storing.{IsStored}
-use Rattle.cache_rules.specs.declared.freshening.Exchange.{Exchange}
 use Rattle.cache_rules.specs.declared.storing.Reception.TheVariants.{Complete}
 use Rattle.cache_rules.specs.declared.stored.StoredResponse.{StoredResponse}
 use Rattle.cache_store.specs.Changes.{IsInserted, IsStoredAs, IsToStore}
 use Rattle.cache_store.specs.History.{History}
 use Rattle.cache_store.specs.History.Call.{Arrived, Described}
+use Rattle.cache_store.specs.Parts.Combining.{exchange_of}
 use Rattle.cache_pass.specs.Effects.{DoAll, Does, Kept, Settings}
 use Rattle.cache_pass.specs.Removals.{IsOutdated}
 
@@ -23,10 +23,6 @@ pub record IsWanted (policy : Policy) (request : Request) (status : ℕ) (respon
   pub no_condition : status ≢ 412
   pub no_range : status ≢ 416
   pub cookie : policy.kind ≡ Shared → ¬ (HasLine (response (codes "set-cookie")))
-
--- when the response was asked, and when it came
-abbrev pub exchange_of : StoredResponse → Exchange
-exchange_of came = record { requested = came.requested; received = came.received }
 
 -- it is a 200 to HEAD
 abbrev pub IsDescription : StoredResponse → Type 0
