@@ -166,14 +166,6 @@ module _ (settings : Settings) (request : Request) (now : ℕ) (responses : List
   error-reply found answers number same (Some reply) replies =
       let is = error-found found answers number same in (is.0, shows number is.0 is.1 reply replies, is.2)
 
-  -- none is served too if memory ran out for the answer
-  pub failed-answer : (found : Option Reply)
-      → MatchOption found (IsNoneOnError settings request now responses) (IsShownOnError settings request now responses)
-      → MatchOption found (IsNoneOnError settings request now responses ⊎ Fields)
-      (IsShownOnError settings request now responses)
-  failed-answer None none = inl none
-  failed-answer (Some reply) shown = shown
-
 -- ---- after a 304
 
 module _ (settings : Settings) (key : List ℕ) (request : Request) (update : LineMap) (exchange : Exchange)

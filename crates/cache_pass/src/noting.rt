@@ -1,5 +1,5 @@
 //! When targets were removed.
-ghost use Rattle.std.specs.Prelude.{◌≡◌, ◌≢◌, ℕ, List, ◌+◌, ◌<◌, length, min, IfOk};
+ghost use Rattle.std.specs.Prelude.{◌≡◌, ◌≢◌, ℕ, List, ◌+◌, ◌<◌, min, IfOk};
 ghost use Rattle.std.specs.Bool.{MatchBool};
 ghost use Rattle.cache_pass.specs.Removals.{IsNoted, IsOutdated, group_of, last_of};
 

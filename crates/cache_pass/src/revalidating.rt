@@ -1,5 +1,5 @@
 //! What a request gets after the origin has answered.
-ghost use Rattle.std.specs.Prelude.{◌≡◌, ◌⊎◌};
+ghost use Rattle.std.specs.Prelude.{◌≡◌};
 ghost use Rattle.headers.specs.LineMap.{lines_at};
 ghost use Rattle.cache_policy.specs.Requests.{request_of};
 ghost use Rattle.cache_store.specs.History.Call.{Validated};
