@@ -800,6 +800,32 @@ struct typed_headers_resource_handle {
 
 #define TYPED_HEADERS_CLOSED {0}
 
+/*
+ * The connection of a server: closed, or open with what it received and has to send. It is a handle as the ones above,
+ * but calls change what it has.
+ */
+struct typed_headers_connection {
+    void *place;
+    bool is_open;
+};
+
+/* What a connection wants. */
+enum typed_headers_event {
+    /* `typed_headers_connection_receive`, or `typed_headers_connection_finish_input`. */
+    TYPED_HEADERS_NEEDS_INPUT = 0,
+    /* Read the request, make a plan, and call `typed_headers_connection_respond`. */
+    TYPED_HEADERS_REQUEST = 1,
+    /* Write what `typed_headers_connection_output` gives, or, if that is empty, `typed_headers_connection_range`; then
+       call `typed_headers_connection_sent`. */
+    TYPED_HEADERS_OUTPUT = 2,
+    /* Ask again. */
+    TYPED_HEADERS_BUSY = 3,
+    /* All was sent: close. */
+    TYPED_HEADERS_CLOSED_CONNECTION = 4,
+    /* There was no memory, or a response can't be sent to its end: close. */
+    TYPED_HEADERS_ABORTED = 5
+};
+
 /* ---- Written by tools/c_calls from calls.txt. ---- */
 
 /*
@@ -1514,6 +1540,106 @@ uint8_t typed_headers_resource_handle_answer(struct typed_headers_resource_handl
                                              struct typed_headers_bytes_range *parts, size_t parts_length,
                                              size_t *parts_written, uint8_t *room, size_t room_length,
                                              size_t *written);
+
+/* ---- The connection of a server, which opens no socket and no file. Since 1.2. ---- */
+
+/* Closes a handle, and gives its memory back. It may be closed before, or null. The status is TYPED_HEADERS_DONE. */
+uint8_t typed_headers_connection_free(struct typed_headers_connection *connection);
+
+/*
+ * Opens the handle of a connection of an HTTP/1.1 server that has received nothing (RFC 9112). A request whose content
+ * is longer than so many bytes is rejected. Then ask `typed_headers_connection_next` what it wants, do so, and ask
+ * again. Refused: the handle is open. Memory: the handle is closed.
+ */
+uint8_t typed_headers_connection_new(struct typed_headers_connection *connection, size_t most_content,
+                                     const struct typed_headers_keys *keys);
+
+/*
+ * Does what needs nothing of the program, and says what the connection wants then: one of `typed_headers_event`.
+ * Absent, of each call on a connection: it is closed.
+ */
+uint8_t typed_headers_connection_next(struct typed_headers_connection *connection, uint8_t *event);
+
+/*
+ * Receives bytes, cut anywhere: all of them, or none if there is no memory. Refused: the connection doesn't want input.
+ * Memory: `input` isn't empty.
+ */
+uint8_t typed_headers_connection_receive(struct typed_headers_connection *connection, const uint8_t *input,
+                                         size_t input_length);
+
+/* Says that the input ends here: the client has closed its side. Refused: the connection doesn't want input. */
+uint8_t typed_headers_connection_finish_input(struct typed_headers_connection *connection);
+
+/*
+ * The method of the request that waits, the path and the query of its target, and its content. Absent also: its target
+ * has no query. Refused: no request waits.
+ */
+uint8_t typed_headers_connection_method(struct typed_headers_connection *connection, uint8_t *room,
+                                        size_t room_length, size_t *written);
+uint8_t typed_headers_connection_path(struct typed_headers_connection *connection, uint8_t *room, size_t room_length,
+                                      size_t *written);
+uint8_t typed_headers_connection_query(struct typed_headers_connection *connection, uint8_t *room,
+                                       size_t room_length, size_t *written);
+uint8_t typed_headers_connection_content(struct typed_headers_connection *connection, uint8_t *room,
+                                         size_t room_length, size_t *written);
+
+/*
+ * Begins the plan of the response to the request that waits: with this status, and without fields and content. Refused:
+ * the status is no number from 100 to 999.
+ */
+uint8_t typed_headers_connection_plan(struct typed_headers_connection *connection, uint16_t status);
+
+/*
+ * Adds a field line to the plan, after the others. Content-Length and Connection are added where they are needed.
+ * Refused: the name is no field name, or the value no field value. Memory: the handle is open.
+ */
+uint8_t typed_headers_connection_plan_field(struct typed_headers_connection *connection, const uint8_t *name,
+                                            size_t name_length, const uint8_t *value, size_t value_length);
+
+/* Adds bytes to the content of the plan, after what it has. Memory: the handle is open. */
+uint8_t typed_headers_connection_plan_bytes(struct typed_headers_connection *connection, const uint8_t *content,
+                                            size_t content_length);
+
+/*
+ * Adds bytes of what the program has open to the content of the plan, after what it has. The program sends them by
+ * itself: see `typed_headers_connection_range`. Memory: the handle is open.
+ */
+uint8_t typed_headers_connection_plan_range(struct typed_headers_connection *connection, uint64_t start,
+                                            uint64_t length);
+
+/*
+ * Answers the request that waits, by the plan. A response to HEAD has the plan of a GET, and its content isn't sent.
+ * Refused: no request waits.
+ */
+uint8_t typed_headers_connection_respond(struct typed_headers_connection *connection);
+
+/* The first bytes that wait to be written, as many as fit. They stay until `typed_headers_connection_sent`. */
+uint8_t typed_headers_connection_output(struct typed_headers_connection *connection, uint8_t *room,
+                                        size_t room_length, size_t *written);
+
+/* Which bytes of what the program has open are to be written, once no others wait. Absent also: none are. */
+uint8_t typed_headers_connection_range(struct typed_headers_connection *connection, uint64_t *start,
+                                       uint64_t *length);
+
+/*
+ * Says that so many bytes were written: of the output, or, if none waits, of the range. Refused: the connection offers
+ * fewer, and nothing changes.
+ */
+uint8_t typed_headers_connection_sent(struct typed_headers_connection *connection, uint64_t count);
+
+/*
+ * The response 408 to a client that is too slow (RFC 9110, section 15.5.9): the program sends it, and closes. Absent
+ * also: no part of a request was received, a request waits, or bytes wait to be written. Then the program only closes.
+ */
+uint8_t typed_headers_connection_time_out(struct typed_headers_connection *connection, uint8_t *room,
+                                          size_t room_length, size_t *written);
+
+/* The status by which the connection rejected what it received, as 400. Absent also: it rejected nothing. */
+uint8_t typed_headers_connection_rejection(struct typed_headers_connection *connection, uint16_t *status);
+
+/* The status of the plan, and how many bytes its content has. */
+uint8_t typed_headers_connection_planned(struct typed_headers_connection *connection, uint16_t *status,
+                                         uint64_t *length);
 
 /* ---- The end of what it writes. ---- */
 

@@ -118,6 +118,7 @@ HANDLE(cache)
 HANDLE(section)
 HANDLE(cors_policy)
 HANDLE(resource_handle)
+HANDLE(connection)
 
 CALL(canonical, MAY(REFUSED) | MAY(TOO_LARGE) | MAY(MARKED) | MAY(NO_MEMORY), (TEXT_OF(at[0]), &keys, ROOM(at[1])),
      PLAIN(GIVEN_TEXT), PLAIN(ROOM_OF_BYTES))
@@ -321,6 +322,42 @@ CALL(resource_handle_answer, MAY(REFUSED) | MAY(ABSENT) | MAY(NO_MEMORY), (at[0]
      ROOM(at[7])), OF_HANDLE(OPENED, resource_handle), OF_HANDLE(OPENED, section),
      OF_SHAPE(IN_STRUCT, resource_request), PLAIN(GIVEN_TEXT), PLAIN(GIVEN_TEXT),
      OF_SHAPE(OUT_STRUCT, resource_facts), OF_SHAPE(ROOM_OF_STRUCTS, bytes_range), PLAIN(ROOM_OF_BYTES))
+CALL(connection_free, 0, (at[0].handle.at), OF_HANDLE(OPENED, connection))
+CALL(connection_new, MAY(REFUSED) | MAY(NO_MEMORY), (at[0].handle.at, at[1].size, &keys), OF_HANDLE(NEW, connection),
+     OF_KIND(NUMBER, SIZE))
+CALL(connection_next, MAY(ABSENT), (at[0].handle.at, &at[1].u8), OF_HANDLE(OPENED, connection),
+     OF_KIND(OUT_NUMBER, U8))
+CALL(connection_receive, MAY(REFUSED) | MAY(ABSENT) | MAY(NO_MEMORY), (at[0].handle.at, TEXT_OF(at[1])),
+     OF_HANDLE(OPENED, connection), PLAIN(GIVEN_TEXT))
+CALL(connection_finish_input, MAY(REFUSED) | MAY(ABSENT), (at[0].handle.at), OF_HANDLE(OPENED, connection))
+CALL(connection_method, MAY(REFUSED) | MAY(ABSENT), (at[0].handle.at, ROOM(at[1])), OF_HANDLE(OPENED, connection),
+     PLAIN(ROOM_OF_BYTES))
+CALL(connection_path, MAY(REFUSED) | MAY(ABSENT), (at[0].handle.at, ROOM(at[1])), OF_HANDLE(OPENED, connection),
+     PLAIN(ROOM_OF_BYTES))
+CALL(connection_query, MAY(REFUSED) | MAY(ABSENT), (at[0].handle.at, ROOM(at[1])), OF_HANDLE(OPENED, connection),
+     PLAIN(ROOM_OF_BYTES))
+CALL(connection_content, MAY(REFUSED) | MAY(ABSENT), (at[0].handle.at, ROOM(at[1])), OF_HANDLE(OPENED, connection),
+     PLAIN(ROOM_OF_BYTES))
+CALL(connection_plan, MAY(REFUSED) | MAY(ABSENT), (at[0].handle.at, at[1].u16), OF_HANDLE(OPENED, connection),
+     OF_KIND(NUMBER, U16))
+CALL(connection_plan_field, MAY(REFUSED) | MAY(ABSENT) | MAY(NO_MEMORY), (at[0].handle.at, TEXT_OF(at[1]),
+     TEXT_OF(at[2])), OF_HANDLE(OPENED, connection), PLAIN(GIVEN_TEXT), PLAIN(GIVEN_TEXT))
+CALL(connection_plan_bytes, MAY(ABSENT) | MAY(NO_MEMORY), (at[0].handle.at, TEXT_OF(at[1])),
+     OF_HANDLE(OPENED, connection), PLAIN(GIVEN_TEXT))
+CALL(connection_plan_range, MAY(ABSENT) | MAY(NO_MEMORY), (at[0].handle.at, at[1].u64, at[2].u64),
+     OF_HANDLE(OPENED, connection), OF_KIND(NUMBER, U64), OF_KIND(NUMBER, U64))
+CALL(connection_respond, MAY(REFUSED) | MAY(ABSENT), (at[0].handle.at), OF_HANDLE(OPENED, connection))
+CALL(connection_output, MAY(ABSENT), (at[0].handle.at, ROOM(at[1])), OF_HANDLE(OPENED, connection), PLAIN(PIECE))
+CALL(connection_range, MAY(ABSENT), (at[0].handle.at, &at[1].u64, &at[2].u64), OF_HANDLE(OPENED, connection),
+     OF_KIND(OUT_NUMBER, U64), OF_KIND(OUT_NUMBER, U64))
+CALL(connection_sent, MAY(REFUSED) | MAY(ABSENT), (at[0].handle.at, at[1].u64), OF_HANDLE(OPENED, connection),
+     OF_KIND(NUMBER, U64))
+CALL(connection_time_out, MAY(ABSENT), (at[0].handle.at, ROOM(at[1])), OF_HANDLE(OPENED, connection),
+     PLAIN(ROOM_OF_BYTES))
+CALL(connection_rejection, MAY(ABSENT), (at[0].handle.at, &at[1].u16), OF_HANDLE(OPENED, connection),
+     OF_KIND(OUT_NUMBER, U16))
+CALL(connection_planned, MAY(ABSENT), (at[0].handle.at, &at[1].u16, &at[2].u64), OF_HANDLE(OPENED, connection),
+     OF_KIND(OUT_NUMBER, U16), OF_KIND(OUT_NUMBER, U64))
 
 enum { MOST_SLOTS = 10 };
 #define CALLS \
@@ -341,4 +378,9 @@ enum { MOST_SLOTS = 10 };
     METHOD(resource_handle_free), METHOD(section_new), METHOD(section_field), METHOD(section_evaluate), \
     METHOD(section_select), METHOD(section_respond), METHOD(section_choose_type), METHOD(section_choose_coding), \
     METHOD(section_choose_language), METHOD(cors_policy_new), METHOD(cors_policy_answer), \
-    METHOD(resource_handle_new), METHOD(resource_handle_answer)
+    METHOD(resource_handle_new), METHOD(resource_handle_answer), METHOD(connection_free), METHOD(connection_new), \
+    METHOD(connection_next), METHOD(connection_receive), METHOD(connection_finish_input), METHOD(connection_method), \
+    METHOD(connection_path), METHOD(connection_query), METHOD(connection_content), METHOD(connection_plan), \
+    METHOD(connection_plan_field), METHOD(connection_plan_bytes), METHOD(connection_plan_range), \
+    METHOD(connection_respond), METHOD(connection_output), METHOD(connection_range), METHOD(connection_sent), \
+    METHOD(connection_time_out), METHOD(connection_rejection), METHOD(connection_planned)

@@ -2,6 +2,7 @@ pub mod Cache
 pub mod CacheStore
 pub mod CacheDirectives
 pub mod Canonical
+pub mod Connections
 pub mod Fields
 pub mod Gateways
 pub mod Handshake

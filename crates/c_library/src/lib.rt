@@ -5,6 +5,7 @@
 mod cache;
 mod cache_control;
 mod canonical;
+mod connection;
 mod cors;
 mod field;
 mod fields;

@@ -1014,4 +1014,64 @@ extern "C" {
         room_length: usize,
         written: *mut usize,
     ) -> u8;
+    pub fn typed_headers_connection_free(connection: *mut Connection) -> u8;
+    pub fn typed_headers_connection_new(connection: *mut Connection, most_content: usize, keys: *const Keys) -> u8;
+    pub fn typed_headers_connection_next(connection: *mut Connection, event: *mut u8) -> u8;
+    pub fn typed_headers_connection_receive(connection: *mut Connection, input: *const u8, input_length: usize) -> u8;
+    pub fn typed_headers_connection_finish_input(connection: *mut Connection) -> u8;
+    pub fn typed_headers_connection_method(
+        connection: *mut Connection,
+        room: *mut u8,
+        room_length: usize,
+        written: *mut usize,
+    ) -> u8;
+    pub fn typed_headers_connection_path(
+        connection: *mut Connection,
+        room: *mut u8,
+        room_length: usize,
+        written: *mut usize,
+    ) -> u8;
+    pub fn typed_headers_connection_query(
+        connection: *mut Connection,
+        room: *mut u8,
+        room_length: usize,
+        written: *mut usize,
+    ) -> u8;
+    pub fn typed_headers_connection_content(
+        connection: *mut Connection,
+        room: *mut u8,
+        room_length: usize,
+        written: *mut usize,
+    ) -> u8;
+    pub fn typed_headers_connection_plan(connection: *mut Connection, status: u16) -> u8;
+    pub fn typed_headers_connection_plan_field(
+        connection: *mut Connection,
+        name: *const u8,
+        name_length: usize,
+        value: *const u8,
+        value_length: usize,
+    ) -> u8;
+    pub fn typed_headers_connection_plan_bytes(
+        connection: *mut Connection,
+        content: *const u8,
+        content_length: usize,
+    ) -> u8;
+    pub fn typed_headers_connection_plan_range(connection: *mut Connection, start: u64, length: u64) -> u8;
+    pub fn typed_headers_connection_respond(connection: *mut Connection) -> u8;
+    pub fn typed_headers_connection_output(
+        connection: *mut Connection,
+        room: *mut u8,
+        room_length: usize,
+        written: *mut usize,
+    ) -> u8;
+    pub fn typed_headers_connection_range(connection: *mut Connection, start: *mut u64, length: *mut u64) -> u8;
+    pub fn typed_headers_connection_sent(connection: *mut Connection, count: u64) -> u8;
+    pub fn typed_headers_connection_time_out(
+        connection: *mut Connection,
+        room: *mut u8,
+        room_length: usize,
+        written: *mut usize,
+    ) -> u8;
+    pub fn typed_headers_connection_rejection(connection: *mut Connection, status: *mut u16) -> u8;
+    pub fn typed_headers_connection_planned(connection: *mut Connection, status: *mut u16, length: *mut u64) -> u8;
 }

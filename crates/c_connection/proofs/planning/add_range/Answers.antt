@@ -1,0 +1,12 @@
+use Rattle.server_connection.specs.declared.piece.Piece.TheVariants.{Range}
+use Rattle.c_connection.specs.Plans.{AddsPiece}
+use Rattle.c_connection.proofs.OpenLemmas.{on_open}
+use Rattle.c_connection.proofs.planning.add_range.Goals as goal
+
+pub returns : goal.returns
+returns c =
+    on_open (AddsPiece (Range (record { start = c.args.start; len = c.args.length }))) c.args.handle.now.held
+    c.put.new.self.held c.in-Some.held.value
+    c.deref_mut.result.now _ c.add_range_in-answer.result c.in-Some.ensures.taken c.deref_mut.ensures.value
+    c.put.ensures
+    c.add_range_in-answer.ensures

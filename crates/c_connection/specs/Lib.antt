@@ -1,0 +1,3 @@
+pub mod Ownership
+pub mod Calls
+pub mod Plans

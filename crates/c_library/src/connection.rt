@@ -1,0 +1,289 @@
+//! A server's connection, behind a handle.
+ghost use Rattle.std.specs.Prelude.{◌≡◌, None, Ok};
+ghost use Rattle.server_connection.specs.declared.piece.Piece.TheVariants.{Literal, Range};
+ghost use Rattle.c_parts.specs.Endings.{Gives};
+ghost use Rattle.c_connection.specs.Calls.{CopiesOutput, Finishes, HandsOut, IsContent, IsMethod, IsPath, IsQuery};
+ghost use Rattle.c_connection.specs.Calls.{IsRangeNext, IsRejection, IsTimedOut, OnAsked, OnOpen, Opens, Reads};
+ghost use Rattle.c_connection.specs.Calls.{Receives, Responds, Shows, Wants, planned};
+ghost use Rattle.c_connection.specs.Plans.{AddsField, AddsPiece, Begins};
+ghost use Rattle.c_library.specs.CacheStore.{Ends};
+ghost use Rattle.c_library.specs.Connections.{TellsBoth};
+
+use crate::giving::give;
+use crate::store::ended;
+use c_connection::{
+    Connection, add_bytes, add_field, add_range, begin, close, finish_input, next, open,
+    planned_of, range_of, receive, rejection_of, respond, sent, write_content, write_method,
+    write_output, write_path, write_query, write_time_out,
+};
+use c_parts::{DONE, HashKeys};
+use std::alloc::Global;
+
+/// Opens a closed handle with a connection that has received nothing.
+#[unsafe(no_mangle)]
+pub extern "C" fn typed_headers_connection_new(
+    alloc: Global,
+    connection: &mut Connection,
+    most_content: usize,
+    keys: &HashKeys,
+) -> u8
+    ensures { Ends (Opens most_content connection.old.held connection.new.held) result }
+{
+    ended(open(alloc, connection, most_content, keys))
+}
+
+/// Closes a handle, and frees what it has.
+#[unsafe(no_mangle)]
+pub extern "C" fn typed_headers_connection_free(alloc: Global, connection: &mut Connection) -> u8
+    ensures { (result ≡ 0) × (connection.new.held ≡ None) }
+{
+    close(alloc, connection);
+    DONE
+}
+
+/// Does what needs nothing of the host, and says what the connection wants then.
+#[unsafe(no_mangle)]
+pub extern "C" fn typed_headers_connection_next(
+    alloc: Global,
+    connection: &mut Connection,
+    event: &mut u8,
+) -> u8
+    ensures { Gives (OnOpen Wants connection.old.held connection.new.held) event.old event.new result }
+{
+    give(next(alloc, connection), event)
+}
+
+/// Receives all of these bytes, or none.
+#[unsafe(no_mangle)]
+pub extern "C" fn typed_headers_connection_receive(
+    alloc: Global,
+    connection: &mut Connection,
+    input: &[u8],
+) -> u8
+    ensures { Ends (OnOpen (Receives input.now) connection.old.held connection.new.held) result }
+{
+    ended(receive(alloc, connection, input))
+}
+
+/// Says that the input ends here.
+#[unsafe(no_mangle)]
+pub extern "C" fn typed_headers_connection_finish_input(
+    alloc: Global,
+    connection: &mut Connection,
+) -> u8
+    ensures { Ends (OnOpen Finishes connection.old.held connection.new.held) result }
+{
+    ended(finish_input(alloc, connection))
+}
+
+/// Writes the method of the request that waits.
+#[unsafe(no_mangle)]
+pub extern "C" fn typed_headers_connection_method(
+    alloc: Global,
+    connection: &mut Connection,
+    room: &mut [u8],
+    written: &mut usize,
+) -> u8
+    ensures { Shows (OnAsked IsMethod) connection.old.held connection.new.held
+        room.old room.new written.old written.new result }
+{
+    write_method(alloc, connection, room, written)
+}
+
+/// Writes the path of its target.
+#[unsafe(no_mangle)]
+pub extern "C" fn typed_headers_connection_path(
+    alloc: Global,
+    connection: &mut Connection,
+    room: &mut [u8],
+    written: &mut usize,
+) -> u8
+    ensures { Shows (OnAsked IsPath) connection.old.held connection.new.held
+        room.old room.new written.old written.new result }
+{
+    write_path(alloc, connection, room, written)
+}
+
+/// Writes the query of its target.
+#[unsafe(no_mangle)]
+pub extern "C" fn typed_headers_connection_query(
+    alloc: Global,
+    connection: &mut Connection,
+    room: &mut [u8],
+    written: &mut usize,
+) -> u8
+    ensures { Shows (OnAsked IsQuery) connection.old.held connection.new.held
+        room.old room.new written.old written.new result }
+{
+    write_query(alloc, connection, room, written)
+}
+
+/// Writes its content.
+#[unsafe(no_mangle)]
+pub extern "C" fn typed_headers_connection_content(
+    alloc: Global,
+    connection: &mut Connection,
+    room: &mut [u8],
+    written: &mut usize,
+) -> u8
+    ensures { Shows (OnAsked IsContent) connection.old.held connection.new.held
+        room.old room.new written.old written.new result }
+{
+    write_content(alloc, connection, room, written)
+}
+
+/// Begins the plan again, with this status.
+#[unsafe(no_mangle)]
+pub extern "C" fn typed_headers_connection_plan(
+    alloc: Global,
+    connection: &mut Connection,
+    status: u16,
+) -> u8
+    ensures { Ends (OnOpen (Begins status) connection.old.held connection.new.held) result }
+{
+    ended(begin(alloc, connection, status))
+}
+
+/// Adds a field line to the plan.
+#[unsafe(no_mangle)]
+pub extern "C" fn typed_headers_connection_plan_field(
+    alloc: Global,
+    connection: &mut Connection,
+    name: &[u8],
+    value: &[u8],
+) -> u8
+    ensures { Ends (OnOpen (AddsField name.now value.now) connection.old.held connection.new.held) result }
+{
+    ended(add_field(alloc, connection, name, value))
+}
+
+/// Adds bytes to the content of the plan.
+#[unsafe(no_mangle)]
+pub extern "C" fn typed_headers_connection_plan_bytes(
+    alloc: Global,
+    connection: &mut Connection,
+    content: &[u8],
+) -> u8
+    ensures { Ends (OnOpen (AddsPiece (Literal content.now)) connection.old.held connection.new.held) result }
+{
+    ended(add_bytes(alloc, connection, content))
+}
+
+/// Adds bytes of what the host has open to the content of the plan.
+#[unsafe(no_mangle)]
+pub extern "C" fn typed_headers_connection_plan_range(
+    alloc: Global,
+    connection: &mut Connection,
+    start: u64,
+    length: u64,
+) -> u8
+    ensures { Ends (OnOpen (AddsPiece (Range (record { start = start; len = length })))
+        connection.old.held connection.new.held) result }
+{
+    ended(add_range(alloc, connection, start, length))
+}
+
+/// Answers the request that waits, by the plan.
+#[unsafe(no_mangle)]
+pub extern "C" fn typed_headers_connection_respond(alloc: Global, connection: &mut Connection) -> u8
+    ensures { Ends (OnOpen Responds connection.old.held connection.new.held) result }
+{
+    ended(respond(alloc, connection))
+}
+
+/// Copies the first bytes that wait to be written.
+#[unsafe(no_mangle)]
+pub extern "C" fn typed_headers_connection_output(
+    alloc: Global,
+    connection: &mut Connection,
+    room: &mut [u8],
+    written: &mut usize,
+) -> u8
+    ensures open { Ends (OnOpen (Reads (CopiesOutput room.old room.new written.new))
+        connection.old.held connection.new.held) result }
+    ensures closed { connection.old.held ≡ None → (room.new ≡ room.old) × (written.new ≡ written.old) }
+{
+    ended(write_output(alloc, connection, room, written))
+}
+
+/// The range of what the host has open that is to be written once no bytes wait.
+#[unsafe(no_mangle)]
+pub extern "C" fn typed_headers_connection_range(
+    alloc: Global,
+    connection: &mut Connection,
+    start: &mut u64,
+    length: &mut u64,
+) -> u8
+    ensures { TellsBoth (λ extent. extent.start) (λ extent. extent.len)
+        (OnOpen (Reads IsRangeNext) connection.old.held connection.new.held)
+        start.old start.new length.old length.new result }
+{
+    match range_of(alloc, connection) {
+        Ok(extent) => {
+            *start = extent.start;
+            *length = extent.len;
+            DONE
+        }
+        Err(failure) => failure.status(),
+    }
+}
+
+/// Says that so many of the bytes that the connection offers were written.
+#[unsafe(no_mangle)]
+pub extern "C" fn typed_headers_connection_sent(
+    alloc: Global,
+    connection: &mut Connection,
+    count: u64,
+) -> u8
+    ensures { Ends (OnOpen (HandsOut count) connection.old.held connection.new.held) result }
+{
+    ended(sent(alloc, connection, count))
+}
+
+/// Writes the response to a client that is too slow.
+#[unsafe(no_mangle)]
+pub extern "C" fn typed_headers_connection_time_out(
+    alloc: Global,
+    connection: &mut Connection,
+    room: &mut [u8],
+    written: &mut usize,
+) -> u8
+    ensures { Shows IsTimedOut connection.old.held connection.new.held
+        room.old room.new written.old written.new result }
+{
+    write_time_out(alloc, connection, room, written)
+}
+
+/// The status by which the connection rejected what came.
+#[unsafe(no_mangle)]
+pub extern "C" fn typed_headers_connection_rejection(
+    alloc: Global,
+    connection: &mut Connection,
+    status: &mut u16,
+) -> u8
+    ensures { Gives (OnOpen (Reads IsRejection) connection.old.held connection.new.held) status.old status.new result }
+{
+    give(rejection_of(alloc, connection), status)
+}
+
+/// The status of the plan, and how long its content is.
+#[unsafe(no_mangle)]
+pub extern "C" fn typed_headers_connection_planned(
+    alloc: Global,
+    connection: &mut Connection,
+    status: &mut u16,
+    length: &mut u64,
+) -> u8
+    ensures { TellsBoth (λ facts. facts.0) (λ facts. facts.1)
+        (OnOpen (Reads (λ held answer. answer ≡ Ok (planned held))) connection.old.held connection.new.held)
+        status.old status.new length.old length.new result }
+{
+    match planned_of(alloc, connection) {
+        Ok((code, count)) => {
+            *status = code;
+            *length = count;
+            DONE
+        }
+        Err(failure) => failure.status(),
+    }
+}
