@@ -1541,7 +1541,7 @@ uint8_t typed_headers_resource_handle_answer(struct typed_headers_resource_handl
                                              size_t *parts_written, uint8_t *room, size_t room_length,
                                              size_t *written);
 
-/* ---- The connection of a server, which opens no socket and no file. Since 1.2. ---- */
+/* ---- The connection of a server, which opens no socket and no file. Since 1.1. ---- */
 
 /* Closes a handle, and gives its memory back. It may be closed before, or null. The status is TYPED_HEADERS_DONE. */
 uint8_t typed_headers_connection_free(struct typed_headers_connection *connection);
